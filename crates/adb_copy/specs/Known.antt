@@ -12,14 +12,14 @@ use Rattle.adb_copy.specs.declared.known_texts.KnownTexts.{KnownTexts}
 use Rattle.adb_copy.specs.declared.overlaps.PeriodicRange.{PeriodicRange}
 use Rattle.adb_copy.specs.declared.overlaps.TextPlace.{TextPlace}
 
--- the range has its period in the payload: its bytes but for the first period are those but for the
--- last one
+-- the range has its period in the payload: its bytes except for the first period are those except for
+-- the last one
 abbrev pub HasPeriod : List ℕ → PeriodicRange → Type 0
 HasPeriod payload range =
     slice_range payload (range.from + range.period) range.end
     ≡ slice_range payload range.from (range.end - range.period)
 
--- the text stands in the range, and `phase` is how far behind the beginning of a period it begins
+-- the text is in the range, and `phase` is how far after the beginning of a period it begins
 pub record IsPhaseOf (range : PeriodicRange) (text : TextPlace) (phase : ℕ) : Type 0 where
   pub behind : range.from ≤ text.from
   pub within : text.from + text.len ≤ range.end

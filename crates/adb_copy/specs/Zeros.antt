@@ -1,6 +1,6 @@
--- Values in which no integer is 0, and the information of a package with another id and length.
--- The rules stand in `docs/formats.md`, "The database after a change": "An integer 0 is NULL, at
--- every depth", and what the information of a package that comes has.
+-- Values in which no integer is 0, and the information of a package with another id and length. The
+-- rules are in `docs/formats.md`, "The database after a change": "An integer 0 is NULL, at every
+-- depth", and what the information of a package that comes has.
 use Rattle.std.specs.Prelude.{ℕ, zero, suc, List}
 use Rattle.adb_view.specs.Plain.{Plain, null, int, blob, arr, obj, Plains, none, more, blob_value, arr_value, obj_value}
 use Rattle.adb_view.specs.Values.{entries_in}
@@ -25,8 +25,8 @@ unfoldable mutual
   all_without_zeros none = none
   all_without_zeros (more v vs) = more (without_zeros v) (all_without_zeros vs)
 
--- values with another one at an index, which counts from 0; where there are too few, Nulls stand in
--- front of it
+-- values with another one at an index, which counts from 0; if there are too few, Nulls are in front of
+-- it
 abbrev pub with_at : ℕ → Plain → Plains → Plains
 with_at zero v none = more v none
 with_at zero v (more u us) = more v us

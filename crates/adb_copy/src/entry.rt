@@ -1,6 +1,6 @@
-//! Files and their access lists, and scripts, written value by value.
-//! The rules stand in `docs/formats.md`: "The database after a change" (what a database has of a
-//! file; an integer 0 is NULL) and "Schemas", tables 2, 4 and 6 (the fields in their order).
+//! Files and their access lists, and scripts, written value by value. The rules are in
+//! `docs/formats.md`: "The database after a change" (what a database has of a file; an integer 0 is
+//! NULL) and "Schemas", tables 2, 4 and 6 (the fields in their order).
 ghost use Rattle.adb_copy.specs.Known.{AreBlobsOf};
 ghost use Rattle.adb_copy.specs.Zeros.{without_zeros};
 ghost use Rattle.adb_view.specs.Values.{is_sound, value_at};

@@ -9,7 +9,7 @@ use adb_view::{Adb, Val};
 use std::alloc::{AllocError, Global};
 use std::collections::BTreeMap;
 
-/// Texts by their fingerprints. All of it is guesses, which are tested where they are used.
+/// Texts by their fingerprints. All of it is guesses, which are tested if they are used.
 #[derive(Drop)]
 pub struct Fingerprints {
     /// How many bytes the texts have that were compared with the draft's.

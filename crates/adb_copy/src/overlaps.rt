@@ -23,7 +23,7 @@ const PART: usize = 4;
 /// How many bytes around a text are compared at once; the last ones singly. Any number is right.
 const STEP: usize = 64;
 
-/// Where a text stands in its payload.
+/// Where a text is in its payload.
 #[derive(Clone, Copy)]
 pub(crate) struct TextPlace {
     /// The offset in the payload at which the text begins.
@@ -40,21 +40,21 @@ impl TextPlace {
     }
 }
 
-/// Bytes of a payload, each of which is the one that stands a period before it, but for the first
-/// period.
+/// Bytes of a payload, each of which is the one that stands a period before it, except for the
+/// first period.
 #[derive(Clone, Copy)]
 pub(crate) struct PeriodicRange {
     /// The offset of the first of the bytes.
     pub from: usize,
-    /// The offset behind the last one.
+    /// The offset after the last one.
     pub end: usize,
     /// How many bytes the period has.
     pub period: usize,
 }
 
 impl PeriodicRange {
-    /// The phase of a text: how far behind the beginning of a period it begins. None where the text
-    /// does not stand in the range.
+    /// The phase of a text: how far after the beginning of a period it begins. None if the text
+    /// does not are in the range.
     fn phase_of(self, text: TextPlace) -> Option<usize>
         ensures { IfSome result (IsPhaseOf self text) }
     {
@@ -64,7 +64,7 @@ impl PeriodicRange {
         (text.from - self.from).checked_rem(self.period)
     }
 
-    /// Whether the range shows that two texts are equal: both stand in it, with one phase and one
+    /// Whether the range shows that two texts are equal: both are in it, with one phase and one
     /// length.
     fn shows_equal(self, left: TextPlace, right: TextPlace) -> bool
         ensures { OnTrue result (AreEqualUnder self left right) }
@@ -77,7 +77,7 @@ impl PeriodicRange {
 }
 
 /// Ranges of a payload that have a period, and the texts by which they were found. All but the
-/// ranges are guesses, which are tested where they are used.
+/// ranges are guesses, which are tested if they are used.
 #[derive(Drop)]
 pub struct Overlaps {
     /// The ranges that were found.
@@ -301,7 +301,7 @@ fn repeat_place(first: TextPlace, second: TextPlace) -> (usize, usize, usize) {
     (distance, front.len, front.stretch())
 }
 
-/// Where the text of a word stands in the payload; none where the word means no bytes at an offset.
+/// Where the text of a word is in the payload; none if the word means no bytes at an offset.
 pub(crate) fn text_place(adb: Adb<'_>, word: Val) -> Option<TextPlace>
     ensures text { IfSome result (λ text. text_in (value_at (payload_of adb.entry) Kinds.Text word)
         ≡ take text.len (drop text.from (payload_of adb.entry))) }
@@ -316,8 +316,8 @@ pub(crate) fn text_place(adb: Adb<'_>, word: Val) -> Option<TextPlace>
     }
 }
 
-/// The bytes around a text that have a period, if those of the text have it, no further from it than
-/// they are to reach. None where the period is 0, since two words then lead to one place, or where
+/// The bytes around a text that have a period, if those of the text have it, no further from it
+/// than they are to reach. None if the period is 0, since two words then lead to one place, or if
 /// it is longer than the text, whose bytes then show nothing.
 fn periodic_range(
     bytes: &[u8],
@@ -367,7 +367,7 @@ fn first_by_steps(bytes: &[u8], start: usize, least: usize, period: usize, step:
     from
 }
 
-/// The offset up to which the bytes behind a text go on with its period, no further than they are to
+/// The offset up to which the bytes after a text go on with its period, no further than they are to
 /// reach.
 fn end_of_period(bytes: &[u8], text: TextPlace, period: usize, reach: usize) -> usize
     requires within { text.from + text.len ≤ length bytes.now }
@@ -381,7 +381,7 @@ fn end_of_period(bytes: &[u8], text: TextPlace, period: usize, reach: usize) -> 
     end_by_steps(bytes, end, most, period, 1)
 }
 
-/// The same behind an offset, where so many bytes at a time are compared.
+/// The same after an offset, where so many bytes at a time are compared.
 fn end_by_steps(bytes: &[u8], start: usize, most: usize, period: usize, step: usize) -> usize
     requires period { period ≤ start }
     requires start { start ≤ length bytes.now }

@@ -1,8 +1,8 @@
 //! Sums of a payload's bytes, from which the fingerprint of any text in it is had in a few steps.
 //! In a sum each byte counts by a power of a factor. The factors are taken from the payload's
-//! digest, so that who makes a payload does not know them before it is made.
-//! No document has a rule for this: the README of this crate says it, in the paragraph on
-//! fingerprints. That two texts of one fingerprint are equal is tested where it is used.
+//! digest, so that who makes a payload does not know them before it is made. No document has a rule
+//! for this: the README of this crate says it, in the paragraph on fingerprints. That two texts of
+//! one fingerprint are equal is tested if it is used.
 
 ghost use Rattle.std.specs.Prelude.{◌≤◌, ◌+◌, length};
 

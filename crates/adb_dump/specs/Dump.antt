@@ -1,6 +1,5 @@
--- The text of a plain value: its lines, by its shape.
--- The rules stand in `docs/formats.md`, "Dump text"; what a plain value and a shape are, in
--- "Values" there.
+-- The text of a plain value: its lines, by its shape. The rules are in `docs/formats.md`, "Dump text";
+-- what a plain value and a shape are, in "Values" there.
 use Rattle.std.specs.Prelude.{ℕ, Bool, false, ◌&&◌, not, List, [], ◌∷◌, ◌++◌, map, codes, bytes_eq, Option, Some, None, nat_le, ◌==◌, if◌then◌else◌}
 use Rattle.std.specs.Fmt.{decimal}
 use Rattle.std.specs.Int.{w32, to_be_bytes}
@@ -51,11 +50,11 @@ escape_of c =
     else if is_printable c then c ∷ []
     else codes "\\x" ++ encode_lower (c ∷ [])
 
--- a text between quotes, each byte escaped where that is needed
+-- a text between quotes, each byte escaped if that is needed
 abbrev pub quoted_text : List ℕ → Line
 quoted_text b = codes "\"" ++ flat_map escape_of b ++ codes "\""
 
--- a text as it stands on its line: as it is where it can, else between quotes
+-- a text as it rests on its line: as it is where it can, else between quotes
 abbrev pub text_form : List ℕ → Line
 text_form b = if is_bare b then b else quoted_text b
 
@@ -76,11 +75,11 @@ hash_line v = codes "null"
 
 -- ---- lines of lists
 
--- lines one level deeper: two spaces stand in front of each
+-- lines one level deeper: two spaces are in front of each
 abbrev pub indent : List Line → List Line
 indent ls = map (λ (l : Line). codes "  " ++ l) ls
 
--- the lines of an entry of an array: the first behind a dash, the others as deep as the first
+-- the lines of an entry of an array: the first after a dash, the others as deep as the first
 abbrev pub with_dash : List Line → List Line
 with_dash [] = []
 with_dash (l ∷ ls) = (codes "- " ++ l) ∷ indent ls
@@ -90,12 +89,12 @@ abbrev pub or_null : Plain → List Line → List Line
 or_null null ls = codes "null" ∷ []
 or_null v ls = ls
 
--- the lines of an array: each entry behind a dash
+-- the lines of an array: each entry after a dash
 abbrev pub array_lines : (Plain → List Line) → Plains → List Line
 array_lines f none = []
 array_lines f (more v vs) = with_dash (or_null v (f v)) ++ array_lines f vs
 
--- the line of a field whose value has one line: the value behind the field's name
+-- the line of a field whose value has one line: the value after the field's name
 abbrev pub named_line : List ℕ → Line → List Line
 named_line name l = (name ++ (codes ": " ++ l)) ∷ []
 

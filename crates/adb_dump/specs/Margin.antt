@@ -1,6 +1,6 @@
--- Where lines stand in the text.
--- The rule stands in `docs/formats.md`, "Dump text": a line is indented by two spaces for each
--- level. Serves the contracts of `src/line.rt` and `src/block.rt`, which write from front to end.
+-- Where lines are in the text. The rule is in `docs/formats.md`, "Dump text": a line is indented by two
+-- spaces for each level. Serves the contracts of `src/line.rt` and `src/block.rt`, which write from
+-- front to end.
 use Rattle.std.specs.Prelude.{ℕ, zero, suc, Bool, true, false, List, [], ◌∷◌, ◌++◌, codes}
 use Rattle.adb_dump.specs.Dump.{Line}
 

@@ -8,8 +8,7 @@ use Rattle.adb_view.specs.Values.{text_in, value_at}
 use Rattle.adb_view.specs.declared.tables.Kind.TheVariants.{Text}
 use Rattle.adb_dump.specs.Dump.{text_form}
 
--- a call puts bytes into an out: behind any bytes that the out may have held before, it holds these
--- too
+-- a call puts bytes into an out: after any bytes that the out may have held before, it holds these too
 abbrev pub Puts : {O : Type 0} → (O → List ℕ → Type 0) → O → O → List ℕ → Type 0
 Puts holds old new bytes = (before : List ℕ) → holds old before → holds new (before ++ bytes)
 

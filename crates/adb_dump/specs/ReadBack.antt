@@ -1,6 +1,5 @@
--- The value of the lines of a dump, or the number of the first line that cannot stand there,
--- counted from 0.
--- The rule stands in `docs/formats.md`, "Dump text": no other normal value has the same text. No
+-- The value of the lines of a dump, or the number of the first line that cannot stand there, counted
+-- from 0. The rule is in `docs/formats.md`, "Dump text": no other normal value has the same text. No
 -- command reads a text back: serves the laws `lines_of_values_are_read_back`,
 -- `only_lines_of_values_are_read` and `texts_are_split_into_their_lines`.
 use Rattle.std.specs.Prelude.{ℕ, zero, suc, ◌+◌, ◌-◌, ◌*◌, ◌^◌, List, [], ◌∷◌, ◌++◌, length, drop, codes, bytes_eq, Option, Some, None, option_map, option_and_then, Result, Ok, Err, nat_lt, ◌==◌, if◌then◌else◌}
@@ -16,37 +15,36 @@ use Rattle.adb_dump.specs.Dump.{Line, begins_with_byte, int_line, text_line, has
 abbrev pub LinesRead : Type 0 → Type 0
 LinesRead A = Result A ℕ
 
--- what was read behind so many lines: the number of a bad line counts them too
+-- what was read after so many lines: the number of a bad line counts them too
 abbrev pub after_lines : {A B : Type 0} → ℕ → (A → B) → LinesRead A → LinesRead B
 after_lines n f (Ok x) = Ok (f x)
 after_lines n f (Err k) = Err (n + k)
 
--- what stands behind a prefix of a line, if the line begins with that
+-- what follows a prefix of a line, if the line begins with that
 abbrev pub strip_prefix : List ℕ → List ℕ → Option (List ℕ)
 strip_prefix [] l = Some l
 strip_prefix (p ∷ ps) [] = None
 strip_prefix (p ∷ ps) (c ∷ cs) = if p == c then strip_prefix ps cs else None
 
--- a block and the lines behind it, with one line more in front of the block
+-- a block and the lines after it, with one line more in front of the block
 abbrev pub with_line : Line → List Line × List Line → List Line × List Line
 with_line l r = (l ∷ r.0, r.1)
 
--- a block and the lines behind it, with one line more in front: an indented line (`inner` is what
--- stands behind its spaces) belongs to the block; another one ends it, and stands first behind it
+-- a block and the lines after it, with one line more in front: an indented line (`inner` is what
+-- follows its spaces) belongs to the block; another one ends it, and stands first after it
 abbrev pub stop_or_add : Line → List Line → Option Line → List Line × List Line
     → List Line × List Line
 stop_or_add l ls None r = ([], l ∷ ls)
 stop_or_add l ls (Some inner) r = with_line inner r
 
--- the indented lines in front, without their two spaces, which are a block; and the lines behind
--- them
+-- the indented lines in front, without their two spaces, which are a block; and the lines after them
 abbrev pub split_block : List Line → List Line × List Line
 split_block [] = ([], [])
 split_block (l ∷ ls) = stop_or_add l ls (strip_prefix (codes "  ") l) (split_block ls)
 
 -- ---- a value on one line
 
--- the number that a lower-case hexadecimal digit stands for
+-- the number that a lower-case hexadecimal digit represents
 abbrev pub hex_value : ℕ → ℕ
 hex_value c = if nat_lt c 0x3a then c - 0x30 else c - 0x57
 
@@ -56,13 +54,13 @@ unhex [] = []
 unhex (h ∷ []) = []
 unhex (h ∷ l ∷ cs) = (hex_value h * 16 + hex_value l) ∷ unhex cs
 
--- a byte by its two digits behind `\x`, and what the rest of the text gives (`f`)
+-- a byte by its two digits after `\x`, and what the rest of the text gives (`f`)
 abbrev pub hex_escape_read : (List ℕ → Option (List ℕ)) → List ℕ → Option (List ℕ)
 hex_escape_read f [] = None
 hex_escape_read f (h ∷ []) = None
 hex_escape_read f (h ∷ l ∷ cs) = option_map (λ b. (hex_value h * 16 + hex_value l) ∷ b) (f cs)
 
--- the byte of an escape, from behind its backslash on (`n`, a backslash, a quote, or `x` and two
+-- the byte of an escape, from after its backslash on (`n`, a backslash, a quote, or `x` and two
 -- digits), and what the rest of the text gives (`f`)
 abbrev pub escape_read : (List ℕ → Option (List ℕ)) → List ℕ → Option (List ℕ)
 escape_read f [] = None
@@ -73,8 +71,8 @@ escape_read f (d ∷ cs) =
     else if d == 0x78 then hex_escape_read f cs
     else None
 
--- the bytes of a text from behind its first quote on, up to a quote that ends the line. The number
--- `n` bounds the turns; the length of the text is enough
+-- the bytes of a text from after its first quote on, up to a quote that ends the line. The number `n`
+-- bounds the turns; the length of the text is enough
 abbrev pub quoted_read : ℕ → List ℕ → Option (List ℕ)
 quoted_read zero cs = None
 quoted_read (suc n) [] = None
@@ -83,13 +81,13 @@ quoted_read (suc n) (c ∷ cs) =
     else if c == 0x5c then escape_read (quoted_read n) cs
     else option_map (λ b. c ∷ b) (quoted_read n cs)
 
--- the value of a text; an empty one has none, since no line stands for it
+-- the value of a text; an empty one has none, since no line represents it
 abbrev pub blob_read : List ℕ → Option Plain
 blob_read [] = None
 blob_read (c ∷ cs) = Some (blob (c ∷ cs))
 
--- the value of a number below 2^64 in decimal digits; whether anything else stands on the line is
--- found by *if_form*
+-- the value of a number below 2^64 in decimal digits; whether anything else rests on the line is found
+-- by *if_form*
 abbrev pub int_read : Line → Option Plain
 int_read l = if nat_lt (digits_value 10 l) (2 ^ 64) then Some (int (digits_value 10 l)) else None
 
@@ -122,7 +120,7 @@ abbrev pub entry_read : (List Line → LinesRead Plain) → Line → List Line �
 entry_read f l ls =
     if bytes_eq l (codes "null") then only_line (λ x. Ok null) (l ∷ ls) else f (l ∷ ls)
 
--- an entry of an array and the entries behind it; a line without a dash begins no entry
+-- an entry of an array and the entries after it; a line without a dash begins no entry
 abbrev pub after_dash : (List Line → LinesRead Plain) → (List Line → LinesRead Plains)
     → List Line × List Line → Option Line → LinesRead Plains
 after_dash f g r None = Err 0
@@ -147,22 +145,22 @@ abbrev pub obj_read : Plains → LinesRead Plain
 obj_read none = Err 0
 obj_read (more v vs) = Ok (obj (more v vs))
 
--- a field whose value stands behind `name:` on its line, and then the other fields
+-- a field whose value follows `name:` on its line, and then the other fields
 abbrev pub field_on_line : (Line → LinesRead Plain) → (List Line → LinesRead Plains) → List Line
     → Option Line → LinesRead Plains
 field_on_line f g ls None = Err 0
 field_on_line f g ls (Some l) = and_then (f l) (λ v. after_lines 1 (more v) (g ls))
 
--- a field whose value stands below its name, behind which nothing stands on the line, and then the
--- other fields
+-- a field whose value stands below its name, after which nothing rests on the line, and then the other
+-- fields
 abbrev pub field_below : (List Line → LinesRead Plain) → (List Line → LinesRead Plains)
     → List Line × List Line → Line → LinesRead Plains
 field_below f g r [] =
     and_then (after_lines 1 (λ v. v) (f r.0)) (λ v. after_lines (1 + length r.0) (more v) (g r.1))
 field_below f g r (c ∷ cs) = Err 0
 
--- the fields from a line on: where the line has no name of this field, those behind it (`other`),
--- else this one (`this`, of what is behind `name:`)
+-- the fields from a line on: where the line has no name of this field, those after it (`other`), else
+-- this one (`this`, of what is after `name:`)
 abbrev pub if_named : LinesRead Plains → (Line → LinesRead Plains) → Option Line → LinesRead Plains
 if_named other this None = other
 if_named other this (Some rest) = this rest
@@ -176,7 +174,7 @@ unfoldable mutual
   block_read (array s) ls = and_then (entries_read (block_read s) (length ls) ls) arr_read
   block_read (object schema fs) ls = and_then (fields_read fs ls) obj_read
 
-  -- the value of a field, from behind `name:` on (`l`), and then the other fields (`g`)
+  -- the value of a field, from after `name:` on (`l`), and then the other fields (`g`)
   pub named_read : Shape → (List Line → LinesRead Plains) → List Line → Line → LinesRead Plains
   named_read number g ls l = field_on_line (λ l. if_form int_line l (int_read l)) g ls
       (strip_prefix (codes " ") l)
@@ -198,7 +196,7 @@ unfoldable mutual
       (after_lines 0 (more null) (fields_read fs (l ∷ ls))) (named_read s (fields_read fs) ls)
       (strip_prefix (name ++ codes ":") l)
 
--- the value of a table by the lines of a text behind its first; Null has none
+-- the value of a table by the lines of a text after its first; Null has none
 abbrev pub value_read : Which → List Line → LinesRead Plain
 value_read which [] = Ok null
 value_read which (l ∷ ls) = block_read (shape_of (Obj which)) (l ∷ ls)
@@ -211,7 +209,7 @@ add_char c None = None
 add_char c (Some []) = None
 add_char c (Some (l ∷ ls)) = Some ((c ∷ l) ∷ ls)
 
--- the lines of a text; None where its last line has no line end
+-- the lines of a text; None if its last line has no line end
 abbrev pub split_lines : List ℕ → Option (List Line)
 split_lines [] = Some []
 split_lines (c ∷ cs) =

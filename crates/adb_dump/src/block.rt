@@ -1,7 +1,7 @@
-//! The text of a container: the lines of its values, written from the words of its payload.
-//! The rules stand in `docs/formats.md`, "Dump text", the table of values and their lines; which
-//! fields an object has, in what order, in "Schemas". How often a text is written, and with how
-//! much memory, is said by the README of this crate.
+//! The text of a container: the lines of its values, written from the words of its payload. The
+//! rules are in `docs/formats.md`, "Dump text", the table of values and their lines; which fields
+//! an object has, in what order, in "Schemas". How often a text is written, and with how much
+//! memory, is said by the README of this crate.
 
 ghost use Rattle.std.specs.Prelude.{◌≡◌, ◌++◌, true, codes, is_some, length, IfOk, OnOk, ◌<◌, ◌≤◌, ◌+◌, false};
 ghost use Rattle.adb_view.specs.ShapedPayload.{adb_of, shaped_value, table_of};
@@ -50,8 +50,8 @@ pub fn dump(alloc: Global, shaped: &Shaped<'_>) -> Result<Text, AllocError>
 /// written twice.
 const MOST_TIMES: usize = 4;
 
-/// The text of a payload, where there is memory for `MOST_TIMES` as many bytes as the payload has,
-/// and the text has no more.
+/// The text of a payload, if there is memory for `MOST_TIMES` as many bytes as the payload has, and
+/// the text has no more.
 fn short_dump(alloc: Global, shaped: &Shaped<'_>) -> Result<Text, AllocError>
     requires { is_some (schema_word (table_of shaped.now)) ≡ true }
     ensures { IfOk result
@@ -161,7 +161,7 @@ fn write_block<O: BlobOut>(
     }
 }
 
-/// Puts the entries of an array, each behind a dash.
+/// Puts the entries of an array, each after a dash.
 #[cycle(block)]
 #[tactic(auto, using(crate::proofs::Turns::entry_here, crate::proofs::Turns::entries_later, crate::proofs::Turns::entry_turn, crate::proofs::Turns::entries_end))]
 fn write_entries<O: BlobOut>(
@@ -336,7 +336,7 @@ fn write_text_field<O: BlobOut>(
     Ok(false)
 }
 
-/// Puts the lines of a field whose value is not Null: behind its name, or below it.
+/// Puts the lines of a field whose value is not Null: after its name, or below it.
 #[cycle(block)]
 #[tactic(auto, using(crate::proofs::Turns::field_behind, crate::proofs::Turns::field_below))]
 #[inline(always)]
@@ -374,7 +374,7 @@ fn write_named<O: BlobOut>(
     }
 }
 
-/// Whether a value of the kind stands behind the name of its field, and not below it.
+/// Whether a value of the kind follows the name of its field, and not below it.
 fn has_one_line(kind: Kind) -> bool
     ensures { result ≡ has_one_line kind }
 {

@@ -1,9 +1,9 @@
-//! What stands in front of a value on its line, behind the spaces of eight levels. A line at a
-//! depth of at most eight begins with the end of it that has its own spaces, and is begun by one
-//! put; of a deeper line the spaces are put first, level by level.
-//! The rule stands in `docs/formats.md`, "Dump text": two spaces for each level, `name: ` before a
-//! value, `- ` before an entry; the names are those of "Schemas". That eight levels stand in each
-//! front saves time alone. In the clauses 8 is `FRONT_LEVELS`.
+//! What is in front of a value on its line, after the spaces of eight levels. A line at a depth of
+//! at most eight begins with the end of it that has its own spaces, and is begun by one put; of a
+//! deeper line the spaces are put first, level by level. The rule is in `docs/formats.md`, "Dump
+//! text": two spaces for each level, `name: ` before a value, `- ` before an entry; the names are
+//! those of "Schemas". That eight levels are in each front saves time alone. In the clauses 8 is
+//! `FRONT_LEVELS`.
 
 ghost use Rattle.std.specs.Prelude.{◌≡◌, ◌++◌, codes};
 ghost use Rattle.adb_dump.specs.Margin.{margin};
@@ -11,8 +11,8 @@ ghost use Rattle.adb_view.specs.Schema.{field_name_text};
 
 use adb_schema::FieldName;
 
-/// How many levels of two spaces stand in each front. Any number is right: it decides which lines
-/// are begun by one put.
+/// How many levels of two spaces are in each front. Any number is right: it decides which lines are
+/// begun by one put.
 pub(crate) const FRONT_LEVELS: u32 = 8;
 
 /// How many spaces these are: two for each level.
@@ -32,7 +32,7 @@ pub(crate) fn dash_front() -> &'static [u8]
     b"                - "
 }
 
-/// The front of a field whose value stands on its line: the field's name, a colon and a space.
+/// The front of a field whose value rests on its line: the field's name, a colon and a space.
 pub(crate) fn name_front(name: FieldName) -> &'static [u8]
     ensures { result.now ≡ margin 8 ++ field_name_text name ++ codes ": " }
 {

@@ -1,7 +1,6 @@
 //! What follows from the definitions, for every value, each as the contract of a function that does
-//! nothing.
-//! The rule stands in `docs/formats.md`, "Dump text": "A container's value has one text, and no
-//! other normal value of the same schema has that text." When a value is normal, says "Values"
+//! nothing. The rule is in `docs/formats.md`, "Dump text": "A container's value has one text, and
+//! no other normal value of the same schema has that text." When a value is normal, says "Values"
 //! there.
 ghost use Rattle.std.specs.Prelude.{◌≡◌, ◌<◌, ℕ, All, List, IfSome, Ok, Some};
 ghost use Rattle.adb_view.specs.Plain.{Plain, IsNormal, plain_of};

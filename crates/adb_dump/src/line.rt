@@ -1,6 +1,6 @@
-//! Lines: what stands in front of them, names of fields, and values on one line.
-//! The rules stand in `docs/formats.md`, "Dump text": the table, and the paragraph on texts that
-//! stand as they are or between quotes.
+//! Lines: what is in front of them, names of fields, and values on one line. The rules are in
+//! `docs/formats.md`, "Dump text": the table, and the paragraph on texts that stand as they are or
+//! between quotes.
 
 ghost use Rattle.std.specs.Prelude.{◌≡◌, ◌+◌, ◌≤◌, [], ◌∷◌, ◌++◌, OnOk, codes, drop, length};
 ghost use Rattle.std.specs.Fmt.{decimal};
@@ -205,8 +205,8 @@ fn ends_with_byte(byte: u8, text: &[u8]) -> bool
 /// quarter of so many, become a few steps for all of them.
 const WINDOW_LEN: usize = 16;
 
-/// Whether every byte of a text is printable. Bytes that stand in two windows are tested twice,
-/// which takes less time than to test one by one those that no whole window is left for.
+/// Whether every byte of a text is printable. Bytes that are in two windows are tested twice, which
+/// takes less time than to test one by one those that no whole window is left for.
 fn is_printable(text: &[u8]) -> bool
     ensures { result ≡ list_all is_printable text.now }
 {
@@ -278,7 +278,7 @@ fn is_printable_byte(byte: u8) -> bool
 pub(crate) struct LineStart {
     /// How deep the line stands, in levels of two spaces.
     pub(crate) depth: u32,
-    /// Whether what stands in front of the line is written already.
+    /// Whether what is in front of the line is written already.
     pub(crate) begun: bool,
 }
 
@@ -291,8 +291,8 @@ impl LineStart {
     }
 }
 
-/// Puts what is still to stand in front of the next line, and then what a front has behind its
-/// eight levels of spaces: both at once, unless the line stands deeper.
+/// Puts what is still to are in front of the next line, and then what a front has after its eight
+/// levels of spaces: both at once, unless the line stands deeper.
 #[inline(always)]
 fn write_front<O: Out>(out: &mut O, start: LineStart, front: &[u8]) -> Result<(), AllocError>
     // Eight levels (`FRONT_LEVELS`) are sixteen spaces (`FRONT_LEN`).
@@ -311,7 +311,7 @@ fn write_front<O: Out>(out: &mut O, start: LineStart, front: &[u8]) -> Result<()
     Ok(())
 }
 
-/// Puts two spaces for each level, one level behind another.
+/// Puts two spaces for each level, one level after another.
 #[cold]
 #[inline(never)]
 fn write_levels<O: Out>(out: &mut O, levels: u32) -> Result<(), AllocError>
@@ -323,7 +323,7 @@ fn write_levels<O: Out>(out: &mut O, levels: u32) -> Result<(), AllocError>
     Ok(())
 }
 
-/// Puts what is still to stand in front of an entry of an array, and its dash and a space.
+/// Puts what is still to are in front of an entry of an array, and its dash and a space.
 #[inline(always)]
 pub(crate) fn write_dash<O: Out>(out: &mut O, depth: u32, begun: bool) -> Result<(), AllocError>
     ensures { OnOk result (PutsForAny O.holds out.old out.new (lead depth begun ++ codes "- ")) }
@@ -331,8 +331,8 @@ pub(crate) fn write_dash<O: Out>(out: &mut O, depth: u32, begun: bool) -> Result
     write_front(out, LineStart { depth, begun }, dash_front())
 }
 
-/// Puts what is still to stand in front of a field, its name, a colon and a space: its value
-/// follows on the line.
+/// Puts what is still to are in front of a field, its name, a colon and a space: its value follows
+/// on the line.
 #[inline(always)]
 pub(crate) fn write_name<O: Out>(
     out: &mut O,
@@ -345,7 +345,7 @@ pub(crate) fn write_name<O: Out>(
     write_front(out, start, name_front(name))
 }
 
-/// Puts what is still to stand in front of a field, its name, a colon and a line end: its value
+/// Puts what is still to are in front of a field, its name, a colon and a line end: its value
 /// follows below.
 pub(crate) fn write_name_line<O: Out>(
     out: &mut O,
@@ -361,7 +361,7 @@ pub(crate) fn write_name_line<O: Out>(
     Ok(())
 }
 
-/// Puts what is still to stand in front of the next line: its spaces, or nothing where the line has
+/// Puts what is still to are in front of the next line: its spaces, or nothing where the line has
 /// begun.
 fn write_lead<O: Out>(out: &mut O, start: LineStart) -> Result<(), AllocError>
     ensures { OnOk result (PutsForAny O.holds out.old out.new (lead start.depth start.begun)) }

@@ -1,7 +1,6 @@
-//! What the text is put into: its bytes, or only a count of them.
-//! No document has a rule for this: the README of this crate says when a text is counted first, and
-//! the contracts are those of `Out` and `BlobOut`. How a text or a hash stands in its line, says
-//! `docs/formats.md`, "Dump text".
+//! What the text is put into: its bytes, or only a count of them. No document has a rule for this:
+//! the README of this crate says when a text is counted first, and the contracts are those of `Out`
+//! and `BlobOut`. How a text or a hash is in its line, says `docs/formats.md`, "Dump text".
 
 ghost use Rattle.std.specs.Prelude.{◌≡◌, ℕ, ◌+◌, ◌-◌, List, [], ◌∷◌, IfOk, OnOk, length};
 ghost use Rattle.std.specs.Vec.{vec_capacity};
@@ -24,31 +23,31 @@ use std::collections::BTreeMap;
 /// memory.
 const SHORT: usize = 64;
 
-/// What bytes are put into, one piece behind another.
+/// What bytes are put into, one piece after another.
 pub(crate) trait Out {
     ghost use Rattle.std.specs.Prelude.{ℕ, List};
 
     /// Whether just these bytes may have been put in, where texts are those of the payload.
     ghost holds: { List ℕ → Self → List ℕ → Type 0 };
 
-    /// Puts bytes behind those that were put in before.
+    /// Puts bytes after those that were put in before.
     fn put(&mut self, bytes: &[u8]) -> Result<(), AllocError>
         ensures { OnOk result (PutsForAny holds self.old self.new bytes.now) };
 
-    /// Puts a byte behind those that were put in before.
+    /// Puts a byte after those that were put in before.
     fn put_byte(&mut self, byte: u8) -> Result<(), AllocError>
         ensures { OnOk result (PutsForAny holds self.old self.new (byte ∷ [])) };
 }
 
-/// What the blobs of a payload are put into, as they stand in lines.
+/// What the blobs of a payload are put into, as they are in lines.
 pub(crate) trait BlobOut: Out {
-    /// Puts the text of a word as it stands in a line.
+    /// Puts the text of a word as it is in a line.
     fn put_text(&mut self, adb: Adb<'_>, word: Val, text: &[u8]) -> Result<(), AllocError>
         requires { text.now ≡ text_in (value_at (payload_of adb) Kinds.Text word) }
         ensures { OnOk result (Puts (Self.holds (payload_of adb.entry)) self.old self.new
             (text_form text.now)) };
 
-    /// Puts a hash as it stands in a line, in hexadecimal digits.
+    /// Puts a hash as it is in a line, in hexadecimal digits.
     fn put_hash(&mut self, hash: &[u8]) -> Result<(), AllocError>
         ensures { OnOk result (PutsForAny Self.holds self.old self.new (encode_lower hash.now)) };
 }
@@ -59,12 +58,12 @@ impl Out for Vec<u8> {
 
     ghost holds = { λ _ out bytes. out.items ≡ bytes };
 
-    /// Puts bytes; memory grows where there is no room for them.
+    /// Puts bytes; memory grows if there is no room for them.
     fn put(&mut self, bytes: &[u8]) -> Result<(), AllocError> {
         self.extend_from_slice(bytes)
     }
 
-    // Puts a byte; memory grows where there is no room for it.
+    // Puts a byte; memory grows if there is no room for it.
     fn put_byte(&mut self, byte: u8) -> Result<(), AllocError> {
         self.push(byte)?;
         Ok(())
@@ -114,7 +113,7 @@ impl Out for Room {
 
     ghost holds = { λ _ out bytes. out.bytes.items ≡ bytes };
 
-    /// Puts bytes, and fails where there is no room for them, as for want of memory.
+    /// Puts bytes, and fails if there is no room for them, as for lack of memory.
     #[inline(always)]
     fn put(&mut self, bytes: &[u8]) -> Result<(), AllocError> {
         if bytes.len() > self.left() {
@@ -123,7 +122,7 @@ impl Out for Room {
         self.bytes.extend_from_slice(bytes)
     }
 
-    /// Puts a byte, and fails where there is no room for it, as for want of memory.
+    /// Puts a byte, and fails if there is no room for it, as for lack of memory.
     #[inline(always)]
     fn put_byte(&mut self, byte: u8) -> Result<(), AllocError> {
         if self.left() == 0 {
@@ -150,7 +149,7 @@ impl BlobOut for Room {
 /// How many bytes were put in, and nothing else of them.
 #[derive(Drop)]
 pub(crate) struct Length {
-    /// The count; where it would pass what a machine can count, the call fails as for want of
+    /// The count; where it would pass what a machine can count, the call fails as for lack of
     /// memory.
     pub(crate) bytes: usize,
 }

@@ -1,6 +1,6 @@
-//! Which words mean Null, and the words of an object.
-//! The rules stand in `docs/formats.md`, "Values": NULL is Null under each shape, and so are an
-//! empty blob or array and an object without any value. A stored 0 is not Null ("Dump text").
+//! Which words mean Null, and the words of an object. The rules are in `docs/formats.md`, "Values":
+//! NULL is Null under each shape, and so are an empty blob or array and an object without any
+//! value. A stored 0 is not Null ("Dump text").
 
 ghost use Rattle.std.specs.Prelude.{◌≡◌, ◌<◌, ◌^◌, true, length, slice_index, ◌==◌, if◌then◌else◌};
 ghost use Rattle.adb_view.specs.Adb.{payload_of};

@@ -6,7 +6,7 @@ use Rattle.adb_fields.specs.Pairs.{NameWithPosition}
 use Rattle.adb_fields.specs.Repeated.{numbered_from}
 use Rattle.adb_fields.specs.declared.pairs.Pair.{Pair}
 
--- one name stands at both positions of the pair, the first of which is the smaller
+-- one name is at both positions of the pair, the first of which is the smaller
 pub record IsPair (names : List NameWithPosition) (p : Pair) : Type 0 where
   -- the name at the first position
   pub one : NameWithPosition

@@ -1,5 +1,5 @@
--- The path that a folder and a name are together. The rule stands in `docs/formats.md`, "Schemas"
--- ("The path of a file"); serves the contract of `FilePath::compare`.
+-- The path that a folder and a name are together. The rule is in `docs/formats.md`, "Schemas" ("The
+-- path of a file"); serves the contract of `FilePath::compare`.
 use Rattle.std.specs.Prelude.{ℕ, List}
 use Rattle.adb_fields.specs.Paths.{path_of}
 use Rattle.adb_fields.specs.declared.file_path.FilePath.{FilePath}

@@ -1,5 +1,5 @@
--- The plain value that a list of views shows. Serves the contracts of `List`; what an array means
--- stands in `docs/formats.md`, "Values".
+-- The plain value that a list of views shows. Serves the contracts of `List`; what an array means is in
+-- `docs/formats.md`, "Values".
 use Rattle.adb_view.specs.Plain.{Plain}
 use Rattle.adb_view.specs.Adb.{payload_of}
 use Rattle.adb_view.specs.Entries.{array_entries}

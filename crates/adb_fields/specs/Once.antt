@@ -1,4 +1,4 @@
--- What it is that no name stands twice in a container. Which names these are stands in the table of
+-- What it is that no name stands twice in a container. Which names these are is in the table of
 -- `docs/formats.md`, "Names that stand twice".
 use Rattle.std.specs.Prelude.{◌⊎◌, ℕ, List, [], ◌∷◌, ◌++◌, map}
 use Rattle.std.specs.List.{flat_map}
@@ -20,12 +20,12 @@ abbrev pub AllDistinct : List (List (List ℕ)) → Type 0
 AllDistinct [] = Unit {0}
 AllDistinct (names ∷ lists) = AreDistinctNames names × AllDistinct lists
 
--- a name stands in one of the lists
+-- a name is in one of the lists
 abbrev pub IsInOneOf : List ℕ → List (List (List ℕ)) → Type 0
 IsInOneOf name [] = ⊥
 IsInOneOf name (names ∷ lists) = IsIn name names ⊎ IsInOneOf name lists
 
--- no name stands in two of the lists
+-- no name is in two of the lists
 abbrev pub AreApart : List (List (List ℕ)) → Type 0
 AreApart [] = Unit {0}
 AreApart (names ∷ lists) = ((name : List ℕ) → IsIn name names → ¬ IsInOneOf name lists)
@@ -43,7 +43,7 @@ pub record StandOnceInside (packages : List Plain) : Type 0 where
 pub record StandOnceBetween (packages : List Plain) : Type 0 where
   -- each package stands once
   pub packages_once : AreDistinctNames (map package_name packages)
-  -- no path stands in two packages
+  -- no path is in two packages
   pub paths_once : AreApart (map paths_in packages)
 
 -- no name stands twice in a container, by the table of its root, that may stand once alone; of

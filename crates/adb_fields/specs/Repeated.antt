@@ -1,5 +1,5 @@
--- Names that stand twice in a container, kind by kind. The rule stands in the table of
--- `docs/formats.md`, "Names that stand twice".
+-- Names that stand twice in a container, kind by kind. The rule is in the table of `docs/formats.md`,
+-- "Names that stand twice".
 use Rattle.std.specs.Prelude.{ℕ, ◌+◌, ◌*◌, List, [], ◌∷◌, ◌++◌, map, Option, None, option_map}
 use Rattle.std.specs.Option.{option_or}
 use Rattle.std.specs.List.{flat_map}
@@ -22,7 +22,7 @@ abbrev pub numbered_from : ℕ → List (List ℕ) → List NameWithPosition
 numbered_from n [] = []
 numbered_from n (name ∷ names) = record { name = name; position = n } ∷ numbered_from (n + 1) names
 
--- the pair that is reported of the names of a list; None where each stands once
+-- the pair that is reported of the names of a list; None if each stands once
 abbrev pub twice : List (List ℕ) → Option Pair
 twice names = first_pair (numbered_from 1 names)
 
@@ -39,7 +39,7 @@ abbrev pub by_list_from : ℕ → List (List (List ℕ)) → List NameWithPositi
 by_list_from n [] = []
 by_list_from n (names ∷ lists) = all_at n names ++ by_list_from (n + 1) lists
 
--- the pair of lists that is reported, since one name stands in both
+-- the pair of lists that is reported, since one name is in both
 abbrev pub in_two : List (List (List ℕ)) → Option Pair
 in_two lists = first_pair (by_list_from 1 lists)
 
@@ -93,7 +93,7 @@ abbrev pub file_twice : List Plain → Option Pair
 file_twice packages = twice_in_one
     (flat_map (λ pkg. map (λ folder. map name_of (files_in folder)) (folders_in pkg)) packages)
 
--- the pair of positions at which packages of one name stand in a database
+-- the pair of positions at which packages of one name are in a database
 abbrev pub package_twice : List Plain → Option Pair
 package_twice packages = twice (map package_name packages)
 

@@ -1,4 +1,4 @@
-//! Paths of files whose parts are not joined, and their order. What the path of a file is stands in
+//! Paths of files whose parts are not joined, and their order. What the path of a file is is in
 //! `docs/formats.md`, "Schemas" ("The path of a file"). Serves the search for one path in two
 //! packages ("Names that stand twice"), as `FilePath::compare` in the README of this crate.
 
@@ -9,8 +9,8 @@ ghost use Rattle.adb_fields.specs.JoinedPath.{joined_path};
 
 use std::cmp::Ordering;
 
-/// The path of a file: its name behind its folder's and a slash. The root folder has the empty
-/// name. The two parts stay where they are, so that a path takes no memory.
+/// The path of a file: its name after its folder's and a slash. The root folder has the empty name.
+/// The two parts stay if they are, so that a path allocates no memory.
 #[derive(Clone, Copy)]
 pub struct FilePath<'a> {
     /// The path of the folder; empty for the root folder.

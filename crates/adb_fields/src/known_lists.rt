@@ -1,7 +1,7 @@
 //! The lists of a payload that were looked through for a name that stands twice. Many places may
 //! share a list, so what a long one has is kept. Serves `repeated_names`, which so looks through a
-//! list once (README of this crate, first paragraph); what is looked for stands in
-//! `docs/formats.md`, "Names that stand twice".
+//! list once (README of this crate, first paragraph); what is looked for is in `docs/formats.md`,
+//! "Names that stand twice".
 
 ghost use Rattle.std.specs.Prelude.{◌≡◌, true, Some, map, IfOk, IfSome};
 ghost use Rattle.adb_view.specs.Adb.{payload_of};
@@ -21,7 +21,7 @@ use std::alloc::{AllocError, Global};
 use std::collections::BTreeMap;
 
 /// How many entries a list has at most whose pair is not kept: it is looked through at each place
-/// where it stands, which takes no memory that stays. Any number gives the same answers.
+/// where it stands, which allocates no memory that stays. Any number gives the same answers.
 const LONGEST_SHORT_LIST: usize = 16;
 
 /// A payload, a table whose objects have names, and for each long list of such objects that was
@@ -54,8 +54,8 @@ impl<'a> KnownLists<'a> {
         }
     }
 
-    /// The pair of positions at which two objects of a list have one name. Only a long list takes
-    /// memory, once.
+    /// The pair of positions at which two objects of a list have one name. Only a long list
+    /// allocates memory, once.
     pub(crate) fn twice(&mut self, alloc: Global, list: Val) -> Result<Option<Pair>, AllocError>
         requires { is_sound (payload_of self.old.adb) (Kinds.ObjArr self.old.which) list ≡ true }
         ensures value { IfOk result (λ pair. pair

@@ -1,5 +1,5 @@
-//! What stands in the fields of a walked payload: reads of words and fields, which cannot fail,
-//! arrays as lists of views, and names that stand twice.
+//! What is in the fields of a walked payload: reads of words and fields, which cannot fail, arrays
+//! as lists of views, and names that stand twice.
 //!
 //! A word that has a plain value under a kind is *sound*, and each read says which plain value it
 //! gives. `repeated_names` answers which name of a package, a database or an intent stands twice.
@@ -7,8 +7,8 @@
 //! that stand twice, which two positions are reported), `Repeated` (the names of a container, kind
 //! by kind), `Paths` and `JoinedPath`.
 //!
-//! The rules stand in `docs/formats.md`, "Values" (what a word, a field and an entry mean),
-//! "Schemas" and "Names that stand twice".
+//! The rules are in `docs/formats.md`, "Values" (what a word, a field and an entry mean), "Schemas"
+//! and "Names that stand twice".
 #![tactic(auto)]
 
 mod file_path;

@@ -1,4 +1,4 @@
-//! Arrays as lists of views, which cannot fail. What an entry means stands in `docs/formats.md`,
+//! Arrays as lists of views, which cannot fail. What an entry means is in `docs/formats.md`,
 //! "Values".
 
 ghost use Rattle.std.specs.Prelude.{◌≡◌, ◌<◌, ◌≤◌, ◌-◌, ◌^◌, ◌==◌, true};
@@ -85,7 +85,7 @@ impl<'a, V: Kinded> Clone for List<'a, V> {
 
     ghost is_infallible = { λ _. Unit {0} };
 
-    // The same list once more; it takes no memory.
+    // The same list once more; it allocates no memory.
     fn clone(&self) -> Result<Self, std::alloc::AllocError> {
         Ok(*self)
     }

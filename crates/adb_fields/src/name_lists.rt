@@ -1,5 +1,5 @@
 //! The lists of names in which one may stand twice, each name with its position: names of folders,
-//! of files and of packages, paths, and the texts of an intent. Which lists these are stands in the
+//! of files and of packages, paths, and the texts of an intent. Which lists these are is in the
 //! table of `docs/formats.md`, "Names that stand twice".
 
 ghost use Rattle.std.specs.Prelude.{◌≡◌, ◌+◌, ◌<◌, ◌^◌, ◌++◌, ◌∷◌, [], true, Some, map, length, IfOk};
@@ -26,7 +26,7 @@ use std::alloc::{AllocError, Global};
 /// The index of the name in a folder and in a file: in both it is the first field.
 const NAME_INDEX: usize = DIR_NAME;
 
-/// Adds a name behind the others, at the next position.
+/// Adds a name after the others, at the next position.
 fn add<'a>(names: &mut Vec<PathWithPosition<'a>>, name: &'a [u8]) -> Result<(), AllocError>
     requires { vec_len names.old + 1 < 2 ^ 32 }
     ensures added { IfOk result (λ _. map named_by names.new.items ≡ map named_by names.old.items
@@ -96,7 +96,7 @@ fn package_name<'a>(adb: Adb<'a>, pkg: Val) -> &'a [u8]
     text_field(adb, Which::PkgInfo, info, INFO_NAME)
 }
 
-/// Adds the texts of an array behind the names, at the positions that follow.
+/// Adds the texts of an array after the names, at the positions that follow.
 #[tactic(auto, using(crate::proofs::FieldReads::entry_sound))]
 pub(crate) fn add_texts<'a>(
     names: &mut Vec<PathWithPosition<'a>>,

@@ -1,4 +1,4 @@
-//! Which two positions are reported of the names of a list that stand twice. The rule stands in
+//! Which two positions are reported of the names of a list that stand twice. The rule is in
 //! `docs/formats.md`, "Names that stand twice", below the table ("the pair with the smallest second
 //! position").
 
@@ -47,7 +47,7 @@ impl Pair {
     }
 }
 
-/// The one of two pairs that is reported; None where there is neither.
+/// The one of two pairs that is reported; None if there is neither.
 pub(crate) fn earlier(one: Option<Pair>, other: Option<Pair>) -> Option<Pair>
     ensures { result ≡ earlier one other }
 {

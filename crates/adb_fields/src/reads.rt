@@ -1,7 +1,7 @@
 //! Reads of sound words, and of the fields of sound objects: they cannot fail. Fields count from 0,
-//! and a field that is missing is Null. What a word, a field and an entry mean stands in
+//! and a field that is missing is Null. What a word, a field and an entry mean is in
 //! `docs/formats.md`, "Values"; which field has which index is table by table in "Schemas", where
-//! fields count from 1. By name the indices stand in `FieldIndexes` of `adb_view`. In the clauses
+//! fields count from 1. By name the indices are in `FieldIndexes` of `adb_view`. In the clauses
 //! `sound` says that a word has a plain value under its kind, or its table, and `kind` which kind
 //! of value the field holds. `unreachable!` stands where a reader would refuse a word, since it
 //! refuses no sound one.
@@ -40,7 +40,7 @@ pub fn word_or_null(words: Arr<'_>, i: usize) -> Val
 }
 
 /// The word of the field with this index in a sound object; NULL where the object ends before it.
-/// Of an index behind the table's last field nothing is said.
+/// Of an index after the table's last field nothing is said.
 pub fn field_word(adb: Adb<'_>, which: Which, object: Val, i: usize) -> Val
     requires { is_sound (payload_of adb) (Kinds.Obj which) object ≡ true }
     ensures { IsFieldOf (payload_of adb.entry) which object i result }
@@ -123,7 +123,7 @@ pub fn int_field(adb: Adb<'_>, which: Which, object: Val, i: usize) -> u64
     int_word(adb, field_word(adb, which, object, i))
 }
 
-/// The bytes of a field of an object that is a text; none where the field is Null.
+/// The bytes of a field of an object that is a text; none if the field is Null.
 pub fn text_field<'a>(adb: Adb<'a>, which: Which, object: Val, i: usize) -> &'a [u8]
     requires sound { is_sound (payload_of adb) (Kinds.Obj which) object ≡ true }
     requires kind { kind_at which i ≡ Some Kinds.Text }
@@ -133,7 +133,7 @@ pub fn text_field<'a>(adb: Adb<'a>, which: Which, object: Val, i: usize) -> &'a 
     text_word(adb, field_word(adb, which, object, i))
 }
 
-/// The bytes of a field of an object that is a hash; none where the field is Null.
+/// The bytes of a field of an object that is a hash; none if the field is Null.
 pub fn hash_field<'a>(adb: Adb<'a>, which: Which, object: Val, i: usize) -> &'a [u8]
     requires sound { is_sound (payload_of adb) (Kinds.Obj which) object ≡ true }
     requires kind { kind_at which i ≡ Some Kinds.Hash }

@@ -1,4 +1,4 @@
-//! Names that stand twice in a walked container. The rule stands in `docs/formats.md`, "Names that
+//! Names that stand twice in a walked container. The rule is in `docs/formats.md`, "Names that
 //! stand twice".
 
 ghost use Rattle.std.specs.Prelude.{◌↔◌, None, ◌≡◌, ◌+◌, ◌<◌, ◌^◌, [], ◌∷◌, true, Some, map, IfOk};
@@ -32,7 +32,7 @@ use std::alloc::{AllocError, Global};
 /// The numbers of the fields whose texts stand once: 100 times the number of the table plus that of
 /// the field in it, which counts from 1.
 mod field_numbers {
-    // Field 1 of table 4, also for a path that stands in two packages.
+    // Field 1 of table 4, also for a path that is in two packages.
     pub(super) const FILE_NAME: u16 = 401;
 
     // Field 1 of table 5.
@@ -46,7 +46,7 @@ mod field_numbers {
 }
 
 /// Looks for a name that stands twice in a walked container, and answers the cause `Repeated`, or
-/// None exactly where there is none. The kinds are looked at in this order: in a package and in a
+/// None exactly if there is none. The kinds are looked at in this order: in a package and in a
 /// database two folders of a package, over all packages, and two files of a folder; in a database
 /// also two packages, and one path in two packages, at the positions of the packages; in an intent
 /// two names, of the removals followed by the writes. Of the first kind that stands, the pair with
@@ -278,7 +278,7 @@ fn file_twice(alloc: Global, adb: Adb<'_>, packages: Arr<'_>) -> Result<Option<P
     Ok(first)
 }
 
-/// A law: no repeated name is reported of a value exactly where each stands once.
+/// A law: no repeated name is reported of a value exactly if each stands once.
 pub fn no_name_is_repeated_where_each_stands_once()
     ensures { (which : Which) (value : Plain) → (repeated_fault which value ≡ None)
         ↔ NamesStandOnce which value }

@@ -1,4 +1,4 @@
--- The dependency that an entry of a list of dependencies is. What a dependency is stands in
+-- The dependency that an entry of a list of dependencies is. What a dependency is is in
 -- `docs/formats.md`, "Dependencies"; its fields in "Schemas", table 1.
 use Rattle.std.specs.Prelude.{Option}
 use Rattle.adb_view.specs.Plain.{Plain}
@@ -7,8 +7,8 @@ use Rattle.adb_view.specs.Values.{entry_in, int_in, text_in}
 use Rattle.dep_core.specs.Dependency.{Dependency}
 use Rattle.dep_core.specs.ValueReading.{dependency_of_value}
 
--- the dependency of a value of table 1, by its name, its version and its match number; None where
--- these are none, which no tested container has
+-- the dependency of a value of table 1, by its name, its version and its match number; None if these
+-- are none, which no tested container has
 abbrev pub dependency_in : Plain → Option Dependency
 dependency_in value =
     dependency_of_value (text_in (entry_in value DEP_NAME)) (text_in (entry_in value DEP_VERSION))

@@ -1,6 +1,5 @@
 -- The reserved names: names below a root under which no database lists a file, so that no change
--- removes one as a package's file. The rule stands in `docs/formats.md`, "The texts", below the
--- table.
+-- removes one as a package's file. The rule is in `docs/formats.md`, "The texts", below the table.
 use Rattle.std.specs.Prelude.{ℕ, Bool, ◌||◌, List, [], ◌∷◌, ◌++◌, codes, nat_eq}
 use Rattle.std.specs.Str.{bytes_eq}
 use Rattle.std.specs.List.{list_any, starts_with}

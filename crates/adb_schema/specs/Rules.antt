@@ -1,5 +1,5 @@
--- What single texts of a container have to be (apk-v3(5), apk-package(5)). The rules stand in the
--- table of `docs/formats.md`, "The texts".
+-- What single texts of a container have to be (apk-v3(5), apk-package(5)). The rules are in the table
+-- of `docs/formats.md`, "The texts".
 use Rattle.std.specs.Prelude.{ℕ, ◌==◌, nat_lt, nat_le, Bool, true, false, not, ◌&&◌, ◌||◌, List, [], ◌∷◌, length, codes}
 use Rattle.std.specs.Str.{bytes_eq, is_utf8}
 use Rattle.std.specs.List.{list_any}

@@ -1,7 +1,6 @@
--- What the value of a sound container is: it has the shape of its table, each text and number keeps
--- the rule of its field, and no name stands twice. Serves the law
--- `sound_containers_hold_sound_values`; the rules stand in `docs/formats.md`, "The shape", "The
--- texts" and "Names that stand twice".
+-- What the value of a sound container is: it has the shape of its table, each text and number keeps the
+-- rule of its field, and no name stands twice. Serves the law `sound_containers_hold_sound_values`; the
+-- rules are in `docs/formats.md`, "The shape", "The texts" and "Names that stand twice".
 use Rattle.std.specs.Prelude.{◌≡◌, ℕ, List, None}
 use Rattle.adb_view.specs.Plain.{Plain}
 use Rattle.adb_view.specs.Shaped.{HasShape}

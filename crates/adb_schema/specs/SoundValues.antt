@@ -1,6 +1,6 @@
--- What the value of a sound container is, table by table: each text and number keeps the rule of
--- its field. The rules stand in the table of `docs/formats.md`, "The texts"; the fields in
--- "Schemas". The numbers above the fields of records are those of that table.
+-- What the value of a sound container is, table by table: each text and number keeps the rule of its
+-- field. The rules are in the table of `docs/formats.md`, "The texts"; the fields in "Schemas". The
+-- numbers above the fields of records are those of that table.
 use Rattle.std.specs.Prelude.{◌≡◌, ℕ, true, if◌then◌else◌, List, [], length}
 use Rattle.version_core.specs.Order.{is_version}
 use Rattle.dep_core.specs.Dependency.{is_dep_name, is_package_name}
@@ -41,8 +41,8 @@ pub record IsInformation (root : Which) (v : Plain) : Type 0 where
   pub install_if : Each IsSoundDependency (entries_in (entry_in v INFO_INSTALL_IF))
   pub recommends : Each IsSoundDependency (entries_in (entry_in v INFO_RECOMMENDS))
 
--- a file of the folder with this name keeps its rules; where it has contents, it has their hash,
--- but in a database it may lack it
+-- a file of the folder with this name keeps its rules; if it has contents, it has their hash, but in a
+-- database it may lack it
 pub record IsFileOf (root : Which) (folder : List ℕ) (v : Plain) : Type 0 where
   -- 401
   pub name : is_file_name folder (text_in (entry_in v FILE_NAME)) ≡ true

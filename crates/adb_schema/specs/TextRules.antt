@@ -1,5 +1,5 @@
--- The rules that look at each byte of a text, apart from what stands around it, and the texts that
--- are known to keep one. The rules stand in the table of `docs/formats.md`, "The texts".
+-- The rules that look at each byte of a text, apart from what is around it, and the texts that are
+-- known to keep one. The rules are in the table of `docs/formats.md`, "The texts".
 use Rattle.std.specs.Prelude.{◌≡◌, ℕ, Bool, true, List}
 use Rattle.base_core.specs.Name.{is_name}
 use Rattle.version_core.specs.Order.{is_version}

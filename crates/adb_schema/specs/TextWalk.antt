@@ -1,5 +1,5 @@
 -- What the text walk answers on its way, and what it passes over. Serves the contracts of
--- `src/text_walk.rt`; the rule stands in `docs/formats.md`, "The texts".
+-- `src/text_walk.rt`; the rule is in `docs/formats.md`, "The texts".
 use Rattle.std.specs.Prelude.{◌≡◌, ℕ, ◌-◌, ◌<◌, true, List, slice_index, Option, Some, None}
 use Rattle.base_core.specs.declared.cause.Cause.{Cause}
 use Rattle.base_core.specs.declared.cause.Cause.TheVariants.{BadText}

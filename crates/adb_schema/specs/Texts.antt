@@ -1,7 +1,7 @@
--- The rules of the texts and numbers of a container, each under the number of its field, and the
--- first that is broken. The number of a field is 100 times that of its table plus its own in the
--- table. The rules stand in the table of `docs/formats.md`, "The texts"; their order is that of the
--- visits ("The shape").
+-- The rules of the texts and numbers of a container, each under the number of its field, and the first
+-- that is broken. The number of a field is 100 times that of its table plus its own in the table. The
+-- rules are in the table of `docs/formats.md`, "The texts"; their order is that of the visits ("The
+-- shape").
 use Rattle.std.specs.Prelude.{ℕ, ◌+◌, ◌*◌, ◌==◌, nat_lt, Bool, true, false, not, ◌&&◌, if◌then◌else◌, List, [], ◌∷◌, ◌++◌, length, Option, Some, None}
 use Rattle.version_core.specs.Order.{is_version}
 use Rattle.dep_core.specs.Dependency.{is_dep_name, is_package_name}
@@ -20,8 +20,8 @@ use Rattle.adb_view.specs.declared.tables.Which.{Which}
 use Rattle.adb_view.specs.declared.tables.Which.TheVariants.{Dep, PkgInfo, File, Dir, Index, Idb, Intent}
 use Rattle.adb_view.specs.declared.tables.Kind.TheVariants.{Obj}
 
--- what stands around a value, as far as a rule looks at it: the table of the container's root, the
--- name of the folder, and whether the file has contents
+-- what is around a value, as far as a rule looks at it: the table of the container's root, the name of
+-- the folder, and whether the file has contents
 pub record Surroundings : Type 0 where
   -- the table of the container's root
   pub root : Which
@@ -55,8 +55,7 @@ abbrev pub needs_hash : Which → Bool → Bool
 needs_hash Idb has_contents = false
 needs_hash root has_contents = has_contents
 
--- whether a file's hash may have so many bytes: as many as a digest, and none where no hash is
--- needed
+-- whether a file's hash may have so many bytes: as many as a digest, and none if no hash is needed
 abbrev pub is_file_hash : Surroundings → ℕ → Bool
 is_file_hash around len = if needs_hash around.root around.has_contents then is_digest_length len
     else is_digest_length_or_none len
@@ -108,8 +107,7 @@ abbrev pub is_with_contents : Plain → Bool
 is_with_contents file = (length (text_in (entry_in file FILE_TARGET)) == 0)
     && nat_lt 0 (int_in (entry_in file FILE_SIZE))
 
--- what stands around the fields of an object, whose table has this number, by what stands around
--- the object
+-- what is around the fields of an object, whose table has this number, by what is around the object
 abbrev pub inside_of : ℕ → Surroundings → Plain → Surroundings
 inside_of schema around v = record {
   root = around.root;
@@ -141,7 +139,7 @@ unfoldable mutual
   field_leaves (field name s fs) field_number around (more v vs) = leaves s field_number around v
       ++ field_leaves fs (field_number + 1) around vs
 
--- what stands around the root: no folder and no file
+-- what is around the root: no folder and no file
 abbrev pub at_root : Which → Surroundings
 at_root which = record { root = which; folder = []; has_contents = false }
 
@@ -151,8 +149,8 @@ leaves_of which v = leaves (shape_of (Obj which)) 0 (at_root which) v
 
 -- ---- the first fault
 
--- the cause of the first number or text that breaks its rule, told by the number of its field; None
--- where each keeps its own
+-- the cause of the first number or text that breaks its rule, told by the number of its field; None if
+-- each keeps its own
 abbrev pub first_bad : List Leaf → Option Cause
 first_bad [] = None
 first_bad (leaf ∷ others) = if keeps_rule leaf then first_bad others

@@ -1,4 +1,4 @@
-//! A checked payload, and the four views of its root. The tests stand in `docs/formats.md`, "The
+//! A checked payload, and the four views of its root. The tests are in `docs/formats.md`, "The
 //! texts"; the fields of the roots in "Schemas", tables 7 to 10. In the clauses of `Checked::new`
 //! `bad` says which cause a refusal has, and `sound` that no text is bad.
 
@@ -36,7 +36,7 @@ impl<'a> Checked<'a> {
     ghost use Rattle.adb_schema.specs.ReadFaults.{IsReadFault};
     ghost use Rattle.adb_schema.specs.Views.{package_value, index_value, idb_value, intent_value};
 
-    /// Tests each text and number of a walked payload against the rule of its field. It takes
+    /// Tests each text and number of a walked payload against the rule of its field. It allocates
     /// memory for long texts alone, which are judged once.
     ///
     /// # Errors

@@ -1,7 +1,7 @@
 //! The rules that look at each byte of a text, and the long texts of a payload that were found to
-//! keep one. Many places may share a text, so a long one is judged once. Which rules there are
-//! stands in the table of `docs/formats.md`, "The texts"; that each long text is judged once is
-//! what the README of this crate says of `Judged::keeps`.
+//! keep one. Many places may share a text, so a long one is judged once. Which rules there are is
+//! in the table of `docs/formats.md`, "The texts"; that each long text is judged once is what the
+//! README of this crate says of `Judged::keeps`.
 
 ghost use Rattle.std.specs.Prelude.{◌≡◌, All, IfOk};
 ghost use Rattle.std.specs.Bool.{OnTrue};
@@ -19,7 +19,7 @@ use std::collections::BTreeSet;
 use version_core::OverlappingVersions;
 
 /// How many bytes a text has at most that is not kept: it is judged at each place where it stands,
-/// which takes no memory. Any number gives the same answers.
+/// which allocates no memory. Any number gives the same answers.
 const LONGEST_SHORT_TEXT: usize = 64;
 
 /// A rule that looks at each byte of a text, and at nothing around the text; each is named for what

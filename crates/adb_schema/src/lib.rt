@@ -12,7 +12,7 @@
 //! each field, and the first that is broken) of `specs/`, and the definitions of `adb_view` and
 //! `adb_fields` below.
 //!
-//! The rules stand in `docs/formats.md`, "Tests of a container" and "The texts", and the fields in
+//! The rules are in `docs/formats.md`, "Tests of a container" and "The texts", and the fields in
 //! "Schemas".
 #![tactic(auto)]
 

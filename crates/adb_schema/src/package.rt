@@ -1,4 +1,4 @@
-//! Views of a package: its folders, its files, their rights, and its scripts. The fields stand in
+//! Views of a package: its folders, its files, their rights, and its scripts. The fields are in
 //! `docs/formats.md`, "Schemas", tables 2 and 4 to 7.
 
 ghost use Rattle.std.specs.Prelude.{◌≡◌, true};
@@ -136,7 +136,7 @@ impl<'a> FileInfo<'a> {
         int_field(self.adb, Which::File, self.word, FILE_MTIME)
     }
 
-    /// The digest of the file's bytes: SHA-1, SHA-256 or SHA-512 by its length; empty where none is
+    /// The digest of the file's bytes: SHA-1, SHA-256 or SHA-512 by its length; empty if none is
     /// known.
     pub fn hashes(&self) -> &'a [u8]
         ensures { result.now ≡ text_in (entry_in (file_value self.now) FILE_HASHES) }
@@ -144,7 +144,7 @@ impl<'a> FileInfo<'a> {
         hash_field(self.adb, Which::File, self.word, FILE_HASHES)
     }
 
-    /// A link's target, behind the two bytes `00 a0`; empty for a regular file (`docs/formats.md`,
+    /// A link's target, after the two bytes `00 a0`; empty for a regular file (`docs/formats.md`,
     /// "The texts", 406).
     pub fn target(&self) -> &'a [u8]
         ensures { result.now ≡ text_in (entry_in (file_value self.now) FILE_TARGET) }
@@ -213,8 +213,8 @@ impl<'a> DirInfo<'a> {
     }
 }
 
-/// A view of a package's scripts (table 6). Each is the text of a script, empty where there is
-/// none; `docs/commands.md`, "`add` and `del`", says which would run in a change.
+/// A view of a package's scripts (table 6). Each is the text of a script, empty if there is none;
+/// `docs/commands.md`, "`add` and `del`", says which would run in a change.
 #[derive(Clone, Copy)]
 pub struct ScriptsView<'a> {
     adb: Adb<'a>,

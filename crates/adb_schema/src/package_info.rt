@@ -1,4 +1,4 @@
-//! Views of a package's information and of dependencies. The fields stand in `docs/formats.md`,
+//! Views of a package's information and of dependencies. The fields are in `docs/formats.md`,
 //! "Schemas", tables 1 and 3.
 
 ghost use Rattle.std.specs.Prelude.{◌≡◌, true};
@@ -128,8 +128,7 @@ impl<'a> PkgInfo<'a> {
         text_field(self.adb, Which::PkgInfo, Val::of(self.word), INFO_VERSION)
     }
 
-    /// A digest: in an index the package's id or the first 20 bytes of it; empty where none is
-    /// known.
+    /// A digest: in an index the package's id or the first 20 bytes of it; empty if none is known.
     pub fn hashes(&self) -> &'a [u8]
         ensures { result.now ≡ text_in (entry_in (info_value self.now) INFO_HASHES) }
     {

@@ -1,8 +1,7 @@
-//! The reading of a whole container, and names that stand twice in it. The order of the tests
-//! stands in `docs/formats.md`, "Tests of a container"; what is tested behind the first block, in
-//! "The other blocks"; the words of the four schemas, in "Schemas". In the clauses `bad` says which
-//! cause a refusal has, `sound` that no test failed, and `table`, `payload` and `value` what was
-//! read.
+//! The reading of a whole container, and names that stand twice in it. The order of the tests is in
+//! `docs/formats.md`, "Tests of a container"; what is tested after the first block, in "The other
+//! blocks"; the words of the four schemas, in "Schemas". In the clauses `bad` says which cause a
+//! refusal has, `sound` that no test failed, and `table`, `payload` and `value` what was read.
 
 ghost use Rattle.std.specs.Prelude.{ℕ, List, All, ◌<◌, ◌≡◌, ◌≤◌, None, Some, length, codes, IfOk, IfErr};
 ghost use Rattle.std.specs.Result.{result_err};
@@ -51,7 +50,7 @@ pub enum ReadFault {
     /// The first test that failed.
     #[error("bad container")]
     Bad(Cause),
-    /// There was no memory.
+    /// Out of memory.
     #[error("out of memory")]
     Memory,
 }
@@ -94,7 +93,7 @@ pub fn schema_word(which: Which) -> Option<u32>
 }
 
 /// Looks for a name that stands twice in a checked container, and answers the cause `Repeated`, or
-/// None exactly where there is none. The kinds are looked at in this order: in a package and in a
+/// None exactly if there is none. The kinds are looked at in this order: in a package and in a
 /// database two folders of a package, over all packages, and two files of a folder; in a database
 /// also two packages, and one path in two packages, at the positions of the packages; in an intent
 /// two names, of the removals followed by the writes. Of the first kind that stands, the pair with
@@ -108,8 +107,8 @@ pub fn repeated(alloc: Global, checked: &Checked<'_>) -> Result<Option<Cause>, A
 
 /// Reads a container (apk-v3(5)) with this table at its root, and tests it in this order: the
 /// file's header, its schema, the first block's framing, its head, its shape, its texts, and names
-/// that stand twice; then, but for a package, the framing of the further blocks, and that none of
-/// them holds contents.
+/// that stand twice; then, except for a package, the framing of the further blocks, and that none
+/// of them holds contents.
 ///
 /// # Errors
 ///
@@ -188,8 +187,8 @@ fn check_payload<'a>(
     }
 }
 
-/// Tests the blocks behind the first; those of a package `pkg_core` tests, against the files that
-/// it lists.
+/// Tests the blocks after the first; those of a package `pkg_core` tests, against the files that it
+/// lists.
 fn check_rest(blocks: &mut Blocks<'_>, which: Which) -> Result<(), Cause>
     ensures { result_err result ≡ rest_fault which (reading_of blocks.old) }
 {
@@ -199,7 +198,7 @@ fn check_rest(blocks: &mut Blocks<'_>, which: Which) -> Result<(), Cause>
     }
 }
 
-/// Tests the blocks behind the first of a container without files, where no contents are due.
+/// Tests the blocks after the first of a container without files, if no contents are due.
 #[tactic(auto, unfolding(crate::specs::Soundness::further_fault))]
 fn check_further(blocks: &mut Blocks<'_>) -> Result<(), Cause>
     ensures { result_err result ≡ further_fault (reading_of blocks.old) }
@@ -214,7 +213,7 @@ fn check_further(blocks: &mut Blocks<'_>) -> Result<(), Cause>
     }
 }
 
-/// Why a block may not stand behind the first, if it may not.
+/// Why a block may not stand after the first, if it may not.
 fn block_fault(block: &Block<'_>) -> Option<Cause>
     ensures { result ≡ block_fault block.now.kind block.now.payload.now block.now.at }
 {
@@ -224,8 +223,8 @@ fn block_fault(block: &Block<'_>) -> Option<Cause>
     }
 }
 
-/// The cause of contents that stand where none are due: too short for the two numbers that they
-/// begin with (8 bytes), or those of a file where 0.0, which is none, was expected.
+/// The cause of contents that stand if none are due: too short for the two numbers that they begin
+/// with (8 bytes), or those of a file where 0.0, which is none, was expected.
 fn undue_contents(payload: &[u8], at: u64) -> Cause
     ensures { result ≡ undue_contents payload.now at }
 {

@@ -1,6 +1,6 @@
 //! What single texts of a container have to be (apk-v3(5), apk-package(5)), and the names below a
-//! root under which no database lists a file. The rules stand in `docs/formats.md`, "The texts":
-//! its table, and the paragraph on reserved names below it.
+//! root under which no database lists a file. The rules are in `docs/formats.md`, "The texts": its
+//! table, and the paragraph on reserved names below it.
 
 ghost use Rattle.std.specs.Prelude.{◌≡◌, ◌==◌, nat_le, length, ◌∷◌};
 ghost use Rattle.std.specs.Str.{is_utf8};
@@ -115,7 +115,7 @@ pub(crate) fn is_target(bytes: &[u8]) -> bool
     bytes.is_empty() || is_link(bytes)
 }
 
-/// Whether bytes are the mark of a link and behind it a text, which is not empty.
+/// Whether bytes are the mark of a link and after it a text, which is not empty.
 fn is_link(bytes: &[u8]) -> bool
     ensures { result ≡ is_link bytes.now }
 {
@@ -195,7 +195,7 @@ fn is_file_at_or_below(top: &[u8], folder: &[u8], name: &[u8]) -> bool
     }
 }
 
-/// Whether a slash and a name are at or below `top`, which is what is left of a name behind a
+/// Whether a slash and a name are at or below `top`, which is what is left of a name after a
 /// folder.
 fn is_at_or_below_slash(top: &[u8], name: &[u8]) -> bool
     ensures { result ≡ is_at_or_below top.now (47 ∷ name.now) }

@@ -1,5 +1,5 @@
 //! The text walk: each number and text of a walked payload, against the rule of its field. The
-//! order and the rules stand in `docs/formats.md`, "The texts". Each call that is lent a `Judged`
+//! order and the rules are in `docs/formats.md`, "The texts". Each call that is lent a `Judged`
 //! leaves its payload the same (clause `payload`), so that what is known of its words stays true.
 
 ghost use Rattle.std.specs.Prelude.{ℕ, List, ◌↔◌, None, ◌≡◌, ◌==◌, ◌*◌, true, false, length, ◌+◌, ◌<◌, ◌≤◌, ◌^◌, IfOk, [], ◌∷◌};
@@ -78,7 +78,7 @@ mod field_numbers {
     pub(crate) const INTENT_WRITES: u16 = 1002;
 }
 
-/// What stands around a value, as far as a rule looks at it.
+/// What is around a value, as far as a rule looks at it.
 #[derive(Clone, Copy)]
 pub(crate) struct Surroundings<'a> {
     /// The table of the container's root.
@@ -90,7 +90,7 @@ pub(crate) struct Surroundings<'a> {
 }
 
 impl<'a> Surroundings<'a> {
-    /// What stands around the root of a container: no folder and no file.
+    /// What is around the root of a container: no folder and no file.
     pub(crate) fn at_root(root: Which) -> Surroundings<'a>
         ensures { surroundings_of result ≡ at_root root }
     {
@@ -101,7 +101,7 @@ impl<'a> Surroundings<'a> {
         }
     }
 
-    /// What stands around the fields of an object, by what stands around the object.
+    /// What is around the fields of an object, by what is around the object.
     pub(crate) fn inside(&self, adb: Adb<'a>, which: Which, object: Val) -> Surroundings<'a>
         requires { is_sound (payload_of adb) (Kinds.Obj which) object ≡ true }
         ensures { surroundings_of result
@@ -251,8 +251,8 @@ fn keeps_change_name(judged: &mut Judged<'_>, word: Val, text: &[u8]) -> Result<
 
 /// Tests each text and number of a walked payload against the rule of its field, and answers the
 /// cause `BadText` with the number of the first field that breaks its rule, depth first and field
-/// by field, or None exactly where each keeps its own; a missing field counts as Null. A text of
-/// more than 64 bytes is judged once, however many places share it.
+/// by field, or None exactly if each keeps its own; a missing field counts as Null. A text of more
+/// than 64 bytes is judged once, however many places share it.
 pub fn check_texts(alloc: Global, shaped: Shaped<'_>) -> Result<Option<Cause>, AllocError>
     ensures { IfOk result (λ cause. cause
         ≡ text_fault (table_of shaped.entry) (shaped_value shaped.entry)) }
@@ -458,14 +458,14 @@ fn check_text(
 }
 
 /// The cause that the text walk reports is that of the first text or number that breaks the rule of
-/// its field, depth first and field by field; none is reported exactly where each keeps its rule.
+/// its field, depth first and field by field; none is reported exactly if each keeps its rule.
 pub fn the_first_bad_text_is_reported()
     ensures { (which : Which) (value : Plain)
         → IsFirstBadOf (leaves_of which value) (text_fault which value) }
 {}
 
-/// A law: no text or number of a value is bad exactly where each keeps the rule of its field, table
-/// by table.
+/// A law: no text or number of a value is bad exactly if each keeps the rule of its field, table by
+/// table.
 pub fn no_text_is_bad_where_each_keeps_its_rule()
     ensures { (which : Which) (value : Plain) → (text_fault which value ≡ None)
         ↔ KeepsRules which value }

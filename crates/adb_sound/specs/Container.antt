@@ -1,6 +1,6 @@
--- A container that is made of a value, and of a package the contents of its files behind it. The
--- rules stand in `docs/formats.md`, "The other blocks" (contents) and "Canonical layout" ("In a
--- container each block is padded").
+-- A container that is made of a value, and of a package the contents of its files after it. The rules
+-- are in `docs/formats.md`, "The other blocks" (contents) and "Canonical layout" ("In a container each
+-- block is padded").
 use Rattle.std.specs.Prelude.{ℕ, List, ◌∷◌, ◌++◌, map}
 use Rattle.std.specs.Int.{w32, to_le_bytes}
 use Rattle.adb_block.specs.Piece.{Piece}
@@ -21,8 +21,7 @@ contents_payload c = to_le_bytes w32 c.folder ++ (to_le_bytes w32 c.file ++ c.by
 abbrev pub contents_piece : Contents → Piece
 contents_piece c = record { kind = Kinds.Contents; payload = contents_payload c }
 
--- the container of a schema and a value: the value's payload, and behind it a block for each
--- contents
+-- the container of a schema and a value: the value's payload, and after it a block for each contents
 abbrev pub container_of : ℕ → Plain → List Contents → List ℕ
 container_of schema v contents =
     container schema (adb_piece (canonical v) ∷ map contents_piece contents)

@@ -1,6 +1,6 @@
 -- A draft as contracts see it, and what each call makes of it: one value more, or an open list. The
--- rule stands in `docs/formats.md`, "Canonical layout" ("Values are written depth first"); how the
--- calls chain, in the README of this crate.
+-- rule is in `docs/formats.md`, "Canonical layout" ("Values are written depth first"); how the calls
+-- chain, in the README of this crate.
 use Rattle.std.specs.Prelude.{ℕ, List, [], ◌∷◌, ◌++◌, length}
 use Rattle.adb_view.specs.Plain.{Plain, Plains, none, more}
 use Rattle.adb_write.specs.Writing.{Writing, empty_writing, calls}

@@ -1,5 +1,5 @@
--- What a writer of values answers. Its limits stand in `docs/formats.md`, "Canonical layout" ("A
--- payload has at most").
+-- What a writer of values answers. Its limits are in `docs/formats.md`, "Canonical layout" ("A payload
+-- has at most").
 use Rattle.std.specs.Prelude.{◌≡◌, ℕ, List, Result, Ok, Err}
 use Rattle.adb_write.specs.Canonical.{PayloadCounts}
 use Rattle.adb_write.specs.declared.writer.WriteFault.{WriteFault}

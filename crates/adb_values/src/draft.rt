@@ -1,4 +1,4 @@
-//! A payload under construction. What is written stands in `docs/formats.md`, "Canonical layout"
+//! A payload under construction. What is written is in `docs/formats.md`, "Canonical layout"
 //! ("Values are written depth first"); where a limit is passed, below "A payload has at most". How
 //! the calls chain is told in the README of this crate. In the clauses `ok` says what the draft has
 //! taken, and `err` that a refused call leaves it as it was.
@@ -146,7 +146,7 @@ impl Draft {
         Ok(())
     }
 
-    /// How many words stand before the list that was opened last; 0 where no list is open.
+    /// How many words stand before the list that was opened last; 0 if no list is open.
     fn last_start(&self) -> usize
         ensures is { result ≡ last_start self.now }
         ensures within { result ≤ length self.now.words }
@@ -158,7 +158,7 @@ impl Draft {
         }
     }
 
-    /// The payload whose root is the only value of the draft, or the counts just behind the first
+    /// The payload whose root is the only value of the draft, or the counts just after the first
     /// value at which one passes its limit.
     pub fn finish(self) -> Result<Vec<u8>, WriteFault>
         ensures written { (v : Plain) → self ≡ draft_with v empty_draft
@@ -195,7 +195,7 @@ fn replace_from(words: &mut Vec<Val>, start: usize, word: Val)
     }
 }
 
-/// The last of some words, that of the root, or NULL where there is none.
+/// The last of some words, that of the root, or NULL if there is none.
 fn last_word(words: &[Val]) -> Val
     ensures { result ≡ last_word words.now }
 {

@@ -5,7 +5,7 @@
 //! each entry of an open list. The contracts cite `Drafts` (a draft, and what it has taken) and
 //! `Written` (what it ends with) of `specs/`.
 //!
-//! The rules stand in `docs/formats.md`, "Canonical layout".
+//! The rules are in `docs/formats.md`, "Canonical layout".
 #![tactic(auto)]
 
 mod draft;

@@ -1,5 +1,5 @@
 -- What it is that a fault is the first of the walk. Serves the law
--- `the_first_faulty_visit_is_reported`; the rule stands in `docs/formats.md`, "The shape".
+-- `the_first_faulty_visit_is_reported`; the rule is in `docs/formats.md`, "The shape".
 use Rattle.std.specs.Prelude.{◌≡◌, ℕ, ◌+◌, ◌<◌, List, slice_get, Some, None}
 use Rattle.adb_view.specs.Visits.{Visit}
 use Rattle.adb_view.specs.Walk.{visit_fault}

@@ -1,5 +1,5 @@
--- Values with no values below them. Serves the walk in `src/walk.rt`; which values stand in which
--- field, and that NULL is one of each kind, stands in `docs/formats.md`, "The shape".
+-- Values with no values below them. Serves the walk in `src/walk.rt`; which values are in which field,
+-- and that NULL is one of each kind, is in `docs/formats.md`, "The shape".
 use Rattle.std.specs.Prelude.{ℕ, ◌+◌, Bool, ◌==◌, if◌then◌else◌, List, [], ◌∷◌, is_some}
 use Rattle.std.specs.Result.{result_ok}
 use Rattle.adb_view.specs.Readers.{int_of, blob_of}

@@ -1,5 +1,5 @@
--- Plain values, the shapes that tables of fields give them, and the plain value of a word. The
--- rules stand in `docs/formats.md`, "Values" ("A table of fields gives each word a shape").
+-- Plain values, the shapes that tables of fields give them, and the plain value of a word. The rules
+-- are in `docs/formats.md`, "Values" ("A table of fields gives each word a shape").
 use Rattle.std.specs.Prelude.{◌≡◌, ◌≢◌, ℕ, suc, ◌<◌, ◌^◌, List, [], ◌∷◌, Option, Some, None, option_map, option_and_then, Result, Ok, Err, ◌==◌, if◌then◌else◌}
 use Rattle.adb_view.specs.Readers.{int_of, blob_of, run_of, ARRAY, OBJECT}
 use Rattle.adb_view.specs.Head.{root_of}
@@ -85,22 +85,22 @@ text_plains (t ∷ ts) = more (blob_value t) (text_plains ts)
 abbrev pub unless_null : ℕ → Option Plain → Option Plain
 unless_null word v = if word == 0 then Some null else v
 
--- what `f` makes of a reader's answer; None where it refused the word with a cause
+-- what `f` makes of a reader's answer; None if it refused the word with a cause
 abbrev pub from_answer : {A B : Type 0} → (A → Option B) → Result A Cause → Option B
 from_answer f (Ok x) = f x
 from_answer f (Err c) = None
 
--- a value with others behind it; None where one of them was not found
+-- a value with others after it; None if one of them was not found
 abbrev pub then_more : Option Plain → Option Plains → Option Plains
 then_more v vs = option_and_then (λ v. option_map (more v) vs) v
 
--- the value of each word in order; None where one of the words has none
+-- the value of each word in order; None if one of the words has none
 abbrev pub each_plain : (ℕ → Option Plain) → List ℕ → Option Plains
 each_plain f [] = Some none
 each_plain f (w ∷ ws) = then_more (f w) (each_plain f ws)
 
 -- the plain value that the word `w` has in the payload `p` under a shape, by the reader of the shape;
--- None where one of the words below it cannot be read
+-- None if one of the words below it cannot be read
 unfoldable mutual
   pub plain_of : List ℕ → Shape → ℕ → Option Plain
   plain_of p number w = unless_null w (from_answer (λ n. Some (int n)) (int_of p w))

@@ -16,7 +16,7 @@ rank TextArr = 2
 rank (Obj w) = 4 * schema_number w
 rank (ObjArr w) = 4 * schema_number w + 2
 
--- the greatest rank of the kinds of some fields; 0 where there are none
+-- the greatest rank of the kinds of some fields; 0 if there are none
 abbrev pub rank_of_all : List Field → ℕ
 rank_of_all [] = 0
 rank_of_all (f ∷ fs) = max (rank f.kind) (rank_of_all fs)

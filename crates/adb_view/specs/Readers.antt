@@ -1,4 +1,4 @@
--- What a word means in a payload, for each of the four readers. The rules stand in the table of
+-- What a word means in a payload, for each of the four readers. The rules are in the table of
 -- `docs/formats.md`, "Values", and in the two paragraphs below it.
 use Rattle.std.specs.Prelude.{ℕ, zero, suc, ◌+◌, ◌*◌, ◌/◌, ◌%◌, ◌^◌, List, [], Option, Some, None, option_map, option_and_then, Result, Ok, Err, ◌==◌, if◌then◌else◌}
 use Rattle.std.specs.Int.{Width, w8, w16, w32, w64, byte_len}
@@ -29,7 +29,7 @@ int_of payload word =
     else if kind_of word == 3 then inside word (number_at w64 payload (low_of word))
     else Err (WrongKind word)
 
--- the bytes of a blob that stands at an offset: a length of this width, and behind it so many bytes
+-- the bytes of a blob that is at an offset: a length of this width, and after it so many bytes
 abbrev pub counted_at : Width → List ℕ → ℕ → Option (List ℕ)
 counted_at w payload at = option_and_then (λ len. range_at payload (at + byte_len w) len)
     (number_at w payload at)

@@ -1,5 +1,5 @@
--- The ten tables, as the program's constants have them, and the shapes that they give. The rules
--- stand in `docs/formats.md`, "Schemas" (the tables) and "Values" (what a shape is).
+-- The ten tables, as the program's constants have them, and the shapes that they give. The rules are in
+-- `docs/formats.md`, "Schemas" (the tables) and "Values" (what a shape is).
 use Rattle.std.specs.Prelude.{ℕ, zero, suc, List, [], ◌∷◌, codes}
 use Rattle.adb_view.specs.Plain.{Shape, number, text, hash, array, object, Fields, no_fields, field}
 use Rattle.adb_view.specs.declared.tables.Which.{Which}

@@ -1,5 +1,5 @@
 -- The values that a field of a shape may have; Null is one of each shape. Serves the law
--- `values_have_their_shape`; what a shape is stands in `docs/formats.md`, "Values".
+-- `values_have_their_shape`; what a shape is is in `docs/formats.md`, "Values".
 use Rattle.adb_view.specs.Plain.{Plain, null, int, blob, arr, obj, Plains, none, more, Shape, number, text, hash, array, object, Fields, no_fields, field}
 
 -- P holds of each of the values

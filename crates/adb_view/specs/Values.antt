@@ -1,5 +1,5 @@
--- What views answer: the plain value of a word that is known to have one, and its fields. The rule
--- stands in `docs/formats.md`, "Values" ("A table of fields gives each word a shape").
+-- What views answer: the plain value of a word that is known to have one, and its fields. The rule is
+-- in `docs/formats.md`, "Values" ("A table of fields gives each word a shape").
 use Rattle.std.specs.Prelude.{ℕ, zero, suc, Bool, List, [], is_some, Option, unwrap_or, option_map, slice_get}
 use Rattle.adb_view.specs.Plain.{Plain, null, int, blob, arr, obj, Plains, none, more, plain_of}
 pub use Rattle.adb_view.specs.Plain.{count_of}
@@ -11,7 +11,7 @@ use Rattle.adb_view.specs.declared.tables.Kind.{Kind}
 unfoldable pub is_sound : List ℕ → Kind → ℕ → Bool
 is_sound p k w = is_some (plain_of p (shape_of k) w)
 
--- the plain value of the word `w` of the payload `p` under the kind; Null where it has none
+-- the plain value of the word `w` of the payload `p` under the kind; Null if it has none
 unfoldable pub value_at : List ℕ → Kind → ℕ → Plain
 value_at p k w = unwrap_or (plain_of p (shape_of k) w) null
 

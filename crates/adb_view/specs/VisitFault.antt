@@ -1,6 +1,6 @@
 -- The fault of a visit, as the walk hands it on, and the cause that is reported of it. Serves the
--- contracts of `src/visit_fault.rt` and `src/readers.rt`; the rule stands in `docs/formats.md`,
--- "The shape".
+-- contracts of `src/visit_fault.rt` and `src/readers.rt`; the rule is in `docs/formats.md`, "The
+-- shape".
 use Rattle.std.specs.Prelude.{Bool, true, false, Result, Ok, Err}
 use Rattle.base_core.specs.declared.cause.Cause.{Cause}
 use Rattle.base_core.specs.declared.cause.Cause.TheVariants as Causes

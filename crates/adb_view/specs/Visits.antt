@@ -1,4 +1,4 @@
--- The words that a walk over a value visits, and whether each can be read. The rule stands in
+-- The words that a walk over a value visits, and whether each can be read. The rule is in
 -- `docs/formats.md`, "The shape".
 use Rattle.std.specs.Prelude.{ℕ, Bool, is_none, List, [], ◌∷◌, ◌++◌, Option, Result, Ok, Err}
 use Rattle.std.specs.Result.{result_err}
@@ -39,11 +39,11 @@ unfoldable mutual
   field_visits p (field name s fs) [] = []
   field_visits p (field name s fs) (w ∷ ws) = visits p s w ++ field_visits p fs ws
 
--- how many visits a payload may have, so how many values, each counted wherever it stands
+-- how many visits a payload may have, so how many values, each counted wherever it occurs
 abbrev pub MOST_VALUES : ℕ
 MOST_VALUES = 4194304
 
--- why the reader of this shape refuses the word; None where it takes it
+-- why the reader of this shape refuses the word; None if it takes it
 abbrev pub fault_at : List ℕ → Shape → ℕ → Option Cause
 fault_at p number w = result_err (int_of p w)
 fault_at p text w = result_err (blob_of p w)

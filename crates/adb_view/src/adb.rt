@@ -1,5 +1,5 @@
 //! An opened payload and its four readers, and what follows from the definitions, for every
-//! payload. The rules stand in `docs/formats.md`, "Values": the head below "An ADB payload begins
+//! payload. The rules are in `docs/formats.md`, "Values": the head below "An ADB payload begins
 //! with eight bytes", the kinds of words in its table, what each reader answers below it. In the
 //! clauses `exact` says which payload is refused and why, `lent` that the bytes are those that were
 //! given, `order` and `within` that a range lies in the payload.
@@ -37,7 +37,7 @@ impl<'a> Adb<'a> {
     ///
     /// # Errors
     ///
-    /// `Truncated` at 0 where there are fewer than 8 bytes, else `CompatVersion` where the first is
+    /// `Truncated` at 0 if there are fewer than 8 bytes, else `CompatVersion` where the first is
     /// not 0.
     pub fn new(payload: &'a [u8]) -> Result<Adb<'a>, Cause>
         ensures exact { result_err result ≡ head_fault payload.now }
@@ -71,7 +71,7 @@ impl<'a> Adb<'a> {
     ///
     /// # Errors
     ///
-    /// `WrongKind` where it is no integer, else `Outside` where its bytes leave the payload.
+    /// `WrongKind` if it is no integer, else `Outside` where its bytes leave the payload.
     #[tactic(auto, unfolding(crate::specs::Readers::int_of))]
     pub fn int(&self, v: Val) -> Result<u64, Cause>
         ensures { result ≡ int_of (payload_of self.now) v }
@@ -89,11 +89,11 @@ impl<'a> Adb<'a> {
         found.ok_or(Cause::Outside { word })
     }
 
-    /// The bytes of the blob that the value is, as they stand in the payload; NULL is empty.
+    /// The bytes of the blob that the value is, as they are in the payload; NULL is empty.
     ///
     /// # Errors
     ///
-    /// `WrongKind` where it is no blob, else `Outside` where its bytes leave the payload.
+    /// `WrongKind` if it is no blob, else `Outside` where its bytes leave the payload.
     pub fn blob(&self, v: Val) -> Result<&'a [u8], Cause>
         ensures { Gives (λ bytes. bytes.now) result (blob_of (payload_of self.now) v) }
     {
@@ -106,7 +106,7 @@ impl<'a> Adb<'a> {
     ///
     /// # Errors
     ///
-    /// `WrongKind` where it is no blob, else `Outside` where its bytes leave the payload.
+    /// `WrongKind` if it is no blob, else `Outside` where its bytes leave the payload.
     #[tactic(auto, unfolding(crate::specs::Readers::blob_of))]
     pub fn blob_range(&self, v: Val) -> Result<(usize, usize), Cause>
         ensures found { Gives (λ found. slice_range (payload_of self.now) found.0 found.1) result
@@ -131,8 +131,8 @@ impl<'a> Adb<'a> {
     ///
     /// # Errors
     ///
-    /// `WrongKind` where it is no array, else `Outside` where its run leaves the payload or counts
-    /// no word.
+    /// `WrongKind` if it is no array, else `Outside` where its run leaves the payload or counts no
+    /// word.
     pub fn arr(&self, v: Val) -> Result<Arr<'a>, Cause>
         ensures { Gives array_entries result (run_of ARRAY (payload_of self.now) v) }
     {
@@ -143,8 +143,8 @@ impl<'a> Adb<'a> {
     ///
     /// # Errors
     ///
-    /// `WrongKind` where it is no object, else `Outside` where its run leaves the payload or counts
-    /// no word.
+    /// `WrongKind` if it is no object, else `Outside` where its run leaves the payload or counts no
+    /// word.
     pub fn obj<const N: usize>(&self, v: Val) -> Result<Obj<'a, N>, Cause>
         ensures { Gives object_entries result (run_of OBJECT (payload_of self.now) v) }
     {
@@ -152,8 +152,8 @@ impl<'a> Adb<'a> {
         Ok(Obj::of(entries))
     }
 
-    /// The integer that `int` reads; none where it refuses. A cause has 150 bytes, which a reader
-    /// that may answer one moves at each call.
+    /// The integer that `int` reads; none if it refuses. A cause has 150 bytes, which a reader that
+    /// may answer one moves at each call.
     #[tactic(auto, unfolding(crate::specs::Readers::int_of))]
     pub fn find_int(&self, v: Val) -> Option<u64>
         ensures { result ≡ result_ok (int_of (payload_of self.now) v) }
@@ -169,7 +169,7 @@ impl<'a> Adb<'a> {
         }
     }
 
-    /// The bytes that `blob` reads; none where it refuses.
+    /// The bytes that `blob` reads; none if it refuses.
     #[tactic(auto, unfolding(crate::specs::Readers::blob_of))]
     pub fn find_blob(&self, v: Val) -> Option<&'a [u8]>
         ensures { Finds (λ bytes. bytes.now) result (result_ok (blob_of (payload_of self.now) v)) }
@@ -187,14 +187,14 @@ impl<'a> Adb<'a> {
         Some(&self.payload[from..end])
     }
 
-    /// The array that `arr` reads; none where it refuses.
+    /// The array that `arr` reads; none if it refuses.
     pub fn find_arr(&self, v: Val) -> Option<Arr<'a>>
         ensures { Finds array_entries result (result_ok (run_of ARRAY (payload_of self.now) v)) }
     {
         Arr::find(self.payload, kind::ARRAY, v)
     }
 
-    /// The entries of the object that `obj` reads; none where it refuses.
+    /// The entries of the object that `obj` reads; none if it refuses.
     pub fn find_entries(&self, v: Val) -> Option<Arr<'a>>
         ensures { Finds array_entries result (result_ok (run_of OBJECT (payload_of self.now) v)) }
     {
@@ -202,7 +202,7 @@ impl<'a> Adb<'a> {
     }
 }
 
-/// A plain value is found exactly where each word that the walk visits is read by the reader of its
+/// A plain value is found exactly if each word that the walk visits is read by the reader of its
 /// shape; so are those of the entries of an object.
 pub fn value_is_found_where_visits_are_sound()
     ensures word { (payload : List ℕ) (shape : Shape) (word : ℕ)

@@ -1,4 +1,4 @@
-//! Where fields stand in an object of their table: how many fields stand before them, so that the
+//! Where fields are in an object of their table: how many fields stand before them, so that the
 //! first has index 0. The number in brackets is the one by which causes and `docs/formats.md`,
 //! "Schemas", name the field; there fields count from 1. The tables themselves are in `tables`. The
 //! contracts have the same list in `FieldIndexes`.

@@ -9,10 +9,10 @@
 //! (plain values and the shapes of fields), `Shaped` (the values that a shape has), `Visits` (the
 //! words below a word), `Schema` (the tables, and the shapes that they give), `FormatTables` (the
 //! same as the formats list them), `Walk` (the first fault of the walk), `Values` (plain values of
-//! words, and their fields) and `ShapedPayload` of `specs/`. Which field has which index stands in
+//! words, and their fields) and `ShapedPayload` of `specs/`. Which field has which index is in
 //! `field_indexes`, and for the contracts in `FieldIndexes`.
 //!
-//! The rules stand in `docs/formats.md`, "Values", "Schemas" (the tables) and "The shape" (the walk).
+//! The rules are in `docs/formats.md`, "Values", "Schemas" (the tables) and "The shape" (the walk).
 #![tactic(auto)]
 
 mod adb;

@@ -1,6 +1,6 @@
 //! The readers of words, as the walk asks them. Each first asks the reader that makes no cause;
-//! only where that finds nothing it asks the one that tells the cause. What a reader answers stands
-//! in `docs/formats.md`, "Values" ("Who asks for an integer, a blob, an array or an object says
+//! only where that finds nothing it asks the one that tells the cause. What a reader answers is in
+//! `docs/formats.md`, "Values" ("Who asks for an integer, a blob, an array or an object says
 //! which").
 
 ghost use Rattle.std.specs.Prelude.{◌≡◌, IfErr, IfOk, Err, Ok};

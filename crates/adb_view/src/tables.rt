@@ -1,6 +1,6 @@
 //! The ten tables of the containers: what a field is, the constants, and the fields of each table.
-//! The tables stand in `docs/formats.md`, "Schemas". A new table is a new constant here, its
-//! variant of `Which`, and its lines in `fields_of` and `number_of`.
+//! The tables are in `docs/formats.md`, "Schemas". A new table is a new constant here, its variant
+//! of `Which`, and its lines in `fields_of` and `number_of`.
 
 ghost use Rattle.std.specs.Prelude.{◌≡◌, ◌≤◌};
 ghost use Rattle.adb_view.specs.Schema.{table, schema_number, shape_of, shapes_of};
@@ -419,7 +419,7 @@ pub fn tables_are_as_listed()
     ensures { (which : Which) → program_table which ≡ format_table which }
 {}
 
-/// A law: each object has the fields of its table, however deep it stands in another.
+/// A law: each object has the fields of its table, however deep it is in another.
 pub fn tables_are_unrolled_whole()
     ensures { (which : Which) → shape_of (Kinds.Obj which)
         ≡ object (schema_number which) (shapes_of (table which)) }

@@ -1,5 +1,5 @@
 //! The fault of a visit, as the walk hands it from value to value. Which faults there are, and in
-//! which order they are looked for, stands in `docs/formats.md`, "The shape".
+//! which order they are looked for, is in `docs/formats.md`, "The shape".
 
 ghost use Rattle.std.specs.Prelude.{◌≡◌, true};
 ghost use Rattle.adb_view.specs.VisitFault.{cause_of_fault, is_reader_fault};

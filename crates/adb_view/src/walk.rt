@@ -1,6 +1,6 @@
 //! The walk over a payload's values that tests their shape: depth first, each visit counted and
-//! then tested. The rule stands in `docs/formats.md`, "The shape". In the clauses `bound` says that
-//! the count of visits stays within its limit.
+//! then tested. The rule is in `docs/formats.md`, "The shape". In the clauses `bound` says that the
+//! count of visits stays within its limit.
 
 ghost use Rattle.std.specs.Prelude.{min, drop, ◌<◌, slice_index, ◌≡◌, ◌≤◌, ◌+◌, IfOk, true, is_some, length, is_none, ◌↔◌, ℕ, List, Some, None};
 ghost use Rattle.std.specs.Result.{result_err};
@@ -51,8 +51,8 @@ pub fn entry_word(entries: Arr<'_>, i: usize) -> Val
     entries.get(i + 1)
 }
 
-/// How many visits the walk of a payload may have (`docs/formats.md`, "The shape"); a word that
-/// stands at two places is visited twice.
+/// How many visits the walk of a payload may have (`docs/formats.md`, "The shape"); a word that is
+/// at two places is visited twice.
 const MOST_VALUES: u32 = 4_194_304;
 
 /// Walks a payload's values from its root, as an object of this table: a word, then its entries in
@@ -253,7 +253,7 @@ fn leading_leaves(adb: Adb<'_>, fields: &[Field], entries: Arr<'_>) -> usize
     most
 }
 
-/// Visits the entries of an object that have one of these fields, whatever the fields, behind so
+/// Visits the entries of an object that have one of these fields, whatever the fields, after so
 /// many visits, and answers how many there were then.
 ///
 /// # Errors
@@ -302,7 +302,7 @@ pub fn the_first_faulty_visit_is_reported()
         ↔ IsFirstFault payload (visits payload shape word) cause }
 {}
 
-/// Nothing is reported exactly where there is a plain value, and the visits are not too many.
+/// Nothing is reported exactly if there is a plain value, and the visits are not too many.
 pub fn values_of_few_visits_have_no_fault()
     ensures { (payload : List ℕ) (shape : Shape) (word : ℕ)
         → (shape_fault payload shape word ≡ None) ↔ ((is_some (plain_of payload shape word) ≡ true)

@@ -1,5 +1,5 @@
-//! Words of values, and the ranges and numbers of a byte slice that they point to. The kinds stand
-//! in the table of `docs/formats.md`, "Values".
+//! Words of values, and the ranges and numbers of a byte slice that they point to. The kinds are in
+//! the table of `docs/formats.md`, "Values".
 
 ghost use Rattle.std.specs.Prelude.{◌≡◌, ◌↔◌, IsTrue, ◌<◌, ◌≤◌, ◌-◌, ◌*◌, ◌/◌, ◌^◌, length, IfSome, slice_index, slice_range};
 ghost use Rattle.adb_view.specs.Readers.{kind_of, low_of, counted_at, run_at};
@@ -39,7 +39,7 @@ pub(crate) mod kind {
 }
 
 /// A value's word: its kind in the top 4 bits, and below them a number, or an offset in bytes from
-/// the start of the payload that the word stands in (apk-v3(5)).
+/// the start of the payload that the word is in (apk-v3(5)).
 #[derive(Clone, Copy, Debug, PartialEq, Eq)]
 pub struct Val {
     word: u32,
@@ -136,8 +136,8 @@ pub(crate) fn number(bytes: &[u8], at: usize, width: Width) -> Option<u64>
     })
 }
 
-/// From where to where the bytes of a blob stand whose length, of this width, is at `at`; None
-/// where they pass the end. An offset has 28 bits.
+/// From where to where the bytes of a blob stand whose length, of this width, is at `at`; None if
+/// they pass the end. An offset has 28 bits.
 pub(crate) fn counted_range(bytes: &[u8], at: usize, width: Width) -> Option<(usize, usize)>
     requires { at < 2 ^ 28 }
     ensures found { Finds (λ found. slice_range bytes.now found.0 found.1) result
@@ -154,8 +154,8 @@ pub(crate) fn counted_range(bytes: &[u8], at: usize, width: Width) -> Option<(us
     Some((from, end))
 }
 
-/// The entries of the run at `at`: the words behind its first, which says how many words there are,
-/// itself included; None where that is 0, or they pass the end.
+/// The entries of the run at `at`: the words after its first, which says how many words there are,
+/// itself included; None if that is 0, or they pass the end.
 pub(crate) fn run(bytes: &[u8], at: usize) -> Option<&[u8]>
     requires { at < 2 ^ 28 }
     ensures found { Finds (λ found. words (length found.now / 4) found.now) result

@@ -1,7 +1,6 @@
 -- Items that tell their length, so that an equal one is found again, and the word of a blob that is
 -- written again. Serves the contracts of `blob_word` and `blob_again` of `adb_values`; that equal
--- values are stored once stands in `docs/formats.md`, "Canonical layout" ("Equal values are stored
--- once").
+-- values are stored once is in `docs/formats.md`, "Canonical layout" ("Equal values are stored once").
 use Rattle.std.specs.Prelude.{◌≡◌, ℕ, ◌+◌, ◌*◌, ◌<◌, ◌≤◌, ◌==◌, true, false, List, length, take, if◌then◌else◌}
 use Rattle.std.specs.List.{AllByRecursion}
 use Rattle.std.specs.Int.{w8, w16, w32, from_le_bytes}
@@ -39,11 +38,11 @@ pub record IsThere (body : List ℕ) (x : WrittenItem) : Type 0 where
   pub framed : TellsItsLength what
   pub equal : is_equal_item body what x ≡ true
 
--- each written item of a layout stands in its bytes
+-- each written item of a layout is in its bytes
 pub record HasAllItems (out : Layout) : Type 0 where
   pub all : AllByRecursion (IsThere out.body) out.items
 
--- each written item of a writer stands in its bytes, which are counted with the head of 8
+-- each written item of a writer is in its bytes, which are counted with the head of 8
 pub record IsWholeWriting (w : Writing) : Type 0 where
   pub whole : HasAllItems (layout_of w)
   pub bytes : w.bytes ≡ 8 + length w.body

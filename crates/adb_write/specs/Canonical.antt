@@ -1,4 +1,4 @@
--- The canonical layout of a payload: what writing a value adds, value by value. The rules stand in
+-- The canonical layout of a payload: what writing a value adds, value by value. The rules are in
 -- `docs/formats.md`, "Canonical layout"; the kinds of words, in the table of "Values".
 use Rattle.std.specs.Prelude.{ℕ, suc, ◌+◌, ◌-◌, ◌*◌, ◌%◌, ◌^◌, Bool, ◌&&◌, ◌||◌, List, [], ◌∷◌, ◌++◌, length, take, drop, replicate, Option, Some, None, Result, Ok, Err, nat_lt, ◌==◌, bytes_eq, find, if◌then◌else◌}
 use Rattle.std.specs.List.{flat_map}
@@ -16,7 +16,7 @@ gap align n = (align - n % align) % align
 pub record Item : Type 0 where
   -- the kind of the words that lead to it
   pub kind : ℕ
-  -- it stands at a multiple of this
+  -- it is at a multiple of this
   pub align : ℕ
   -- its bytes
   pub bytes : List ℕ
@@ -36,7 +36,7 @@ int_item n =
     then record { kind = 2; align = 4; bytes = to_le_bytes w32 n; entries = 0 }
     else record { kind = 3; align = 8; bytes = to_le_bytes w64 n; entries = 0 }
 
--- an integer as it is written; below 2^28 it stands in its word, whose kind is 1
+-- an integer as it is written; below 2^28 it is in its word, whose kind is 1
 abbrev pub int_cell : ℕ → Cell
 int_cell n = if nat_lt n (2 ^ 28) then in_place (2 ^ 28 + n) else apart (int_item n)
 
@@ -79,18 +79,18 @@ trimmed_words (w ∷ ws) = keep_word w (trimmed_words ws)
 
 -- ---- what was written so far
 
--- an item that was written: the kind of the words that lead to it, and how far behind the payload's
--- head of 8 bytes it stands
+-- an item that was written: the kind of the words that lead to it, and how far after the payload's head
+-- of 8 bytes it stands
 pub record WrittenItem : Type 0 where
   -- the kind of the words that lead to it
   pub kind : ℕ
   -- its offset, without the head of 8 bytes
   pub offset : ℕ
 
--- what was written so far: the payload behind its head of 8 bytes, its items, the latest first, and
--- the number of values with the root
+-- what was written so far: the payload after its head of 8 bytes, its items, the latest first, and the
+-- number of values with the root
 pub record Layout : Type 0 where
-  -- the payload behind its head
+  -- the payload after its head
   pub body : List ℕ
   -- the items in it, the latest first
   pub items : List WrittenItem
@@ -114,8 +114,8 @@ is_equal_item body i there =
 abbrev pub word_of_item : WrittenItem → ℕ
 word_of_item there = there.kind * 2 ^ 28 + (8 + there.offset)
 
--- the word of a new item, and the layout with it: the item stands at the next offset that its
--- alignment allows, with zeros before it
+-- the word of a new item, and the layout with it: the item is at the next offset that its alignment
+-- allows, with zeros before it
 abbrev pub put_new : Item → Layout → ℕ × Layout
 put_new i out = (
   i.kind * 2 ^ 28 + (end_offset out + gap i.align (end_offset out)),
@@ -191,7 +191,7 @@ layout_counts out = (end_offset out, out.values)
 abbrev pub passes : PayloadCounts → Bool
 passes c = nat_lt MOST_BYTES c.0 || nat_lt MOST_VALUES c.1
 
--- the two counts just behind each value that is written, in the order of writing
+-- the two counts just after each value that is written, in the order of writing
 unfoldable mutual
   pub trace : Plain → Layout → List PayloadCounts
   trace null out = []
@@ -200,12 +200,12 @@ unfoldable mutual
   trace (arr vs) out = trace_all vs out ++ layout_counts (write (arr vs) out).1 ∷ []
   trace (obj vs) out = trace_all vs out ++ layout_counts (write (obj vs) out).1 ∷ []
 
-  -- the counts behind each of these values and those below them
+  -- the counts after each of these values and those below them
   pub trace_all : Plains → Layout → List PayloadCounts
   trace_all none out = []
   trace_all (more v vs) out = trace v out ++ trace_all vs (write v out).1
 
--- the counts just behind the first value at which one passes its limit; None where none does
+-- the counts just after the first value at which one passes its limit; None if none does
 abbrev pub overflow_of : Plain → Option PayloadCounts
 overflow_of v = find passes (trace v empty_layout)
 

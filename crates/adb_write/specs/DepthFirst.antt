@@ -1,6 +1,6 @@
--- What a writer did between two moments, where it wrote values depth first: of each list its values
--- in order, then the list. The rule stands in `docs/formats.md`, "Canonical layout" ("Values are
--- written depth first").
+-- What a writer did between two moments, where it wrote values depth first: of each list its values in
+-- order, then the list. The rule is in `docs/formats.md`, "Canonical layout" ("Values are written depth
+-- first").
 use Rattle.std.specs.Prelude.{◌≡◌, ℕ, List}
 use Rattle.adb_view.specs.Plain.{Plain, Plains, none, more}
 use Rattle.adb_write.specs.Writing.{Writing, calls, calls_all}
@@ -14,7 +14,7 @@ pub record WritesValues (before : Writing) (vs : Plains) (words : List ℕ)
     (later : Writing) : Type 0 where
   pub is : ◌≡◌ {A = List ℕ × Writing} (words, later) (calls_all vs before)
 
--- the values of a list with one more behind them
+-- the values of a list with one more after them
 abbrev pub push : Plains → Plain → Plains
 push none v = more v none
 push (more u us) v = more u (push us v)

@@ -1,5 +1,5 @@
--- The file around a payload. The rule stands in `docs/formats.md`, "Canonical layout" ("In a
--- container each block is padded"), and in "Container".
+-- The file around a payload. The rule is in `docs/formats.md`, "Canonical layout" ("In a container each
+-- block is padded"), and in "Container".
 use Rattle.std.specs.Prelude.{ℕ, List, [], ◌∷◌}
 use Rattle.adb_block.specs.Piece.{Piece}
 use Rattle.adb_block.specs.Written.{container}

@@ -1,5 +1,5 @@
--- An item of the program as the layout has it. Serves the contracts of `src/item.rt`; the layout
--- stands in `docs/formats.md`, "Canonical layout" ("Values are written depth first").
+-- An item of the program as the layout has it. Serves the contracts of `src/item.rt`; the layout is in
+-- `docs/formats.md`, "Canonical layout" ("Values are written depth first").
 use Rattle.std.specs.Prelude.{ℕ, ◌<◌, ◌^◌, List, []}
 use Rattle.std.specs.List.{flat_map}
 use Rattle.std.specs.Int.{w32, to_le_bytes}
@@ -24,7 +24,7 @@ abbrev pub list_kind : ListKind → ℕ
 list_kind Array = ARRAY
 list_kind Object = OBJECT
 
--- what stands behind the number at the front of an item
+-- what follows the number at the front of an item
 abbrev pub content_bytes : Parts → List ℕ
 content_bytes (Int n) = []
 content_bytes (Blob b) = b.now

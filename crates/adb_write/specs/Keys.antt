@@ -23,7 +23,7 @@ content_of (Int n) = n ∷ []
 content_of (Blob b) = b.now
 content_of (Listed kind ws) = reverse (low_words ws.now)
 
--- the part of an item's key behind its fingerprint: its kind, and what it holds
+-- the part of an item's key after its fingerprint: its kind, and what it holds
 abbrev pub content_key_of : Parts → List ℕ
 content_key_of parts = (item_of parts).kind ∷ content_of parts
 
@@ -40,15 +40,13 @@ content_at kind payload word =
     else if nat_lt kind 13 then or_empty (blob_of payload word)
     else reverse (or_empty (run_of kind payload word))
 
--- the part of the key of the item at a word that stands behind its fingerprint: its kind, and what
--- it holds
+-- the part of the key of the item at a word that follows its fingerprint: its kind, and what it holds
 abbrev pub content_key_at : List ℕ → ℕ → List ℕ
 content_key_at payload word = kind_of word ∷ content_at (kind_of word) payload word
 
 -- ---- the fingerprint of an item: most items are told apart by it, so that no payload is read
 
--- the number in four bytes from index i on, the least significant first; bytes behind the end count
--- as 0
+-- the number in four bytes from index i on, the least significant first; bytes after the end count as 0
 abbrev pub four_bytes : List ℕ → ℕ → ℕ
 four_bytes bytes i =
     get_or bytes i 0 + get_or bytes (i + 1) 0 * 2 ^ 8
@@ -99,7 +97,7 @@ abbrev pub key_at : List ℕ → ℕ → List ℕ
 key_at payload locator =
     fingerprint_of_locator locator ∷ content_key_at payload (word_of_locator locator)
 
--- the locators stand in the order of their keys, no two of which are equal
+-- the locators are in the order of their keys, no two of which are equal
 abbrev pub HaveRisingKeys : List ℕ → List ℕ → Type 0
 HaveRisingKeys payload locators =
     IsStrictlySortedBy (slice_cmp nat_cmp) (map (key_at payload) locators)

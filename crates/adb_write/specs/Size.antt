@@ -1,6 +1,5 @@
--- The size of a value's payload, and the number of its values: the root, and every entry of the
--- lists. What counts as a value stands in `docs/formats.md`, "Canonical layout" ("A payload has at
--- most").
+-- The size of a value's payload, and the number of its values: the root, and every entry of the lists.
+-- What counts as a value is in `docs/formats.md`, "Canonical layout" ("A payload has at most").
 use Rattle.std.specs.Prelude.{ℕ, ◌+◌, length}
 use Rattle.adb_view.specs.Plain.{Plain, null, int, blob, arr, obj, Plains, none, more, count_of}
 use Rattle.adb_write.specs.Canonical.{Layout, canonical}

@@ -1,5 +1,5 @@
--- What a word stands for in a payload or in a writer, whatever the schema. What a word means stands
--- in `docs/formats.md`, "Values"; the laws over these definitions, in the README of this crate.
+-- What a word represents in a payload or in a writer, whatever the schema. What a word means is in
+-- `docs/formats.md`, "Values"; the laws over these definitions, in the README of this crate.
 use Rattle.std.specs.Prelude.{◌≡◌, ◌≢◌, ℕ, ◌<◌, ◌^◌, false, List, [], ◌∷◌, Ok}
 use Rattle.adb_view.specs.Plain.{Plain, null, int, blob, arr, obj, Plains, none, more}
 use Rattle.adb_view.specs.Readers.{int_of, blob_of, run_of, ARRAY, OBJECT}
@@ -27,11 +27,11 @@ pub record IsWordOf (out : Layout) (v : Plain) (word : ℕ) : Type 0 where
   pub small : word < 2 ^ 32
   pub holds : (root : ℕ) → Holds (payload_with_root root out) v word
 
--- unless the writer passed a limit, the word stands for this value in what it wrote
+-- unless the writer passed a limit, the word represents this value in what it wrote
 abbrev pub StandsFor : Writing → Plain → ℕ → Type 0
 StandsFor w v word = is_over w ≡ false → IsWordOf (layout_of w) v word
 
--- in what a writer wrote the words stand for these values, one for one
+-- in what a writer wrote the words represent these values, one for one
 abbrev pub AllStandFor : Writing → Plains → List ℕ → Type 0
 AllStandFor w none [] = Unit {0}
 AllStandFor w none (x ∷ xs) = ⊥

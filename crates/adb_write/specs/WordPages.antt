@@ -20,18 +20,18 @@ words_before [] k index = []
 words_before (page ∷ pages) zero index = take index page
 words_before (page ∷ pages) (suc k) index = page ++ words_before pages k index
 
--- the locators of all pages that stand at the index in the page at k, or behind it
+-- the locators of all pages that are at the index in the page at k, or after it
 abbrev pub words_behind : List (List ℕ) → ℕ → ℕ → List ℕ
 words_behind [] k index = []
 words_behind (page ∷ pages) zero index = drop index page ++ concat pages
 words_behind (page ∷ pages) (suc k) index = words_behind pages k index
 
--- the locators of the page at k, where pages count from 0; none where there is no such page
+-- the locators of the page at k, where pages count from 0; none if there is no such page
 abbrev pub page_at : List (List ℕ) → ℕ → List ℕ
 page_at pages k = get_or pages k []
 
--- a place in one of the pages, also behind its last locator; the only one, at 0 and 0, where there
--- are no pages
+-- a place in one of the pages, also after its last locator; the only one, at 0 and 0, if there are no
+-- pages
 abbrev pub IsSlotIn : List (List ℕ) → ℕ → ℕ → Type 0
 IsSlotIn [] k index = (k ≡ 0) × (index ≡ 0)
 IsSlotIn (page ∷ pages) zero index = index ≤ length page
@@ -84,7 +84,7 @@ pub record IsBetween (payload : List ℕ) (pages : List (List ℕ)) (key : List 
   pub inside : IsSlotIn pages slot.page slot.index
   -- all before it have lower keys
   pub lower : AllCompare Greater payload key (words_before pages slot.page slot.index)
-  -- all behind it have higher keys
+  -- all after it have higher keys
   pub higher : AllCompare Less payload key (words_behind pages slot.page slot.index)
 
 -- the page at k is the one in which a locator with this key would stand
@@ -93,10 +93,10 @@ pub record IsPageFor (payload : List ℕ) (pages : List (List ℕ)) (key : List 
   pub inside : IsSlotIn pages k 0
   -- all pages before it have lower keys
   pub lower : AllCompare Greater payload key (words_before pages k 0)
-  -- all pages behind it have higher keys
+  -- all pages after it have higher keys
   pub higher : AllCompare Less payload key (words_behind pages (suc k) 0)
 
--- the page at k begins at or before this key, and the next one behind it, if there is a next one
+-- the page at k begins at or before this key, and the next one after it, if there is a next one
 pub record IsPageAt (payload : List ℕ) (pages : List (List ℕ)) (key : List ℕ)
     (k : ℕ) : Type 0 where
   pub inside : k < length pages

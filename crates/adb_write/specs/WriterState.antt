@@ -44,13 +44,13 @@ IsSmall (stored_int n) = n < 2 ^ 64
 IsSmall (stored_blob b) = length b < 2 ^ 32
 IsSmall (stored_list kind ws) = AllByRecursion (λ w. w < 2 ^ 32) ws × (suc (length ws) < 2 ^ 32)
 
--- the word leads to this item in the payload, behind the head of 8 bytes
+-- the word leads to this item in the payload, after the head of 8 bytes
 pub record IsStoredAt (payload : List ℕ) (what : Stored) (word : ℕ) : Type 0 where
   pub small : IsSmall what
   pub kind : kind_of word ≡ (item_of_stored what).kind
-  -- it stands behind the head
+  -- it follows the head
   pub behind_head : 8 ≤ low_of word
-  -- its bytes stand at the word's offset
+  -- its bytes are at the word's offset
   pub there : take (length (item_of_stored what).bytes) (drop (low_of word) payload)
       ≡ (item_of_stored what).bytes
 
@@ -64,7 +64,7 @@ pub record IsStored (payload : List ℕ) (locator : ℕ) : Type 0 where
 abbrev pub AreStored : List ℕ → List ℕ → Type 0
 AreStored payload locators = AllByRecursion (IsStored payload) locators
 
--- ---- the items as contracts see them: the latest first, which stands behind the others
+-- ---- the items as contracts see them: the latest first, after the others
 
 -- the written item that a locator names
 abbrev pub written_item : ℕ → WrittenItem
@@ -73,7 +73,7 @@ written_item locator = record {
   offset = low_of (word_of_locator locator) - 8;
 }
 
--- items with one more among them, the latest first, which stands behind the others
+-- items with one more among them, the latest first, after the others
 abbrev pub with_item : WrittenItem → List WrittenItem → List WrittenItem
 with_item item [] = item ∷ []
 with_item item (other ∷ others) =
@@ -97,7 +97,7 @@ pub record IsWriterState (payload : List ℕ) (pages : List (List ℕ))
   pub agree : passes (bytes, values) ≡ false → bytes ≡ 8 + length (drop 8 payload)
   -- no page is empty
   pub filled : AreFilled pages
-  -- locators stand in the order of their keys
+  -- locators are in the order of their keys
   pub rising : HaveRisingKeys payload (concat pages)
   -- each locator names an item of the payload
   pub stored : AreStored payload (concat pages)
@@ -107,8 +107,8 @@ abbrev pub FindsWord : Item → Writing → ℕ → Type 0
 FindsWord i w word =
     option_map word_of_item (find (is_equal_item w.body i) w.items) ≡ Some word
 
--- how a writer ends, by what its definition says: with a payload, with the counts of a limit, or
--- for want of memory, and that only where nothing was written
+-- how a writer ends, by what its definition says: with a payload, with the counts of a limit, or for
+-- lack of memory, and that only where nothing was written
 abbrev pub IsFinished : {A : Type 0} → (A → List ℕ) → Writing → Result A WriteFault
     → Result (List ℕ) PayloadCounts → Type 0
 IsFinished view w (Ok payload) answer = answer ≡ Ok (view payload)

@@ -1,15 +1,15 @@
 -- A writer as contracts see it: what it wrote, its two counts, and what each call makes of it. The
--- rules stand in `docs/formats.md`, "Canonical layout"; what is answered past a limit, below "A
--- payload has at most".
+-- rules are in `docs/formats.md`, "Canonical layout"; what is answered past a limit, below "A payload
+-- has at most".
 use Rattle.std.specs.Prelude.{ℕ, ◌<◌, Bool, List, [], ◌∷◌, length, Result, Ok, Err, if◌then◌else◌}
 use Rattle.adb_view.specs.Plain.{Plain, null, int, blob, arr, obj, Plains, none, more}
 use Rattle.adb_view.specs.Readers.{ARRAY, OBJECT}
 use Rattle.adb_write.specs.Canonical.{WrittenItem, Cell, in_place, apart, int_cell, blob_cell, run_cell, trimmed_words, Layout, put_cell, PayloadCounts, layout_counts, passes, payload_with_root}
 
--- a writer: the payload behind its head of 8 bytes, its items, the latest first, and the two counts
--- of what was written, or, once a value passed a limit, the ones just behind that value
+-- a writer: the payload after its head of 8 bytes, its items, the latest first, and the two counts of
+-- what was written, or, once a value passed a limit, the ones just after that value
 pub record Writing : Type 0 where
-  -- the payload behind its head
+  -- the payload after its head
   pub body : List ℕ
   -- the items in it, the latest first
   pub items : List WrittenItem

@@ -1,6 +1,6 @@
 //! The first locators of the pages, side by side, by which a page is looked for first.
 //!
-//! What is answered here is a guess, which is tested where it is used.
+//! What is answered here is a guess, which is tested if it is used.
 //!
 //! How locators are kept is told in the README of this crate, second paragraph; `docs/formats.md`,
 //! "Canonical layout" ("Equal values are stored once"), is what they serve.
@@ -41,7 +41,7 @@ impl FirstLocators {
         Ok(())
     }
 
-    /// Keeps the first locator of a page right where a new locator has come to stand at an index of
+    /// Keeps the first locator of a page right where a new locator has come to are at an index of
     /// it.
     pub(crate) fn enter(&mut self, page: usize, index: usize, locator: u64) {
         if index == 0 && page < self.locators.len() {

@@ -1,7 +1,7 @@
 //! What a value takes outside its word, and how it compares with what was written. The layout of an
-//! item stands in `docs/formats.md`, "Canonical layout" ("Values are written depth first"); that
-//! equal ones are stored once, below that. In the clauses `some`, `few` and `small` bound the
-//! number that is answered, and `kept` says that the bytes before the item stay.
+//! item is in `docs/formats.md`, "Canonical layout" ("Values are written depth first"); that equal
+//! ones are stored once, below that. In the clauses `some`, `few` and `small` bound the number that
+//! is answered, and `kept` says that the bytes before the item stay.
 ghost use Rattle.std.specs.Prelude.{◌≡◌, ◌≤◌, ◌<◌, ◌+◌, ◌-◌, ◌^◌, ◌++◌, get_or, length, replicate, reverse, take, OnOk, OnErr};
 ghost use Rattle.std.specs.List.{flat_map};
 ghost use Rattle.std.specs.Int.{w32, w64, to_le_bytes};
@@ -118,7 +118,7 @@ impl Parts<'_> {
         }
     }
 
-    /// The width of the number at the front of the item, which stands at a multiple of it.
+    /// The width of the number at the front of the item, which is at a multiple of it.
     pub(crate) fn width(&self) -> Width
         ensures { width_len result ≡ (item_of self.now).align }
     {

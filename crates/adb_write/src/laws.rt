@@ -1,4 +1,4 @@
-//! What follows from the definitions, for every value and every writer. The rules stand in
+//! What follows from the definitions, for every value and every writer. The rules are in
 //! `docs/formats.md`, "Canonical layout"; the README of this crate lists the laws.
 ghost use Rattle.std.specs.Prelude.{◌≡◌, ◌≤◌, ◌<◌, ◌^◌, ◌⊎◌, ℕ, List, [], ◌∷◌, ◌++◌, false, true, length, Some, Ok, is_some};
 ghost use Rattle.adb_view.specs.Plain.{Plain, null, int, Plains, none, more, blob_value, arr_value, obj_value, Shape, IsNormal, plain_of, value_of};
@@ -37,7 +37,7 @@ pub fn values_are_written_depth_first()
     ensures obj { (vs : Plains) (xs : List ℕ) (a b : Writing) (x : ℕ) (c : Writing)
         → WritesValues a vs xs b → (x, c) ≡ obj_call xs b → WritesValue a (obj_value vs) x c }
 
-    // Values in order: from the first one on, or one more behind the others.
+    // Values in order: from the first one on, or one more after the others.
     ensures none { (w : Writing) → WritesValues w none [] w }
     ensures more { (v : Plain) (vs : Plains) (x : ℕ) (xs : List ℕ) (a b c : Writing)
         → WritesValue a v x b → WritesValues b vs xs c → WritesValues a (more v vs) (x ∷ xs) c }
@@ -47,13 +47,13 @@ pub fn values_are_written_depth_first()
 {}
 
 /// A writer that wrote one value depth first, and nothing else, ends with its canonical payload, or
-/// with the counts just behind the first value at which one passes its limit.
+/// with the counts just after the first value at which one passes its limit.
 pub fn a_value_written_depth_first_is_canonical()
     ensures { (v : Plain) (root : ℕ) (w : Writing) → WritesValue empty_writing v root w
         → finish_result root w ≡ written_of v }
 {}
 
-/// In whatever order calls are made, a word that stands for a value goes on standing for it.
+/// In whatever order calls are made, a word that represents a value goes on standing for it.
 pub fn a_word_keeps_its_value()
     ensures int { (n : ℕ) (w : Writing) (v : Plain) (word : ℕ)
         → StandsFor w v word → StandsFor (int_call n w).1 v word }
@@ -65,7 +65,7 @@ pub fn a_word_keeps_its_value()
         → StandsFor w v word → StandsFor (obj_call words w).1 v word }
 {}
 
-/// NULL stands for Null, and each answer for the value that was asked for: an integer, a blob, and
+/// NULL represents Null, and each answer for the value that was asked for: an integer, a blob, and
 /// an array or object of the values for which its words stand.
 pub fn an_answer_stands_for_its_value()
     ensures null { (w : Writing) → StandsFor w null 0 }
@@ -96,7 +96,7 @@ pub fn a_finished_payload_is_read_back()
         → value_of payload shape ≡ Some v }
 {}
 
-/// A normal value overflows exactly where its canonical payload has more bytes than a payload may
+/// A normal value overflows exactly if its canonical payload has more bytes than a payload may
 /// have, or the value has more values.
 pub fn a_value_overflows_exactly_past_a_limit()
     ensures { (v : Plain) → IsNormal v

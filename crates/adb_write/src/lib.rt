@@ -6,10 +6,10 @@
 //! payload is handed out where it was written. The contracts cite `Canonical` (the layout of a
 //! value, and where it overflows), `Size` (the bytes of its payload and the number of its values),
 //! `File`, `Writing` (a writer, and what each call makes of it), `DepthFirst` (what it did between
-//! two moments) and `StandsFor` (what a word stands for) of `specs/`; `laws` says what follows from
+//! two moments) and `StandsFor` (what a word represents) of `specs/`; `laws` says what follows from
 //! them, so that nobody needs to look into them.
 //!
-//! The rules stand in `docs/formats.md`, "Canonical layout".
+//! The rules are in `docs/formats.md`, "Canonical layout".
 #![tactic(auto)]
 
 mod first_locators;

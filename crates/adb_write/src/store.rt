@@ -1,9 +1,9 @@
 //! The bytes of a payload as they are written, and the locators by which they are found again. How
 //! locators are kept is told in the README of this crate, second paragraph; that equal values are
-//! stored once stands in `docs/formats.md`, "Canonical layout" ("Equal values are stored once"). In
-//! the clauses `filled` says that no page is empty, `rising` that locators stand in the order of
-//! their keys, `stored` that each names an item of the payload, `inside` that a slot is one of
-//! these pages.
+//! stored once is in `docs/formats.md`, "Canonical layout" ("Equal values are stored once"). In the
+//! clauses `filled` says that no page is empty, `rising` that locators are in the order of their
+//! keys, `stored` that each names an item of the payload, `inside` that a slot is one of these
+//! pages.
 
 ghost use Rattle.std.specs.Prelude.{◌≡◌, ◌≤◌, ◌-◌, [], ◌∷◌, ◌++◌, length, replicate, OnOk, OnErr};
 ghost use Rattle.std.specs.List.{concat};
@@ -21,7 +21,7 @@ use std::alloc::{AllocError, Global};
 /// The bytes of a payload under way, and the locators of its items.
 #[derive(Drop)]
 pub(crate) struct Store {
-    /// The payload so far: nothing, or the head of 8 zeros and what was written behind it.
+    /// The payload so far: nothing, or the head of 8 zeros and what was written after it.
     pub payload: Vec<u8>,
     /// The locators of the items in the payload.
     pub words: WordPages,

@@ -1,18 +1,18 @@
 //! The locators of what was written, in the order of their keys, so that each is found again.
 //!
-//! They stand in pages of at most 512, so that a new one moves few others. A page, and the index in
+//! They are in pages of at most 512, so that a new one moves few others. A page, and the index in
 //! it, are guessed first, and found by halving where the guess fails.
 //!
 //! A locator takes eight bytes. A page has room for at most 128 more than it holds, and with the
 //! others it holds at least 256; the lists of pages take at most 64 bytes a page, since a list that
 //! grows doubles. So a page takes at most 8 * 128 + 64 bytes beside its locators, which is 4.25
-//! bytes for each of 256: at most 12.25 bytes a locator, and 1.2 kB where there is one page.
+//! bytes for each of 256: at most 12.25 bytes a locator, and 1.2 kB if there is one page.
 //!
 //! How locators are kept is told in the README of this crate, second paragraph; that equal values
-//! are stored once stands in `docs/formats.md`, "Canonical layout" ("Equal values are stored
-//! once"). In the clauses `filled` says that no page is empty, `rising` that locators stand in the
-//! order of their keys, `stored` that each names an item of the payload, `inside` that a slot is
-//! one of these pages.
+//! are stored once is in `docs/formats.md`, "Canonical layout" ("Equal values are stored once"). In
+//! the clauses `filled` says that no page is empty, `rising` that locators are in the order of
+//! their keys, `stored` that each names an item of the payload, `inside` that a slot is one of
+//! these pages.
 
 ghost use Rattle.std.specs.Prelude.{◌≡◌, ◌≤◌, ◌<◌, ℕ, List, [], ◌∷◌, ◌++◌, length, take, drop, insert, IfOk, OnOk, OnErr};
 ghost use Rattle.std.specs.List.{concat};
@@ -100,8 +100,8 @@ impl WordPages {
         }
     }
 
-    /// The page in which an item is looked for: the last that does not begin behind the item, or
-    /// the first.
+    /// The page in which an item is looked for: the last that does not begin after the item, or the
+    /// first.
     fn page_of(&self, adb: &Adb<'_>, parts: &Parts<'_>, fingerprint: u64) -> usize
         requires filled { AreFilled (pages_of self.now) }
         requires rising { HaveRisingKeys (payload_of adb.now) (concat (pages_of self.now)) }
@@ -117,8 +117,8 @@ impl WordPages {
             .saturating_sub(1)
     }
 
-    /// Whether a page is the one in which an item is looked for: it does not begin behind the item,
-    /// and the one behind it does, if there is one.
+    /// Whether a page is the one in which an item is looked for: it does not begin after the item,
+    /// and the one after it does, if there is one.
     fn is_page_of(&self, page: usize, adb: &Adb<'_>, parts: &Parts<'_>, fingerprint: u64) -> bool
         ensures { OnTrue result (IsPageAt (payload_of adb.now) (pages_of self.now)
             (key_with fingerprint parts.now) page) }
@@ -135,7 +135,7 @@ impl WordPages {
         }
     }
 
-    /// Lets a locator stand at a slot. A refused growth leaves those before as they were.
+    /// Lets a locator are at a slot. A refused growth leaves those before as they were.
     pub(crate) fn insert(&mut self, slot: Slot, locator: u64) -> Result<(), AllocError>
         requires filled { AreFilled (pages_of self.old) }
         requires inside { IsSlotIn (pages_of self.old) slot.page slot.index }
@@ -209,7 +209,7 @@ impl WordPages {
     }
 }
 
-/// Lets a locator stand at an index of a page, which grows by little where it has no room.
+/// Lets a locator are at an index of a page, which grows by little if it has no room.
 fn insert_in_page(page: &mut Vec<u64>, index: usize, locator: u64) -> Result<(), AllocError>
     requires { index ≤ length page.old.items }
     ensures ok { OnOk result (page.new.items ≡ insert page.old.items index locator) }
@@ -222,7 +222,7 @@ fn insert_in_page(page: &mut Vec<u64>, index: usize, locator: u64) -> Result<(),
     Ok(())
 }
 
-/// Whether an item stands before the one that a locator names, in the order of keys.
+/// Whether an item precedes the one that a locator names, in the order of keys.
 fn is_before(adb: &Adb<'_>, parts: &Parts<'_>, fingerprint: u64, locator: u64) -> bool
     ensures { result ≡ is_lt (slice_cmp nat_cmp (key_with fingerprint parts.now)
         (key_at (payload_of adb.now) locator)) }
@@ -233,7 +233,7 @@ fn is_before(adb: &Adb<'_>, parts: &Parts<'_>, fingerprint: u64, locator: u64) -
     }
 }
 
-/// Whether a page begins behind an item, in the order of keys.
+/// Whether a page begins after an item, in the order of keys.
 fn begins_behind(page: &[u64], adb: &Adb<'_>, parts: &Parts<'_>, fingerprint: u64) -> bool
     ensures { result ≡ begins_above (payload_of adb.now) (key_with fingerprint parts.now) page.now }
 {
@@ -295,7 +295,7 @@ fn lower_end(page: &[u64], fingerprint: u64, likely: usize) -> usize
     }
 }
 
-/// An index from which on all locators have higher fingerprints, at or behind the likely one.
+/// An index from which on all locators have higher fingerprints, at or after the likely one.
 fn upper_end(page: &[u64], fingerprint: u64, likely: usize) -> usize
     requires { likely ≤ length page.now }
     ensures inside { result ≤ length page.now }

@@ -1,5 +1,5 @@
 //! The writer of a payload with its limits and its refusals, and the file around a payload. The
-//! rules stand in `docs/formats.md`, "Canonical layout": the layout below "Values are written depth
+//! rules are in `docs/formats.md`, "Canonical layout": the layout below "Values are written depth
 //! first", the limits below "A payload has at most", the file below "In a container each block is
 //! padded".
 
@@ -26,7 +26,7 @@ use thiserror::Error;
 #[derive(Clone, Copy, Debug, PartialEq, Eq, Error)]
 pub enum WriteFault {
     /// The payload would be longer than 268,435,455 bytes or have more than 4,194,304 values. The
-    /// counts are those just behind the first value at which one of them passed its limit: the
+    /// counts are those just after the first value at which one of them passed its limit: the
     /// payload's bytes, and its values with the root.
     #[error("a payload of {bytes} bytes and {values} values is too large")]
     TooLarge { bytes: u64, values: u64 },
@@ -92,8 +92,7 @@ const HEAD: u64 = 8;
 pub struct Writer {
     /// What was written.
     store: Store,
-    /// The counts of what was written, or, past a limit, those just behind the value that passed
-    /// it.
+    /// The counts of what was written, or, past a limit, those just after the value that passed it.
     counts: PayloadCounts,
 }
 
@@ -190,7 +189,7 @@ impl Writer {
     }
 
     /// The payload with this root, a value of this writer or NULL; the counts of a writer that
-    /// passed a limit, exactly where one is above its limit. Want of memory is answered only where
+    /// passed a limit, exactly if one is above its limit. Want of memory is answered only where
     /// nothing was written before.
     pub fn finish(self, root: Val) -> Result<Vec<u8>, WriteFault>
         ensures { IsFinished (λ payload. payload.items) self result (finish_result root self) }

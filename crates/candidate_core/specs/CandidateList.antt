@@ -1,7 +1,6 @@
--- The list of candidates in the making: what it keeps, and how one candidate after the other counts
--- as installed.
--- The rules stand in `docs/selection.md`, "What there is to choose from". *IsCandidateList* and
--- *candidates_in* are cited by the contracts of `Pool`; *is_same_at* and *marked_at* serve their
+-- The list of candidates in the making: what it keeps, and how one candidate after the other counts as
+-- installed. The rules are in `docs/selection.md`, "What there is to choose from". *IsCandidateList*
+-- and *candidates_in* are cited by the contracts of `Pool`; *is_same_at* and *marked_at* serve their
 -- proofs, and say of one place what *with_installed* says of all.
 use Rattle.std.specs.Prelude.{◌≤◌, ℕ, zero, suc, Bool, false, if◌then◌else◌, List, [], ◌∷◌, length, Option, Some, None, slice_get}
 use Rattle.std.specs.Option.{option_map_or}
@@ -22,7 +21,7 @@ abbrev pub candidates_in : Option CandidateList → List Candidate
 candidates_in None = []
 candidates_in (Some list) = candidates_of_packages list.packages
 
--- whether the candidate at a place is the installed package; not where no candidate is there
+-- whether the candidate at a place is the installed package; not if no candidate is there
 abbrev pub is_same_at : Candidate → List Candidate → ℕ → Bool
 is_same_at installed cs place = option_map_or (is_same_package installed) (slice_get cs place) false
 

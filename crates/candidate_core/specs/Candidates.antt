@@ -1,8 +1,7 @@
--- The packages that a selection is made of, and what each of them meets (apk-package(5),
--- apk-world(5)).
--- The rules stand in `docs/selection.md`, "What there is to choose from", and, for install-if and
--- for names that are occupied, "What satisfies world", 3 and 4. The fields are those of
--- `docs/formats.md`, "Schemas", table 3.
+-- The packages that a selection is made of, and what each of them meets (apk-package(5), apk-world(5)).
+-- The rules are in `docs/selection.md`, "What there is to choose from", and, for install-if and for
+-- names that are occupied, "What satisfies world", 3 and 4. The fields are those of `docs/formats.md`,
+-- "Schemas", table 3.
 use Rattle.std.specs.Prelude.{ℕ, ◌==◌, nat_eq, nat_lt, Bool, true, false, not, ◌&&◌, ◌||◌, if◌then◌else◌, List, [], ◌∷◌, ◌++◌, length, Option, Some, None, is_some}
 use Rattle.std.specs.Option.{option_and_then, option_map_or}
 use Rattle.std.specs.List.{cons_option, filter, find, list_all, list_any, starts_with}
@@ -34,7 +33,7 @@ pub record Candidate : Type 0 where
 
 -- ---- what is read of a package's information
 
--- the version that a text is, if it is one
+-- the version that a text denotes, if it is one
 abbrev pub version_of_text : List ℕ → Option (List ℕ)
 version_of_text text = if is_version text then Some text else None
 
@@ -118,7 +117,7 @@ as_installed_where_same installed (c ∷ cs) =
     (if is_same_package installed c then as_installed c else c)
     ∷ as_installed_where_same installed cs
 
--- the list with an installed package, which stands by itself only where no index has it
+-- the list with an installed package, which stands by itself only if no index has it
 abbrev pub with_installed : List Candidate → Candidate → List Candidate
 with_installed cs installed =
     if list_any (is_same_package installed) cs then as_installed_where_same installed cs

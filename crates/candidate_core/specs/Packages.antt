@@ -1,7 +1,6 @@
--- Packages that are kept by their words, and the candidates that they are.
--- The order of the list stands in `docs/selection.md`, "What there is to choose from". Serves the
--- contracts of `src/packages.rt` and `src/candidate_list.rt`, which say by it what their values
--- show.
+-- Packages that are kept by their words, and the candidates that they are. The order of the list is in
+-- `docs/selection.md`, "What there is to choose from". Serves the contracts of `src/packages.rt` and
+-- `src/candidate_list.rt`, which say by it what their values show.
 use Rattle.std.specs.Prelude.{ℕ, zero, suc, Bool, false, List, [], ◌∷◌, map, Option, Some, None, option_copied, slice_get}
 use Rattle.adb_view.specs.Plain.{null, Plains, none, more}
 use Rattle.candidate_core.specs.Candidates.{Candidate, as_installed, candidate_of}
@@ -10,8 +9,8 @@ use Rattle.candidate_core.specs.declared.packages.Packages.{Packages}
 use Rattle.candidate_core.specs.declared.packages.PackageWord.{PackageWord}
 use Rattle.candidate_core.specs.declared.packages.Source.{Source}
 
--- the candidate that has a word in a source, installed or not; where there is no source, which no
--- list of packages has, one without any information
+-- the candidate that has a word in a source, installed or not; if there is no source, which no list of
+-- packages has, one without any information
 abbrev pub candidate_in_source : Option Source → ℕ → Bool → Candidate
 candidate_in_source None word installed = candidate_of null None None installed
 candidate_in_source (Some source) word installed =

@@ -35,8 +35,8 @@ abbrev pub first_as_object : List Plain → List Plain
 first_as_object [] = []
 first_as_object (v ∷ rest) = as_object v ∷ rest
 
--- a step: its kind, and the number and the bytes that it adds. It works on the values that the
--- steps behind it built
+-- a step: its kind, and the number and the bytes that it adds. It works on the values that the steps
+-- after it built
 abbrev pub BuildStep : Type 0
 BuildStep = ℕ × (ℕ × List ℕ)
 
@@ -90,7 +90,7 @@ mutual
       (built_again v (steps_of_all vs steps)
       ∙ ap (λ (z : List Plain). v ∷ z) (all_built_again vs steps))
 
--- the first of some values; Null where there is none
+-- the first of some values; Null if there is none
 abbrev pub first_of : List Plain → Plain
 first_of [] = null
 first_of (v ∷ vs) = v

@@ -1,6 +1,6 @@
--- The candidates whose install-if has no conflict.
--- The rule stands in `docs/selection.md`, "What satisfies world", 4 (install-if). Serves the
--- contracts of `src/candidate.rt`, and in `pool_core` those of `src/sealed.rt`.
+-- The candidates whose install-if has no conflict. The rule is in `docs/selection.md`, "What satisfies
+-- world", 4 (install-if). Serves the contracts of `src/candidate.rt`, and in `pool_core` those of
+-- `src/sealed.rt`.
 use Rattle.std.specs.Prelude.{ℕ, suc, ◌==◌, Bool, not, ◌&&◌, if◌then◌else◌, List, [], ◌∷◌, length}
 use Rattle.std.specs.List.{list_all}
 use Rattle.dep_core.specs.Dependency.{Dependency}

@@ -1,6 +1,5 @@
--- Which of two candidates is taken first for a need.
--- The rule stands in `docs/selection.md`, "Which selection is taken", the table of eleven keys.
--- Each definition that compares says which keys it has.
+-- Which of two candidates is taken first for a need. The rule is in `docs/selection.md`, "Which
+-- selection is taken", the table of eleven keys. Each definition that compares says which keys it has.
 use Rattle.std.specs.Prelude.{ℕ, Bool, true, false, not, ◌&&◌, List, Option, is_some, slice_get}
 use Rattle.std.specs.Option.{option_map_or, option_cmp}
 use Rattle.std.specs.List.{list_any}

@@ -1,6 +1,6 @@
--- Packages whose texts keep their rules, as those of a tested container do.
--- The rules stand in `docs/formats.md`, "The texts": fields 101 to 103 for the entries of
--- `depends`, `provides` and `install-if`, and 302 for the version.
+-- Packages whose texts keep their rules, as those of a tested container do. The rules are in
+-- `docs/formats.md`, "The texts": fields 101 to 103 for the entries of `depends`, `provides` and
+-- `install-if`, and 302 for the version.
 use Rattle.std.specs.Prelude.{◌≡◌, ◌<◌, ℕ, true}
 use Rattle.version_core.specs.Order.{is_version}
 use Rattle.adb_view.specs.Plain.{Plain}

@@ -30,8 +30,7 @@ abbrev pub first_under : List (List ℕ × List ℕ) → List ℕ → Option (Li
 first_under [] name = None
 first_under (e ∷ es) name = if bytes_eq name e.0 then Some e.1 else first_under es name
 
--- the places of the candidates that offer a name: those of its list where it has one, else its
--- single one
+-- the places of the candidates that offer a name: those of its list if it has one, else its single one
 abbrev pub ids_of : Offered → List ℕ → List ℕ
 ids_of table name = unwrap_or (first_under table.lists name)
     (unwrap_or (first_under table.singles name) [])
@@ -40,11 +39,11 @@ ids_of table name = unwrap_or (first_under table.lists name)
 abbrev pub is_last_id : ℕ → List ℕ → Bool
 is_last_id id ids = option_map_or (λ last. last == id) (last_or None ids) false
 
--- places with one more behind the others, unless it is the last of them
+-- places with one more after the others, unless it is the last of them
 abbrev pub with_last : List ℕ → ℕ → List ℕ
 with_last ids id = if is_last_id id ids then ids else ids ++ id ∷ []
 
--- places, with one more behind them where it is to be added and is not the last of them
+-- places, with one more after them if it is to be added and is not the last of them
 abbrev pub with_last_where : Bool → List ℕ → ℕ → List ℕ
 with_last_where added ids id = if added then with_last ids id else ids
 

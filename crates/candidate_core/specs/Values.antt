@@ -1,7 +1,6 @@
--- What the types of the code stand for, so that contracts speak of candidates, needs and names
--- without where their bytes lie.
--- No rule of a document but in *IsPoolFault*: the limit stands in `docs/selection.md`, "What there
--- is to choose from".
+-- What the types of the code represent, so that contracts speak of candidates, needs and names without
+-- where their bytes lie. No rule of a document but in *IsPoolFault*: the limit is in
+-- `docs/selection.md`, "What there is to choose from".
 use Rattle.std.specs.Prelude.{◌≡◌, ◌<◌, ◌+◌, ℕ, option_copied}
 use Rattle.adb_schema.specs.Views.{info_value}
 use Rattle.dep_core.specs.Meets.{dependency}
@@ -22,12 +21,12 @@ use Rattle.candidate_core.specs.Rank.{UpgradedNames, no_names, all_names, listed
 abbrev pub candidate_value : Shown → Candidate
 candidate_value c = candidate_of (info_value c.info) c.repo (option_copied c.tag) c.installed
 
--- the need that a value stands for which owns its dependency
+-- the need that a value represents which owns its dependency
 abbrev pub need_of : OwnedNeed → Need
 need_of (Entry dep) = entry (dependency dep)
 need_of (Named name) = named name.now
 
--- the need that a value stands for which borrows its dependency
+-- the need that a value represents which borrows its dependency
 abbrev pub need_by : NeedRef → Need
 need_by (Borrowed.Entry dep) = entry (dependency dep.now)
 need_by (Borrowed.Named name) = named name.now

@@ -1,9 +1,8 @@
 //! The packages to choose from, and what is read of them: `Candidate` is what a caller sees,
-//! `Details` what the pool and the search compare.
-//! The rules stand in `docs/selection.md`: "What there is to choose from" says which candidate is
-//! the installed package and what a candidate meets, and "What satisfies world", 3, which names it
-//! occupies. What each field of a package's information is, and which numbers are read, says
-//! `docs/formats.md`, "Schemas", table 3.
+//! `Details` what the pool and the search compare. The rules are in `docs/selection.md`: "What
+//! there is to choose from" says which candidate is the installed package and what a candidate
+//! meets, and "What satisfies world", 3, which names it occupies. What each field of a package's
+//! information is, and which numbers are read, says `docs/formats.md`, "Schemas", table 3.
 ghost use Rattle.std.specs.Prelude.{◌≡◌, ◌&&◌, ◌==◌, false, not, length, option_copied};
 ghost use Rattle.std.specs.List.{list_all, list_any};
 ghost use Rattle.dep_core.specs.Dependency.{Dependency};
@@ -48,7 +47,7 @@ pub struct Candidate<'a> {
     /// The repository of the package, counted from 1; none for an installed package that no index
     /// has.
     pub repo: Option<u64>,
-    /// The tag of the repository, where it has one.
+    /// The tag of the repository, if it has one.
     pub tag: Option<&'a [u8]>,
     /// Whether the package is installed.
     pub installed: bool,
@@ -63,7 +62,7 @@ pub struct Details<'a> {
     /// The repository of the package, counted from 1; none for an installed package that no index
     /// has.
     repo: Option<u64>,
-    /// The tag of the repository, where it has one.
+    /// The tag of the repository, if it has one.
     tag: Option<&'a [u8]>,
     /// Whether the package is installed.
     installed: bool,
@@ -194,7 +193,7 @@ impl<'a> Details<'a> {
         self.repo
     }
 
-    /// The tag of the package's repository, where it has one.
+    /// The tag of the package's repository, if it has one.
     pub fn tag(&self) -> Option<&'a [u8]>
         ensures { option_copied result ≡ self.now.tag }
     {

@@ -1,7 +1,6 @@
 //! The list of candidates in the making: the packages of each index, then the installed ones that
-//! no index has.
-//! The rules stand in `docs/selection.md`, "What there is to choose from": the order of the list,
-//! which candidate is the installed package, and how many there may be.
+//! no index has. The rules are in `docs/selection.md`, "What there is to choose from": the order of
+//! the list, which candidate is the installed package, and how many there may be.
 ghost use Rattle.std.specs.Prelude.{◌≡◌, ◌<◌, ◌+◌, ℕ, [], ◌∷◌, ◌++◌, length, true, None, Some, slice_get, OnOk, IfErr};
 ghost use Rattle.std.specs.List.{list_any};
 ghost use Rattle.adb_schema.specs.Views.{info_value};
@@ -33,7 +32,7 @@ pub enum PoolFault {
     /// There would be more candidates than a pool holds; `count` is `MOST_CANDIDATES` and 1, the
     /// first count that is too great.
     TooMany { count: u64 },
-    /// There was no memory.
+    /// Out of memory.
     Memory,
 }
 
@@ -43,7 +42,7 @@ impl From<AllocError> for PoolFault {
 
     ghost from_gives = { λ _ fault. fault ≡ Memory };
 
-    // The fault that want of memory is.
+    // The fault that out of memory is.
     fn from(_: AllocError) -> PoolFault {
         PoolFault::Memory
     }
@@ -73,7 +72,7 @@ impl<'a> CandidateList<'a> {
         }
     }
 
-    // Puts the package of a source behind the others. `source_place` is the place of the source
+    // Puts the package of a source after the others. `source_place` is the place of the source
     // among those of the list. After a refusal the list may only be dropped, since the table may
     // then have a place that the packages have not.
     fn push(
@@ -109,7 +108,7 @@ impl<'a> CandidateList<'a> {
         Ok(())
     }
 
-    /// Puts the packages of an index behind the others; these are the words of its packages.
+    /// Puts the packages of an index after the others; these are the words of its packages.
     #[tactic(auto, using(adb_fields::proofs::FieldReads::entry_sound))]
     pub fn push_all(&mut self, source: Source<'a>, packages: Arr<'a>) -> Result<(), PoolFault>
         requires list { IsCandidateList self.old }

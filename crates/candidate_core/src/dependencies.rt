@@ -1,8 +1,7 @@
-//! The dependencies of a package's information: read from it one by one, and judged where they are
-//! not known to keep their rules.
-//! The rules stand in `docs/formats.md`: "Schemas", tables 1 and 3, says where dependencies stand;
-//! "Dependencies" which dependency a name, a version and a match number are; "The texts", fields
-//! 101 to 103, what a tested container keeps.
+//! The dependencies of a package's information: read from it one by one, and judged if they are not
+//! known to keep their rules. The rules are in `docs/formats.md`: "Schemas", tables 1 and 3, says
+//! where dependencies stand; "Dependencies" which dependency a name, a version and a match number
+//! are; "The texts", fields 101 to 103, what a tested container keeps.
 ghost use Rattle.std.specs.Prelude.{◌≡◌, ◌<◌, ◌==◌, true, length, slice_get, Some};
 ghost use Rattle.std.specs.Option.{option_map};
 ghost use Rattle.adb_fields.specs.ListValue.{list_value};

@@ -1,8 +1,7 @@
 //! Whether the texts of a package's information keep their rules. A long one is judged once,
-//! however many places of the package share it.
-//! The rules stand in `docs/formats.md`, "The texts": fields 101 to 103 for the entries of
-//! `depends`, `provides` and `install-if`, and 302 for the version. What an entry is that keeps
-//! them says "Dependencies" there.
+//! however many places of the package share it. The rules are in `docs/formats.md`, "The texts":
+//! fields 101 to 103 for the entries of `depends`, `provides` and `install-if`, and 302 for the
+//! version. What an entry is that keeps them says "Dependencies" there.
 ghost use Rattle.std.specs.Prelude.{◌≡◌, true, false, Some, IfOk, IfSome, IfNone};
 ghost use Rattle.std.specs.Option.{option_map};
 ghost use Rattle.adb_fields.specs.Fields.{are_all_sound, array_at};

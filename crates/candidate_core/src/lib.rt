@@ -2,7 +2,7 @@
 //! of candidates in the making with the table of the names that they offer; and what may be needed.
 //! Views of indexes come in and stay borrowed.
 //!
-//! The rules stand in `docs/selection.md`, "What there is to choose from". The contracts cite
+//! The rules are in `docs/selection.md`, "What there is to choose from". The contracts cite
 //! `specs/`: `Candidates` (what a candidate is, and what it meets), `Rank` (the eleven keys) and
 //! `Options`.
 #![tactic(auto)]

@@ -14,7 +14,7 @@ use std::alloc::{AllocError, Global};
 use std::collections::BTreeMap;
 use version_core::Version;
 
-/// How many bytes a version has at most that is compared as it is read, wherever it stands. Any
+/// How many bytes a version has at most that is compared as it is read, wherever it occurs. Any
 /// number is right: a greater one lets more packages share long comparisons, a lesser one keeps
 /// answers that are sooner found anew.
 const SHORT: usize = 64;
@@ -61,7 +61,7 @@ impl KnownMatches {
         }
     }
 
-    /// Whether a dependency wants a version; a long one is compared only where no answer is kept.
+    /// Whether a dependency wants a version; a long one is compared only if no answer is kept.
     pub(crate) fn is_wanted_as_known(&self, dep: &Dep<'_>, found: &RankedVersion<'_>) -> bool
         ensures { (text : ℕ → ℕ → List ℕ) → IsReadBy text found.now
             → AreMatchesOf text (dependency dep.now) self.now

@@ -1,6 +1,6 @@
-//! What has to be met, what a command upgrades, and the candidates that a need may be met by.
-//! The rules stand in `docs/selection.md`: "What satisfies world", 1 and 4 (what has to be met),
-//! and "Which selection is taken" (needs in their order; key 4 for what a command upgrades).
+//! What has to be met, what a command upgrades, and the candidates that a need may be met by. The
+//! rules are in `docs/selection.md`: "What satisfies world", 1 and 4 (what has to be met), and
+//! "Which selection is taken" (needs in their order; key 4 for what a command upgrades).
 ghost use Rattle.std.specs.Prelude.{◌≡◌, ◌<◌, ◌==◌, length, slice_get, Some};
 ghost use Rattle.candidate_core.specs.Candidates.{need_name};
 ghost use Rattle.candidate_core.specs.Values.{need_by};

@@ -84,8 +84,8 @@ impl<'p> PackageMatches<'p> {
         }
     }
 
-    // Whether the package at a place meets a dependency that names the version whose text stands at
-    // a place.
+    // Whether the package at a place meets a dependency that names the version whose text is at a
+    // place.
     fn meets_as_known(
         &mut self,
         place: usize,

@@ -23,7 +23,7 @@ pub struct Source<'a> {
     pub adb: Adb<'a>,
     /// The repository of the packages, counted from 1; none for an installed package.
     pub repo: Option<u64>,
-    /// The tag of the repository, where it has one.
+    /// The tag of the repository, if it has one.
     pub tag: Option<&'a [u8]>,
     /// Whether the texts of its packages are known to keep their rules.
     pub has_sound_texts: bool,
@@ -151,7 +151,7 @@ impl<'a> Packages<'a> {
     }
 
     /// Where the text stands of the version that a dependency of a package names, if the dependency
-    /// names one; none where that is not known.
+    /// names one; none if that is not known.
     pub(crate) fn version_place(&self, held: &PackageDep<'_>) -> Option<VersionPlace>
         requires { IsDepOf (candidates_of_packages self.now) held.now }
         ensures { IfSome result (λ place. IfSome (dependency held.now.dep.now).version
@@ -181,7 +181,7 @@ impl<'a> Packages<'a> {
         Ok(place)
     }
 
-    /// Adds the package with a word in the source at a place behind the others. `installed` says
+    /// Adds the package with a word in the source at a place after the others. `installed` says
     /// whether it counts as installed.
     pub fn push(&mut self, source: u32, word: Val, installed: bool) -> Result<(), AllocError>
         requires { IsPackageAt self.old.sources.items source word }

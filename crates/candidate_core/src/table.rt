@@ -1,9 +1,8 @@
 //! The table of names: for each name the candidates that are named so or provide it, in rising
-//! order and each once. It borrows the names. Most names have one candidate, which takes no memory
-//! of its own.
-//! The rule stands in `docs/selection.md`, "What there is to choose from": by which names a
-//! candidate meets a dependency. An entry of `provides` without version counts too, and one with a
-//! conflict bit does not.
+//! order and each once. It borrows the names. Most names have one candidate, which allocates no
+//! memory of its own. The rule is in `docs/selection.md`, "What there is to choose from": by which
+//! names a candidate meets a dependency. An entry of `provides` without version counts too, and one
+//! with a conflict bit does not.
 ghost use Rattle.std.specs.Prelude.{◌≡◌, ◌&&◌, ℕ, List, [], ◌∷◌, ◌++◌, IfOk, OnOk, None, Some, unwrap_or, not};
 ghost use Rattle.std.specs.List.{list_any};
 ghost use Rattle.std.specs.Str.{bytes_eq};
@@ -188,7 +187,7 @@ fn pair(alloc: Global, first: CandId, second: CandId) -> Result<Vec<CandId>, All
     Ok(ids)
 }
 
-// Puts a candidate behind others, unless it is the last of them.
+// Puts a candidate after others, unless it is the last of them.
 fn push_once(ids: &mut Vec<CandId>, id: CandId) -> Result<(), AllocError>
     ensures { OnOk result (ids.new.items ≡ with_last ids.old.items id) }
 {

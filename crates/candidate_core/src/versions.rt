@@ -1,7 +1,6 @@
 //! The versions that options are ranked by: what is read of each, and where its text stands, so
-//! that a text which many packages share is known to be one.
-//! The rule stands in `docs/selection.md`, "Which selection is taken", the last paragraph (the
-//! version of key 5) and key 8.
+//! that a text which many packages share is known to be one. The rule is in `docs/selection.md`,
+//! "Which selection is taken", the last paragraph (the version of key 5) and key 8.
 ghost use Rattle.std.specs.Prelude.{◌≡◌, ◌<◌, ℕ, List, true, IfOk, IfSome, length, option_copied, option_to_list, slice_get, Some};
 ghost use Rattle.std.specs.Option.{option_and_then, option_map};
 ghost use Rattle.std.specs.List.{find, list_any};
@@ -34,8 +33,7 @@ use version_core::Version;
 /// A version that an option is ranked by.
 #[derive(Drop)]
 pub struct RankedVersion<'a> {
-    /// The version; none where the text is no version, or the need is met by an entry without
-    /// version.
+    /// The version; none if the text is no version, or the need is met by an entry without version.
     pub version: Option<Version<'a>>,
     /// The place of the source that the version's text is read from, counted from 0.
     pub source: u32,
@@ -148,8 +146,8 @@ fn meets_by_own_name_as_known(
     known.is_wanted_as_known(dep, &own_version(source, kept))
 }
 
-// The version of the first entry of a package's provides that meets a dependency; none where no
-// entry does. In the clause, 15 is the index of `provides` (`PROVIDES`).
+// The version of the first entry of a package's provides that meets a dependency; none if no entry
+// does. In the clause, 15 is the index of `provides` (`PROVIDES`).
 fn provided_version<'a>(
     source: &Source<'a>,
     kept: PackageWord,
@@ -239,9 +237,9 @@ fn version_of_entry<'a>(
 }
 
 /// Where the text stands of the version that a dependency names which the package with a word in a
-/// source has at an index, counted from 0. None where the texts of the source are not known to keep
-/// their rules: then an entry may be none, and the index is not that of the entry. In the clause, 14
-/// is the index of `depends` (`DEPENDS`).
+/// source has at an index, counted from 0. None if the texts of the source are not known to keep
+/// their rules: then an entry may be none, and the index is not that of the entry. In the clause,
+/// 14 is the index of `depends` (`DEPENDS`).
 pub(crate) fn depends_version_place(
     source: &Source<'_>,
     kept: PackageWord,

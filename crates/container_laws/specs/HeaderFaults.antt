@@ -1,5 +1,5 @@
--- Which test of a file's header fails. The tests stand in `docs/formats.md`, "Container", the rows
--- of the header in its table.
+-- Which test of a file's header fails. The tests are in `docs/formats.md`, "Container", the rows of the
+-- header in its table.
 use Rattle.std.specs.Prelude.{◌≡◌, ◌⊎◌, ◌<◌, ◌≤◌, ℕ, List, ◌++◌, length, codes}
 use Rattle.base_core.specs.declared.Cause.{Cause}
 use Rattle.base_core.specs.declared.Cause.TheVariants.{NotAdb, Compressed, Truncated}

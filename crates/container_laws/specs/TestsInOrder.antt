@@ -1,5 +1,5 @@
--- The tests of a container in the order in which they are made. The order stands in
--- `docs/formats.md`, "Tests of a container".
+-- The tests of a container in the order in which they are made. The order is in `docs/formats.md`,
+-- "Tests of a container".
 use Rattle.std.specs.Prelude.{◌≡◌, ◌⊎◌, ◌<◌, ℕ, true, false, List, [], ◌∷◌, Option, Some, None, Ok, slice_get}
 use Rattle.base_core.specs.declared.cause.Cause.{Cause}
 use Rattle.base_core.specs.declared.cause.Cause.TheVariants.{WrongSchema}
@@ -24,8 +24,8 @@ pub record IsFirstFailing (tests : List (Option Cause)) (c : Cause) : Type 0 whe
   pub fails : slice_get tests place ≡ Some (Some c)
   pub before : (j : ℕ) → j < place → slice_get tests j ≡ Some None
 
--- the tests of the values and of the blocks behind them: the head of the payload, the shapes, the
--- texts, the names that stand twice, the other blocks
+-- the tests of the values and of the blocks after them: the head of the payload, the shapes, the texts,
+-- the names that stand twice, the other blocks
 abbrev pub tests_of_values : Which → List ℕ → Reading → List (Option Cause)
 tests_of_values which payload behind =
     head_fault payload
@@ -34,8 +34,8 @@ tests_of_values which payload behind =
     ∷ (repeated_fault which (root_value which payload)
     ∷ (behind_fault which (root_value which payload) behind ∷ []))))
 
--- the fault of a file's blocks: the first block is none; or there is one, and one of its tests or
--- of those behind it fails first
+-- the fault of a file's blocks: the first block is none; or there is one, and one of its tests or of
+-- those after it fails first
 abbrev pub IsBlocksFault : Which → Reading → Cause → Type 0
 IsBlocksFault which r c =
     (r ≡ fault c)

@@ -1,5 +1,5 @@
 //! Which test of a container is the one that is reported: the first, in the order in which the
-//! format lists them. It stands in `docs/formats.md`, "Container" and "Tests of a container".
+//! format lists them. It is in `docs/formats.md`, "Container" and "Tests of a container".
 //!
 //! The functions are laws. They cite the definitions of `specs/`, and those of the readers below.
 #![tactic(auto)]
@@ -20,7 +20,7 @@ pub fn the_first_fault_of_a_header_is_reported()
 
 /// The fault that is reported of a container is the first of its tests that fails, in this order:
 /// the header, the schema, the first block, the head of its payload, the shapes of the values,
-/// their texts, the names that stand twice, and the blocks behind them.
+/// their texts, the names that stand twice, and the blocks after them.
 pub fn the_first_fault_of_a_container_is_reported()
     // Of a file that has to have one table at its root.
     ensures table { (which : Which) (file : List ℕ) (c : Cause)

@@ -1,8 +1,8 @@
--- What options are ranked by, read once for each: the keys of the rank, in their order. Versions
--- are compared by their texts, or by how many of those that are ranked come before them.
--- The rule stands in `docs/selection.md`, "Which selection is taken", the table of eleven keys,
--- which *Rank* says over candidates. This file serves the contracts of `src/rank.rt` and
--- `src/sealed.rt` of `pool_core`: the order of rankings is that of their candidates.
+-- What options are ranked by, read once for each: the keys of the rank, in their order. Versions are
+-- compared by their texts, or by how many of those that are ranked come before them. The rule is in
+-- `docs/selection.md`, "Which selection is taken", the table of eleven keys, which *Rank* says over
+-- candidates. This file serves the contracts of `src/rank.rt` and `src/sealed.rt` of `pool_core`: the
+-- order of rankings is that of their candidates.
 use Rattle.std.specs.Prelude.{◌≡◌, ℕ, Bool, List, Option, Some}
 use Rattle.std.specs.Option.{option_cmp}
 use Rattle.std.specs.Ordering.{bool_cmp, flip_args, nat_cmp, on, then_cmp}

@@ -1,8 +1,8 @@
 //! Which of two options is taken first for a need. Each key of an option is read once, versions are
-//! compared by their texts or their ranks, and the first key that differs decides.
-//! The rule stands in `docs/selection.md`, "Which selection is taken", the table of eleven keys.
-//! Keys 8 and 9, the candidate's own version and then the version's text, are one here: the order
-//! of own versions tells both, and so does their rank.
+//! compared by their texts or their ranks, and the first key that differs decides. The rule is in
+//! `docs/selection.md`, "Which selection is taken", the table of eleven keys. Keys 8 and 9, the
+//! candidate's own version and then the version's text, are one here: the order of own versions
+//! tells both, and so does their rank.
 ghost use Rattle.std.specs.Prelude.{◌≡◌};
 ghost use Rattle.std.specs.Option.{option_cmp};
 ghost use Rattle.std.specs.Ordering.{bool_cmp, flip_args, then_cmp};

@@ -1,8 +1,8 @@
 //! The ranks of the versions of options. Each long text of a version is compared with others once
-//! for all the packages that share it, so that options are sorted by numbers.
-//! The rule stands in `docs/selection.md`, "Which selection is taken", keys 5, 8 and 9 of the
-//! table; how versions are compared says `docs/formats.md`, "Versions". That texts are told apart
-//! by where they stand saves time alone, as the README of this crate says.
+//! for all the packages that share it, so that options are sorted by numbers. The rule is in
+//! `docs/selection.md`, "Which selection is taken", keys 5, 8 and 9 of the table; how versions are
+//! compared says `docs/formats.md`, "Versions". That texts are told apart by where they stand saves
+//! time alone, as the README of this crate says.
 ghost use Rattle.std.specs.Prelude.{◌≡◌, ◌<◌, ◌-◌, ℕ, List, true, All, OnOk, IfOk, IfSome, Some, length, map, slice_get};
 ghost use Rattle.std.specs.List.Sorted.{IsSorted};
 ghost use Rattle.std.specs.Ordering.{is_eq, on};
@@ -19,9 +19,9 @@ use std::cmp::Ordering;
 use version_core::{Version, order_is_total};
 
 /// Ranks the versions of options if one of them is long, and answers by what they are to be
-/// compared. The options may come into another order. It takes time in proportion to k log k in
-/// the k options, and sorts the n texts that they read, which takes n log n comparisons, or n where
-/// they stand in order, and some n more; short texts are sooner compared than ranked.
+/// compared. The options may come into another order. It takes time in proportion to k log k in the
+/// k options, and sorts the n texts that they read, which takes n log n comparisons, or n if they
+/// are in order, and some n more; short texts are sooner compared than ranked.
 ///
 /// # Errors
 ///
@@ -215,8 +215,8 @@ fn rank_of(version: &RankedVersion<'_>, versions: &[RankedVersion<'_>], kind: Ve
     }
 }
 
-// The rank of the version that stands at the place of another, found by halving where versions
-// stand by their places.
+// The rank of the version that is at the place of another, found by halving where versions stand by
+// their places.
 fn rank_at_place(version: &RankedVersion<'_>, versions: &[RankedVersion<'_>]) -> Option<usize>
     ensures { IfSome result (IsRankAt versions.now version.now) }
 {

@@ -1,6 +1,5 @@
--- Where the contents of a package's files begin, and what the tests of it say.
--- The rules stand in `docs/formats.md`, "The other blocks": the contents of the files, in rising order
--- of their positions.
+-- Where the contents of a package's files begin, and what the tests of it say. The rules are in
+-- `docs/formats.md`, "The other blocks": the contents of the files, in rising order of their positions.
 use Rattle.std.specs.Prelude.{◌≡◌, ℕ, ◌<◌, ◌==◌, ◌&&◌, ◌||◌, ◌⊎◌, nat_lt, Bool, List, [], ◌∷◌, Option, Some, None, option_map}
 use Rattle.std.specs.List.{find}
 use Rattle.adb_schema.specs.Soundness.{payload_fault}
@@ -47,7 +46,7 @@ IsWholeTested pkg (Sound places) =
     (package_fault pkg ≡ None) × AreAtPlaces pkg places.items (contents_in (files_in_file pkg))
 IsWholeTested pkg (Bad c) = package_fault pkg ≡ Some c
 
--- where no test fails, none of the values behind a front does
+-- if no test fails, none of the values after a front does
 abbrev pub HasSoundPayload : Front → FilesTest → Type 0
 HasSoundPayload front (Sound places) = payload_fault Package (front_payload front) ≡ None
 HasSoundPayload front (Bad c) = Unit {0}
@@ -64,13 +63,13 @@ abbrev pub is_before_file : ℕ → ℕ → ℕ → ℕ → Bool
 is_before_file folder file other_folder other_file =
     nat_lt folder other_folder || ((folder == other_folder) && nat_lt file other_file)
 
--- each of these places is of a file that comes behind the one with these positions
+-- each of these places is of a file that comes after the one with these positions
 abbrev pub ArePlacedBehind : ℕ → ℕ → List FilePlace → Type 0
 ArePlacedBehind folder file [] = Unit {0}
 ArePlacedBehind folder file (place ∷ places) =
     IsBeforeFile folder file place.folder place.file × ArePlacedBehind folder file places
 
--- each of these places is of a file that comes behind those of all places before it
+-- each of these places is of a file that comes after those of all places before it
 abbrev pub AreInFileOrder : List FilePlace → Type 0
 AreInFileOrder [] = Unit {0}
 AreInFileOrder (place ∷ places) =

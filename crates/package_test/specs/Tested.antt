@@ -1,6 +1,5 @@
--- A package in a tree that was read and tested once.
--- The rules stand in `docs/formats.md`, "Tests of a container" and "The other blocks". Serves the
--- contracts of `read_package` and `TestedPackage`.
+-- A package in a tree that was read and tested once. The rules are in `docs/formats.md`, "Tests of a
+-- container" and "The other blocks". Serves the contracts of `read_package` and `TestedPackage`.
 use Rattle.std.specs.Prelude.{◌≡◌, ℕ, List, length, Option, Some, None}
 use Rattle.sha2.specs.Sha256.{sha256}
 use Rattle.adb_view.specs.Plain.{Plain}
@@ -49,7 +48,7 @@ pub record IsTestedOf (name file : List ℕ) (pkg : TestedPackage) : Type 0 wher
   pub payload : tested_payload pkg ≡ payload_in file
   pub places : AreAtPlaces file pkg.places.items (contents_in (files_in_file file))
 
--- what `read_package` answers of a file under this name, or where there is none
+-- what `read_package` answers of a file under this name, or if there is none
 abbrev pub IsReadOf : List ℕ → Option (List ℕ) → PackageRead → Type 0
 IsReadOf name None Absent = Unit {0}
 IsReadOf name None (Bad c) = ⊥

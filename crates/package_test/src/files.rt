@@ -1,5 +1,5 @@
-//! The contents of a package's files are read once and tested, piece by piece.
-//! The rules stand in `docs/formats.md`, "The other blocks", the paragraph of pieces.
+//! The contents of a package's files are read once and tested, piece by piece. The rules are in
+//! `docs/formats.md`, "The other blocks", the paragraph of pieces.
 
 ghost use Rattle.std.specs.Prelude.{◌≡◌, ℕ, List, Some, length, IfOk};
 ghost use Rattle.adb_block.specs.Reading.{reading_of};
@@ -28,7 +28,7 @@ pub(crate) enum FilesTest {
     Bad(Cause),
 }
 
-/// Reads and tests the blocks behind the values of a package.
+/// Reads and tests the blocks after the values of a package.
 pub(crate) fn read_files<T: Tree>(
     alloc: Global,
     tree: &mut T,

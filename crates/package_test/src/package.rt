@@ -1,7 +1,6 @@
-//! A package in a tree that was read and tested once.
-//! The rules stand in `docs/formats.md`, "The other blocks", the last two paragraphs (the front,
-//! and pieces); what is kept of a package, in the README of this crate and in `docs/DECISIONS.md`,
-//! "Packages that are not held whole".
+//! A package in a tree that was read and tested once. The rules are in `docs/formats.md`, "The
+//! other blocks", the last two paragraphs (the front, and pieces); what is kept of a package, in
+//! the README of this crate and in `docs/DECISIONS.md`, "Packages that are not held whole".
 
 ghost use Rattle.std.specs.Prelude.{◌≡◌, true, is_none};
 ghost use Rattle.adb_schema.specs.Soundness.{payload_fault};
@@ -36,7 +35,7 @@ impl TestedPackage {
     ghost use Rattle.pkg_core.specs.Values.{payload_of_contents, value_of_contents};
     ghost use Rattle.sha2.specs.Sha256.{sha256};
 
-    /// The name under which the package stands in the tree.
+    /// The name under which the package is in the tree.
     pub fn name(&self) -> &Name
         ensures { result.now ≡ tested_name self.now }
     {
@@ -53,7 +52,7 @@ impl TestedPackage {
     }
 
     /// The contents of the file with these positions in pieces, from the first on. No piece comes
-    /// where it has no contents.
+    /// if it has no contents.
     pub fn file(&self, folder: u32, file: u32) -> FilePieces<'_>
         ensures name { package_of_file result ≡ tested_name self.now }
         ensures len { len_around_file result ≡ tested_len self.now }

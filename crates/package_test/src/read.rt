@@ -1,7 +1,6 @@
 //! How a package in a tree is read and tested: its front, its values, and then piece by piece what
-//! stands behind them.
-//! The rules stand in `docs/formats.md`, "Tests of a container", and "The other blocks", the
-//! paragraphs of a front and of pieces.
+//! follows them. The rules are in `docs/formats.md`, "Tests of a container", and "The other
+//! blocks", the paragraphs of a front and of pieces.
 
 ghost use Rattle.std.specs.Prelude.{◌≡◌, ℕ, List, Option, Some, IfOk};
 ghost use Rattle.adb_schema.specs.declared.read.TheConstants.{PACKAGE_WORD};
@@ -21,7 +20,7 @@ use base_core::{Cause, Name, Tree, TreeFault};
 use pkg_core::{Contents, Front, FrontFault, PackageFault, read_front};
 use std::alloc::Global;
 
-/// What stands under a name, by the tests of a package.
+/// What is under a name, by the tests of a package.
 #[derive(Drop)]
 pub enum PackageRead {
     /// There is no file.
@@ -32,7 +31,7 @@ pub enum PackageRead {
     Sound(TestedPackage),
 }
 
-/// Reads the package under a name, and tests it: its front, its values, and then the blocks behind
+/// Reads the package under a name, and tests it: its front, its values, and then the blocks after
 /// them, piece by piece. The tests and their order are those of a package that is read whole. The
 /// tree stays as it is, whatever the answer.
 ///
@@ -102,14 +101,14 @@ fn read_by(name: Name, front: Front, test: FilesTest) -> PackageRead
     }
 }
 
-/// Tests the values behind a front and, where they are good, the blocks behind them.
+/// Tests the values after a front and, if they are good, the blocks after them.
 fn read_behind<T: Tree>(
     alloc: Global,
     tree: &mut T,
     name: &Name,
     front: &Front,
 ) -> Result<FilesTest, TreeFault>
-    // For each package with this front that has the bytes that were seen behind it.
+    // For each package with this front that has the bytes that were seen after it.
     ensures whole { IfOk result (λ test. (seen : List ℕ)
         × IsSeenIn (T.history tree.old) name.now (front_file_len front.now) (front_end front.now)
         seen

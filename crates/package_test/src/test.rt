@@ -1,6 +1,5 @@
-//! What the tests of a package in a tree say.
-//! The rules stand in `docs/formats.md`, "Tests of a container", and `docs/commands.md`, "`verify
-//! FILE..`".
+//! What the tests of a package in a tree say. The rules are in `docs/formats.md`, "Tests of a
+//! container", and `docs/commands.md`, "`verify FILE..`".
 
 ghost use Rattle.std.specs.Prelude.{◌≡◌, ℕ, List, Option, Some, IfOk};
 ghost use Rattle.base_core.specs.Calls.{IfObservable};
@@ -20,7 +19,7 @@ use std::alloc::Global;
 pub enum PackageTest {
     /// There is no file.
     Absent,
-    /// The file passes the tests of its header, and has another schema. Nothing behind that was
+    /// The file passes the tests of its header, and has another schema. Nothing after that was
     /// tested.
     OtherSchema,
     /// The file is a package, and no test fails.
@@ -29,9 +28,9 @@ pub enum PackageTest {
     Bad(Cause),
 }
 
-/// Tests the file under a name as a package: its front, its values, and then the blocks behind
-/// them, piece by piece. The tests and their order are those of a container that is read whole.
-/// The tree stays as it is, whatever the answer.
+/// Tests the file under a name as a package: its front, its values, and then the blocks after them,
+/// piece by piece. The tests and their order are those of a container that is read whole. The tree
+/// stays as it is, whatever the answer.
 ///
 /// # Errors
 ///

@@ -1,6 +1,5 @@
--- What was read of a block, and what it comes to.
--- The rules stand in `docs/formats.md`, "The other blocks"; the framing of a block in "Container".
--- Serves the contracts of `block`.
+-- What was read of a block, and what it comes to. The rules are in `docs/formats.md`, "The other
+-- blocks"; the framing of a block in "Container". Serves the contracts of `block`.
 use Rattle.std.specs.Prelude.{◌≡◌, ◌≤◌, ◌<◌, ℕ, ◌+◌, min, List, [], ◌∷◌, length, drop, Option, Some, None, Result, Ok, Err}
 use Rattle.adb_block.specs.Frames.{IsFramed, raw_size}
 use Rattle.adb_block.specs.declared.block.Frame.{Frame}
@@ -18,12 +17,12 @@ use Rattle.piece_reader.specs.declared.block.BlockStep.TheVariants.{End, Passed,
 use Rattle.piece_reader.specs.declared.piece.PieceFault.{PieceFault}
 use Rattle.piece_reader.specs.declared.piece.PieceFault.TheVariants.{Bad, Disk}
 
--- how many bytes of a block stand in front of its payload
+-- how many bytes of a block are in front of its payload
 abbrev pub head_size : Option Frame → ℕ
 head_size None = 0
 head_size (Some frame) = frame.head_len
 
--- these bytes of a block's payload were seen: the positions, which are its first bytes, where it has as
+-- these bytes of a block's payload were seen: the positions, which are its first bytes, if it has as
 -- many, else no more than it has
 abbrev pub SeesPositions : Option Frame → List ℕ → List ℕ → Type 0
 SeesPositions None positions seen = seen ≡ []
@@ -35,8 +34,7 @@ abbrev pub IsInBlock : Option Frame → ℕ → Type 0
 IsInBlock None seen = Unit {0}
 IsInBlock (Some frame) seen = seen ≤ frame.head_len + min POSITIONS_LEN frame.payload_len
 
--- what was read of the block at a place of this file is what stands there; or it is the first failed
--- test
+-- what was read of the block at a place of this file is what is there; or it is the first failed test
 abbrev pub IsBlockRead : BlockPlace → List ℕ → Result BlockRead PieceFault → Type 0
 IsBlockRead place file (Ok read) =
     IsFramed (Ok read.framing) (drop place.at file) (step_at place file)
@@ -54,7 +52,7 @@ IsNextBlock before file (Ok (Opened o)) after =
 IsNextBlock before file (Err (Bad c)) after = pieces_at before file ≡ refusal c
 IsNextBlock before file (Err Disk) after = Unit {0}
 
--- a reader stands further on behind a block, and within the package, and so do the bytes to come of a
+-- a reader stands further on after a block, and within the package, and so do the bytes to come of a
 -- file that was opened
 abbrev pub GoesFurther : BlockPlace → BlockStep → BlockPlace → Type 0
 GoesFurther before End after = Unit {0}
@@ -68,7 +66,7 @@ EndsBefore end End after = Unit {0}
 EndsBefore end Passed after = end ≤ after.at
 EndsBefore end (Opened o) after = end ≤ o.at
 
--- the walk before and after a block: it goes on behind the file that is opened; at the end no file is
+-- the walk before and after a block: it goes on after the file that is opened; at the end no file is
 -- due
 abbrev pub GoesOnWith : Walk → BlockStep → Walk → Type 0
 GoesOnWith before End after = left_in before ≡ []

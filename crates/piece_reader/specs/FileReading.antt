@@ -1,6 +1,5 @@
--- A single file of a package that is read in pieces.
--- The rules stand in `docs/formats.md`, "The other blocks", the paragraph of pieces. Serves the
--- contracts of `FilePieces`.
+-- A single file of a package that is read in pieces. The rules are in `docs/formats.md`, "The other
+-- blocks", the paragraph of pieces. Serves the contracts of `FilePieces`.
 use Rattle.std.specs.Prelude.{◌≡◌, ◌<◌, ℕ, ◌+◌, ◌⊎◌, Bool, true, false, List, [], ◌++◌, length, Option, Some, None, option_map, Result, Ok, Err}
 use Rattle.base_core.specs.declared.cause.Cause.{Cause}
 use Rattle.pkg_core.specs.Contents.{Expected, hash_fault}
@@ -22,7 +21,7 @@ package_of_file file = file.name.now
 abbrev pub len_around_file : FilePieces → ℕ
 len_around_file file = file.len
 
--- how many bytes of a file are still to be read; none where no file is open
+-- how many bytes of a file are still to be read; none if no file is open
 abbrev pub bytes_left_in : Option OpenFile → ℕ
 bytes_left_in None = 0
 bytes_left_in (Some o) = file_bytes_left o.file
@@ -32,7 +31,7 @@ abbrev pub bytes_left_of : FilePieces → ℕ
 bytes_left_of file = bytes_left_in file.opened
 
 -- what the bytes of a file are compared with: its positions, its size and its digest, as the package
--- lists them; None where it has no contents
+-- lists them; None if it has no contents
 abbrev pub file_due : FilePieces → Option Expected
 file_due file = option_map expected_of file.due
 
@@ -81,7 +80,7 @@ HaveComeBy None (Some o) due bytes = HasTaken o.file bytes
 abbrev pub HaveCome : FilePieces → List ℕ → Type 0
 HaveCome file bytes = HaveComeBy (kept_fault file) file.opened (file_due file) bytes
 
--- What a call answers when these bytes (`so_far`) were handed out before: the piece comes behind them;
+-- What a call answers when these bytes (`so_far`) were handed out before: the piece comes after them;
 -- or they are all, and as is due; and no test failed then. Or with the piece they are all, and have
 -- another digest; or a test had failed before.
 abbrev pub ComesBehind : FilePieces → List ℕ → List ℕ → Result Bool PieceFault → FilePieces → Type 0

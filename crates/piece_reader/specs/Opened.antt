@@ -1,6 +1,6 @@
--- A file of a package whose pieces are read one by one, of the package's bytes.
--- The rules stand in `docs/formats.md`, "The other blocks", the paragraph of pieces. Serves the
--- contracts of `OpenFile` and `open_at`.
+-- A file of a package whose pieces are read one by one, of the package's bytes. The rules are in
+-- `docs/formats.md`, "The other blocks", the paragraph of pieces. Serves the contracts of `OpenFile`
+-- and `open_at`.
 use Rattle.std.specs.Prelude.{◌≡◌, ℕ, ◌+◌, ◌-◌, nat_lt, if◌then◌else◌, true, false, List, [], ◌++◌, length, take, drop, Option, Some, None, Result, Ok, Err}
 use Rattle.base_core.specs.declared.cause.Cause.{Cause}
 use Rattle.base_core.specs.declared.cause.Cause.TheVariants.{DataOrder, DataSize}
@@ -17,8 +17,8 @@ use Rattle.piece_reader.specs.declared.open.OpenFile.{OpenFile}
 abbrev pub bytes_to_come : OpenFile → List ℕ → List ℕ
 bytes_to_come o pkg = take (file_bytes_left o.file) (drop o.at pkg)
 
--- where an open file stands in a package of these bytes: `so_far` were taken, and the pieces to come
--- are those of the bytes to come, and then further ones
+-- where an open file is in a package of these bytes: `so_far` were taken, and the pieces to come are
+-- those of the bytes to come, and then further ones
 pub record IsOpenFile (o : OpenFile) (so_far pkg : List ℕ)
     (further pieces : PiecesRead) : Type 0 where
   pub taken : HasTaken o.file so_far
@@ -34,7 +34,7 @@ pub record AreLeftOf (o : OpenFile) (pkg left : List ℕ) : Type 0 where
   pub come : left ≡ bytes_to_come o pkg
   pub good : hash_fault o.file.wanted.hash.now (so_far ++ left) ≡ None
 
--- the bytes `left` are those to come of the file that is open; where none is open there are none
+-- the bytes `left` are those to come of the file that is open; if none is open there are none
 abbrev pub AreToCome : Option OpenFile → List ℕ → List ℕ → Type 0
 AreToCome None pkg left = left ≡ []
 AreToCome (Some o) pkg left = AreLeftOf o pkg left
@@ -57,7 +57,7 @@ NotDisk (Err (Bad c)) = Unit {0}
 NotDisk (Err Disk) = ⊥
 
 -- what a call for the next piece of an open file answers: these bytes are the next piece, and then
--- comes what is left of the file or, behind its last piece, what is further; or the digest differs
+-- comes what is left of the file or, after its last piece, what is further; or the digest differs
 abbrev pub IsNextPiece : List ℕ → List ℕ → List ℕ → PiecesRead → PiecesRead
     → Result (Part × Option OpenFile) PieceFault → Type 0
 IsNextPiece so_far pkg bytes further before (Ok (part, Some o)) = (after : PiecesRead)
@@ -75,12 +75,12 @@ IsPieceOf o len (part, Some further) =
     × (further.file.wanted ≡ o.file.wanted) × (further.at ≡ o.at + len)
 IsPieceOf o len (part, None) = part ≡ part_of (expected_of o.file.wanted) true
 
--- the offset behind a file that is open, or 0 where none is
+-- the offset after a file that is open, or 0 if none is
 abbrev pub open_end : Option OpenFile → ℕ
 open_end None = 0
 open_end (Some o) = o.at + file_bytes_left o.file
 
--- why a file that is due cannot stand at an offset of a package with so many bytes, if it cannot: no
+-- why a file that is due cannot are at an offset of a package with so many bytes, if it cannot: no
 -- offset is given, for which (0, 0) stands, or fewer bytes are left than its size
 abbrev pub place_fault : Option Expected → Option ℕ → ℕ → Option Cause
 place_fault None at len = None

@@ -1,6 +1,6 @@
--- Where a reader of the pieces of a package stands, and what a call of it answers.
--- The rules stand in `docs/formats.md`, "The other blocks", the paragraph of pieces; the order of the
--- files in the paragraph above it. Serves the contracts of `PieceReader`.
+-- Where a reader of the pieces of a package stands, and what a call of it answers. The rules are in
+-- `docs/formats.md`, "The other blocks", the paragraph of pieces; the order of the files in the
+-- paragraph above it. Serves the contracts of `PieceReader`.
 use Rattle.std.specs.Prelude.{◌≡◌, ℕ, ◌+◌, ◌-◌, if◌then◌else◌, List, [], ◌∷◌, is_none, Option, Some, None, IfSome, Result, Ok, Err}
 use Rattle.base_core.specs.declared.cause.Cause.{Cause}
 use Rattle.pkg_core.specs.Contents.{Expected}
@@ -43,7 +43,7 @@ abbrev pub due_in : BlockPlace → Option OpenFile → List Expected
 due_in place None = left_in place.walk
 due_in place (Some o) = expected_of o.file.wanted ∷ left_in place.walk
 
--- the files that are due, by what is to come: behind the last block, and behind a failed test, none is
+-- the files that are due, by what is to come: after the last block, and after a failed test, none is
 abbrev pub due_by : Due → BlockPlace → Option OpenFile → List Expected
 due_by Files place opened = due_in place opened
 due_by Nothing place opened = []
@@ -70,7 +70,7 @@ ArePiecesFrom place None pkg pieces = pieces ≡ pieces_at place pkg
 ArePiecesFrom place (Some o) pkg pieces =
     (so_far : List ℕ) × IsOpenFile o so_far pkg (pieces_at place pkg) pieces
 
--- these pieces are left, by what is to come: behind the last block none is, behind a failed test its
+-- these pieces are left, by what is to come: after the last block none is, after a failed test its
 -- fault alone
 abbrev pub AreLeft : Due → BlockPlace → Option OpenFile → List ℕ → PiecesRead → Type 0
 AreLeft Files place opened pkg pieces = ArePiecesFrom place opened pkg pieces
@@ -108,7 +108,7 @@ abbrev pub ComesInOrder : List Expected → Option Part → List Expected → Ty
 ComesInOrder before None after = before ≡ []
 ComesInOrder before (Some part) after = IsOfFirstDue before part after
 
--- behind a piece a reader goes on, and the file is open unless the piece is its last one
+-- after a piece a reader goes on, and the file is open unless the piece is its last one
 pub record GoesOnBehind (part : Part) (old new : PieceReader) : Type 0 where
   pub before : IsGoingOn old
   pub after : IsGoingOn new
@@ -125,8 +125,7 @@ HasRefused Disk reader = Unit {0}
 abbrev pub start_of_file : PieceReader → ℕ
 start_of_file reader = reader.start
 
--- how many bytes were handed out of the file that is open, which begins at `start`; 0 where none is
--- open
+-- how many bytes were handed out of the file that is open, which begins at `start`; 0 if none is open
 abbrev pub handed_out_from : ℕ → Option OpenFile → ℕ
 handed_out_from start None = 0
 handed_out_from start (Some o) = o.at - start
@@ -135,12 +134,12 @@ handed_out_from start (Some o) = o.at - start
 abbrev pub handed_out : PieceReader → ℕ
 handed_out reader = handed_out_from reader.start reader.opened
 
--- the bytes of a piece stand in the package, behind those of its file that were handed out before
+-- the bytes of a piece are in the package, after those of its file that were handed out before
 abbrev pub HasPieceAt : PieceReader → List ℕ → List ℕ → Option Part → PieceReader → Type 0
 HasPieceAt old pkg bytes None new = Unit {0}
 HasPieceAt old pkg bytes (Some part) new = HasAt pkg (start_of_file new + handed_out old) bytes
 
--- a piece of so many bytes was handed out of the file that is open, whose offset stays; behind the last
+-- a piece of so many bytes was handed out of the file that is open, whose offset stays; after the last
 -- piece none is open, and 0 are handed out of it
 pub record KeepsStart (part : Part) (len : ℕ) (old new : PieceReader) : Type 0 where
   pub same : IfSome old.opened (λ o. start_of_file new ≡ start_of_file old)
@@ -148,14 +147,14 @@ pub record KeepsStart (part : Part) (len : ℕ) (old new : PieceReader) : Type 0
 
 -- ---- inside
 
--- the walk before and after the search for the next file: it goes on behind the file that was found;
--- None where none is due
+-- the walk before and after the search for the next file: it goes on after the file that was found;
+-- None if none is due
 abbrev pub FindsFile : Walk → Option OpenFile → Walk → Type 0
 FindsFile before None after = left_in before ≡ []
 FindsFile before (Some found) after =
     left_in before ≡ expected_of found.file.wanted ∷ left_in after
 
--- what the search for the next file answers in this package: its contents begin, and the pieces behind
+-- what the search for the next file answers in this package: its contents begin, and the pieces after
 -- them come from where the reader stands then; no piece is left; or the first failed test
 abbrev pub IsFileFound : BlockPlace → List ℕ → Result (Option OpenFile) PieceFault → BlockPlace
     → Type 0
@@ -174,8 +173,8 @@ IsFileOpened old pkg before (Ok (Some o)) new =
 IsFileOpened old pkg before (Err (Bad c)) new = before ≡ refusal c
 IsFileOpened old pkg before (Err Disk) new = Unit {0}
 
--- an open file begins at `start`: it stands behind as many bytes as were handed out of it, and if it
--- was open before this is where it began then
+-- an open file begins at `start`: it follows as many bytes as were handed out of it, and if it was open
+-- before this is where it began then
 pub record IsStartOf (old : PieceReader) (o : OpenFile) (start : ℕ) : Type 0 where
   pub stands : o.at ≡ start + handed_out old
   pub same : IfSome old.opened (λ o. start ≡ start_of_file old)
@@ -190,8 +189,8 @@ IsPieceRead new pkg before bytes (Ok None) = before ≡ no_piece
 IsPieceRead new pkg before bytes (Err (Bad c)) = before ≡ refusal c
 IsPieceRead new pkg before bytes (Err Disk) = Unit {0}
 
--- the files that are due before a file was opened: it, and those that the walk has left; none where
--- none was opened
+-- the files that are due before a file was opened: it, and those that the walk has left; none if none
+-- was opened
 abbrev pub OpensDue : List Expected → Option OpenFile → BlockPlace → Type 0
 OpensDue before None place = before ≡ []
 OpensDue before (Some o) place =

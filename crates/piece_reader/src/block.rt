@@ -1,6 +1,6 @@
 //! What is read of a block: its header, and the positions that contents begin with; and the next
-//! file whose contents a block holds.
-//! The rules stand in `docs/formats.md`, "The other blocks"; the framing of a block in "Container".
+//! file whose contents a block holds. The rules are in `docs/formats.md`, "The other blocks"; the
+//! framing of a block in "Container".
 
 ghost use Rattle.std.specs.Prelude.{◌≡◌, ◌≤◌, ◌<◌, ◌+◌, ◌-◌, ◌^◌, ℕ, List, length, IfErr, IfOk, IfSome, OnOk};
 ghost use Rattle.adb_block.specs.Frames.{raw_size};
@@ -17,13 +17,13 @@ use adb_block::{Frame, frame_of};
 use base_core::{Name, Tree};
 use pkg_core::{BlockPlace, FileCheck, HeadBytes, POSITIONS_LEN, Step};
 
-/// What was read of a block: what its header frames, and the first eight bytes of its payload,
-/// where it has as many.
+/// What was read of a block: what its header frames, and the first eight bytes of its payload, if
+/// it has as many.
 #[derive(Clone, Copy)]
 pub(crate) struct BlockRead {
-    /// What its header frames; None where no block is left.
+    /// What its header frames; None if no block is left.
     pub framing: Option<Frame>,
-    /// The positions that its payload begins with; zeros where it has no eight bytes.
+    /// The positions that its payload begins with; zeros if it has no eight bytes.
     pub positions: [u8; POSITIONS_LEN],
 }
 
@@ -38,7 +38,7 @@ pub(crate) enum BlockStep<'a> {
     Opened(OpenFile<'a>),
 }
 
-/// Goes on behind the block at a place, in the package of this name. No more is read of it than its
+/// Goes on after the block at a place, in the package of this name. No more is read of it than its
 /// header and the first eight bytes of its payload, and the tree stays as it is, whatever the
 /// answer.
 ///
@@ -78,7 +78,7 @@ pub(crate) fn next_block<'a, T: Tree>(
     }
 }
 
-/// The file that a block at an offset opens: its bytes stand behind the header and the positions.
+/// The file that a block at an offset opens: its bytes stand after the header and the positions.
 fn file_at<'a>(file: FileCheck<'a>, at: u64, framing: Option<Frame>) -> OpenFile<'a>
     // Offsets have 64 bits.
     requires { at + head_size framing + POSITIONS_LEN < 2 ^ 64 }
@@ -124,7 +124,7 @@ pub(crate) fn read_block<T: Tree>(
     Ok(BlockRead { framing, positions })
 }
 
-/// Reads the first eight bytes of the payload of a block at an offset, where it has as many.
+/// Reads the first eight bytes of the payload of a block at an offset, if it has as many.
 #[tactic(auto, using(pkg_core::proofs::SeenBytes::seen_by_read, pkg_core::proofs::SeenBytes::proper_where_long))]
 fn read_positions<T: Tree>(
     tree: &mut T,
@@ -153,7 +153,7 @@ fn read_positions<T: Tree>(
     Ok(positions)
 }
 
-/// Goes on to the next file whose contents a block holds, past blocks that hold none; None behind
+/// Goes on to the next file whose contents a block holds, past blocks that hold none; None after
 /// the last block.
 pub(crate) fn next_file<'a, T: Tree>(
     tree: &mut T,

@@ -3,10 +3,10 @@
 //!
 //! `PieceReader` hands out the pieces of all files of a package, one after the other, into a
 //! `Piece` of up to 65,536 bytes. `FilePieces` hands out those of a single file, by the offset at
-//! which it begins. Neither takes memory. The contracts cite `Readers` (which pieces of a package
-//! are still to come), `FileReading` (which bytes of a single file), `Blocks` (what a block comes
-//! to) and `Opened` (the bytes of a file that are still to come) of `specs/`.
-//! The rules stand in `docs/formats.md`, "The other blocks".
+//! which it begins. Neither allocates memory. The contracts cite `Readers` (which pieces of a
+//! package are still to come), `FileReading` (which bytes of a single file), `Blocks` (what a block
+//! comes to) and `Opened` (the bytes of a file that are still to come) of `specs/`. The rules are
+//! in `docs/formats.md`, "The other blocks".
 #![tactic(auto)]
 
 mod block;

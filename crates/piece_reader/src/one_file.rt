@@ -1,5 +1,5 @@
-//! The pieces of a single file of a package.
-//! The rules stand in `docs/formats.md`, "The other blocks", the paragraph of pieces.
+//! The pieces of a single file of a package. The rules are in `docs/formats.md`, "The other
+//! blocks", the paragraph of pieces.
 
 ghost use Rattle.std.specs.Option.{ForSome};
 ghost use Rattle.std.specs.Prelude.{◌≡◌, ◌<◌, ◌≤◌, Some};
@@ -12,7 +12,7 @@ use base_core::{Cause, Name, Tree};
 use pkg_core::{Contents, Wanted, wanted_file};
 
 /// The bytes of a single file of a package in pieces, read from the package at the offset at which
-/// the file begins. All is tested anew. It takes no memory. Contracts see, by `FileReading` of
+/// the file begins. All is tested anew. It allocates no memory. Contracts see, by `FileReading` of
 /// `specs/`, which bytes of a package are still to come.
 #[derive(Drop)]
 pub struct FilePieces<'a> {
@@ -22,9 +22,9 @@ pub struct FilePieces<'a> {
     pub(crate) len: u64,
     // The values of the package, which tell what is due.
     pub(crate) contents: Contents<'a>,
-    // What the bytes are compared with; None where the file has no contents.
+    // What the bytes are compared with; None if the file has no contents.
     pub(crate) due: Option<Wanted<'a>>,
-    // The file with what is left of it; None behind its last piece.
+    // The file with what is left of it; None after its last piece.
     pub(crate) opened: Option<OpenFile<'a>>,
     // The test that failed, if one did.
     pub(crate) refused: Option<Cause>,
@@ -46,7 +46,7 @@ impl<'a> FilePieces<'a> {
     ghost use Rattle.piece_reader.specs.declared.piece.PieceFault.TheVariants.{Bad, Disk as DiskFault};
 
     /// The file with these positions, which begins at this offset in the package of this name and
-    /// with so many bytes and these values. No piece comes where it has no contents. Where it has
+    /// with so many bytes and these values. No piece comes if it has no contents. Where it has
     /// some, and no offset is given or the package is too short for them, each call is refused.
     pub fn new(
         name: &'a Name,
@@ -84,8 +84,8 @@ impl<'a> FilePieces<'a> {
         }
     }
 
-    /// The pieces of a file with contents, which begins at this offset; each call is refused where
-    /// it has no place there.
+    /// The pieces of a file with contents, which begins at this offset; each call is refused if it
+    /// has no place there.
     fn of(
         name: &'a Name,
         len: u64,
@@ -124,7 +124,7 @@ impl<'a> FilePieces<'a> {
         }
     }
 
-    /// Reads the next piece, and tells whether one came; else the file has ended. The pieces have
+    /// Reads the next piece, and returns whether one came; else the file has ended. The pieces have
     /// 65,536 bytes each, and the last one 1 to 65,536. The tree stays as it is, whatever the
     /// answer.
     ///
@@ -171,8 +171,8 @@ impl<'a> FilePieces<'a> {
         }
     }
 
-    /// Reads the next piece, where no test failed. The clauses are those of `next_piece`, but that
-    /// a failed test is not kept yet.
+    /// Reads the next piece, if no test failed. The clauses are those of `next_piece`, but that a
+    /// failed test is not kept yet.
     fn read_next<T: Tree>(&mut self, tree: &mut T, piece: &mut Piece) -> Result<bool, PieceFault>
         requires { kept_fault self.old ≡ None }
         ensures piece { IfObservable (T.history tree.old) (λ v. (pkg left : List ℕ)

@@ -1,5 +1,5 @@
-//! A file of a package whose pieces are read one by one.
-//! The rules stand in `docs/formats.md`, "The other blocks", the paragraph of pieces.
+//! A file of a package whose pieces are read one by one. The rules are in `docs/formats.md`, "The
+//! other blocks", the paragraph of pieces.
 
 ghost use Rattle.std.specs.Prelude.{◌≡◌, ◌≤◌, ◌<◌, ◌+◌, ◌++◌, ◌^◌, [], ℕ, List, None, Some, length, IfNone, IfOk, IfSome, IsOkAnd};
 ghost use Rattle.std.specs.Result.{result_err};
@@ -32,7 +32,7 @@ impl<'a> OpenFile<'a> {
     ///
     /// # Errors
     ///
-    /// `Bad` with `HashDiffers`, behind the last piece, where all bytes together do not have the
+    /// `Bad` with `HashDiffers`, after the last piece, where all bytes together do not have the
     /// file's digest, or `Disk` where the tree failed.
     pub(crate) fn next_piece<T: Tree>(
         self,
@@ -52,7 +52,7 @@ impl<'a> OpenFile<'a> {
             → IsNextPiece so_far file piece.new further before result }
         ensures len { NotDisk result → length piece.new ≡ next_len self.entry.file }
         ensures part { IfOk result (IsPieceOf self.entry (length piece.new)) }
-        // Only the last piece ends the file, and behind it all bytes together have its size and its
+        // Only the last piece ends the file, and after it all bytes together have its size and its
         // digest.
         ensures more { IfOk result (λ read. IfSome read.1 (λ further.
             0 < file_bytes_left further.file)) }
@@ -85,7 +85,7 @@ impl<'a> OpenFile<'a> {
 ///
 /// # Errors
 ///
-/// `DataOrder` with the pair (0, 0) where no offset is given, or `DataSize` where the package ends
+/// `DataOrder` with the pair (0, 0) if no offset is given, or `DataSize` where the package ends
 /// before the file.
 pub(crate) fn open_at<'a>(
     wanted: Wanted<'a>,

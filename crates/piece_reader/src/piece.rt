@@ -1,5 +1,5 @@
-//! A piece: the buffer that holds it, and why there is no next one.
-//! The rules stand in `docs/formats.md`, "The other blocks", the paragraph of pieces.
+//! A piece: the buffer that holds it, and why there is no next one. The rules are in
+//! `docs/formats.md`, "The other blocks", the paragraph of pieces.
 
 ghost use Rattle.std.specs.Prelude.{◌≡◌, ◌≤◌, ◌+◌, ℕ, [], length, IfErr, OnOk};
 ghost use Rattle.pkg_core.specs.Seen.{IsSeen, ReadsFile};
@@ -32,7 +32,7 @@ impl Model for Piece {
 }
 
 impl Piece {
-    /// A piece of no bytes. It takes no memory.
+    /// A piece of no bytes. It allocates no memory.
     pub fn new() -> Piece
         ensures { result ≡ [] }
     {

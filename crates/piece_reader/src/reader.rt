@@ -1,6 +1,6 @@
-//! A reader of the pieces of a package's files, one after the other.
-//! The rules stand in `docs/formats.md`, "The other blocks", the paragraph of pieces; the order of
-//! the files in the paragraph above it.
+//! A reader of the pieces of a package's files, one after the other. The rules are in
+//! `docs/formats.md`, "The other blocks", the paragraph of pieces; the order of the files in the
+//! paragraph above it.
 
 ghost use Rattle.std.specs.Option.{ForSome};
 ghost use Rattle.std.specs.Prelude.{◌≤◌, ◌≡◌, List};
@@ -28,14 +28,14 @@ pub(crate) enum Due {
 }
 
 /// A reader of the contents of a package's files in pieces, block by block in the order of the
-/// package. It takes no memory. Contracts see, by `Readers` of `specs/`, which pieces of a package
-/// are still to come, the offset from which on it is read, and the one at which the file begins
-/// whose piece came last.
+/// package. It allocates no memory. Contracts see, by `Readers` of `specs/`, which pieces of a
+/// package are still to come, the offset from which on it is read, and the one at which the file
+/// begins whose piece came last.
 #[derive(Drop)]
 pub struct PieceReader<'a> {
     /// The name of the package.
     pub(crate) name: &'a Name,
-    /// Where the reader stands in the blocks: behind the one of the file that is open.
+    /// Where the reader is in the blocks: after the one of the file that is open.
     pub(crate) place: BlockPlace<'a>,
     /// The file of which a piece came and more are to come.
     pub(crate) opened: Option<OpenFile<'a>>,
@@ -71,7 +71,7 @@ impl<'a> PieceReader<'a> {
         ensures files { due_files result
             ≡ expected_contents (value_of_contents contents.entry.now) }
         ensures start { StandsBetween result }
-        // What is to come are the pieces of the blocks behind the front.
+        // What is to come are the pieces of the blocks after the front.
         ensures pieces { (pkg : List ℕ) → IsReading result pkg
             (pieces_by_blocks (expected_contents (value_of_contents contents.entry.now))
             (reading_of (behind_front front.now pkg))) }
@@ -109,9 +109,9 @@ impl<'a> PieceReader<'a> {
         self.start
     }
 
-    /// Reads the next piece, and gives which part of which file it is; None comes exactly behind
-    /// the last block. The pieces of a file have 65,536 bytes each, and the last one 1 to 65,536.
-    /// The tree stays as it is, whatever the answer.
+    /// Reads the next piece, and gives which part of which file it is; None comes exactly after the
+    /// last block. The pieces of a file have 65,536 bytes each, and the last one 1 to 65,536. The
+    /// tree stays as it is, whatever the answer.
     ///
     /// # Errors
     ///
@@ -135,7 +135,7 @@ impl<'a> PieceReader<'a> {
             → (before : PiecesRead) → IsReading self.old pkg before
             → AnswersNext (IsReading self.new pkg) before piece.new result
             × IfOk result (λ found. HasPieceAt self.old pkg piece.new found self.new)) }
-        // The pieces come file by file, in the order of the package; behind a piece the reader goes
+        // The pieces come file by file, in the order of the package; after a piece the reader goes
         // on.
         ensures order { IfOk result (λ found.
             ComesInOrder (due_files self.old) found (due_files self.new)) }
@@ -257,7 +257,7 @@ impl<'a> PieceReader<'a> {
         Ok(Some(part))
     }
 
-    /// The file that is open, or the next one; None behind the last block.
+    /// The file that is open, or the next one; None after the last block.
     fn open_next<T: Tree>(&mut self, tree: &mut T) -> Result<Option<OpenFile<'a>>, PieceFault>
         ensures file { (seen : List ℕ)
             × IsSeenIn (T.history tree.old) (name_in_tree self.old) (package_len self.old)

@@ -1,6 +1,6 @@
--- Which files of a package have contents, and what stands for them in the blocks behind its values.
--- The rules stand in `docs/formats.md`, "The other blocks", the second paragraph; tables 3 to 5 of
--- "Schemas" have the fields.
+-- Which files of a package have contents, and what represents them in the blocks after its values. The
+-- rules are in `docs/formats.md`, "The other blocks", the second paragraph; tables 3 to 5 of "Schemas"
+-- have the fields.
 use Rattle.std.specs.Prelude.{ℕ, ◌+◌, ◌==◌, nat_lt, Bool, bytes_eq, not, ◌&&◌, if◌then◌else◌, List, [], ◌∷◌, ◌++◌, length, drop, Option, Some, None}
 use Rattle.std.specs.List.{find}
 use Rattle.sha1.specs.Sha1.{sha1}
@@ -30,8 +30,8 @@ pub record Expected : Type 0 where
   pub size : ℕ
   pub hash : List ℕ
 
--- the file at a position of a folder, if it has contents, which it has where it has no target and its
--- size is above 0
+-- the file at a position of a folder, if it has contents, which it has if it has no target and its size
+-- is above 0
 abbrev pub expected_at : ℕ → ℕ → Plain → List Expected
 expected_at folder i file =
     if is_with_contents file
@@ -66,11 +66,11 @@ expected_contents pkg = expected_folders 1 (folders_in pkg)
 abbrev pub POSITIONS_LEN : ℕ
 POSITIONS_LEN = 8
 
--- the bytes of the file in the payload of a block of contents: what stands behind its two positions
+-- the bytes of the file in the payload of a block of contents: what follows its two positions
 abbrev pub contents_bytes : List ℕ → List ℕ
 contents_bytes payload = drop POSITIONS_LEN payload
 
--- the fault of a digest of some function that is not the wanted one; None where the two are equal
+-- the fault of a digest of some function that is not the wanted one; None if the two are equal
 abbrev pub digest_fault : (List ℕ → Digest) → List ℕ → List ℕ → Option Cause
 digest_fault as_digest wanted found =
     if bytes_eq wanted found then None else Some (HashDiffers (as_digest wanted) (as_digest found))
@@ -99,7 +99,7 @@ expected_fault payload e =
     then Some (DataSize e.size (length (contents_bytes payload)))
     else hash_fault e.hash (contents_bytes payload)
 
--- the first failed test of contents against the file that is expected next; where none is, any contents
+-- the first failed test of contents against the file that is expected next; if none is, any contents
 -- are out of order, and (0, 0) was expected
 abbrev pub next_fault : List ℕ → List Expected → Option Cause
 next_fault payload [] = Some (DataOrder (0, 0) (file_pair payload))
@@ -111,7 +111,7 @@ abbrev pub contents_block_fault : List ℕ → ℕ → List Expected → Option 
 contents_block_fault payload at es =
     if nat_lt (length payload) POSITIONS_LEN then Some (Truncated at) else next_fault payload es
 
--- the fault at the end of the blocks: a file is left, for which (0, 0) stands in the place of contents
+-- the fault at the end of the blocks: a file is left, for which (0, 0) is in the place of contents
 abbrev pub missing_fault : List Expected → Option Cause
 missing_fault [] = None
 missing_fault (e ∷ es) = Some (DataOrder (e.folder, e.file) (0, 0))
@@ -135,7 +135,7 @@ abbrev pub unless_fault : Option Cause → FilesRead → FilesRead
 unless_fault None files = files
 unless_fault (Some c) files = refused c
 
--- the contents of an expected file: what stands behind its positions
+-- the contents of an expected file: what follows its positions
 abbrev pub contents_by : List ℕ → Expected → Contents
 contents_by payload e = record { folder = e.folder; file = e.file; bytes = contents_bytes payload }
 
@@ -144,7 +144,7 @@ abbrev pub with_next : List ℕ → (List Expected → FilesRead) → List Expec
 with_next payload further [] = no_more
 with_next payload further (e ∷ es) = given (contents_by payload e) (further es)
 
--- the files that are read from a block on, `further` being what is read behind it; a block that is no
+-- the files that are read from a block on, `further` being what is read after it; a block that is no
 -- contents is passed over
 abbrev pub files_at_block :
     BlockKind → List ℕ → ℕ → (List Expected → FilesRead) → List Expected → FilesRead
@@ -171,7 +171,7 @@ contents_in no_more = []
 contents_in (refused c) = []
 contents_in (given contents files) = contents ∷ contents_in files
 
--- the first failed test of the blocks behind a package's values, block by block
+-- the first failed test of the blocks after a package's values, block by block
 abbrev pub contents_fault : List Expected → Reading → Option Cause
 contents_fault es r = fault_in (files_by_blocks es r)
 
@@ -181,7 +181,7 @@ contents_fault es r = fault_in (files_by_blocks es r)
 abbrev pub is_of_file : ℕ → ℕ → Contents → Bool
 is_of_file folder file contents = (contents.folder == folder) && (contents.file == file)
 
--- the bytes of some contents; none where there are none
+-- the bytes of some contents; none if there are none
 abbrev pub bytes_or_none : Option Contents → List ℕ
 bytes_or_none None = []
 bytes_or_none (Some contents) = contents.bytes

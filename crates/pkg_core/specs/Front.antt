@@ -1,6 +1,6 @@
--- The front of a container: its header and its first block, and what is tested of them.
--- The rules stand in `docs/formats.md`, "The other blocks", the paragraph of a front; the tests in
--- "Container", the table, and "Values", the first paragraph.
+-- The front of a container: its header and its first block, and what is tested of them. The rules are
+-- in `docs/formats.md`, "The other blocks", the paragraph of a front; the tests in "Container", the
+-- table, and "Values", the first paragraph.
 use Rattle.std.specs.Prelude.{◌≡◌, ℕ, ◌==◌, if◌then◌else◌, List, length, drop, Option, Some, None, Result, Ok, Err}
 use Rattle.base_core.specs.declared.cause.Cause.{Cause}
 use Rattle.base_core.specs.declared.cause.Cause.TheVariants.{WrongSchema}
@@ -42,11 +42,11 @@ front_payload front = front.payload.items
 abbrev pub front_file_len : Front → ℕ
 front_file_len front = front.len
 
--- the offset behind the first block and its padding
+-- the offset after the first block and its padding
 abbrev pub front_end : Front → ℕ
 front_end front = front.at
 
--- where a reader of blocks stands behind a front, in this file
+-- where a reader of blocks follows a front, in this file
 abbrev pub behind_front : Front → List ℕ → Standing
 behind_front front file = record {
   schema = front.schema;
@@ -66,8 +66,8 @@ pub record IsFrontOf (schema : ℕ) (file : List ℕ) (front : Front) : Type 0 w
       (reading_of (behind_front front file))
   pub head : head_fault (front_payload front) ≡ None
 
--- what a read of a front answers of a file, or where there is none; a fault of the tree and want of
--- memory say nothing of it
+-- what a read of a front answers of a file, or if there is none; a fault of the tree and out of memory
+-- say nothing of it
 abbrev pub IsFrontRead : ℕ → Option (List ℕ) → Result (Option Front) FrontFault → Type 0
 IsFrontRead schema None (Ok None) = Unit {0}
 IsFrontRead schema None (Ok (Some front)) = ⊥
@@ -82,12 +82,12 @@ IsFrontRead schema (Some file) (Err Memory) = Unit {0}
 
 -- ---- part by part
 
--- where a reader of blocks stands behind the first block of a file, which ends at this offset
+-- where a reader of blocks follows the first block of a file, which ends at this offset
 abbrev pub behind_first : ℕ → ℕ → List ℕ → Standing
 behind_first schema at file =
     record { schema = schema; last = Some Adb; at = at; left = drop at file }
 
--- a fault of the tree, or want of memory; it says nothing of the container
+-- a fault of the tree, or out of memory; it says nothing of the container
 abbrev pub IsNotBad : FrontFault → Type 0
 IsNotBad (Bad c) = ⊥
 IsNotBad Disk = Unit {0}

@@ -1,6 +1,6 @@
--- What the contents of files come to where no test fails.
--- The rules stand in `docs/formats.md`, "The other blocks". Serves the laws
--- `good_blocks_give_the_contents_of_each_file` and `a_package_has_the_contents_of_its_files`.
+-- What the contents of files come to if no test fails. The rules are in `docs/formats.md`, "The other
+-- blocks". Serves the laws `good_blocks_give_the_contents_of_each_file` and
+-- `a_package_has_the_contents_of_its_files`.
 use Rattle.std.specs.Prelude.{◌≡◌, ◌⊎◌, ℕ, true, List, [], ◌∷◌, length, None}
 use Rattle.sha1.specs.Sha1.{sha1}
 use Rattle.sha2.specs.Sha256.{sha256}

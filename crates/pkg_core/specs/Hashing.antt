@@ -1,6 +1,5 @@
--- A hasher of the function that a digest's length tells.
--- Which function that is stands in `docs/formats.md`, "The other blocks". Serves the contracts of
--- `Hasher`.
+-- A hasher of the function that a digest's length tells. Which function that is is in
+-- `docs/formats.md`, "The other blocks". Serves the contracts of `Hasher`.
 use Rattle.std.specs.Prelude.{◌≡◌, ℕ, List, length, None}
 use Rattle.sha1.specs.Sha1.{Holds}
 use Rattle.sha2.specs.Hashers.{Holds256, Holds512}

@@ -1,7 +1,6 @@
 -- What a package that is read shows, and what a call for its next file answers. `opened_` is said of a
--- package that is held whole.
--- The rules stand in `docs/formats.md`, "The other blocks". Serves the contracts of `Package` and
--- `Walk`.
+-- package that is held whole. The rules are in `docs/formats.md`, "The other blocks". Serves the
+-- contracts of `Package` and `Walk`.
 use Rattle.std.specs.Prelude.{◌≡◌, ℕ, ◌+◌, ◌==◌, ◌&&◌, Bool, List, [], ◌∷◌, ◌++◌, drop, Option, Some, None, Result, Ok, Err}
 use Rattle.std.specs.List.{find}
 use Rattle.base_core.specs.declared.cause.Cause.{Cause}
@@ -23,7 +22,7 @@ abbrev pub contents_view : FileContents → Contents
 contents_view f = record { folder = f.path; file = f.file; bytes = f.bytes.now }
 
 -- what a call for the next file answers, by what was to be read before and is after it: the next file;
--- None where there is no more; or the first failed test, which is told from then on
+-- None if there is no more; or the first failed test, which is told from then on
 abbrev pub IsNextFile : FilesRead → Result (Option FileContents) Cause → FilesRead → Type 0
 IsNextFile before (Ok None) after = (before ≡ no_more) × (after ≡ no_more)
 IsNextFile before (Ok (Some f)) after = before ≡ given (contents_view f) after
@@ -48,8 +47,8 @@ left_in walk =
     left_from (walk.folder + 1) walk.file
     (drop walk.folder (list_of (entries_in (list_value walk.folders))))
 
--- the walk takes the first of the files before it and has the others after it, or answers None where
--- there is none
+-- the walk takes the first of the files before it and has the others after it, or answers None if there
+-- is none
 abbrev pub TakesFirst : List Expected → Option Wanted → List Expected → Type 0
 TakesFirst before None after = (before ≡ []) × (after ≡ [])
 TakesFirst before (Some w) after = before ≡ expected_of w ∷ after
@@ -87,8 +86,8 @@ abbrev pub GivesFirst : List ℕ → FileContents → List Expected → List Exp
 GivesFirst payload f [] after = ⊥
 GivesFirst payload f (e ∷ es) after = (contents_view f ≡ contents_by payload e) × (es ≡ after)
 
--- what the walk answers to a block of contents at an offset: those of the next file, where no test
--- fails, or the first failed test
+-- what the walk answers to a block of contents at an offset: those of the next file, if no test fails,
+-- or the first failed test
 abbrev pub GivesContents : List ℕ → ℕ → List Expected → Result FileContents Cause → List Expected
     → Type 0
 GivesContents payload at before (Ok f) after =

@@ -1,6 +1,6 @@
--- The contents of a package's files in pieces, or the first failed test.
--- The rules stand in `docs/formats.md`, "The other blocks", the paragraph of pieces; the tests in the
--- paragraph of blocks of contents above it.
+-- The contents of a package's files in pieces, or the first failed test. The rules are in
+-- `docs/formats.md`, "The other blocks", the paragraph of pieces; the tests in the paragraph of blocks
+-- of contents above it.
 use Rattle.std.specs.Prelude.{ℕ, zero, suc, ◌-◌, ◌/◌, ◌==◌, ◌++◌, nat_lt, Bool, true, false, not, if◌then◌else◌, List, [], ◌∷◌, length, take, drop, Option, Some, None}
 use Rattle.base_core.specs.declared.cause.Cause.{Cause}
 use Rattle.base_core.specs.declared.cause.Cause.TheVariants.{Truncated, DataOrder, DataSize}
@@ -39,7 +39,7 @@ pieces_from (suc n) e digest bytes further =
     piece (part_of e false) (take PIECE_LEN bytes)
     (pieces_from n e digest (drop PIECE_LEN bytes) further)
 
--- how many whole pieces of a file of so many bytes stand in front of its last one, which is not empty
+-- how many whole pieces of a file of so many bytes are in front of its last one, which is not empty
 abbrev pub whole_pieces : ℕ → ℕ
 whole_pieces len = (len - 1) / PIECE_LEN
 
@@ -63,15 +63,15 @@ abbrev pub unless_refusal : Option Cause → PiecesRead → PiecesRead
 unless_refusal None pieces = pieces
 unless_refusal (Some c) pieces = refusal c
 
--- the pieces of a payload of contents against the file that is expected next, and then further ones;
--- where none is expected any contents are out of order, and (0, 0) was expected
+-- the pieces of a payload of contents against the file that is expected next, and then further ones; if
+-- none is expected any contents are out of order, and (0, 0) was expected
 abbrev pub pieces_of_payload : List ℕ → (List Expected → PiecesRead) → List Expected → PiecesRead
 pieces_of_payload payload further [] = refusal (DataOrder (0, 0) (file_pair payload))
 pieces_of_payload payload further (e ∷ es) =
     unless_refusal (position_or_size_fault payload e)
     (pieces_of_bytes e (contents_bytes payload) (further es))
 
--- the pieces from a block at an offset on, `further` being those behind it; a block that is no contents
+-- the pieces from a block at an offset on, `further` being those after it; a block that is no contents
 -- is passed over, and one of contents has the bytes of the positions
 abbrev pub pieces_at_block : BlockKind → List ℕ → ℕ → (List Expected → PiecesRead) → List Expected
     → PiecesRead

@@ -1,6 +1,6 @@
--- What reads of a file have seen of it, and what they make of the tree.
--- What a read of a tree answers stands in `docs/crash-safety.md`, "What each call does"; that the tests
--- count only bytes that were read, in `docs/formats.md`, "The other blocks", the paragraph of a front.
+-- What reads of a file have seen of it, and what they make of the tree. What a read of a tree answers
+-- is in `docs/crash-safety.md`, "What each call does"; that the tests count only bytes that were read,
+-- in `docs/formats.md`, "The other blocks", the paragraph of a front.
 use Rattle.std.specs.Prelude.{◌≡◌, ◌≤◌, ℕ, ◌+◌, List, length, take, drop, Some, IfSome, Result, OnOk, IfErr, IsErrOf}
 use Rattle.base_core.specs.Calls.{IfObservable}
 use Rattle.base_core.specs.Faults.{Counts, GoesOn, HasCause, IsNoFault}

@@ -1,6 +1,5 @@
--- Where a file stands whose bytes are handed in piece by piece.
--- The rules stand in `docs/formats.md`, "The other blocks", the paragraph of pieces. Serves the
--- contracts of `FileCheck` and `open_file`.
+-- Where a file stands whose bytes are handed in piece by piece. The rules are in `docs/formats.md`,
+-- "The other blocks", the paragraph of pieces. Serves the contracts of `FileCheck` and `open_file`.
 use Rattle.std.specs.Prelude.{◌≡◌, ℕ, ◌-◌, min, true, false, List, [], ◌++◌, length, Option, Some, None, Result, Ok, Err}
 use Rattle.base_core.specs.declared.cause.Cause.{Cause}
 use Rattle.pkg_core.specs.Contents.{contents_bytes, hash_fault}
@@ -29,7 +28,7 @@ abbrev pub IsTested : List ℕ → List ℕ → Option FileCheck → Type 0
 IsTested hash bytes None = hash_fault hash bytes ≡ None
 IsTested hash bytes (Some f) = HasTaken f bytes
 
--- the pieces of the bytes that are left of a file, behind those that were handed in so far, and then
+-- the pieces of the bytes that are left of a file, after those that were handed in so far, and then
 -- further ones
 abbrev pub pieces_in : FileCheck → List ℕ → List ℕ → PiecesRead → PiecesRead
 pieces_in f so_far left further =
@@ -37,7 +36,7 @@ pieces_in f so_far left further =
     (hash_fault f.wanted.hash.now (so_far ++ left)) left further
 
 -- what is answered to bytes that are handed in: they are the next piece, and then comes what is left of
--- the file or, behind its last piece, what is further; or the digest differs
+-- the file or, after its last piece, what is further; or the digest differs
 abbrev pub IsTaken : FileCheck → List ℕ → List ℕ → List ℕ → PiecesRead
     → Result (Part × Option FileCheck) Cause → Type 0
 IsTaken f so_far bytes left further (Ok (part, Some g)) =

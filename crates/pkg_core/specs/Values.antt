@@ -1,5 +1,5 @@
--- What a package shows whose values were tested.
--- Serves the contracts of `Contents`; what a payload stands for is told in `docs/formats.md`, "Values".
+-- What a package shows whose values were tested. Serves the contracts of `Contents`; what a payload
+-- represents is told in `docs/formats.md`, "Values".
 use Rattle.std.specs.Prelude.{ℕ, List}
 use Rattle.adb_view.specs.Adb.{payload_of}
 use Rattle.adb_view.specs.Plain.{Plain}

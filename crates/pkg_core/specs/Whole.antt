@@ -1,6 +1,5 @@
--- The first failed test of a whole container, and what a good package holds.
--- The rules stand in `docs/formats.md`, "Tests of a container", for the order of the tests, and "The
--- other blocks".
+-- The first failed test of a whole container, and what a good package holds. The rules are in
+-- `docs/formats.md`, "Tests of a container", for the order of the tests, and "The other blocks".
 use Rattle.std.specs.Prelude.{ℕ, ◌==◌, if◌then◌else◌, List, Option, Some, None, Result, Ok, Err}
 use Rattle.sha2.specs.Sha256.{sha256}
 use Rattle.base_core.specs.declared.cause.Cause.{Cause}
@@ -26,8 +25,8 @@ root_of_schema schema =
     else if schema == INTENT_WORD then Some Intent
     else None
 
--- the first failed test of what stands behind the first block: of a package the contents of its files,
--- of another container that it has no contents
+-- the first failed test of what follows the first block: of a package the contents of its files, of
+-- another container that it has no contents
 abbrev pub behind_fault : Which → Plain → Reading → Option Cause
 behind_fault Package value r = contents_fault (expected_contents value) r
 behind_fault which value r = rest_fault which r
@@ -61,7 +60,7 @@ abbrev pub package_id : List ℕ → List ℕ
 package_id file = sha256 (payload_in file)
 
 -- the files that the blocks of a package give: the first block has the value that tells which are
--- expected, and the blocks behind it their contents
+-- expected, and the blocks after it their contents
 abbrev pub files_behind : Reading → FilesRead
 files_behind done = no_more
 files_behind (fault c) = refused c

@@ -1,7 +1,6 @@
 //! The tests of a container to its end, the digests of contents, and what follows of both for every
-//! package.
-//! The rules stand in `docs/formats.md`, "Tests of a container", for the order of the tests, and
-//! "The other blocks".
+//! package. The rules are in `docs/formats.md`, "Tests of a container", for the order of the tests,
+//! and "The other blocks".
 
 ghost use Rattle.std.specs.Prelude.{◌≡◌, ◌≢◌, None, IfOk, IfErr, length, ℕ, List, Some};
 ghost use Rattle.std.specs.Option.{option_or};
@@ -52,8 +51,8 @@ pub fn verify(alloc: Global, bytes: &[u8]) -> Result<(), PackageFault>
     }
 }
 
-/// The table at the root of a container with this schema (apk-v3(5)); None where the schema is none
-/// of the four.
+/// The table at the root of a container with this schema (apk-v3(5)); None if the schema is none of
+/// the four.
 pub fn root_of_schema(schema: u32) -> Option<Which>
     ensures { result ≡ root_of_schema schema }
 {
@@ -122,7 +121,7 @@ pub(crate) fn hash_fault(hash: &[u8], bytes: &[u8]) -> Option<Cause>
     }
 }
 
-/// Why a SHA-1 (FIPS 180-4) is not the one that was found: `HashDiffers`, or None where they are
+/// Why a SHA-1 (FIPS 180-4) is not the one that was found: `HashDiffers`, or None if they are
 /// equal.
 pub fn sha1_fault(hash: &[u8], found: [u8; 20]) -> Option<Cause>
     // The length of a SHA-1.
@@ -140,7 +139,7 @@ pub fn sha1_fault(hash: &[u8], found: [u8; 20]) -> Option<Cause>
     })
 }
 
-/// Why a SHA-256 (FIPS 180-4) is not the one that was found: `HashDiffers`, or None where they are
+/// Why a SHA-256 (FIPS 180-4) is not the one that was found: `HashDiffers`, or None if they are
 /// equal.
 pub fn sha256_fault(hash: &[u8], found: [u8; 32]) -> Option<Cause>
     // The length of a SHA-256.
@@ -158,7 +157,7 @@ pub fn sha256_fault(hash: &[u8], found: [u8; 32]) -> Option<Cause>
     })
 }
 
-/// Why a SHA-512 (FIPS 180-4) is not the one that was found: `HashDiffers`, or None where they are
+/// Why a SHA-512 (FIPS 180-4) is not the one that was found: `HashDiffers`, or None if they are
 /// equal.
 pub fn sha512_fault(hash: &[u8], found: [u8; 64]) -> Option<Cause>
     // The length of a SHA-512.
@@ -184,15 +183,15 @@ pub fn good_blocks_give_the_contents_of_each_file()
 {}
 
 /// The fault of the blocks that is reported is the first: each block of contents in its turn is
-/// tested against the next file that is expected, then the framing behind them, and at the end that
+/// tested against the next file that is expected, then the framing after them, and at the end that
 /// no file is left.
 pub fn the_first_fault_of_contents_is_reported()
     ensures { (expected : List Expected) (r : Reading) (c : Cause)
         → contents_fault expected r ≡ Some c → IsFirstContentsFault expected r c }
 {}
 
-/// The first failed test of a package is that of its values, and where they are good that of the
-/// blocks behind them.
+/// The first failed test of a package is that of its values, and if they are good that of the
+/// blocks after them.
 pub fn a_package_is_tested_by_its_values_and_then_its_files()
     ensures { (file : List ℕ)
         → package_fault file

@@ -1,6 +1,5 @@
-//! The values of a package whose front was read.
-//! The rules stand in `docs/formats.md`, "Tests of a container": the shape, the texts, and names
-//! that stand twice.
+//! The values of a package whose front was read. The rules are in `docs/formats.md`, "Tests of a
+//! container": the shape, the texts, and names that stand twice.
 
 ghost use Rattle.std.specs.Prelude.{◌≡◌, true, None, IfOk, IfErr, is_none};
 ghost use Rattle.adb_schema.specs.ReadFaults.{IsReadFault};
@@ -71,7 +70,7 @@ impl<'a> Contents<'a> {
     }
 
     /// Each text and number of a package keeps the rule of its field: a folder's name is a path,
-    /// and so is a file's behind it.
+    /// and so is a file's after it.
     pub fn values_keep_their_rules(&self)
         ensures { KeepsRules Tables.Package (value_of_contents self.now) }
     {

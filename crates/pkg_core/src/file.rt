@@ -1,7 +1,6 @@
 //! A file of a package whose contents are handed in piece by piece, and what each piece is a part
-//! of.
-//! The rules stand in `docs/formats.md`, "The other blocks", the paragraph of pieces; the tests in
-//! the paragraph of blocks of contents above it.
+//! of. The rules are in `docs/formats.md`, "The other blocks", the paragraph of pieces; the tests
+//! in the paragraph of blocks of contents above it.
 
 ghost use Rattle.std.specs.Prelude.{◌≡◌, ◌<◌, ◌≤◌, ◌+◌, ◌-◌, ℕ, List, [], ◌∷◌, ◌++◌, length, take, None, IfNone, IfOk, IfSome};
 ghost use Rattle.adb_schema.specs.Soundness.{file_pair};
@@ -55,8 +54,7 @@ impl<'a> FileCheck<'a> {
     ///
     /// # Errors
     ///
-    /// `HashDiffers`, behind the last piece, where all bytes together do not have the file's
-    /// digest.
+    /// `HashDiffers`, after the last piece, where all bytes together do not have the file's digest.
     #[tactic(auto, using(crate::proofs::Taken::more_left, crate::proofs::Taken::last_good, crate::proofs::Taken::last_bad))]
     pub fn take(self, bytes: &[u8]) -> Result<(Part, Option<FileCheck<'a>>), Cause>
         requires { length bytes.now ≡ next_len self }
@@ -64,7 +62,7 @@ impl<'a> FileCheck<'a> {
         ensures taken { (so_far left : List ℕ) (further : PiecesRead) → HasTaken self.entry so_far
             → length (so_far ++ (bytes.now ++ left)) ≡ self.entry.wanted.size
             → IsTaken self.entry so_far bytes.now left further result }
-        // Behind the last piece all bytes that were taken have the file's digest.
+        // After the last piece all bytes that were taken have the file's digest.
         ensures digest { (so_far : List ℕ) → HasTaken self.entry so_far → IfOk result (λ taken.
             IsTested self.entry.wanted.hash.now (so_far ++ bytes.now) taken.1) }
         // The piece is a part of this file, and its bytes are taken off what is to come.
@@ -114,8 +112,8 @@ fn part_of(wanted: Wanted<'_>, last: bool) -> Part
 ///
 /// # Errors
 ///
-/// First the positions are compared, then the size: `DataOrder`, with (0, 0) where no file is due,
-/// or `DataSize`.
+/// First the positions are compared, then the size: `DataOrder`, with (0, 0) if no file is due, or
+/// `DataSize`.
 pub fn open_file<'a>(
     walk: &mut Walk<'a>,
     len: u64,

@@ -1,5 +1,5 @@
-//! The front of a container in a tree: its header and its first block.
-//! The rules stand in `docs/formats.md`, "The other blocks", the paragraph of a front.
+//! The front of a container in a tree: its header and its first block. The rules are in
+//! `docs/formats.md`, "The other blocks", the paragraph of a front.
 
 ghost use Rattle.std.specs.Prelude.{◌≤◌};
 
@@ -16,7 +16,7 @@ pub enum FrontFault {
     /// The tree failed.
     #[error("the tree failed")]
     Disk,
-    /// There was no memory.
+    /// Out of memory.
     #[error("out of memory")]
     Memory,
 }
@@ -51,14 +51,14 @@ impl From<AllocError> for FrontFault {
 
     ghost from_gives = { λ _ fault. fault ≡ Memory };
 
-    /// Where no memory was given the front has none.
+    /// If memory runs out, the front has none.
     fn from(_: AllocError) -> FrontFault {
         FrontFault::Memory
     }
 }
 
 /// The front of a container that was read: its schema, the payload of its first block, the file's
-/// length in bytes, and the offset behind that block. Contracts see, by `Front` of `specs/`, the
+/// length in bytes, and the offset after that block. Contracts see, by `Front` of `specs/`, the
 /// payload, the two numbers, and of which files it is the front.
 #[derive(Drop)]
 pub struct Front {
@@ -68,7 +68,7 @@ pub struct Front {
     pub(crate) payload: Vec<u8>,
     /// How many bytes the file has.
     pub(crate) len: u64,
-    /// The offset behind the first block and its padding.
+    /// The offset after the first block and its padding.
     pub(crate) at: u64,
     ghost within: { at ≤ len },
 }
@@ -91,7 +91,7 @@ impl Front {
         self.len
     }
 
-    /// The offset behind the first block and its padding.
+    /// The offset after the first block and its padding.
     pub fn end(&self) -> u64
         ensures exact { result ≡ front_end self.now }
         ensures within { result ≤ front_file_len self.now }

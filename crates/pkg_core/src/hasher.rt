@@ -1,5 +1,5 @@
-//! A digest that is taken piece by piece.
-//! The rules stand in `docs/formats.md`, "The other blocks", the digests.
+//! A digest that is taken piece by piece. The rules are in `docs/formats.md`, "The other blocks",
+//! the digests.
 
 ghost use Rattle.std.specs.Prelude.{◌≡◌, ℕ, List, [], ◌++◌};
 ghost use Rattle.pkg_core.specs.Contents.{hash_fault};

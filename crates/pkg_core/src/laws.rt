@@ -1,6 +1,5 @@
-//! What follows from the definitions, for every package.
-//! Each is a row of the README of this crate; the rules stand in `docs/formats.md`, "Tests of a
-//! container".
+//! What follows from the definitions, for every package. Each is a row of the README of this crate;
+//! the rules are in `docs/formats.md`, "Tests of a container".
 ghost use Rattle.std.specs.Prelude.{◌≡◌, ◌≢◌, ◌<◌, ℕ, All, List, None, Some};
 ghost use Rattle.std.specs.Option.{option_or};
 ghost use Rattle.adb_block.specs.Reading.{reading_of};
@@ -37,8 +36,8 @@ pub fn a_front_holds_the_payload_of_its_file()
         → payload_in file ≡ front_payload front }
 {}
 
-/// A file that has a package's front is tested by its values and then by the blocks behind them; a
-/// failed test of the front, but for its schema, is the first one of the file.
+/// A file that has a package's front is tested by its values and then by the blocks after them; a
+/// failed test of the front, except for its schema, is the first one of the file.
 pub fn a_package_is_tested_by_its_front_and_then_by_its_contents()
     ensures front { (file : List ℕ) (cause : Cause) → front_fault PACKAGE_WORD file ≡ Some cause
         → ((found : ℕ) → cause ≢ WrongSchema found) → container_fault file ≡ Some cause }

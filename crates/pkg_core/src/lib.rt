@@ -11,14 +11,14 @@
 //!   first block, and `Contents` tests and lends the values that a package's front holds.
 //!
 //! The contracts cite, of `specs/`: `Contents` (which files have contents, and what the blocks give
-//! of them), `Opened` (what a package that is read shows), `Whole` (the first failed test of a whole
-//! container), `Refusals` and `GoodContents` (what contents in which no test fails come to);
+//! of them), `Opened` (what a package that is read shows), `Whole` (the first failed test of a
+//! whole container), `Refusals` and `GoodContents` (what contents in which no test fails come to);
 //! `Pieces` (what the blocks of a package give in pieces), `Hashing` (what a hasher has taken),
-//! `Taking` (where a file stands) and `Places` (where a reader stands in the blocks); `Front` (the
+//! `Taking` (where a file stands) and `Places` (where a reader is in the blocks); `Front` (the
 //! tests of a front, and of which files it is one), `Seen` (which bytes of a file were seen) and
 //! `Values` (what a package shows).
 //!
-//! The rules stand in `docs/formats.md`, "Tests of a container" and "The other blocks".
+//! The rules are in `docs/formats.md`, "Tests of a container" and "The other blocks".
 #![tactic(auto)]
 
 mod checks;

@@ -1,5 +1,5 @@
 //! A package that is read: its values, and the contents of its files one after the other. The rules
-//! stand in `docs/formats.md`, "Tests of a container" and "The other blocks".
+//! are in `docs/formats.md`, "Tests of a container" and "The other blocks".
 
 ghost use Rattle.std.specs.Prelude.{◌≡◌, None, IfOk, IfErr};
 ghost use Rattle.sha2.specs.Sha256.{sha256};
@@ -24,7 +24,7 @@ pub enum PackageFault {
     /// The first test that failed.
     #[error("bad container")]
     Bad(Cause),
-    /// There was no memory.
+    /// Out of memory.
     #[error("out of memory")]
     Memory,
 }
@@ -47,7 +47,7 @@ impl From<ReadFault> for PackageFault {
 
     ghost from_gives = { λ read fault. fault ≡ fault_of_read read };
 
-    /// A failed test of the values is one of the package, and so is want of memory for them.
+    /// A failed test of the values is one of the package, and so is out of memory for them.
     fn from(fault: ReadFault) -> PackageFault {
         match fault {
             ReadFault::Bad(cause) => PackageFault::Bad(cause),
@@ -56,7 +56,7 @@ impl From<ReadFault> for PackageFault {
     }
 }
 
-/// A package whose values are tested, before its first file, between two or behind the last. All is
+/// A package whose values are tested, before its first file, between two or after the last. All is
 /// lent from the file's bytes. Contracts see, by `Opened` of `specs/`, the plain value, the bytes
 /// that hold it, and the files that are left.
 #[derive(Drop)]
@@ -81,13 +81,13 @@ impl<'a> Package<'a> {
 
     /// Reads the values of a package, and tests them in this order: the file's header, its schema,
     /// the first block's framing, its head, its shape, its texts, and names that stand twice. What
-    /// stands behind the first block is read by `next_file`.
+    /// follows the first block is read by `next_file`.
     ///
     /// # Errors
     ///
     /// `Bad` with the cause of the first test that fails, or `Memory`.
     pub fn new(alloc: Global, bytes: &'a [u8]) -> Result<Package<'a>, PackageFault>
-        // It is refused for the first failed test of the values, and read where none fails.
+        // It is refused for the first failed test of the values, and read if none fails.
         ensures bad { IfErr result
             (λ fault. IsFaultOf fault (first_fault Tables.Package bytes.entry.now)) }
         ensures sound { IfOk result (λ _. first_fault Tables.Package bytes.entry.now ≡ None) }
@@ -110,7 +110,7 @@ impl<'a> Package<'a> {
     }
 
     /// Each text and number of a package keeps the rule of its field: a folder's name is a path,
-    /// and so is a file's behind it.
+    /// and so is a file's after it.
     pub fn values_keep_their_rules(&self)
         ensures { KeepsRules Tables.Package (opened_value self.now) }
     {
@@ -133,13 +133,13 @@ impl<'a> Package<'a> {
     }
 
     /// The contents of the next file: of those without target and with a size above 0, in the order
-    /// of folders and of the files in them. None comes exactly behind the last block.
+    /// of folders and of the files in them. None comes exactly after the last block.
     ///
     /// # Errors
     ///
     /// The first failed test, block by block: the framing of the block; contents of fewer than 8
-    /// bytes (`Truncated`); those of another file than the next one, or of none, and none where one
-    /// is left (`DataOrder`); another size (`DataSize`); another digest (`HashDiffers`). After an
+    /// bytes (`Truncated`); those of another file than the next one, or of none, and none if one is
+    /// left (`DataOrder`); another size (`DataSize`); another digest (`HashDiffers`). After an
     /// error the same error comes again.
     pub fn next_file(&mut self) -> Result<Option<FileContents<'a>>, Cause>
         ensures file { IsNextFile (opened_files self.old) result (opened_files self.new) }
@@ -159,7 +159,7 @@ impl<'a> Package<'a> {
     }
 }
 
-/// The payload of the first block, and the blocks behind it.
+/// The payload of the first block, and the blocks after it.
 #[tactic(auto, unfolding(adb_schema::specs::Soundness::first_fault, adb_schema::specs::Soundness::payload_in, crate::specs::Whole::files_in_file))]
 fn first_block<'a>(bytes: &'a [u8]) -> (&'a [u8], Blocks<'a>)
     requires { first_fault Tables.Package bytes.now ≡ None }

@@ -1,5 +1,5 @@
-//! Where a reader stands in the blocks of a package, and what the next block comes to.
-//! The rules stand in `docs/formats.md`, "The other blocks"; the framing of a block in "Container".
+//! Where a reader is in the blocks of a package, and what the next block comes to. The rules are in
+//! `docs/formats.md`, "The other blocks"; the framing of a block in "Container".
 
 ghost use Rattle.std.specs.Prelude.{◌≡◌, ◌≤◌, ◌+◌, ◌-◌, ℕ, List, None, Some, Ok, length, drop, IfOk, IfSome, OnOk};
 ghost use Rattle.adb_block.specs.Framing.{ended};
@@ -13,8 +13,8 @@ use crate::walk::{POSITIONS_LEN, Walk};
 use adb_block::{BlockKind, Frame, padding_of};
 use base_core::Cause;
 
-/// Where a reader stands in the blocks of a package behind the first one: in a file of `len` bytes,
-/// behind a block of the kind `last`, at the offset of the next block; and the walk over the files
+/// Where a reader is in the blocks of a package after the first one: in a file of `len` bytes,
+/// after a block of the kind `last`, at the offset of the next block; and the walk over the files
 /// whose contents are due.
 #[derive(Clone, Copy)]
 pub struct BlockPlace<'a> {
@@ -28,7 +28,7 @@ pub struct BlockPlace<'a> {
     pub at: u64,
 }
 
-/// What a block behind the first one comes to.
+/// What a block after the first one comes to.
 #[derive(Drop)]
 pub enum Step<'a> {
     /// No block is left, and no file is due.
@@ -40,20 +40,20 @@ pub enum Step<'a> {
 }
 
 impl<'a> BlockPlace<'a> {
-    /// Goes on behind the block that stands there: `framing` is what its header frames (`frame_of`
-    /// of `adb_block`), and `positions` are the first eight bytes of its payload, which count only
-    /// where it has as many.
+    /// Goes on after the block that is there: `framing` is what its header frames (`frame_of` of
+    /// `adb_block`), and `positions` are the first eight bytes of its payload, which count only if
+    /// it has as many.
     ///
     /// # Errors
     ///
     /// `Truncated` where contents have fewer than eight bytes; those of `open_file`; and
-    /// `DataOrder` with (0, 0) where no block is left and a file is due.
+    /// `DataOrder` with (0, 0) if no block is left and a file is due.
     pub fn step(
         &mut self,
         framing: Option<Frame>,
         positions: &[u8; POSITIONS_LEN],
     ) -> Result<Step<'a>, Cause>
-        // The place, and the block that stands there, lie within the file.
+        // The place, and the block that is there, lie within the file.
         requires at { self.old.at ≤ self.old.len }
         requires fits { IfSome framing (λ frame. raw_size frame ≤ self.old.len - self.old.at) }
         // For each file that is so long and has this block there.
@@ -61,13 +61,13 @@ impl<'a> BlockPlace<'a> {
             → IsFramed (Ok framing) (drop self.old.at file) (step_at self.old file)
             → HasPositions framing positions.now self.old file
             → IsStepped framing self.old file result self.new }
-        // A reader stands behind the block then, unless a test failed.
+        // A reader follows the block then, unless a test failed.
         ensures len { self.new.len ≡ self.old.len }
         ensures behind { IfSome framing (λ frame. OnOk result (self.new.at
             ≡ self.old.at + whole_size frame (self.old.len - self.old.at))) }
         ensures within { self.new.at ≤ self.new.len }
         // Of a file that is opened all bytes are to come; only contents open one, which is the next
-        // of the walk; and the end is told only where no block is left.
+        // of the walk; and the end is told only if no block is left.
         ensures left { IfSome framing (λ frame. IfOk result (HasAllLeft frame)) }
         ensures kind { IfSome framing (λ frame. IfOk result (IsOfContents frame)) }
         ensures walk { IfOk result (λ step. WalksOn self.old.walk step self.new.walk) }
@@ -79,8 +79,7 @@ impl<'a> BlockPlace<'a> {
         }
     }
 
-    /// Ends the walk where no block is left: no file may be due then. The clauses are those of
-    /// `step`.
+    /// Ends the walk if no block is left: no file may be due then. The clauses are those of `step`.
     #[tactic(auto, using(crate::proofs::Placed::end_good, crate::proofs::Placed::end_bad))]
     fn end(&mut self) -> Result<Step<'a>, Cause>
         ensures step { (file : List ℕ) → step_at self.old file ≡ ended
@@ -96,7 +95,7 @@ impl<'a> BlockPlace<'a> {
         }
     }
 
-    /// Goes on behind a block that is there: one of contents opens a file, and another is passed.
+    /// Goes on after a block that is there: one of contents opens a file, and another is passed.
     /// The clauses are those of `step`.
     fn step_over(
         &mut self,
@@ -155,7 +154,7 @@ impl<'a> BlockPlace<'a> {
         }
     }
 
-    /// Goes on behind a block and its padding, as much of it as is there.
+    /// Goes on after a block and its padding, as much of it as is there.
     fn pass(&mut self, frame: Frame)
         requires at { self.old.at ≤ self.old.len }
         requires fits { raw_size frame ≤ self.old.len - self.old.at }

@@ -1,6 +1,5 @@
-//! How the front of a container is read from a tree.
-//! The rules stand in `docs/formats.md`, "The other blocks", the paragraph of a front; the tests
-//! and their order in "Container", the table.
+//! How the front of a container is read from a tree. The rules are in `docs/formats.md`, "The other
+//! blocks", the paragraph of a front; the tests and their order in "Container", the table.
 
 ghost use Rattle.std.specs.Prelude.{◌≡◌, ◌≤◌, ◌+◌, ◌-◌, ℕ, List, Option, None, true, length, min, take, IfOk, IfErr, IfSome};
 ghost use Rattle.adb_block.specs.Framing.{next_step};
@@ -23,8 +22,8 @@ use std::alloc::Global;
 use std::marker::Model;
 
 /// Reads the front of a container (apk-v3(5)): the file's header, its schema, which is to be this
-/// one, and the first block with the head of its payload. None comes exactly where the file is
-/// absent. No other part of the file is read, and the tree stays as it is, whatever the answer.
+/// one, and the first block with the head of its payload. None if and only if the file is absent.
+/// No other part of the file is read, and the tree stays as it is, whatever the answer.
 ///
 /// # Errors
 ///
@@ -129,8 +128,8 @@ fn read_payload<T: Tree>(
     Ok(payload)
 }
 
-/// Reads the front of a file that has so many bytes. The header of the first block stands at offset
-/// 8, behind the file's.
+/// Reads the front of a file that has so many bytes. The header of the first block is at offset 8,
+/// after the file's.
 fn read_present<T: Tree>(
     alloc: Global,
     tree: &mut T,
@@ -152,7 +151,7 @@ fn read_present<T: Tree>(
     if found != schema {
         return Err(FrontFault::Bad(Cause::WrongSchema { found }));
     }
-    // The file's header has eight bytes, and the first block stands behind it.
+    // The file's header has eight bytes, and the first block follows it.
     let head = HeadBytes::read(tree, name, 8, len - 8)?;
     let framed = first_framed(len - 8, &head)?;
     let padding = padding_behind(framed, len - 8);
@@ -167,7 +166,7 @@ fn read_present<T: Tree>(
     })
 }
 
-/// What the header of the first block of a file frames, where so many bytes are left behind the
+/// What the header of the first block of a file frames, where so many bytes are left after the
 /// file's own header, of eight bytes.
 fn first_framed(left: u64, head: &HeadBytes) -> Result<Frame, Cause>
     requires holds { HoldsHead head.now left }
@@ -185,7 +184,7 @@ fn first_framed(left: u64, head: &HeadBytes) -> Result<Frame, Cause>
     }
 }
 
-/// How many bytes of padding stand behind a block, as many as there are, where so many bytes are
+/// How many bytes of padding stand after a block, as many as there are, where so many bytes are
 /// left from its header on.
 fn padding_behind(framed: Frame, left: u64) -> u64
     requires { raw_size framed ≤ left }

@@ -1,7 +1,7 @@
--- Marks of candidates, one for each, and what entries of world do to candidates.
--- The rules stand in `docs/selection.md`: "What there is to choose from" (*barred*), and "Which
--- selection is taken", key 1 of the table (pinned). Serves the contracts of `src/marks.rt`, which
--- marks by one entry of world after the other what *is_barred_by* and *is_pinned* say of all.
+-- Marks of candidates, one for each, and what entries of world do to candidates. The rules are in
+-- `docs/selection.md`: "What there is to choose from" (*barred*), and "Which selection is taken", key 1
+-- of the table (pinned). Serves the contracts of `src/marks.rt`, which marks by one entry of world
+-- after the other what *is_barred_by* and *is_pinned* say of all.
 use Rattle.std.specs.Prelude.{ℕ, zero, suc, Bool, false, ◌&&◌, ◌||◌, List, [], ◌∷◌}
 use Rattle.std.specs.Option.{option_map_or}
 use Rattle.std.specs.List.{list_any}
@@ -23,7 +23,7 @@ affects Pin d c =
 abbrev pub is_affected : Effect → List Dependency → Candidate → Bool
 is_affected effect entries c = list_any (λ (d : Dependency). affects effect d c) entries
 
--- the marks, where those of the candidates that pass a test are set too; one mark stands for each
+-- the marks, where those of the candidates that pass a test are set too; one mark represents each
 -- candidate
 abbrev pub marks_with : (Candidate → Bool) → List Bool → List Candidate → List Bool
 marks_with test [] cs = []

@@ -1,7 +1,6 @@
 //! Which candidates are installed and stay before others in rank: those whose names the command
 //! does not upgrade. The names that it upgrades are put into order once, and each candidate is
-//! marked.
-//! The rule stands in `docs/selection.md`, "Which selection is taken", key 4 of the table.
+//! marked. The rule is in `docs/selection.md`, "Which selection is taken", key 4 of the table.
 ghost use Rattle.std.specs.Prelude.{◌≡◌, ◌&&◌, map, not, IfOk};
 ghost use Rattle.candidate_core.specs.Packages.{candidates_of_packages};
 ghost use Rattle.candidate_core.specs.Rank.{is_kept_installed, listed_names};

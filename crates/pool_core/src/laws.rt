@@ -1,8 +1,7 @@
 //! What the definitions of candidates, ranks and options keep, each as the contract of a function
-//! that does nothing.
-//! The rules stand in `docs/selection.md`: "Which selection is taken" (the rank), and "What there
-//! is to choose from" (options, offers, and which package is the installed one). The fields of a
-//! candidate stand in `docs/formats.md`, "Schemas", table 3.
+//! that does nothing. The rules are in `docs/selection.md`: "Which selection is taken" (the rank),
+//! and "What there is to choose from" (options, offers, and which package is the installed one).
+//! The fields of a candidate are in `docs/formats.md`, "Schemas", table 3.
 ghost use Rattle.std.specs.Prelude.{◌≡◌, ◌<◌, Bool, true, false, ℕ, List, [], ◌∷◌, ◌++◌, length, Option, Some, slice_get, codes, if◌then◌else◌};
 ghost use Rattle.std.specs.Cmp.{IsTotalOrder};
 ghost use Rattle.std.specs.declared.cmp.Ordering.TheVariants.{Equal};
@@ -27,7 +26,7 @@ pub fn rank_is_total()
 }
 
 /// The options of a need are exactly the candidates that may be selected and meet it, each better
-/// than those behind it.
+/// than those after it.
 pub fn options_are_the_best_first()
     ensures those { (pool : SealedPool) (need : Need) (c : ℕ) → IsIn c (options_for pool need) →
         (is_eligible_at pool c ≡ true) × (meets_at pool c need ≡ true) }
@@ -56,9 +55,9 @@ pub fn offers_hold_what_meets()
         IsIn c (places_offering (need_name need) pool.candidates) }
 {}
 
-/// Each part of a candidate is the value of the field of its name, as the names stand in
-/// `docs/formats.md`, "Schemas", table 3. So a definition that
-/// took the number of another field would break this law.
+/// Each part of a candidate is the value of the field of its name, as the names are in
+/// `docs/formats.md`, "Schemas", table 3. So a definition that took the number of another field
+/// would break this law.
 pub fn a_candidate_is_read_by_field_names()
     ensures { (info : Plain) (repository : Option ℕ) (tag : Option (List ℕ)) (installed : Bool) →
         candidate_of info repository tag installed
@@ -92,9 +91,9 @@ pub fn an_installed_package_is_known_by_text_and_id()
     ensures front { (id rest : List ℕ) → 0 < length id → is_same_id id (id ++ rest) ≡ true }
 {}
 
-/// An installed package adds a candidate only where no index has it: then it stands last, and else
-/// the list keeps its length. Each place keeps its candidate, which counts as installed where it is
-/// the installed package.
+/// An installed package adds a candidate only if no index has it: then it stands last, and else the
+/// list keeps its length. Each place keeps its candidate, which counts as installed if it is the
+/// installed package.
 pub fn installed_candidates_count_once()
     ensures once { (candidates : List Candidate) (installed : Candidate) →
         list_any (is_same_package installed) candidates ≡ true →

@@ -1,8 +1,8 @@
 //! What world says of each candidate: whether it may be selected, and whether world pins it. An
 //! entry is tried only on the candidates that offer its name, so all marks take time in proportion
-//! to the candidates, the entries and the offers of their names.
-//! The rules stand in `docs/selection.md`: "What there is to choose from" (*allowed* and *barred*),
-//! and "Which selection is taken", key 1 of the table (what is pinned).
+//! to the candidates, the entries and the offers of their names. The rules are in
+//! `docs/selection.md`: "What there is to choose from" (*allowed* and *barred*), and "Which
+//! selection is taken", key 1 of the table (what is pinned).
 ghost use Rattle.std.specs.Prelude.{◌≡◌, ◌<◌, ◌&&◌, false, length, map, not, IfOk, OnOk, Some, slice_get};
 ghost use Rattle.std.specs.Option.{option_map_or};
 ghost use Rattle.std.specs.List.{list_any};
@@ -188,7 +188,7 @@ fn mark_one(
     Ok(())
 }
 
-// Whether an entry of world has this effect on a candidate, which stands at a place.
+// Whether an entry of world has this effect on a candidate, which is at a place.
 fn affects(
     effect: Effect,
     entry: &Dep<'_>,
@@ -212,8 +212,8 @@ fn affects(
     }
 }
 
-// Whether an entry of world bars a candidate, which stands at a place: the entry is a conflict, and
-// the candidate meets it.
+// Whether an entry of world bars a candidate, which is at a place: the entry is a conflict, and the
+// candidate meets it.
 fn bars(
     entry: &Dep<'_>,
     one: &Details<'_>,

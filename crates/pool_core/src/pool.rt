@@ -1,5 +1,5 @@
-//! A pool in the making: the candidates of indexes and of the database, until they are sealed.
-//! The rules stand in `docs/selection.md`, "What there is to choose from".
+//! A pool in the making: the candidates of indexes and of the database, until they are sealed. The
+//! rules are in `docs/selection.md`, "What there is to choose from".
 ghost use Rattle.std.specs.Prelude.{◌≡◌, ◌≤◌, ◌<◌, ◌+◌, [], ◌++◌, length, true, None, Some, IfOk, OnOk, OnErr, IfErr, option_copied};
 ghost use Rattle.adb_schema.specs.Views.{index_value, info_value};
 ghost use Rattle.adb_view.specs.Values.{count_of, entries_in, entry_in};
@@ -20,8 +20,8 @@ use std::alloc::{AllocError, Global};
 use std::marker::Model;
 
 /// Candidates in the making. Add all indexes before the first installed package: one that is added
-/// behind it stands behind it in the list, and its packages do not count as installed. After a
-/// refusal the pool is empty.
+/// after it follows it in the list, and its packages do not count as installed. After a refusal the
+/// pool is empty.
 #[derive(Drop)]
 pub struct Pool<'a> {
     /// What memory comes from.
@@ -88,9 +88,9 @@ impl<'a> Pool<'a> {
         }
     }
 
-    /// Adds the packages of a repository's index behind the others; repositories count from 1.
-    /// TooMany comes only where the list would pass its limit, and Ok only where it does not; want
-    /// of memory may stand for either. In the clauses, 1 is the index of `packages` among the
+    /// Adds the packages of a repository's index after the others; repositories count from 1.
+    /// TooMany comes only where the list would pass its limit, and Ok only where it does not; out
+    /// of memory may represent either. In the clauses, 1 is the index of `packages` among the
     /// fields of an index, counted from 0 (2 in table 8 of `docs/formats.md`, "Schemas").
     pub fn add_index(
         &mut self,
@@ -123,7 +123,7 @@ impl<'a> Pool<'a> {
 
     /// Adds an installed package, or lets the candidates that are the same package count as
     /// installed. It is of no repository and has no tag. TooMany comes only where the list would
-    /// pass its limit, and Ok only where it does not; want of memory may stand for either.
+    /// pass its limit, and Ok only where it does not; out of memory may represent either.
     pub fn add_installed(&mut self, info: PkgInfo<'a>) -> Result<(), PoolFault>
         ensures ok { OnOk result (self.new
             ≡ with_installed self.old (candidate_of (info_value info.entry) None None true)) }

@@ -1,8 +1,7 @@
 //! The candidates under a world: which of them may be selected, which offer a name, and the options
-//! of a need, best first.
-//! The rules stand in `docs/selection.md`: "What there is to choose from" (which candidates may be
-//! selected, and what meets a dependency), "What satisfies world", 4 (install-if), and "Which
-//! selection is taken" (the rank of options).
+//! of a need, best first. The rules are in `docs/selection.md`: "What there is to choose from"
+//! (which candidates may be selected, and what meets a dependency), "What satisfies world", 4
+//! (install-if), and "Which selection is taken" (the rank of options).
 ghost use Rattle.std.specs.Prelude.{◌≡◌, ◌<◌, ◌==◌, ◌++◌, ◌∷◌, [], map, length, slice_get, All, Some, IfOk, OnOk, filter, not, if◌then◌else◌, false};
 ghost use Rattle.dep_core.specs.Meets.{dependency};
 ghost use Rattle.candidate_core.specs.Candidates.{has_usable_install_if, is_eligible};

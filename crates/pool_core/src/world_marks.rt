@@ -1,7 +1,7 @@
 //! What world says of each candidate: whether it may be selected, whether world pins its name to
-//! its tag, and which install-if can come to apply.
-//! The rules stand in `docs/selection.md`: "What there is to choose from" (which candidates may be
-//! selected), "What satisfies world", 4 (install-if), and "Which selection is taken", key 1 (pins).
+//! its tag, and which install-if can come to apply. The rules are in `docs/selection.md`: "What
+//! there is to choose from" (which candidates may be selected), "What satisfies world", 4
+//! (install-if), and "Which selection is taken", key 1 (pins).
 ghost use Rattle.std.specs.Prelude.{◌≡◌, ◌<◌, ◌^◌, ◌++◌, ◌∷◌, [], map, length, IfOk, OnOk, ◌&&◌, not, if◌then◌else◌};
 ghost use Rattle.dep_core.specs.Meets.{dependency};
 ghost use Rattle.candidate_core.specs.Candidates.{has_usable_install_if, is_eligible};

@@ -1,7 +1,7 @@
 //! Payloads of indexes, from short texts. Packages stand between `;`, and their parts between
 //! spaces: `NAME=VERSION`, and `N*` before it for N such packages; `d:` and depends, `p:` and
 //! provides, `i:` and install-if, each list with `,` between dependencies; `k:` and the
-//! provider-priority; `h:` and the id, which is none behind a bare `h:`, and the same for all where
+//! provider-priority; `h:` and the id, which is none after a bare `h:`, and the same for all where
 //! no `h:` stands. The README of `search_rows` has the same form; the fields are those of
 //! `docs/formats.md`, "Schemas", table 3, where the numbers here count from 0.
 use crate::row::number_of;
@@ -70,7 +70,7 @@ fn add_packages(
 }
 
 // The value of a package, of whose information the first 18 fields may be given, counted from 0: 0
-// is the name, 1 the version, 2 the id, which is the same 20 bytes where none is given.
+// is the name, 1 the version, 2 the id, which is the same 20 bytes if none is given.
 fn package_value(alloc: Global, writer: &mut Writer, part: &[u8]) -> Result<Val, AllocError> {
     let mut fields = [Val::of(0); 18];
     if part.is_empty() {
@@ -156,7 +156,7 @@ fn version_value(writer: &mut Writer, dep: &Dep<'_>) -> Result<Val, AllocError> 
 }
 
 // The match number of a dependency: its operator's bits, and 16 more for a conflict; 23 for a
-// conflict without version, and none where a name alone is asked for (`docs/formats.md`,
+// conflict without version, and none if a name alone is asked for (`docs/formats.md`,
 // "Dependencies").
 fn matching_value(writer: &mut Writer, dep: &Dep<'_>) -> Result<Val, AllocError> {
     let bits = u64::from(dep.op.bits());

@@ -1,5 +1,5 @@
 //! A row: the packages to choose from, world, and what a command upgrades. It borrows its text. The
-//! lines stand in the README of `search_rows`.
+//! lines are in the README of `search_rows`.
 use crate::package::index_payload;
 use std::alloc::{AllocError, Global};
 
@@ -15,7 +15,7 @@ pub struct Repository<'t> {
     pub payload: Vec<u8>,
 }
 
-/// What stands between two lines that begin a row.
+/// What is between two lines that begin a row.
 #[derive(Drop)]
 pub struct Row<'t> {
     /// The name of the row.
@@ -45,8 +45,8 @@ impl<'t> Row<'t> {
         }
     }
 
-    /// Adds a repository: its packages, before which its tag may stand behind `@`, or its number
-    /// behind `/`.
+    /// Adds a repository: its packages, before which its tag may follow `@`, or its number after
+    /// `/`.
     pub fn add_repository(&mut self, alloc: Global, text: &'t [u8]) -> Result<(), AllocError> {
         let next = (self.repositories.len() as u64).saturating_add(1);
         let (word, rest) = split_word(text);
@@ -71,7 +71,7 @@ impl<'t> Row<'t> {
     }
 }
 
-/// The first word of a line, and what stands behind the blank that ends it.
+/// The first word of a line, and what follows the blank that ends it.
 pub fn split_word<'t>(line: &'t [u8]) -> (&'t [u8], &'t [u8]) {
     match line.iter().position(|byte| *byte == b' ') {
         Some(at) => (&line[..at], &line[at + 1..]),

@@ -24,8 +24,8 @@ choices_of chosen = chosen.choices
 abbrev pub install_ifs_of : Choices → List ℕ
 install_ifs_of chosen = chosen.install_ifs.by_name.items
 
--- behind the choices `u`: the checkpoints tell where the queue and the cursors stood before each
--- further choice
+-- after the choices `u`: the checkpoints tell where the queue and the cursors stood before each further
+-- choice
 abbrev pub AreCheckpoints : SealedPool → List ℕ → List ℕ → List ℕ → List Checkpoint → Type 0
 AreCheckpoints pool install_ifs u [] [] = Unit {0}
 AreCheckpoints pool install_ifs u [] (b ∷ bs) = ⊥
@@ -35,9 +35,9 @@ AreCheckpoints pool install_ifs u (c ∷ cs) (b ∷ bs) =
     × AreUnasked pool u install_ifs b.asking_cursor
     × AreCheckpoints pool install_ifs (u ++ c ∷ []) cs bs
 
--- the queue is that of the choices, what stands in front of its cursor is met, what stands in front
--- of the cursor of the install-ifs does not ask, the conflicts of the choices are listed, each at its
--- index, and each choice can be taken back to its checkpoint
+-- the queue is that of the choices, what is in front of its cursor is met, what is in front of the
+-- cursor of the install-ifs does not ask, the conflicts of the choices are listed, each at its index,
+-- and each choice can be taken back to its checkpoint
 pub record IsConsistent (chosen : Choices) : Type 0 where
   pub within : (c : ℕ) → IsIn c (choices_of chosen) → c < length (pool_of chosen).candidates
   pub queue : chosen.queue.items ≡ queue_of (pool_of chosen) (choices_of chosen)

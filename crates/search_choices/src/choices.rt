@@ -1,6 +1,6 @@
-//! The choices so far: what they raise, and the first need that none of them meets.
-//! The rules stand in `docs/selection.md`: "Which selection is taken" (the order in which needs are
-//! met), and "What satisfies world", 4 (install-if).
+//! The choices so far: what they raise, and the first need that none of them meets. The rules are
+//! in `docs/selection.md`: "Which selection is taken" (the order in which needs are met), and "What
+//! satisfies world", 4 (install-if).
 ghost use Rattle.std.specs.Prelude.{◌≡◌, ◌≤◌, ℕ, List, [], ◌∷◌, ◌++◌, ◌<◌, ◌^◌, length, IfSome, false, true, IfOk, OnOk, MatchOption, MatchBool, None, Some, ◌+◌, option_copied, slice_get, option_to_list};
 ghost use Rattle.std.specs.List.{find};
 ghost use Rattle.dep_core.specs.Dependency.{Dependency};
@@ -144,8 +144,8 @@ impl<'p> Choices<'p> {
         }
     }
 
-    /// The frame of the first need that no choice meets; none where each need is met. The call
-    /// moves the cursors alone. What is learnt of long versions is kept.
+    /// The frame of the first need that no choice meets; none if each need is met. The call moves
+    /// the cursors alone. What is learnt of long versions is kept.
     pub fn next_frame(
         &mut self,
         matches: &mut PackageMatches<'_>,
@@ -212,8 +212,8 @@ impl<'p> Choices<'p> {
         }
     }
 
-    // Whether a choice meets a raised dependency. A long version is compared once with each of those
-    // that choices have, but for one that an entry of world names.
+    // Whether a choice meets a raised dependency. A long version is compared once with each of
+    // those that choices have, except for one that an entry of world names.
     fn is_raised_met(
         &self,
         raised: &RaisedDep<'p>,
@@ -326,7 +326,7 @@ impl<'p> Choices<'p> {
         Ok(Frame::new(self.alloc, options.into_ids(), by))
     }
 
-    // Whether the candidate of a rank asks; there is none where no candidate has the rank.
+    // Whether the candidate of a rank asks; there is none if no candidate has the rank.
     fn rank_asks(&self, rank: usize) -> bool
         ensures { result ≡ rank_asks (pool_of self.now) (choices_of self.now)
             (install_ifs_of self.now) rank }

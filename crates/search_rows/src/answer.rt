@@ -1,5 +1,5 @@
-//! What is asked of a row, and the answers as texts. The questions and answers stand in the README
-//! of this crate; what is right of them in `docs/selection.md`.
+//! What is asked of a row, and the answers as texts. The questions and answers are in the README of
+//! this crate; what is right of them in `docs/selection.md`.
 ghost use Rattle.std.specs.Prelude.{◌≡◌, IfOk};
 
 use adb_schema::{Checked, IndexView, Which, shape};
@@ -21,7 +21,7 @@ const NO_ROW: &[u8] = b"no row";
 /// Why a row has no answer.
 #[derive(Clone, Copy)]
 enum RowFault {
-    /// There was no memory.
+    /// Out of memory.
     Memory,
     /// The pool has too many candidates; the count is the one that is reported.
     TooMany(u64),
@@ -89,12 +89,12 @@ const QUESTIONS: [(&[u8], Question); 9] = [
     (b"count", Question::Count),
 ];
 
-/// What a question asks for, and the name or the dependency that stands behind it.
+/// What a question asks for, and the name or the dependency that follows it.
 #[derive(Clone, Copy)]
 struct Query<'q> {
     /// What is asked for.
     question: Question,
-    /// The name or the dependency that stands behind the question's word.
+    /// The name or the dependency that follows the question's word.
     rest: &'q [u8],
 }
 
@@ -107,14 +107,14 @@ struct Command<'a> {
     upgrade: Upgrade<'a>,
 }
 
-/// The answer of a question, as often as the row says, or what stands in its way.
+/// The answer of a question, as often as the row says, or what is in its way.
 pub(crate) fn answer(alloc: Global, row: &Row<'_>, query: &[u8]) -> Result<Vec<u8>, AllocError> {
     let mut text = Vec::new(alloc);
     add_answer(alloc, row, query, &mut text)?;
     Ok(text)
 }
 
-// Adds the answer, or what stands in its way.
+// Adds the answer, or what is in its way.
 fn add_answer(
     alloc: Global,
     row: &Row<'_>,
@@ -304,7 +304,7 @@ fn add_installed<'a>(
     Ok(())
 }
 
-// The view of a payload of an index; none where a test fails.
+// The view of a payload of an index; none if a test fails.
 fn view_of<'a>(alloc: Global, payload: &'a [u8]) -> Option<IndexView<'a>> {
     let adb = Adb::new(payload).ok()?;
     let shaped = shape(adb, Which::Index).ok()?;
@@ -437,8 +437,8 @@ fn add_candidates(
     Ok(())
 }
 
-// Adds the name and the version of a candidate, and behind `/` the number of its repository unless
-// that is 1; 0 stands for an installed package of none.
+// Adds the name and the version of a candidate, and after `/` the number of its repository unless
+// that is 1; 0 represents an installed package of none.
 fn add_candidate(
     alloc: Global,
     pool: &Sealed<'_>,

@@ -1,5 +1,5 @@
-//! Runs the rows of the search that stand on standard input, and prints what fails and a count.
-//! `README.md` describes their form. It ends with 0 where no row failed, else with 1.
+//! Runs the rows of the search that rest on standard input, and prints what fails and a count.
+//! `README.md` describes their form. It ends with 0 if no row failed, else with 1.
 #![tactic(auto)]
 
 mod answer;

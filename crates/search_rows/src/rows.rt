@@ -1,4 +1,4 @@
-//! All rows of a text, and what is printed of them. The lines stand in the README of this crate.
+//! All rows of a text, and what is printed of them. The lines are in the README of this crate.
 use crate::answer::answer;
 use row_lines::value_named;
 use row_packages::{Row, number_of, split_word};
@@ -143,7 +143,7 @@ impl<'t> Run<'t> {
         }
     }
 
-    // Compares the answer of the last question with the wanted one; prints it where none is wanted.
+    // Compares the answer of the last question with the wanted one; prints it if none is wanted.
     fn end_question(
         &mut self,
         wanted: Option<&[u8]>,

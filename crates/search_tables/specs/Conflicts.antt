@@ -1,6 +1,5 @@
--- The conflicts of the choices, by their names.
--- The rule stands in `docs/selection.md`, "What satisfies world", 2. Serves the contracts of
--- `src/conflicts.rt`.
+-- The conflicts of the choices, by their names. The rule is in `docs/selection.md`, "What satisfies
+-- world", 2. Serves the contracts of `src/conflicts.rt`.
 use Rattle.std.specs.Prelude.{◌≡◌, ℕ, ◌&&◌, List, map, Some, slice_get}
 use Rattle.std.specs.List.{filter, flat_map}
 use Rattle.std.specs.Str.{bytes_eq}

@@ -1,7 +1,6 @@
--- What excludes a further candidate.
--- The rules stand in `docs/selection.md`, "What satisfies world", 2 and 3, and are said of pairs by
--- *exclude_each_other* of `Selection`. Serves the contracts of `src/choices/excluders.rt` of
--- `search_choices`.
+-- What excludes a further candidate. The rules are in `docs/selection.md`, "What satisfies world", 2
+-- and 3, and are said of pairs by *exclude_each_other* of `Selection`. Serves the contracts of
+-- `src/choices/excluders.rt` of `search_choices`.
 use Rattle.std.specs.Prelude.{◌≡◌, ℕ, Bool, true, false, List}
 use Rattle.dep_core.specs.Dependency.{Dependency}
 use Rattle.candidate_core.specs.Candidates.{Candidate, meets_dependency, occupies_name}

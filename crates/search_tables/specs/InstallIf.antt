@@ -1,7 +1,6 @@
--- Which candidates ask by their install-if for a name that no choice has, and the least of these
--- names.
--- The rules stand in `docs/selection.md`: "What satisfies world", 4, and "Which selection is taken"
--- (in byte order). Serves the contracts of `src/needs.rt` and `src/install_ifs.rt`.
+-- Which candidates ask by their install-if for a name that no choice has, and the least of these names.
+-- The rules are in `docs/selection.md`: "What satisfies world", 4, and "Which selection is taken" (in
+-- byte order). Serves the contracts of `src/needs.rt` and `src/install_ifs.rt`.
 use Rattle.std.specs.Prelude.{◌≡◌, ◌≤◌, ◌<◌, ℕ, Bool, true, false, ◌&&◌, List, [], get_or, length, slice_get, Some}
 use Rattle.std.specs.Option.{option_map_or}
 use Rattle.std.specs.List.{list_all}
@@ -30,11 +29,11 @@ asks_at pool chosen k = is_at pool (asks_for_name pool chosen) k
 abbrev pub is_usable_at : SealedPool → ℕ → Bool
 is_usable_at pool k = is_at pool (has_usable_install_if pool.world) k
 
--- the name of the candidate at a place; no text, where there is none
+-- the name of the candidate at a place; no text, if there is none
 abbrev pub name_at : SealedPool → ℕ → List ℕ
 name_at pool k = option_map_or (λ (c : Candidate). c.name) (candidate_at pool k) []
 
--- the install-if of the candidate at a place; no entries, where there is none
+-- the install-if of the candidate at a place; no entries, if there is none
 abbrev pub install_if_at : SealedPool → ℕ → List Dependency
 install_if_at pool k = option_map_or (λ (c : Candidate). c.install_if) (candidate_at pool k) []
 
@@ -55,7 +54,7 @@ pub record AreInstallIfs (pool : SealedPool) (by_name : List ℕ) (waiting : Lis
       (rank k : ℕ) (d : Dependency) → slice_get by_name rank ≡ Some k →
       IsIn d (install_if_at pool k) → IsIn rank (items_of waiting d.name)
 
--- whether the candidate asks that stands at this place of the list by name (its rank there)
+-- whether the candidate asks that is at this place of the list by name (its rank there)
 abbrev pub rank_asks : SealedPool → List ℕ → List ℕ → ℕ → Bool
 rank_asks pool chosen by_name rank =
     option_map_or (λ (k : ℕ). asks_at pool chosen k) (slice_get by_name rank) false

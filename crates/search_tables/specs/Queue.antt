@@ -1,7 +1,7 @@
--- The dependencies that are raised, each with the choice that has it.
--- The rule stands in `docs/selection.md`, "Which selection is taken": first the entries of world,
--- then the dependencies of each choice in the order chosen. Serves the contracts of `src/queue.rt`
--- and `src/choices.rt` of `search_choices`.
+-- The dependencies that are raised, each with the choice that has it. The rule is in
+-- `docs/selection.md`, "Which selection is taken": first the entries of world, then the dependencies of
+-- each choice in the order chosen. Serves the contracts of `src/queue.rt` and `src/choices.rt` of
+-- `search_choices`.
 use Rattle.std.specs.Prelude.{◌≡◌, ◌≤◌, ℕ, suc, Bool, if◌then◌else◌, List, [], ◌∷◌, ◌++◌, length, take, Option, Some, None}
 use Rattle.std.specs.List.{find, flat_map}
 use Rattle.dep_core.specs.Dependency.{Dependency}

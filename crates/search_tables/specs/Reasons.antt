@@ -1,8 +1,7 @@
 -- Why options are ruled out, and what a search keeps. A reason is a list of candidates that no
--- satisfying selection holds whole.
--- The rule stands in `docs/selection.md`, "How the search works"; the words in `docs/names.md`,
--- "Choosing packages". Serves the contracts of `src/frame.rt`, and in `solve_core` those
--- of `src/search.rt`.
+-- satisfying selection holds whole. The rule is in `docs/selection.md`, "How the search works"; the
+-- words in `docs/names.md`, "Choosing packages". Serves the contracts of `src/frame.rt`, and in
+-- `solve_core` those of `src/search.rt`.
 use Rattle.std.specs.Prelude.{◌≡◌, ℕ, true, List, [], ◌∷◌, ◌++◌, Some, None}
 use Rattle.candidate_core.specs.Candidates.{Need}
 use Rattle.candidate_core.specs.Rank.{SealedPool, is_better, is_eligible_at, meets_at}
@@ -46,20 +45,19 @@ abbrev pub AreRuledOut : SealedPool → List ℕ → List (ℕ × List ℕ) → 
 AreRuledOut pool chosen [] = Unit {0}
 AreRuledOut pool chosen (p ∷ ps) = RulesOut pool chosen p.0 p.1 × AreRuledOut pool chosen ps
 
--- the frame is that of the next need behind some choices: what is ruled out and what is left are
--- the options of the need in their order
+-- the frame is that of the next need after some choices: what is ruled out and what is left are the
+-- options of the need in their order
 abbrev pub IsFrameOf : SealedPool → List ℕ → FrameValue → Type 0
 IsFrameOf pool chosen f =
     (need : Need) × (next_need pool chosen ≡ Some need) × (options_for pool need ≡ options_in f.0
     ++ f.1)
     × AreMembers f.2 chosen × IsIn need (needs pool f.2) × AreRuledOut pool chosen f.0
 
--- the frame is that of the next need behind some choices, and the option `c` is taken from it
+-- the frame is that of the next need after some choices, and the option `c` is taken from it
 abbrev pub IsFrameTaking : SealedPool → List ℕ → FrameValue → ℕ → Type 0
 IsFrameTaking pool chosen f c = IsFrameOf pool chosen (f.0, c ∷ f.1, f.2)
 
--- behind some choices: the turns are those at which the further choices were made, one behind the
--- other
+-- after some choices: the turns are those at which the further choices were made, one after the other
 abbrev pub AreTurnsFrom : SealedPool → List ℕ → List (FrameValue × ℕ) → Type 0
 AreTurnsFrom pool chosen [] = Unit {0}
 AreTurnsFrom pool chosen (turn ∷ turns) =
@@ -70,7 +68,7 @@ abbrev pub choices_in : List (FrameValue × ℕ) → List ℕ
 choices_in [] = []
 choices_in (turn ∷ turns) = turn.1 ∷ choices_in turns
 
--- the frame is that of the next need behind some choices, and no option of it is left
+-- the frame is that of the next need after some choices, and no option of it is left
 abbrev pub IsSpentFrame : SealedPool → List ℕ → FrameValue → Type 0
 IsSpentFrame pool chosen f = IsFrameOf pool chosen f × (f.1 ≡ [])
 
@@ -88,8 +86,8 @@ dead_end_reason f = f.2 ++ others_in f.0
 abbrev pub HasSameMembers : List ℕ → List ℕ → Type 0
 HasSameMembers xs ys = AreMembers xs ys × AreMembers ys xs
 
--- what a pool promises of the options of a need: they are exactly the candidates that may be
--- selected and meet it, each better than those behind it
+-- what a pool promises of the options of a need: they are exactly the candidates that may be selected
+-- and meet it, each better than those after it
 pub record HasOptions (pool : SealedPool) (need : Need) : Type 0 where
   pub those : (c : ℕ) → IsIn c (options_for pool need) → (is_eligible_at pool c ≡ true)
       × (meets_at pool c need ≡ true)

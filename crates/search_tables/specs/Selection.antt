@@ -1,5 +1,5 @@
--- Selections that satisfy a world, the walk of one, and the first of them.
--- The rules stand in `docs/selection.md`, "What satisfies world", and "Which selection is taken".
+-- Selections that satisfy a world, the walk of one, and the first of them. The rules are in
+-- `docs/selection.md`, "What satisfies world", and "Which selection is taken".
 use Rattle.std.specs.Prelude.{◌≡◌, ◌≢◌, ℕ, ◌==◌, Bool, true, false, not, ◌&&◌, ◌||◌, if◌then◌else◌, List, [], ◌∷◌, ◌++◌, map, Option, Some, None, is_some, ◌⊎◌}
 use Rattle.std.specs.Option.{option_map, option_map_or, option_or}
 use Rattle.std.specs.List.{filter, find, flat_map, list_all, list_any}
@@ -24,7 +24,7 @@ is_unmet pool chosen need = not (is_met pool chosen need)
 abbrev pub positive_needs : List Dependency → List Need
 positive_needs deps = map entry (filter (λ (d : Dependency). not d.conflict) deps)
 
--- the dependencies of the candidate at a place, conflicts too; none where no candidate is there
+-- the dependencies of the candidate at a place, conflicts too; none if no candidate is there
 abbrev pub depends_at : SealedPool → ℕ → List Dependency
 depends_at pool c = option_map_or (λ (k : Candidate). k.depends) (candidate_at pool c) []
 
@@ -82,7 +82,7 @@ occupied_names c =
     c.name ∷ map (λ (p : Dependency). p.name)
     (filter (λ (p : Dependency). not p.conflict && is_some p.version) c.provides)
 
--- the names that the candidate at a place occupies; none where no candidate is there
+-- the names that the candidate at a place occupies; none if no candidate is there
 abbrev pub occupied_names_at : SealedPool → ℕ → List (List ℕ)
 occupied_names_at pool c = option_map_or occupied_names (candidate_at pool c) []
 
@@ -133,8 +133,8 @@ IsBestMember pool selection need c =
     × ((o : ℕ) → IsIn o selection → meets_at pool o need ≡ true →
     (o ≡ c) ⊎ (is_better pool need c o ≡ true))
 
--- behind some choices: the rest of the walk of a selection, which has the best ranked member for
--- each next need, until there is none
+-- after some choices: the rest of the walk of a selection, which has the best ranked member for each
+-- next need, until there is none
 abbrev pub IsWalkFrom : SealedPool → List ℕ → List ℕ → List ℕ → Type 0
 IsWalkFrom pool selection chosen [] = next_need pool chosen ≡ None
 IsWalkFrom pool selection chosen (c ∷ rest) =
@@ -145,8 +145,8 @@ IsWalkFrom pool selection chosen (c ∷ rest) =
 abbrev pub IsWalk : SealedPool → List ℕ → List ℕ → Type 0
 IsWalk pool selection walk = IsWalkFrom pool selection [] walk
 
--- behind some choices: of the rests of two walks the first has the better rank at the first place
--- where they differ, for the need there
+-- after some choices: of the rests of two walks the first has the better rank at the first place where
+-- they differ, for the need there
 abbrev pub ComesBeforeFrom : SealedPool → List ℕ → List ℕ → List ℕ → Type 0
 ComesBeforeFrom pool chosen [] other = ⊥
 ComesBeforeFrom pool chosen (c ∷ rest) [] = ⊥

@@ -11,7 +11,7 @@ use std::alloc::{AllocError, Global};
 use std::marker::Model;
 
 /// Candidates in the order in which they came, each once, and a mark for each place in the list of
-/// all candidates, which is set where it is one of them.
+/// all candidates, which is set if it is one of them.
 #[derive(Drop)]
 pub struct CandidateSet {
     /// The places of the candidates, in the order in which they came.
@@ -55,7 +55,7 @@ impl CandidateSet {
         }
     }
 
-    /// Puts a candidate behind the others of the set, unless the set has it.
+    /// Puts a candidate after the others of the set, unless the set has it.
     pub fn add(&mut self, id: CandId) -> Result<(), AllocError>
         ensures { OnOk result (HasSameMembers self.new (self.old ++ id ∷ [])) }
     {
@@ -66,7 +66,7 @@ impl CandidateSet {
         Ok(())
     }
 
-    /// Puts those of some candidates behind the others that the set has not.
+    /// Puts those of some candidates after the others that the set has not.
     pub fn add_all(&mut self, ids: &[CandId]) -> Result<(), AllocError>
         ensures { OnOk result (HasSameMembers self.new (self.old ++ ids.now)) }
     {
@@ -76,7 +76,7 @@ impl CandidateSet {
         Ok(())
     }
 
-    /// Puts a candidate behind the others, which the set does not have. A refused call changes
+    /// Puts a candidate after the others, which the set does not have. A call that fails changes
     /// nothing.
     pub fn push(&mut self, id: CandId) -> Result<(), AllocError>
         requires { IsIn id self.old → ⊥ }

@@ -1,7 +1,6 @@
 //! The conflicts of the choices by their names, and the choice among those that have a conflict
-//! which a further candidate meets.
-//! The rule stands in `docs/selection.md`, "What satisfies world", 2: no conflict of a selected
-//! package is met by another one.
+//! which a further candidate meets. The rule is in `docs/selection.md`, "What satisfies world", 2:
+//! no conflict of a selected package is met by another one.
 ghost use Rattle.std.specs.Prelude.{◌≡◌, ◌<◌, ◌∷◌, ◌++◌, ℕ, List, [], IfOk, OnOk, Some, find, length, slice_get};
 ghost use Rattle.std.specs.Option.{option_map};
 ghost use Rattle.dep_core.specs.Dependency.{Dependency};
@@ -84,7 +83,7 @@ impl<'p> Conflicts<'p> {
         }
     }
 
-    /// Adds the conflicts that are among a candidate's dependencies, behind the others of their
+    /// Adds the conflicts that are among a candidate's dependencies, after the others of their
     /// names.
     pub fn add(&mut self, depends: &Deps<'p>, by: CandId) -> Result<(), AllocError>
         ensures conflicts { OnOk result ((name : List ℕ) → conflicts_in self.new.by_name name

@@ -1,6 +1,6 @@
 //! A need under way: the options that are ruled out, each with its reason, and those that are left.
-//! What a reason is, and when an option is ruled out, stands in `docs/selection.md`, "How the
-//! search works"; the words *frame* and *turn* in `docs/names.md`, "Choosing packages".
+//! What a reason is, and when an option is ruled out, is in `docs/selection.md`, "How the search
+//! works"; the words *frame* and *turn* in `docs/names.md`, "Choosing packages".
 ghost use Rattle.std.specs.Prelude.{◌≡◌, [], ◌∷◌, ◌++◌, map, length, ◌<◌, ◌^◌, MatchOption, OnOk, IfSome, Some, slice_get};
 
 use pool_core::CandId;

@@ -1,9 +1,7 @@
 //! Which choice meets a dependency of a candidate: a conflict of a further one, or what a choice
-//! raised.
-//! The rules stand in `docs/selection.md`: "What satisfies world", 1 (dependencies are met) and 2 (no
-//! conflict of a selected package is met by another one), and "What there is to choose from" (what
-//! meets a dependency).
-//! That long versions are compared once saves time alone.
+//! raised. The rules are in `docs/selection.md`: "What satisfies world", 1 (dependencies are met)
+//! and 2 (no conflict of a selected package is met by another one), and "What there is to choose
+//! from" (what meets a dependency). That long versions are compared once saves time alone.
 ghost use Rattle.std.specs.Prelude.{◌≡◌, ℕ, false, true, IfOk, MatchBool, MatchOption, OnOk};
 ghost use Rattle.dep_core.specs.Meets.{dependency};
 ghost use Rattle.candidate_core.specs.Candidates.{entry};

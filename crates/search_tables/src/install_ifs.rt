@@ -1,6 +1,6 @@
-//! The candidates whose install-if can come to apply, and which of them wait for a name.
-//! The rules stand in `docs/selection.md`: "What satisfies world", 4 (when an install-if applies),
-//! and "Which selection is taken" (names are asked for in byte order).
+//! The candidates whose install-if can come to apply, and which of them wait for a name. The rules
+//! are in `docs/selection.md`: "What satisfies world", 4 (when an install-if applies), and "Which
+//! selection is taken" (names are asked for in byte order).
 ghost use Rattle.std.specs.Prelude.{◌≡◌, ◌≤◌, ◌<◌, ℕ, List, length, get_or, true, false, IfOk, OnOk, slice_get};
 ghost use Rattle.dep_core.specs.Dependency.{Dependency};
 ghost use Rattle.candidate_core.specs.Options.{AreMembers, IsIn};
@@ -74,7 +74,7 @@ fn by_names(pool: &Sealed<'_>, a: CandId, b: CandId) -> Ordering
     name_at(pool, a).cmp(&name_at(pool, b))
 }
 
-// The name of the candidate at a place; empty where there is none.
+// The name of the candidate at a place; empty if there is none.
 fn name_at<'a>(pool: &'a Sealed<'_>, id: CandId) -> &'a [u8]
     ensures { result.now ≡ name_at pool.entry.now id }
 {
@@ -84,7 +84,7 @@ fn name_at<'a>(pool: &'a Sealed<'_>, id: CandId) -> &'a [u8]
     }
 }
 
-// Puts the rank of a candidate behind those of the name of each entry of its install-if.
+// Puts the rank of a candidate after those of the name of each entry of its install-if.
 fn add_install_if<'p>(
     waiting: &mut NameTable<'p, usize>,
     pool: &'p Sealed<'p>,
@@ -103,7 +103,7 @@ fn add_install_if<'p>(
     Ok(())
 }
 
-// Adds a rank behind those of the name of each of some dependencies.
+// Adds a rank after those of the name of each of some dependencies.
 fn add_entries<'p>(
     waiting: &mut NameTable<'p, usize>,
     deps: &Deps<'p>,

@@ -2,7 +2,7 @@
 //! the install-ifs by their names, the queue of the dependencies that are raised, and the frame of a
 //! need with the options that are ruled out.
 //!
-//! The rules stand in `docs/selection.md`, "What satisfies world", "Which selection is taken", and
+//! The rules are in `docs/selection.md`, "What satisfies world", "Which selection is taken", and
 //! "How the search works".
 //!
 //! The contracts cite `Selection` (what satisfies a world, and which selection comes first),

@@ -38,7 +38,7 @@ impl<'p, T: Drop> NameTable<'p, T> {
         }
     }
 
-    /// The items of a name; none where no item of the name was added.
+    /// The items of a name; none if no item of the name was added.
     pub fn get(&self, name: &[u8]) -> &[T]
         ensures { result.now ≡ items_of self.now name.now }
     {
@@ -48,7 +48,7 @@ impl<'p, T: Drop> NameTable<'p, T> {
         }
     }
 
-    /// Adds an item behind those of a name; other names keep theirs.
+    /// Adds an item after those of a name; other names keep theirs.
     pub fn add(&mut self, name: &'p [u8], item: T) -> Result<(), AllocError>
         ensures { OnOk result ((other : List ℕ) → items_of self.new other
             ≡ items_of self.old other

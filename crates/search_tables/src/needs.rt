@@ -1,6 +1,6 @@
-//! Which choices meet a need, which install-if applies, and which choice occupies a name.
-//! The rules stand in `docs/selection.md`: "What there is to choose from" (what meets a
-//! dependency), and "What satisfies world", 3 (occupied names) and 4 (install-if).
+//! Which choices meet a need, which install-if applies, and which choice occupies a name. The rules
+//! are in `docs/selection.md`: "What there is to choose from" (what meets a dependency), and "What
+//! satisfies world", 3 (occupied names) and 4 (install-if).
 ghost use Rattle.std.specs.Prelude.{◌≡◌, ℕ, false, true, MatchBool, MatchOption, IfOk, OnOk};
 ghost use Rattle.dep_core.specs.Meets.{dependency};
 ghost use Rattle.candidate_core.specs.Candidates.{entry, meets_need, need_name, occupies_name};

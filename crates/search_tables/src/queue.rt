@@ -1,6 +1,6 @@
-//! The dependencies that world and the choices raise, in the order in which they are to be met.
-//! The rule stands in `docs/selection.md`, "Which selection is taken": first the entries of world,
-//! then the dependencies of each choice in the order chosen; conflicts are no needs.
+//! The dependencies that world and the choices raise, in the order in which they are to be met. The
+//! rule is in `docs/selection.md`, "Which selection is taken": first the entries of world, then the
+//! dependencies of each choice in the order chosen; conflicts are no needs.
 ghost use Rattle.std.specs.Prelude.{◌≡◌, ◌∷◌, ◌++◌, [], OnOk, None, Some};
 ghost use Rattle.dep_core.specs.Meets.{dependency};
 ghost use Rattle.search_tables.specs.Queue.{raised_deps, raised_from};
@@ -93,8 +93,8 @@ pub fn queue_all<'p>(
     Ok(())
 }
 
-// Puts a dependency behind the others of the queue, unless it is a conflict; `by` is the choice
-// that has it, at an index.
+// Puts a dependency after the others of the queue, unless it is a conflict; `by` is the choice that
+// has it, at an index.
 fn queue_one<'p>(
     queue: &mut Vec<RaisedDep<'p>>,
     dep: Dep<'p>,

@@ -1,8 +1,7 @@
--- What falls at each step of a search: a number with a digit for each frame, the lowest frame's
--- first.
--- No rule of a document: serves the proof that `solve` ends ("and it ends": `docs/selection.md`,
--- "How the search works"). An option that is taken or ruled out makes its frame's digit smaller,
--- and what is put behind it counts less.
+-- What falls at each step of a search: a number with a digit for each frame, the lowest frame's first.
+-- No rule of a document: serves the proof that `solve` ends ("and it ends": `docs/selection.md`, "How
+-- the search works"). An option that is taken or ruled out makes its frame's digit smaller, and what is
+-- put after it counts less.
 use Rattle.std.specs.Prelude.{ℕ, zero, suc, ◌+◌, ◌*◌, ◌^◌, List, [], ◌∷◌, ◌++◌, length}
 use Rattle.search_tables.specs.Reasons.{FrameValue}
 

@@ -1,5 +1,5 @@
-//! The search: it takes options, rules options out, and steps back at a dead end.
-//! The rule stands in `docs/selection.md`, "How the search works".
+//! The search: it takes options, rules options out, and steps back at a dead end. The rule is in
+//! `docs/selection.md`, "How the search works".
 ghost use Rattle.std.specs.Prelude.{◌≡◌, ◌<◌, ◌^◌, ◌≤◌, ◌==◌, not, filter, ℕ, [], ◌∷◌, ◌++◌, false, true, length, IfOk, OnOk, IfSome, MatchOption, None, Some, slice_get};
 ghost use Rattle.candidate_core.specs.Options.{IsIn};
 ghost use Rattle.candidate_core.specs.PackageMatches.{AreMatchesAmong};
@@ -98,7 +98,7 @@ impl<'p> Search<'p> {
         })
     }
 
-    /// The frame of the first need that no choice meets; none where each need is met.
+    /// The frame of the first need that no choice meets; none if each need is met.
     pub(crate) fn next_frame(&mut self) -> Result<Option<Frame>, AllocError>
         requires search { IsSearch self.old.chosen self.old.turns.items }
         requires matches { AreMatchesAmong (pool_of self.old.chosen).candidates self.old.matches }
@@ -188,7 +188,7 @@ impl<'p> Search<'p> {
     }
 
     /// Takes options of a frame and rules them out, until one goes with all choices, which is
-    /// answered; none where no option is left.
+    /// answered; none if no option is left.
     pub(crate) fn next_option(&mut self, top: &mut Frame) -> Result<Option<CandId>, AllocError>
         requires search { IsSearch self.old.chosen self.old.turns.items }
         requires open_now { IsFrameOf (pool_of self.old.chosen)
@@ -243,8 +243,8 @@ impl<'p> Search<'p> {
     }
 
     /// Steps back from a dead end to the latest choice in its reason, and rules that choice out
-    /// with the rest of the reason. The answer is its frame; none where the reason has no choice,
-    /// so that no selection satisfies world.
+    /// with the rest of the reason. The answer is its frame; none if the reason has no choice, so
+    /// that no selection satisfies world.
     pub(crate) fn step_back(&mut self, spent: Frame) -> Result<Option<Frame>, AllocError>
         requires search { IsSearch self.old.chosen self.old.turns.items }
         requires spent { IsSpentFrame (pool_of self.old.chosen) (choices_of self.old.chosen) spent }

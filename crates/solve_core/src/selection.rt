@@ -1,6 +1,6 @@
-//! The first selection of a world, as a list of choices, or that no selection satisfies it.
-//! The rules stand in `docs/selection.md`: "What satisfies world", "Which selection is taken", and
-//! "How the search works" for the loop.
+//! The first selection of a world, as a list of choices, or that no selection satisfies it. The
+//! rules are in `docs/selection.md`: "What satisfies world", "Which selection is taken", and "How
+//! the search works" for the loop.
 ghost use Rattle.std.specs.Prelude.{◌≡◌, ◌<◌, Some, IfOk, length, slice_get, [], List, ℕ, MatchOption};
 ghost use Rattle.candidate_core.specs.Candidates.{Need};
 ghost use Rattle.candidate_core.specs.PackageMatches.{AreMatchesAmong};
@@ -24,7 +24,7 @@ pub(crate) fn options_are_as_promised()
 }
 
 /// The first preferred selection of the world that the pool was sealed with, in the order of its
-/// walk. None comes only where no selection satisfies it, and want of memory may stand for either
+/// walk. None comes only if no selection satisfies it, and out of memory may represent either
 /// answer.
 pub fn solve(alloc: Global, pool: &Sealed<'_>, world: &World) -> Result<Option<Trace>, AllocError>
     requires { world.now ≡ pool.now.world }
@@ -37,7 +37,7 @@ pub fn solve(alloc: Global, pool: &Sealed<'_>, world: &World) -> Result<Option<T
 }
 
 // The first selection, by a search without choices: it takes an option of the topmost frame, or
-// steps back where none is left. The search is borrowed, so that nothing of it has to be given back
+// steps back if none is left. The search is borrowed, so that nothing of it has to be given back
 // where the loop ends early.
 fn first_selection(alloc: Global, search: &mut Search<'_>) -> Result<Option<Trace>, AllocError>
     requires search { IsSearch search.old.chosen search.old.turns.items }

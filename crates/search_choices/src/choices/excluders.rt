@@ -1,8 +1,7 @@
 //! What excludes a further candidate: a choice that has a conflict which the candidate meets, that
-//! meets one of its conflicts, or that occupies a name which it occupies.
-//! The rules stand in `docs/selection.md`, "What satisfies world", 2 and 3. In the contracts, None
-//! says for which names or entries no choice excludes the candidate, and all of these together that
-//! none does.
+//! meets one of its conflicts, or that occupies a name which it occupies. The rules are in
+//! `docs/selection.md`, "What satisfies world", 2 and 3. In the contracts, None says for which
+//! names or entries no choice excludes the candidate, and all of these together that none does.
 ghost use Rattle.std.specs.Prelude.{◌≡◌, ◌<◌, ℕ, length, true, false, IfOk, MatchOption, OnOk, Some, is_some, slice_get};
 ghost use Rattle.dep_core.specs.Dependency.{Dependency};
 ghost use Rattle.dep_core.specs.Meets.{dependency};
