@@ -23,8 +23,8 @@ named_by e = record { name = joined_path e.path; position = e.position }
 abbrev pub named_cmp : NameWithPosition → NameWithPosition → Ordering
 named_cmp x y = ordering_then (slice_cmp nat_cmp x.name y.name) (nat_cmp x.position y.position)
 
--- the pairs of positions that a name and the names after it make, each with the next one; None if two
--- names differ. *earliest* takes of them the pair that is reported
+-- the pairs of positions of a name and the next one, and so on while the names are equal; None between
+-- two names that differ. *earliest* returns the pair that is reported
 abbrev pub neighbours_from : NameWithPosition → List NameWithPosition → List (Option Pair)
 neighbours_from x [] = []
 neighbours_from x (y ∷ ys) = pair_of x y ∷ neighbours_from y ys
@@ -34,7 +34,7 @@ abbrev pub neighbours : List NameWithPosition → List (Option Pair)
 neighbours [] = []
 neighbours (x ∷ xs) = neighbours_from x xs
 
--- a name with the position at which it stands
+-- a name with its position
 abbrev pub named_at : List ℕ → ℕ → NameWithPosition
 named_at name position = record { name = name; position = position }
 

@@ -1,6 +1,6 @@
-//! The lists of names in which one may stand twice, each name with its position: names of folders,
-//! of files and of packages, paths, and the texts of an intent. Which lists these are is in the
-//! table of `docs/formats.md`, "Names that stand twice".
+//! The lists of names that must not repeat, each name with its position: names of folders, of files
+//! and of packages, paths, and the texts of a journal entry. The lists are in the table of
+//! `docs/formats.md`, "Names that stand twice".
 
 ghost use Rattle.std.specs.Prelude.{◌≡◌, ◌+◌, ◌<◌, ◌^◌, ◌++◌, ◌∷◌, [], true, Some, map, length, IfOk};
 ghost use Rattle.std.specs.Vec.{vec_len};
@@ -39,7 +39,7 @@ fn add<'a>(names: &mut Vec<PathWithPosition<'a>>, name: &'a [u8]) -> Result<(), 
     Ok(())
 }
 
-/// The names of folders or files: of objects whose first field is a text, their name.
+/// The names of folders or files: the first fields of these objects, which are texts.
 #[tactic(auto, using(crate::proofs::FieldReads::entry_sound))]
 pub(crate) fn object_names<'a>(
     alloc: Global,

@@ -1,5 +1,5 @@
 -- Ranges and numbers of a byte list. The rule is in `docs/formats.md`, "Values": an offset counts bytes
--- from the payload's start, and a range that leaves the payload is none.
+-- from the payload's start, and there is no range that leaves the payload.
 use Rattle.std.specs.Prelude.{ℕ, zero, suc, ◌+◌, List, [], ◌∷◌, length, take, drop, Option, Some, None, option_map, nat_le, if◌then◌else◌}
 use Rattle.std.specs.Int.{Width, w32, byte_len, from_le_bytes}
 

@@ -1,4 +1,4 @@
--- The walk that counts its visits and keeps no list of them. Serves the contracts of `src/walk.rt`, as
+-- The walk that counts its visits and makes no list of them. Serves the contracts of `src/walk.rt`, as
 -- `walk_fields` in the README of this crate; the rule is in `docs/formats.md`, "The shape".
 use Rattle.std.specs.Prelude.{ℕ, ◌+◌, List, [], ◌∷◌, Option, Some, None, Result, Ok, Err}
 use Rattle.base_core.specs.Lists.{and_then}
@@ -8,15 +8,14 @@ use Rattle.adb_view.specs.Visits.{or_empty}
 use Rattle.adb_view.specs.Walk.{visit_fault}
 use Rattle.base_core.specs.declared.cause.Cause.{Cause}
 
--- Its answer is how many visits there were once a word and what lies below it was visited, or the
--- first fault.
+-- Its result is the number of visits after a word and the words below it, or the first fault.
 
 -- the value, unless there is a fault to report
 abbrev pub ok_unless : {A : Type 0} → A → Option Cause → Result A Cause
 ok_unless x None = Ok x
 ok_unless x (Some c) = Err c
 
--- the walk of one visit after n others: its word is tested under its shape
+-- the walk of one visit after n others: its word is tested by its shape
 abbrev pub walk_visit : List ℕ → ℕ → Shape → ℕ → Result ℕ Cause
 walk_visit p n s w = ok_unless (n + 1) (visit_fault p (n + 1) (record { shape = s; word = w }))
 

@@ -1,4 +1,4 @@
--- What the two views of a run show: the words of its entries. The rule is in `docs/formats.md`,
+-- The words of the entries of a run, as its two views show them. The rule is in `docs/formats.md`,
 -- "Values" ("The first word of a run"): entries count from 1, and one past the last is NULL.
 use Rattle.std.specs.Prelude.{ℕ, ◌/◌, ◌-◌, List, length, slice_index}
 use Rattle.adb_view.specs.Bytes.{words}

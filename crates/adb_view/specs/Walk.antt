@@ -1,4 +1,4 @@
--- The walk over a payload's values, as its list of visits: the first of them that is faulty. The rule
+-- The walk over a payload's values as a list of visits, and the first of them that is faulty. The rule
 -- is in `docs/formats.md`, "The shape".
 use Rattle.std.specs.Prelude.{ℕ, ◌+◌, List, [], ◌∷◌, Option, Some, None, nat_lt, if◌then◌else◌}
 use Rattle.std.specs.Option.{option_or}
