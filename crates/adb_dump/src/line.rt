@@ -291,7 +291,7 @@ impl LineStart {
     }
 }
 
-/// Puts what is still to are in front of the next line, and then what a front has after its eight
+/// Puts what is still to be in front of the next line, and then what a front has after its eight
 /// levels of spaces: both at once, unless the line stands deeper.
 #[inline(always)]
 fn write_front<O: Out>(out: &mut O, start: LineStart, front: &[u8]) -> Result<(), AllocError>
@@ -323,7 +323,7 @@ fn write_levels<O: Out>(out: &mut O, levels: u32) -> Result<(), AllocError>
     Ok(())
 }
 
-/// Puts what is still to are in front of an entry of an array, and its dash and a space.
+/// Puts what is still to be in front of an entry of an array, and its dash and a space.
 #[inline(always)]
 pub(crate) fn write_dash<O: Out>(out: &mut O, depth: u32, begun: bool) -> Result<(), AllocError>
     ensures { OnOk result (PutsForAny O.holds out.old out.new (lead depth begun ++ codes "- ")) }
@@ -331,7 +331,7 @@ pub(crate) fn write_dash<O: Out>(out: &mut O, depth: u32, begun: bool) -> Result
     write_front(out, LineStart { depth, begun }, dash_front())
 }
 
-/// Puts what is still to are in front of a field, its name, a colon and a space: its value follows
+/// Puts what is still to be in front of a field, its name, a colon and a space: its value follows
 /// on the line.
 #[inline(always)]
 pub(crate) fn write_name<O: Out>(
@@ -345,7 +345,7 @@ pub(crate) fn write_name<O: Out>(
     write_front(out, start, name_front(name))
 }
 
-/// Puts what is still to are in front of a field, its name, a colon and a line end: its value
+/// Puts what is still to be in front of a field, its name, a colon and a line end: its value
 /// follows below.
 pub(crate) fn write_name_line<O: Out>(
     out: &mut O,
@@ -361,7 +361,7 @@ pub(crate) fn write_name_line<O: Out>(
     Ok(())
 }
 
-/// Puts what is still to are in front of the next line: its spaces, or nothing where the line has
+/// Puts what is still to be in front of the next line: its spaces, or nothing where the line has
 /// begun.
 fn write_lead<O: Out>(out: &mut O, start: LineStart) -> Result<(), AllocError>
     ensures { OnOk result (PutsForAny O.holds out.old out.new (lead start.depth start.begun)) }

@@ -1,5 +1,5 @@
--- What a checked payload shows. Serves the contracts of `Checked`; the tests are in `docs/formats.md`,
--- "Tests of a container".
+-- The contents of a checked payload. Serves the contracts of `Checked`; the tests are in
+-- `docs/formats.md`, "Tests of a container".
 use Rattle.adb_view.specs.Plain.{Plain}
 use Rattle.adb_view.specs.ShapedPayload.{table_of, shaped_value}
 use Rattle.adb_view.specs.declared.tables.Which.{Which}

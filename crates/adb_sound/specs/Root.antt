@@ -1,4 +1,4 @@
--- What may are at the root of a container. The rules are in `docs/formats.md`, "Tests of a container",
+-- What may be at the root of a container. The rules are in `docs/formats.md`, "Tests of a container",
 -- and the limits in "Canonical layout" ("A payload has at most").
 use Rattle.std.specs.Prelude.{◌≡◌, ◌≤◌, None}
 use Rattle.adb_view.specs.Plain.{Plain, IsNormal}
@@ -11,7 +11,7 @@ use Rattle.adb_view.specs.declared.tables.Kind.TheVariants.{Obj}
 use Rattle.adb_write.specs.Size.{size_of, value_count}
 use Rattle.adb_write.specs.Canonical.{MOST_BYTES, MOST_VALUES}
 
--- a value that may are at the root of a container with this table: of its shape, within the limits,
+-- a value that may be at the root of a container with this table: of its shape, within the limits,
 -- each text and number keeps the rule of its field, and no name stands twice
 pub record IsRootOf (which : Which) (v : Plain) : Type 0 where
   -- integers below 2^64, no empty blob or list, no Null at an object's end

@@ -1,7 +1,7 @@
 //! What may be in a container so that no test of it fails (apk-v3(5)): laws for all that makes
 //! containers.
 //!
-//! They cite `Root` (a value that may are at the root of a container) and `Container` (a container
+//! They cite `Root` (a value that may be at the root of a container) and `Container` (a container
 //! that is made of a value and of contents) of `specs/`.
 //!
 //! The rules are in `docs/formats.md`, "Tests of a container", and of contents in "The other
@@ -30,7 +30,7 @@ use adb_block::{what_is_spelled_is_read, what_is_written_is_spelled};
 use adb_view::values_of_few_visits_have_no_fault;
 use adb_write::{a_canonical_payload_is_read_back, a_canonical_payload_is_visited_once};
 
-/// A law: the container of a value that may are at its root is sound, if no contents are due: an
+/// A law: the container of a value that may be at its root is sound, if no contents are due: an
 /// index, a database or an intent.
 pub fn a_container_of_a_good_value_is_sound()
     ensures { (which : Which) (schema : ℕ) (v : Plain)
@@ -44,7 +44,7 @@ pub fn a_container_of_a_good_value_is_sound()
     values_of_few_visits_have_no_fault();
 }
 
-/// A law: a package of a value that may are at its root, with the contents of each of its files in
+/// A law: a package of a value that may be at its root, with the contents of each of its files in
 /// order and no others, is sound if it has fewer than 2^64 bytes.
 pub fn a_package_of_a_good_value_and_its_contents_is_sound()
     ensures { (v : Plain) (contents : List Contents)

@@ -5,7 +5,7 @@ use Rattle.adb_block.specs.Piece.{Piece}
 use Rattle.adb_block.specs.Written.{container}
 use Rattle.adb_block.specs.declared.block.BlockKind.TheVariants.{Adb}
 
--- the block of a container that holds a payload
+-- the block of a container with a payload
 abbrev pub adb_piece : List ℕ → Piece
 adb_piece payload = record { kind = Adb; payload = payload }
 
