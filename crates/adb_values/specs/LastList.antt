@@ -1,4 +1,4 @@
--- What is last in a draft. Serves the contracts inside of `src/draft.rt`.
+-- The last values of a draft. Serves the inner contracts of `src/draft.rt`.
 use Rattle.std.specs.Prelude.{ℕ, ◌-◌, List, length, min, Option, Some, None, slice_get}
 use Rattle.adb_values.specs.Drafts.{DraftState}
 
@@ -6,13 +6,13 @@ use Rattle.adb_values.specs.Drafts.{DraftState}
 abbrev pub last_of : List ℕ → Option ℕ
 last_of xs = slice_get xs (length xs - 1)
 
--- where the list that was opened last begins among `len` words, no further than their end; at 0 if no
--- list is open
+-- where the list that was opened last begins among `len` words, at most at their end; at 0 if no list
+-- is open
 abbrev pub start_within : Option ℕ → ℕ → ℕ
 start_within None len = 0
 start_within (Some start) len = min start len
 
--- how many words stand before the list that was opened last: none if no list is open
+-- how many words precede the list that was opened last: none if no list is open
 abbrev pub last_start : DraftState → ℕ
 last_start d = start_within (last_of d.starts) (length d.words)
 
