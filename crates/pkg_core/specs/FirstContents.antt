@@ -1,5 +1,5 @@
 -- Which test of the blocks after a package's values fails first: the blocks of contents one by one,
--- then the framing after them, then the files that are left. The rules are in `docs/formats.md`, "The
+-- then the framing after them, then that no file is left. The rules are in `docs/formats.md`, "The
 -- other blocks". Serves the law `the_first_fault_of_contents_is_reported`.
 use Rattle.std.specs.Prelude.{◌≡◌, ℕ, ◌<◌, ◌≤◌, List, [], ◌∷◌, length, drop, slice_get, Option, Some, None}
 use Rattle.std.specs.Option.{option_or}
@@ -37,7 +37,7 @@ abbrev pub contents_test_at : List Expected → Reading → ℕ → Option Cause
 contents_test_at es r k =
     contents_test (result_err (pieces_of r)) (drop k es) (slice_get (blocks_of_contents r) k)
 
--- one of the tests has this fault, and none before it has any
+-- one of the tests has this fault, and none before it has one
 pub record IsFirstContentsFault (es : List Expected) (r : Reading) (c : Cause) : Type 0 where
   pub k : ℕ
   pub reached : k ≤ length (blocks_of_contents r)

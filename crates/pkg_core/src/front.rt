@@ -39,7 +39,7 @@ impl From<Disk> for FrontFault {
 
     ghost from_gives = { λ _ fault. fault ≡ DiskFault };
 
-    /// A failed call of the tree is a fault of it.
+    /// A failed call of the tree is a fault of the disk.
     fn from(_: Disk) -> FrontFault {
         FrontFault::Disk
     }
@@ -51,18 +51,18 @@ impl From<AllocError> for FrontFault {
 
     ghost from_gives = { λ _ fault. fault ≡ Memory };
 
-    /// If memory runs out, the front has none.
+    /// Running out of memory is a fault of its own.
     fn from(_: AllocError) -> FrontFault {
         FrontFault::Memory
     }
 }
 
-/// The front of a container that was read: its schema, the payload of its first block, the file's
-/// length in bytes, and the offset after that block. Contracts see, by `Front` of `specs/`, the
-/// payload, the two numbers, and of which files it is the front.
+/// The front of a container: its schema, the payload of its first block, the file's length in
+/// bytes, and the offset after that block. Contracts see, by `Front` of `specs/`, the payload, the
+/// two numbers, and of which files it is the front.
 #[derive(Drop)]
 pub struct Front {
-    /// The schema that the file's header tells.
+    /// The schema in the file's header.
     pub(crate) schema: u32,
     /// The payload of the first block.
     pub(crate) payload: Vec<u8>,
