@@ -2,7 +2,7 @@
 pub mod Candidates
 pub mod Rank
 pub mod Options
--- what only other contracts and proofs use
+-- used by other contracts and proofs only
 pub mod Values
 pub mod PlainCode
 pub mod Table

@@ -1,6 +1,7 @@
--- The candidates that offer a name, and the options of a need. The rules are in `docs/selection.md`:
--- "What there is to choose from" (which candidate may be selected and what meets a need), and "Which
--- selection is taken" (the options of a need in rank order).
+-- The candidates that offer a name, and the options of a need, which are the candidates that may meet
+-- it. The rules are in `docs/selection.md`: "What there is to choose from" (which candidate may be
+-- selected and what meets a need), and "Which selection is taken" (the options of a need in rank
+-- order).
 use Rattle.std.specs.Prelude.{◌≡◌, ◌<◌, ℕ, suc, Bool, true, ◌&&◌, if◌then◌else◌, List, [], ◌∷◌}
 use Rattle.candidate_core.specs.Candidates.{Candidate, Need, is_eligible, meets_need, offers_name}
 use Rattle.candidate_core.specs.Rank.{SealedPool, is_better}
@@ -10,7 +11,7 @@ pub use Rattle.adb_fields.specs.FirstPair.{IsIn}
 abbrev pub AreMembers : {X : Type 0} → List X → List X → Type 0
 AreMembers {X} xs ys = (c : X) → IsIn c xs → IsIn c ys
 
--- no number stands twice
+-- no number occurs twice
 abbrev pub AreDistinct : List ℕ → Type 0
 AreDistinct [] = Unit {0}
 AreDistinct (c ∷ cs) = (IsIn c cs → ⊥) × AreDistinct cs

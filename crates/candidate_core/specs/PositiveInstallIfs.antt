@@ -12,8 +12,8 @@ has_positive_install_if c =
     not (length c.install_if == 0)
     && list_all (λ (d : Dependency). not d.conflict) c.install_if
 
--- the places of the candidates that have a mark and an install-if without conflict; the first
--- candidate of the list has the place `n`
+-- the places of the candidates that have a mark and an install-if without conflict; the first candidate
+-- of the list has the place `n`
 abbrev pub places_marked : ℕ → List Bool → List Candidate → List ℕ
 places_marked n [] cs = []
 places_marked n (m ∷ ms) [] = []
