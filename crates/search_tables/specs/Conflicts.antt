@@ -43,7 +43,7 @@ abbrev pub IsConflictOf : List Candidate → ListedValue → Type 0
 IsConflictOf candidates listed = (c : Candidate) → slice_get candidates listed.0 ≡ Some c
     → slice_get c.depends listed.2 ≡ Some listed.1
 
--- each conflict that a table lists is one of its candidate, at its index
+-- each conflict in a table is one of its candidate, at its index
 abbrev pub AreConflictsOf : List Candidate → List (List ℕ × List ListedValue) → Type 0
 AreConflictsOf candidates table = (name : List ℕ) (listed : ListedValue)
     → IsIn listed (items_of table name) → IsConflictOf candidates listed

@@ -3,7 +3,7 @@
 
 -- cited by the contract of `apk`
 pub mod Selection
--- what only serves proofs
+-- used by proofs only
 pub mod Reasons
 pub mod Queue
 pub mod NameTable
