@@ -1,7 +1,6 @@
 //! Answers questions to `adb_block`: the blocks of a container, which test fails first, and headers
-//! that are written. The rules stand in `docs/formats.md`, "Container". Its stored run has all
-//! rows; `tests/lines.md` describes their form, and the README of this crate has a row for each
-//! question.
+//! that are written. The rules are in `docs/formats.md`, "Container". Its stored run has all rows;
+//! `tests/lines.md` describes their form, and the README of this crate has a row for each question.
 #![tactic(auto)]
 
 use adb_block::{Block, BlockKind, Blocks, Frame, block_head, frame_of, head_len};
@@ -66,7 +65,7 @@ impl Subject for FramedBlocks {
     }
 }
 
-/// Adds the schema of a container, its blocks, and what is answered behind them, which is the same
+/// Adds the schema of a container, its blocks, and what is answered after them, which is the same
 /// when it is asked again.
 fn add_blocks(alloc: Global, file: &[u8], answer: &mut Vec<u8>) -> Result<(), AllocError> {
     let mut blocks = match Blocks::new(file) {
@@ -117,7 +116,7 @@ fn fault_of(answer: Result<Option<Block<'_>>, Cause>) -> Option<Cause> {
     answer.err()
 }
 
-/// Adds the answer behind the last block, which comes again when it is asked for once more, and
+/// Adds the answer after the last block, which comes again when it is asked for once more, and
 /// where the next block would stand.
 fn add_end(
     alloc: Global,
@@ -171,7 +170,7 @@ fn add_fault(alloc: Global, fault: Option<Cause>, answer: &mut Vec<u8>) -> Resul
     }
 }
 
-/// Why a file has no first block; none where it has one.
+/// Why a file has no first block; none if it has one.
 fn first_fault(file: &[u8]) -> Option<Cause> {
     match Blocks::new(file) {
         Ok(mut blocks) => fault_of(blocks.next()),
@@ -188,8 +187,8 @@ fn add_head(words: &Words, answer: &mut Vec<u8>) -> Result<(), AllocError> {
     answer.extend_from_slice(block_head(kind, len).bytes())
 }
 
-/// Adds how a header frames a block at the offset 8: `frame KIND LEFT HEAD`, behind a block of the
-/// kind or behind none, where so many bytes are left.
+/// Adds how a header frames a block at the offset 8: `frame KIND LEFT HEAD`, after a block of the
+/// kind or after none, where so many bytes are left.
 fn add_frame(alloc: Global, words: &Words, answer: &mut Vec<u8>) -> Result<(), AllocError> {
     let last = value_named(&KINDS, word_at(words, 1));
     let left = number_of(word_at(words, 2)).unwrap_or(0);

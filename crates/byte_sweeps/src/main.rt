@@ -27,7 +27,7 @@ enum Question {
     Itself(Test),
     /// Each file is read that differs from it in one byte.
     Changes(Test),
-    /// Each file is read in which one of its words stands in place of another.
+    /// Each file is read in which one of its words is in place of another.
     Words(Test),
     /// Each front of it is read.
     Cuts(Test),

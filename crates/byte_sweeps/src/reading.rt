@@ -1,5 +1,5 @@
-//! What the tests of a container, and its dump, say of a file. The tests stand in
-//! `docs/formats.md`, "Tests of a container", and the text in "Dump text".
+//! What the tests of a container, and its dump, say of a file. The tests are in `docs/formats.md`,
+//! "Tests of a container", and the text in "Dump text".
 
 ghost use Rattle.std.specs.Prelude.{IsTrue, IfSome, is_some};
 ghost use Rattle.adb_schema.specs.Soundness.{schema_word};
@@ -121,7 +121,7 @@ fn text_of_blocks(alloc: Global, blocks: &mut Blocks<'_>, which: Which) -> Resul
     Ok(text)
 }
 
-/// Tests the framing of the blocks behind the first.
+/// Tests the framing of the blocks after the first.
 fn check_framing(blocks: &mut Blocks<'_>) -> Result<(), Cause> {
     for _ in 0..u64::MAX {
         if blocks.next()?.is_none() {

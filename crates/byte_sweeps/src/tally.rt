@@ -6,7 +6,7 @@ use row_lines::{add_number, add_word};
 use sha2::{Digest, Sha256};
 use std::alloc::{AllocError, Global};
 
-/// What an answer says, but for its numbers: that the file is sound, or which cause.
+/// What an answer says, except for its numbers: that the file is sound, or which cause.
 #[derive(Clone, Copy, PartialEq, Eq)]
 pub(crate) enum AnswerKind {
     Sound,

@@ -1,11 +1,11 @@
-//! The contents that a package gives of its files. The order and the tests stand in
+//! The contents that a package gives of its files. The order and the tests are in
 //! `docs/formats.md`, "The other blocks".
 use base_core::Cause;
 use pkg_core::{FileContents, Package, PackageFault};
 use row_lines::{add_number, add_word};
 use std::alloc::{AllocError, Global};
 
-/// How often the next file is asked for, also behind an end or a refusal.
+/// How often the next file is asked for, also after an end or a refusal.
 const CALLS: u32 = 3;
 
 /// Answers `package BYTES`: the identity of a package, how many folders it has, and what three

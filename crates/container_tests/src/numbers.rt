@@ -1,5 +1,5 @@
 //! Many blobs that are written in some order and then again; they take many pages of the writer's
-//! table. That equal values are stored once stands in `docs/formats.md`, "Canonical layout".
+//! table. That equal values are stored once is in `docs/formats.md`, "Canonical layout".
 use crate::values::add_len;
 use adb_view::Val;
 use adb_write::Writer;

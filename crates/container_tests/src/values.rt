@@ -1,8 +1,8 @@
 //! Values that a writer or a draft is given, from the words of a row: `.` is null, `#` and a number
-//! an integer, `'` and bytes a blob, what stands between `[` and `]` an array, and what stands
-//! between `{` and `}` an object. Behind `*` stands how often a value is written, and ` ` leaves
-//! out the words of the values before it. What is written stands in `docs/formats.md`,
-//! "Canonical layout"; the words in the README of this crate.
+//! an integer, `'` and bytes a blob, what is between `[` and `]` an array, and what is between `{`
+//! and `}` an object. After `*` stands how often a value is written, and ` ` leaves out the words
+//! of the values before it. What is written is in `docs/formats.md`, "Canonical layout"; the words
+//! in the README of this crate.
 use adb_schema::PACKAGE_WORD;
 use adb_values::Draft;
 use adb_view::Val;
@@ -14,7 +14,7 @@ use std::alloc::{AllocError, Global};
 /// The most bytes of a payload (`docs/formats.md`, "Canonical layout").
 const MOST_BYTES: usize = 268_435_455;
 
-/// What a word of a row stands for.
+/// What a word of a row represents.
 #[derive(Clone, Copy)]
 enum Part<'a> {
     /// NULL.
@@ -33,7 +33,7 @@ enum Part<'a> {
     LeaveOut,
 }
 
-/// What a word stands for, and how often that is written.
+/// What a word represents, and how often that is written.
 fn part_of(word: &[u8]) -> (Part<'_>, u64) {
     match word.iter().position(|byte| *byte == b'*') {
         Some(at) => (part_named(&word[..at]), long_of(&word[at + 1..])),
@@ -41,7 +41,7 @@ fn part_of(word: &[u8]) -> (Part<'_>, u64) {
     }
 }
 
-/// What a word stands for, once it is known how often.
+/// What a word represents, once it is known how often.
 fn part_named(word: &[u8]) -> Part<'_> {
     match word {
         [b'\'', bytes @ ..] => Part::Blob(bytes),
@@ -54,7 +54,7 @@ fn part_named(word: &[u8]) -> Part<'_> {
     }
 }
 
-/// The number that a word is; 0 where it is none.
+/// The number that a word is; 0 if it is none.
 fn long_of(word: &[u8]) -> u64 {
     number_of(word)
         .and_then(|number| u64::try_from(number).ok())
@@ -70,12 +70,12 @@ struct Written {
     writer: Writer,
     /// The entries of each list that is open.
     open: Vec<Vec<Val>>,
-    /// The words of the values that stand in no list.
+    /// The words of the values that are in no list.
     words: Vec<Val>,
 }
 
 impl Written {
-    /// Writes what a word stands for.
+    /// Writes what a word represents.
     fn add(&mut self, alloc: Global, part: Part<'_>, times: u64) -> Result<(), AllocError> {
         match part {
             Part::Open => self.open.push(Vec::new(alloc))?,
@@ -179,7 +179,7 @@ fn add_file_of(alloc: Global, payload: &[u8], answer: &mut Vec<u8>) -> Result<()
     add_word(answer, &file_of(alloc, PACKAGE_WORD, payload)?)
 }
 
-/// Adds the counts just behind the first value at which one passes its limit.
+/// Adds the counts just after the first value at which one passes its limit.
 fn add_fault(alloc: Global, fault: WriteFault, answer: &mut Vec<u8>) -> Result<(), AllocError> {
     match fault {
         WriteFault::TooLarge { bytes, values } => {
@@ -203,7 +203,7 @@ fn add_values(draft: &mut Draft, words: &Words, first: usize) -> Result<(), Allo
     Ok(())
 }
 
-/// Gives a draft what a word stands for.
+/// Gives a draft what a word represents.
 fn add_part(draft: &mut Draft, part: Part<'_>) -> Result<(), AllocError> {
     match part {
         Part::Null => draft.null(),

@@ -1,5 +1,5 @@
-//! Packages of several files, with flaws. The layout stands in `docs/formats.md`, "Container",
-//! "Values" and "The other blocks".
+//! Packages of several files, with flaws. The layout is in `docs/formats.md`, "Container", "Values"
+//! and "The other blocks".
 
 ghost use Rattle.std.specs.Prelude.{◌<◌, ◌^◌, length};
 
@@ -68,7 +68,7 @@ fn contents_with(alloc: Global, sizes: &[u32], i: usize, flaw: Flaw) -> Result<V
     }
 }
 
-/// The payload of the contents of the file that so many stand in front of: its two positions, which
+/// The payload of the contents of the file that so many are in front of: its two positions, which
 /// count from 1, and its bytes.
 fn contents_of(alloc: Global, before: usize, size: u32) -> Result<Vec<u8>, AllocError> {
     let mut payload = Vec::new(alloc);
@@ -78,7 +78,7 @@ fn contents_of(alloc: Global, before: usize, size: u32) -> Result<Vec<u8>, Alloc
     Ok(payload)
 }
 
-/// The payload of contents with a flaw. A file's bytes stand behind its two positions, eight bytes;
+/// The payload of contents with a flaw. A file's bytes stand after its two positions, eight bytes;
 /// 255 is none of them.
 fn flawed(alloc: Global, payload: &[u8], flaw: Flaw) -> Result<Vec<u8>, AllocError> {
     let mut bytes = payload.to_vec(alloc)?;

@@ -95,7 +95,7 @@ fn positions(folder: u32, file: u32) -> [u8; 8] {
     bytes
 }
 
-/// The values of a package with this payload; none where a test fails.
+/// The values of a package with this payload; none if a test fails.
 fn values(alloc: Global, payload: &[u8]) -> Option<Checked<'_>>
     ensures { IfSome result (λ checked. which_of checked ≡ Tables.Package) }
 {
@@ -127,7 +127,7 @@ fn add_pieces(alloc: Global, words: &Words, answer: &mut Vec<u8>) -> Result<(), 
     }
 }
 
-/// Adds each piece of a file, and what is answered behind the last.
+/// Adds each piece of a file, and what is answered after the last.
 fn add_each(
     alloc: Global,
     file: FileCheck<'_>,

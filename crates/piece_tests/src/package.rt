@@ -1,4 +1,4 @@
-//! Packages in a tree: their fronts, and their files, which are read in pieces. The tests stand in
+//! Packages in a tree: their fronts, and their files, which are read in pieces. The tests are in
 //! `docs/formats.md`, "The other blocks", its last two paragraphs.
 
 use crate::made::{Flaw, low_word, package_of};
@@ -22,7 +22,7 @@ pub(crate) enum Asked {
     Read,
     /// Its pieces where a byte of the last file is another: `spoil AT SIZES`.
     Spoil,
-    /// The same where the first block of contents stands in place of the last: `repeat SIZES`.
+    /// The same where the first block of contents is in place of the last: `repeat SIZES`.
     Repeat,
     /// The same where the last block of contents has so many bytes: `shorten LEN SIZES`.
     Shorten,
@@ -41,7 +41,7 @@ pub(crate) enum Asked {
 struct Reading<'r> {
     /// The front alone is read, and no piece.
     front: bool,
-    /// It is told how many calls of the tree there are behind the front, and the longest read of
+    /// It is told how many calls of the tree there are after the front, and the longest read of
     /// them.
     counts: bool,
     /// How many of the files are read once more, from the last to the first.
@@ -61,7 +61,7 @@ impl Reading<'_> {
 }
 
 /// Adds to `answer` what is asked of a package, as the README of this crate has it for each
-/// question; a number stands before the sizes of its files where the question takes one.
+/// question; a number precedes the sizes of its files where the question takes one.
 pub(crate) fn add_asked(
     alloc: Global,
     asked: Asked,
@@ -222,7 +222,7 @@ fn add_readings(
     }
 }
 
-/// Adds the pieces behind a front, and of files once more.
+/// Adds the pieces after a front, and of files once more.
 fn add_behind_front(
     alloc: Global,
     tree: &mut MemoryTree,
@@ -242,7 +242,7 @@ fn add_behind_front(
     Ok(())
 }
 
-/// Adds how many calls of the tree there were behind so many, and its longest read.
+/// Adds how many calls of the tree there were after so many, and its longest read.
 fn add_counts(
     alloc: Global,
     tree: &MemoryTree,
@@ -256,7 +256,7 @@ fn add_counts(
     add_number(alloc, answer, u128::from(tree.longest_read()))
 }
 
-/// Adds what the values behind a front come to, or its pieces, and tells whether all were read.
+/// Adds what the values after a front come to, or its pieces, and returns whether all were read.
 fn add_contents(
     alloc: Global,
     tree: &mut MemoryTree,
@@ -303,7 +303,7 @@ fn add_folders(
     Ok(false)
 }
 
-/// Adds all pieces that are still to come, and tells whether the end came. Behind a fault the
+/// Adds all pieces that are still to come, and returns whether the end came. After a fault the
 /// reader is asked once more.
 fn add_all(
     alloc: Global,
@@ -372,7 +372,7 @@ fn add_files(
     Ok(())
 }
 
-/// Adds how long the pieces of a file are, and tells whether the end came. Behind a fault the file
+/// Adds how long the pieces of a file are, and returns whether the end came. After a fault the file
 /// is asked once more.
 fn add_file(
     alloc: Global,

@@ -1,4 +1,4 @@
-//! Payloads, from the words of a row, in no layout of the writer's. The words of values stand in
+//! Payloads, from the words of a row, in no layout of the writer's. The words of values are in
 //! `docs/formats.md`, "Values", and how a row writes a value in `tests/lines.md`.
 use crate::words::int_of;
 use adb_schema::Which;
@@ -6,7 +6,7 @@ use base_core::Words;
 use row_lines::value_named;
 use std::alloc::{AllocError, Global};
 
-// The kind, in the top four bits of a word, of a blob whose length stands in two bytes.
+// The kind, in the top four bits of a word, of a blob whose length is in two bytes.
 const TEXT: u32 = 0x9000_0000;
 
 // The kind of an array.
@@ -15,7 +15,7 @@ const ARRAY: u32 = 0xd000_0000;
 // The kind of an object.
 const OBJECT: u32 = 0xe000_0000;
 
-/// The kind of an integer that stands in its word; so many numbers are small enough for that.
+/// The kind of an integer that is in its word; so many numbers are small enough for that.
 const INT: u32 = 0x1000_0000;
 
 /// How many bytes stand before the first value: the head of a payload.
@@ -36,16 +36,16 @@ const TABLES: [(&[u8], Which); 10] = [
     (b"intent", Which::Intent),
 ];
 
-/// The table of a name; that of packages where it is none.
+/// The table of a name; that of packages if it is none.
 pub(crate) fn table_of(name: &[u8]) -> Which {
     value_named(&TABLES, name).unwrap_or(Which::Package)
 }
 
-/// A payload that is being written: the values behind its head, the entries of the runs that are
+/// A payload that is being written: the values after its head, the entries of the runs that are
 /// open, and the root's word.
 #[derive(Drop)]
 struct Payload {
-    /// The bytes behind the head.
+    /// The bytes after the head.
     values: Vec<u8>,
     /// The entries of the runs that are open, the innermost last.
     open: Vec<Vec<u32>>,
@@ -53,8 +53,8 @@ struct Payload {
     root: u32,
 }
 
-/// The payload of a value: `.` is null, `#` and a number an integer, `'` and bytes a text, what
-/// stands between `[` and `]` an array, and what stands between `{` and `}` an object.
+/// The payload of a value: `.` is null, `#` and a number an integer, `'` and bytes a text, what is
+/// between `[` and `]` an array, and what is between `{` and `}` an object.
 pub(crate) fn payload_of(
     alloc: Global,
     words: &Words,
@@ -76,7 +76,7 @@ pub(crate) fn payload_of(
 }
 
 impl Payload {
-    /// Adds what a word of a row stands for: `{` and `[` begin, `}` and `]` end, `'` is a text, `#`
+    /// Adds what a word of a row represents: `{` and `[` begin, `}` and `]` end, `'` is a text, `#`
     /// an integer, and any other word NULL.
     fn add(&mut self, alloc: Global, word: &[u8]) -> Result<(), AllocError> {
         match word {
@@ -139,7 +139,7 @@ pub(crate) fn add_run(bytes: &mut Vec<u8>, entries: &[u32]) -> Result<(), AllocE
     Ok(())
 }
 
-/// A payload whose root is an object with these words, and behind it more bytes.
+/// A payload whose root is an object with these words, and after it more bytes.
 pub(crate) fn object_payload(
     alloc: Global,
     entries: &[u32],

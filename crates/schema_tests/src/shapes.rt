@@ -1,6 +1,6 @@
 //! The tests of payloads and containers: which fault the shape walk reports and how many values it
 //! visits, the rules of texts and numbers, the first failed test, and names that stand twice. The
-//! rules stand in `docs/formats.md`, "Tests of a container", and the words of values in "Values".
+//! rules are in `docs/formats.md`, "Tests of a container", and the words of values in "Values".
 
 use crate::payloads::{add_run, ints_of, object_payload, payload_of, table_of};
 use crate::words::{add_cause, add_outcome, int_of};
@@ -10,7 +10,7 @@ use base_core::{Cause, Words};
 use row_lines::{add_number, word_at};
 use std::alloc::{AllocError, Global};
 
-/// The root's word of the payloads below: an object that stands behind the head.
+/// The root's word of the payloads below: an object that follows the head.
 const ROOT: u32 = 0xe000_0008;
 
 /// The most values that a payload may have (`docs/formats.md`, "The shape").
@@ -23,7 +23,7 @@ fn fault_of(payload: &[u8], which: Which) -> Result<(), Cause> {
 }
 
 /// Adds the fault of the payload of `shape TABLE MORE WORD ..`: an object with these words, and
-/// more bytes behind it.
+/// more bytes after it.
 pub(crate) fn add_shape(
     alloc: Global,
     words: &Words,
@@ -54,7 +54,7 @@ fn outside(kind: Kind) -> u32 {
 }
 
 /// Adds for how many fields of a table both faults of a value are reported, where the fields before
-/// are null, and then the fault of words behind the last field, at which nothing looks.
+/// are null, and then the fault of words after the last field, at which nothing looks.
 pub(crate) fn add_faults(
     alloc: Global,
     table: &[u8],
@@ -70,7 +70,7 @@ pub(crate) fn add_faults(
         before.push(0)?;
     }
     add_number(alloc, answer, u128::from(told))?;
-    // The integer 1 behind the last field, and behind that a word that has no meaning.
+    // The integer 1 after the last field, and after that a word that has no meaning.
     before.push(0x1000_0001)?;
     add_outcome(
         alloc,
@@ -79,7 +79,7 @@ pub(crate) fn add_faults(
     )
 }
 
-/// Whether both faults are reported of this field, behind these words.
+/// Whether both faults are reported of this field, after these words.
 fn has_both_faults(
     alloc: Global,
     before: &[u32],
@@ -96,7 +96,7 @@ fn has_both_faults(
     )
 }
 
-/// The fault of an object with these words and one behind them.
+/// The fault of an object with these words and one after them.
 fn fault_behind(
     alloc: Global,
     before: &[u32],
@@ -110,7 +110,7 @@ fn fault_behind(
 }
 
 /// Adds how many values are visited once the words of `visits TABLE BEFORE WORD ..` are walked as
-/// fields of the table, behind so many visits, or the fault.
+/// fields of the table, after so many visits, or the fault.
 pub(crate) fn add_visits(
     alloc: Global,
     words: &Words,
@@ -135,14 +135,14 @@ fn visits_of(payload: &[u8], which: Which, before: u32) -> Result<u32, Cause> {
     walk_fields(adb, fields_of(which), before, entries)
 }
 
-/// Adds the fault of a package of one folder of so many files, which stands at as many places.
+/// Adds the fault of a package of one folder of so many files, which is at as many places.
 pub(crate) fn add_many_files(
     alloc: Global,
     count: &[u8],
     answer: &mut Vec<u8>,
 ) -> Result<(), AllocError> {
     let count = int_of(count) % 65_536;
-    // At 20 a folder, at 36 its files, and behind them the folders.
+    // At 20 a folder, at 36 its files, and after them the folders.
     let mut more = Vec::new(alloc);
     more.extend_from_slice(b"\x04\0\0\0\0\0\0\0\0\0\0\0\x24\0\0\xd0")?;
     add_run(&mut more, &Vec::from_elem(alloc, 0u32, count as usize)?)?;
@@ -183,7 +183,7 @@ pub(crate) fn add_container(
     add_outcome(alloc, cause_in(read)?, answer)
 }
 
-/// The cause of a refusal, if it is not want of memory, which is passed on.
+/// The cause of a refusal, if it is not out of memory, which is passed on.
 fn cause_in<T: Drop>(found: Result<T, ReadFault>) -> Result<Result<(), Cause>, AllocError> {
     match found {
         Ok(_) => Ok(Ok(())),

@@ -1,5 +1,5 @@
 //! Views: each field of each table, as `docs/formats.md` lists them in "Schemas". How the answers
-//! are written stands in `tests/lines.md`, `view`. Entries of lists count from 1.
+//! are written is in `tests/lines.md`, `view`. Entries of lists count from 1.
 use crate::payloads::{payload_of, table_of};
 use crate::words::add_cause;
 use adb_schema::{
@@ -148,7 +148,7 @@ fn add_info(alloc: Global, adb: Adb<'_>, answer: &mut Vec<u8>) -> Result<(), All
     add_lists(alloc, &info, answer)
 }
 
-// Adds the lists of a package's information, and its fields behind them.
+// Adds the lists of a package's information, and its fields after them.
 fn add_lists(alloc: Global, info: &PkgInfo<'_>, answer: &mut Vec<u8>) -> Result<(), AllocError> {
     add_dependencies(info.depends(), answer)?;
     add_dependencies(info.provides(), answer)?;

@@ -1,4 +1,4 @@
-//! Words of a payload: what each of the four readers answers. The rules stand in `docs/formats.md`,
+//! Words of a payload: what each of the four readers answers. The rules are in `docs/formats.md`,
 //! "Values": what each asks for, and which faults there are.
 use adb_view::{Adb, Arr, Val};
 use base_core::Cause;
@@ -27,7 +27,7 @@ pub(crate) fn add_outcome(
     }
 }
 
-/// The number that a word is; 0 where it is none.
+/// The number that a word is; 0 if it is none.
 pub(crate) fn int_of(word: &[u8]) -> u32 {
     number_of(word)
         .and_then(|number| u32::try_from(number).ok())

@@ -1,5 +1,5 @@
 //! Versions: which texts are versions, their order, what an operator matches, and the operators.
-//! The rules stand in `docs/formats.md`, "Versions".
+//! The rules are in `docs/formats.md`, "Versions".
 use base_core::Words;
 use row_lines::{add_number, add_word, number_of, word_at};
 use std::alloc::{AllocError, Global};

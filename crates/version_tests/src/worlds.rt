@@ -1,5 +1,5 @@
 //! Dependencies, worlds and lists of repositories: texts that are read and written, what meets a
-//! dependency, first bad lines, and edits. The rules stand in `docs/formats.md`, "Dependencies",
+//! dependency, first bad lines, and edits. The rules are in `docs/formats.md`, "Dependencies",
 //! "World" and "Repositories".
 
 use base_core::Words;
