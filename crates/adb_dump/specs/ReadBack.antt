@@ -86,8 +86,7 @@ abbrev pub blob_read : List ℕ → Option Plain
 blob_read [] = None
 blob_read (c ∷ cs) = Some (blob (c ∷ cs))
 
--- the value of a number below 2^64 in decimal digits; whether anything else rests on the line is found
--- by *if_form*
+-- the value of a number below 2^64 in decimal digits; *if_form* tests that the line has nothing else
 abbrev pub int_read : Line → Option Plain
 int_read l = if nat_lt (digits_value 10 l) (2 ^ 64) then Some (int (digits_value 10 l)) else None
 

@@ -68,7 +68,7 @@ impl Subject for Containers {
     }
 }
 
-/// Runs the rows that rest on standard input.
+/// Runs the rows of standard input.
 fn main(rt: HostRuntime) -> io::Result<ExitCode> {
     run_program(&rt, rt.alloc(), &mut Containers)
 }
