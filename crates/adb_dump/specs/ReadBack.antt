@@ -164,7 +164,7 @@ if_named other this None = other
 if_named other this (Some rest) = this rest
 
 unfoldable mutual
-  -- the value of a shape that has just these lines
+  -- the value of a shape with exactly these lines
   pub block_read : Shape → List Line → LinesRead Plain
   block_read number ls = only_line (λ l. if_form int_line l (int_read l)) ls
   block_read text ls = only_line (λ l. if_form text_line l (text_read l)) ls

@@ -129,7 +129,7 @@ abbrev pub handed_out_from : ℕ → Option OpenFile → ℕ
 handed_out_from start None = 0
 handed_out_from start (Some o) = o.at - start
 
--- how many bytes a reader has handed out of the file that is open
+-- how many bytes of the open file a reader has returned
 abbrev pub handed_out : PieceReader → ℕ
 handed_out reader = handed_out_from reader.start reader.opened
 
