@@ -13,5 +13,5 @@ mod compare;
 mod link;
 mod watch;
 
-pub use compare::{Comparison, ListedFile, compare_file, listed_file};
+pub use compare::{Comparison, ListedFile, compare_file, compare_file_in, listed_file};
 pub use link::{LINK_MARK, target_text};

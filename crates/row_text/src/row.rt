@@ -18,21 +18,19 @@ pub struct Row {
     pub steps: Vec<Step>,
 }
 
-/// A path, and what stands there before a row or behind a command line.
+/// A path, and what is there before a row or after a command line.
 #[derive(Drop)]
 pub struct NamedFile {
     /// The path.
     pub name: Name,
-    /// What stands there.
-    pub content: Content,
+    /// The file's bytes; none if there is no file.
+    pub content: Option<Content>,
 }
 
-/// What stands at a path.
+/// The bytes of a file or of standard output.
 #[derive(Drop)]
 pub enum Content {
-    /// Nothing stands there.
-    Absent,
-    /// A file of these bytes.
+    /// These bytes.
     Bytes(Vec<u8>),
     /// The container of this dump text, which begins at this line.
     Dump { text: Vec<u8>, line: u64 },
@@ -51,8 +49,8 @@ pub struct Step {
     pub out_plan: SinkPlan,
     /// What standard error takes.
     pub err_plan: SinkPlan,
-    /// The bytes of standard output.
-    pub out: Vec<u8>,
+    /// What standard output has.
+    pub out: Content,
     /// The bytes of standard error.
     pub err: Vec<u8>,
     /// The exit status: 0 where none is said.

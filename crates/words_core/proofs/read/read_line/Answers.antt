@@ -2,7 +2,7 @@ use Rattle.std.proofs.Common.{◌+◌, length, sym, ◌∙◌, subst, arith}
 use Rattle.words_core.specs.Steps.{IsSoundReading}
 use Rattle.words_core.proofs.KindsKept.{IsPlain, start_known}
 use Rattle.words_core.proofs.GivenKept.{from_kept}
-use Rattle.words_core.proofs.read.read_words.Goals as goal
+use Rattle.words_core.proofs.read.read_line.Goals as goal
 
 pub read_behind-requires : goal.read_behind-requires
 read_behind-requires c =
