@@ -23,7 +23,7 @@ abbrev pub IsFramedCell : Cell → Type 0
 IsFramedCell (in_place w) = Unit {0}
 IsFramedCell (apart i) = TellsItsLength i
 
--- two items of one kind that stand at one place are equal
+-- two items of one kind that are at one place are equal
 same_bytes : (i j : Item) (x : List ℕ) → TellsItsLength i → TellsItsLength j → i.kind ≡ j.kind → take (length i.bytes) x ≡ i.bytes → take (length j.bytes) x ≡ j.bytes → i.bytes ≡ j.bytes
 same_bytes i j x f g kind a b =
     let front : take (front_len i.kind) i.bytes ≡ take (front_len j.kind) j.bytes =

@@ -31,7 +31,7 @@ pub struct PackageDep<'d> {
     pub index: usize,
 }
 
-/// Whether dependencies of packages want long versions.
+/// The remembered results for the long versions that dependencies of packages accept.
 #[derive(Drop)]
 pub struct PackageMatches<'p> {
     /// The allocator.
