@@ -219,7 +219,7 @@ pub put_cell_stays : (c : Cell) (out : Layout) → IsFramedCell c → HasAllItem
 put_cell_stays (in_place word) out f w = record { whole = w; keeps = keeps_itself out }
 put_cell_stays (apart i) out f w = put_item_stays i out f w
 
--- the item is found where it was put
+-- the item is found if it was put
 pub record IsFoundAgain (i : Item) (r : ℕ × Layout) : Type 0 where
   pub item : WrittenItem
   pub is : find (is_equal_item r.1.body i) r.1.items ≡ Some item

@@ -25,7 +25,7 @@ use version_core::{Version, order_is_total};
 ///
 /// # Errors
 ///
-/// Want of memory.
+/// Lack of memory.
 pub fn rank_long_versions<'a>(
     alloc: Global,
     options: &mut Vec<RankedOption<'a>>,

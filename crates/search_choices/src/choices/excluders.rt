@@ -27,7 +27,7 @@ impl<'p> Choices<'p> {
     ///
     /// # Errors
     ///
-    /// Want of memory.
+    /// Lack of memory.
     pub fn excluder(
         &self,
         id: CandId,
