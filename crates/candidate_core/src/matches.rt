@@ -41,7 +41,7 @@ impl KnownMatches {
     ///
     /// # Errors
     ///
-    /// Want of memory.
+    /// Out of memory.
     pub(crate) fn is_wanted(
         &mut self,
         dep: &Dep<'_>,
