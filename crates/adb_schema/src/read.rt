@@ -73,7 +73,7 @@ impl From<AllocError> for ReadFault {
 
     ghost from_gives = { λ _ fault. fault ≡ Memory };
 
-    // Lack of memory as the fault of a read.
+    // Out of memory, as the fault of a read.
     fn from(_: AllocError) -> ReadFault {
         ReadFault::Memory
     }

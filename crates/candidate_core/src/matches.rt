@@ -41,7 +41,7 @@ impl KnownMatches {
     ///
     /// # Errors
     ///
-    /// Lack of memory.
+    /// Out of memory.
     pub(crate) fn is_wanted(
         &mut self,
         dep: &Dep<'_>,

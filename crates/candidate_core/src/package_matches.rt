@@ -62,7 +62,7 @@ impl<'p> PackageMatches<'p> {
     ///
     /// # Errors
     ///
-    /// Lack of memory.
+    /// Out of memory.
     pub fn meets(&mut self, place: usize, held: &PackageDep<'_>) -> Result<bool, AllocError>
         requires within { place < length (candidates_of_packages self.old.packages.now) }
         requires held { IsDepOf (candidates_of_packages self.old.packages.now) held.now }

@@ -153,7 +153,7 @@ impl<'p> Conflicts<'p> {
     ///
     /// # Errors
     ///
-    /// Lack of memory.
+    /// Out of memory.
     pub fn choice_against(
         &self,
         name: &[u8],
