@@ -96,7 +96,7 @@ reported_more history now xs i d before after same l so_far longer first =
     let here : IsLonger history r before after = subst (λ (h : List TreeState). IsLonger h r before after) same longer in
     subst (λ (rs : List FileRecord). Explains history (λ read. after ≡ flat_map difference_line (differences_from read first rs)))
     (sym (map_take_more record_seen xs i d l))
-    (one_more history first (map record_seen (take i xs)) r here.0 before after here.1.0 here.1.1 (so_far first))
+    (one_more history first (map record_seen (take i xs)) r here.0 before after here.1 here.2 (so_far first))
 
 pub reported_all : (history : List TreeState) (xs : List Record) (i : ℕ) (report : List ℕ) → length xs ≤ i → IsReport history (map record_seen (take i xs)) report → IsReport history (map record_seen xs) report
 reported_all history xs i report l so_far = subst (λ (ys : List Record). IsReport history (map record_seen ys) report) (take_all i xs l) so_far
