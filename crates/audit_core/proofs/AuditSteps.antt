@@ -1,11 +1,10 @@
 -- An audit, file by file.
-use Rattle.std.proofs.Common.{◌≡◌, ℕ, zero, suc, ◌+◌, ◌<◌, ◌≤◌, List, [], ◌∷◌, ◌++◌, length, map, take, Option, Result, Ok, Err, refl, ap, sym, ◌∙◌, subst, append_assoc, arith}
-use Rattle.std.specs.Prelude.{IfOk, slice_index_or}
+use Rattle.std.proofs.Common.{◌≡◌, ℕ, zero, suc, ◌+◌, ◌<◌, ◌≤◌, List, [], ◌∷◌, ◌++◌, length, map, take, Option, None, Result, Ok, Err, refl, ap, sym, ◌∙◌, subst, append_assoc, append-nil, arith}
+use Rattle.std.specs.Prelude.{IfOk, OnOk, slice_index_or}
 use Rattle.std.specs.Result.{IsErrAnd}
 use Rattle.std.specs.List.{flat_map}
 use Rattle.std.proofs.lemmas.Grind.{flat_map-append}
 use Rattle.std.proofs.lemmas.List.{map-append, take_all, take_more}
-use Rattle.installed_info.proofs.LineSteps.{append_nothing}
 use Rattle.base_core.specs.Calls.{IfObservable}
 use Rattle.base_core.specs.Tree.{TreeState, files_of}
 use Rattle.make_info.specs.Reads.{Reads}
@@ -25,7 +24,7 @@ pub differences_more : (read : Reads) (n : ℕ) (rs : List FileRecord) (r : File
     → differences_from read n (rs ++ r ∷ []) ≡ differences_from read n rs ++ difference_found r (read (n + length rs) r.path)
 differences_more read n [] r =
     let at : n ≡ n + 0 = omega arith in
-    append_nothing (difference_found r (read n r.path)) ∙ ap (λ k. difference_found r (read k r.path)) at
+    append-nil (difference_found r (read n r.path)) ∙ ap (λ k. difference_found r (read k r.path)) at
 differences_more read n (q ∷ rs) r =
     let at : suc n + length rs ≡ n + suc (length rs) = omega arith in
     ap (λ ds. difference_found q (read n q.path) ++ ds) (differences_more read (suc n) rs r ∙ ap (λ k. differences_from read (suc n) rs ++ difference_found r (read k r.path)) at)
@@ -105,3 +104,13 @@ reported_all history xs i report l so_far = subst (λ (ys : List Record). IsRepo
 pub nothing_said : {A E : Type 0} (history : List TreeState) (r : Result A E) (P : Reads → A → Type 0) (fault : E) → IsErrAnd r (λ e. e ≡ fault) → Explains history (λ read. IfOk r (P read))
 nothing_said history (Ok x) P fault is = absurd is
 nothing_said history (Err e) P fault is = explained history (λ read. Unit {0}) (λ read. tt)
+
+-- nor of a line that was not added
+pub not_longer : {A E : Type 0} (history : List TreeState) (r : FileRecord) (before after : List ℕ) (result : Result A E) (fault : E) → IsErrAnd result (λ e. e ≡ fault)
+    → (found : Option (List ℕ)) × IfObservable history (λ v. found ≡ files_of v r.path) × OnOk result (after ≡ before ++ flat_map difference_line (difference_found r found))
+not_longer history r before after (Ok x) fault is = absurd is
+not_longer history r before after (Err e) fault is = (reads_or history (λ n name. None) 0 r.path, there history, tt)
+  where
+    there : (history : List TreeState) → IfObservable history (λ v. reads_or history (λ n name. None) 0 r.path ≡ files_of v r.path)
+    there [] = tt
+    there (v ∷ earlier) = refl

@@ -1,11 +1,11 @@
 -- What the values of the program stand for. No rule of a document: serves the contracts of
--- `src/records.rt` and `src/audit.rt`.
+-- `src/records.rt` and `src/comparing.rt`.
 use Rattle.std.specs.Prelude.{Option, Some, None, if◌then◌else◌}
 use Rattle.adb_fields.specs.JoinedPath.{joined_path}
 use Rattle.adb_schema.specs.Views.{file_value}
 use Rattle.audit_core.specs.Records.{FileRecord}
-use Rattle.audit_core.specs.declared.audit.Difference.{Difference}
-use Rattle.audit_core.specs.declared.audit.Difference.TheVariants.{Changed, Missing}
+use Rattle.audit_core.specs.declared.comparing.Difference.{Difference}
+use Rattle.audit_core.specs.declared.comparing.Difference.TheVariants.{Changed, Missing}
 use Rattle.audit_core.specs.declared.records.Record.{Record}
 use Rattle.file_guard.specs.declared.compare.Comparison.{Comparison}
 

@@ -3,7 +3,7 @@
 
 ghost use Rattle.adb_fields.specs.ListValue.{list_value};
 ghost use Rattle.adb_fields.specs.Repeated.{list_of};
-ghost use Rattle.adb_schema.specs.Views.{file_value, package_value};
+ghost use Rattle.adb_schema.specs.Views.{package_value};
 ghost use Rattle.adb_view.specs.Values.{count_of, entries_in, entry_in};
 ghost use Rattle.audit_core.specs.Records.{database_records, file_record, folder_records, package_records, record_cmp, records_by_path};
 ghost use Rattle.audit_core.specs.Seen.{record_seen};
@@ -124,24 +124,29 @@ fn add_files<'a>(
         ++ map (file_record folder.now) (list_of (entries_in (list_value files.now)))) }
 {
     for i in 0..files.len() {
-        add_file(records, folder, files.get(i + 1))?;
+        add_file(records, folder, files, i)?;
     }
     Ok(())
 }
 
-// Adds the record of a file of the folder with a name.
+// Adds the record of the file at a place of the folder with a name, counted from 0.
 fn add_file<'a>(
     records: &mut Vec<Record<'a>>,
     folder: &'a [u8],
-    file: FileInfo<'a>,
+    files: &List<'a, FileInfo<'a>>,
+    i: usize,
 ) -> Result<(), AllocError>
+    requires { i < count_of (entries_in (list_value files.now)) }
     ensures { OnOk result (map record_seen records.new.items ≡ map record_seen records.old.items
-        ++ file_record folder.now (file_value file) ∷ []) }
+        ++ file_record folder.entry.now (entry_in (list_value files.now) i) ∷ []) }
 {
+    // Never so, by the contract; `len` tells that a list has less than 2^32 entries.
+    if i >= files.len() {
+        unreachable!();
+    }
+    let file = files.get(i + 1);
     let name = file.name();
-    records.push(Record {
-        path: FilePath { folder, name },
-        file,
-    })?;
+    let path = FilePath { folder, name };
+    records.push(Record { path, file })?;
     Ok(())
 }
