@@ -17,15 +17,36 @@ use adb_fields::FilePath;
 use adb_schema::{DirInfo, FileInfo, List, PackageView};
 use db_core::Db;
 use std::alloc::{AllocError, Global};
-use std::marker::PhantomData;
+use std::marker::{Model, PhantomData};
 
 /// The record of a file: its path, and the package's entry of the file.
-#[derive(Clone, Copy)]
+#[derive(Drop)]
 pub(crate) struct Record<'a> {
     /// The path of the file.
     pub(crate) path: FilePath<'a>,
     /// The entry, which says what bytes the file has.
     pub(crate) file: FileInfo<'a>,
+}
+
+impl<'a> Model for Record<'a> {
+    ghost use Rattle.std.specs.Prelude.{◌≡◌, true};
+    ghost use Rattle.adb_fields.specs.JoinedPath.{joined_path};
+    ghost use Rattle.adb_view.specs.Adb.{payload_of};
+    ghost use Rattle.adb_view.specs.Values.{is_sound};
+    ghost use Rattle.adb_view.specs.declared.tables.Kind.TheVariants as Kinds;
+    ghost use Rattle.adb_view.specs.declared.tables.Which.TheVariants as Tables;
+    ghost use Rattle.audit_core.specs.StoredRecords.{StoredRecord};
+
+    ghost Value = { StoredRecord };
+
+    ghost view = { λ r. record {
+      path = joined_path r.path;
+      payload = payload_of r.file.adb;
+      word = r.file.word;
+    } };
+
+    ghost invariant = { λ r. is_sound (payload_of r.file.adb) (Kinds.Obj Tables.File) r.file.word
+        ≡ true };
 }
 
 /// The records of all files that the packages of a database list, in byte order of their paths. It

@@ -10,4 +10,4 @@ use Rattle.audit_core.proofs.records.add_files.Given as goal
 abbrev pub invariant-loop-i : goal.invariant-loop-i
 invariant-loop-i l =
     map record_seen l.records.items
-    ≡ map record_seen l.fn.records.items ++ map (file_record l.folder.now) (take l.i (list_of (entries_in (list_value l.files))))
+    ≡ map record_seen l.fn.records.items ++ map (file_record l.folder) (take l.i (list_of (entries_in (list_value l.files))))
