@@ -1,8 +1,8 @@
 //! What holds files: the trait `Tree` with the meaning of its calls, and reads of a whole file.
-//! What each call does stands in `docs/crash-safety.md`, "What each call does"; where a call is a
+//! What each call does is in `docs/crash-safety.md`, "What each call does"; where a call is a
 //! misuse, and what is counted, in "Misuses, faults and counts".
-ghost use Rattle.std.specs.Prelude.{◌≡◌, List, Option, Some, length, take, drop, IfOk, OnOk, IfSome, IsErrOf, All};
-ghost use Rattle.std.specs.Option.{option_map};
+ghost use Rattle.std.specs.Prelude.{◌≡◌, ℕ, List, Option, Some, length, take, drop, IfOk, OnOk, IfSome, IsErrOf, All};
+ghost use Rattle.std.specs.Option.{option_map, option_copied};
 ghost use Rattle.base_core.specs.Tree.{TreeState, files_of, after_create, after_append, after_failed_append, after_sync, after_rename, after_remove, after_sync_names, same_state, Anywhere, HasName, CanRead, CanCreate, CanRename, IsWhole};
 ghost use Rattle.base_core.specs.Faults.{Counts, GoesOn, HasCause, IsNoFault};
 ghost use Rattle.base_core.specs.Calls.{IsCounted, Moves, IfObservable};
@@ -42,27 +42,32 @@ impl From<Disk> for TreeFault {
 impl From<AllocError> for TreeFault {
     ghost from_gives = { λ _ fault. fault ≡ Memory };
 
-    // Want of memory as the fault of such a call.
+    // Lack of memory as the fault of such a call.
     fn from(_: AllocError) -> TreeFault {
         TreeFault::Memory
     }
 }
 
 /// Files under names, as a folder of the host or a tree in memory. A call that would make one name
-/// a folder of another is a misuse. Each call answers `Disk` only where the tree's count of faults
-/// rose in it, also where its history is not observable.
+/// a folder of another is a misuse. Each call answers `Disk` only if the tree's count of faults
+/// rose in it, also if its history is not observable.
 ///
 /// In the clauses of the calls `same` says that the history stays, `moves` which states are added,
 /// `counts` what becomes of the counts, and `value` what is answered where the history is
 /// observable.
 pub trait Tree {
-    /// The states so far, the newest first. It is empty where they are not observable.
+    /// The states so far, the newest first. It is empty if they are not observable.
     ghost history: { Self → List TreeState };
 
     /// How often a call failed, and why.
     ghost counts: { Self → Counts };
 
-    /// The file's length in bytes, or None exactly where the name is absent.
+    /// The tree answered that a file can be renamed to the name, from the source that is given, or
+    /// that the name can be removed, if no source is given. It speaks of no state: only an Ok of
+    /// `check_target` gives it, so code over any tree that has it has asked.
+    ghost accepts: { Option (List ℕ) → List ℕ → Type 0 };
+
+    /// The file's length in bytes, or None exactly if the name is absent.
     fn size(&mut self, name: &Name) -> Result<Option<u64>, Disk>
         ensures same { history self.new ≡ history self.old }
         ensures counts { IsCounted Anywhere (history self.old) (counts self.old)
@@ -129,7 +134,7 @@ pub trait Tree {
             (counts self.new) result };
 
     /// All names below a folder, at any depth. They are names below the folder in byte order, each
-    /// once, also where the history is not observable. Want of memory is no fault of the tree.
+    /// once, also if the history is not observable. Lack of memory is no fault of the tree.
     fn list(&mut self, alloc: Global, folder: &Name) -> Result<Names, TreeFault>
         ensures same { history self.new ≡ history self.old }
         ensures goes_on { GoesOn (counts self.old) (counts self.new) }
@@ -142,17 +147,28 @@ pub trait Tree {
             IfObservable (history self.old) (λ v. IsListOf folder.now v names)) }
         ensures order { IfOk result (λ names. AreNamesBelow folder.now names) };
 
+    /// Asks, before a change is committed, whether a file can be renamed to the name later, from
+    /// the source, or whether the name can be removed later, if there is no source. The source need
+    /// not be there yet. A name that the tree can never take so, or give up, is a fault. No call is
+    /// a misuse: what other files allow is no question of this call. Folders that are needed may
+    /// be made, since an empty folder is no part of a state.
+    fn check_target(&mut self, name: &Name, source: Option<&Name>) -> Result<(), Disk>
+        ensures same { history self.new ≡ history self.old }
+        ensures counts { IsCounted Anywhere (history self.old) (counts self.old)
+            (counts self.new) result }
+        ensures accepted { OnOk result (accepts (option_copied source.entry) name.now) };
+
     /// Each state that is observable is whole: its names are names, finitely many, none a folder of
     /// another, and each leads to a file that was made, of fewer than 2^64 bytes.
     ghost whole: { (tree : Self) → All IsWhole (history tree) };
 }
 
-/// The whole file, or None exactly where it is absent. The tree stays as it is, whatever the
+/// The whole file, or None exactly if it is absent. The tree stays as it is, whatever the
 /// answer.
 ///
 /// # Errors
 ///
-/// `Disk` where the tree failed, `Memory` where there was no memory for the bytes.
+/// `Disk` if the tree failed, `Memory` if there was no memory for the bytes.
 pub fn read_all<T: Tree>(
     alloc: Global,
     tree: &mut T,
@@ -181,7 +197,7 @@ const LONGEST_READ: u64 = 131_072;
 ///
 /// # Errors
 ///
-/// `Disk` where the tree failed, `Memory` where there was no memory for the bytes; then some may
+/// `Disk` if the tree failed, `Memory` if there was no memory for the bytes; then some may
 /// stand behind the others.
 pub fn read_behind<T: Tree>(
     tree: &mut T,

@@ -16,6 +16,10 @@ pub mod StillOffending
 pub mod WordsCompleted
 pub mod KindCompleted
 pub mod AppletCompleted
+pub mod Asked
+pub mod AskedLines
+pub mod AskedLaws
 pub mod WhatFollows
 pub mod StuckWords
+pub mod AskedStuck
 pub mod Letters

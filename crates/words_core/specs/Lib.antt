@@ -7,5 +7,6 @@ pub mod Rows
 pub mod Steps
 pub mod Faults
 pub mod Lines
+pub mod Asked
 pub mod Stuck
 pub mod Kinds

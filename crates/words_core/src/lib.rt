@@ -10,6 +10,7 @@
 #![tactic(auto)]
 
 mod laws;
+mod next;
 mod options;
 mod read;
 mod reading;

@@ -1,0 +1,4 @@
+mod Filled
+mod FirstStar
+mod Pieces
+mod Places
