@@ -1,20 +1,22 @@
 -- An audit, file by file.
-use Rattle.std.proofs.Common.{◌≡◌, ℕ, zero, suc, ◌+◌, ◌<◌, ◌≤◌, List, [], ◌∷◌, ◌++◌, length, map, take, Option, Result, Ok, Err, refl, ap, sym, ◌∙◌, subst, append_assoc, arith}
-use Rattle.std.specs.Prelude.{IfOk, slice_index_or}
+use Rattle.std.proofs.Common.{◌≡◌, All, ℕ, zero, suc, ◌+◌, ◌<◌, ◌≤◌, List, [], ◌∷◌, ◌++◌, length, get_or, map, take, Option, None, Result, Ok, Err, refl, ap, sym, ◌∙◌, subst, append_assoc, append-nil, arith}
+use Rattle.std.specs.Prelude.{IfOk, OnOk}
 use Rattle.std.specs.Result.{IsErrAnd}
 use Rattle.std.specs.List.{flat_map}
 use Rattle.std.proofs.lemmas.Grind.{flat_map-append}
-use Rattle.std.proofs.lemmas.List.{map-append, take_all, take_more}
-use Rattle.installed_info.proofs.LineSteps.{append_nothing}
+use Rattle.std.proofs.lemmas.List.{length-map, map-append, take_all, take_more}
+use Rattle.std.proofs.Math.ListN.{get_or-map}
 use Rattle.base_core.specs.Calls.{IfObservable}
+use Rattle.base_core.specs.Name.{IsName}
 use Rattle.base_core.specs.Tree.{TreeState, files_of}
 use Rattle.make_info.specs.Reads.{Reads}
 use Rattle.package_files.specs.Runs.{Explains}
 use Rattle.package_files.proofs.ReadLemmas.{as_told_of, explained, joined, joined_below, joined_from, joined_told, reads_or}
-use Rattle.audit_core.specs.Audit.{FileDifference, difference_at, difference_from, difference_line, differences_from}
-use Rattle.audit_core.specs.Records.{FileRecord}
+use Rattle.adb_view.specs.Plain.{Plain}
+use Rattle.audit_core.specs.Audit.{FileDifference, audit_report, difference_at, difference_from, difference_line, differences_from}
+use Rattle.audit_core.specs.Records.{FileRecord, records_by_path}
 use Rattle.audit_core.specs.Seen.{record_seen}
-use Rattle.audit_core.specs.declared.records.Record.{Record}
+use Rattle.audit_core.specs.StoredRecords.{StoredRecord}
 
 -- what a file is found to be: it differs from its record, or not
 abbrev pub difference_found : FileRecord → Option (List ℕ) → List FileDifference
@@ -25,7 +27,7 @@ pub differences_more : (read : Reads) (n : ℕ) (rs : List FileRecord) (r : File
     → differences_from read n (rs ++ r ∷ []) ≡ differences_from read n rs ++ difference_found r (read (n + length rs) r.path)
 differences_more read n [] r =
     let at : n ≡ n + 0 = omega arith in
-    append_nothing (difference_found r (read n r.path)) ∙ ap (λ k. difference_found r (read k r.path)) at
+    append-nil (difference_found r (read n r.path)) ∙ ap (λ k. difference_found r (read k r.path)) at
 differences_more read n (q ∷ rs) r =
     let at : suc n + length rs ≡ n + suc (length rs) = omega arith in
     ap (λ ds. difference_found q (read n q.path) ++ ds) (differences_more read (suc n) rs r ∙ ap (λ k. differences_from read (suc n) rs ++ difference_found r (read k r.path)) at)
@@ -72,9 +74,6 @@ one_more history first rs r found before after stands is so_far =
 
 -- ---- the records so far, as they are in the program
 
-map_take_more : {X Y : Type 0} (f : X → Y) (xs : List X) (i : ℕ) (d : X) → i < length xs → map f (take (i + 1) xs) ≡ map f (take i xs) ++ f (slice_index_or xs i d) ∷ []
-map_take_more f xs i d l = ap (map f) (take_more xs i d l) ∙ map-append f (take i xs) (slice_index_or xs i d ∷ [])
-
 -- the report of some records, from any number of reads on
 abbrev pub IsReport : List TreeState → List FileRecord → List ℕ → Type 0
 IsReport history rs report = (first : ℕ) → Explains history (λ read. report ≡ flat_map difference_line (differences_from read first rs))
@@ -88,20 +87,42 @@ IsLonger history r before after =
 pub nothing_reported : (history : List TreeState) (report : List ℕ) → report ≡ [] → IsReport history [] report
 nothing_reported history report is first = explained history (λ read. report ≡ []) (λ read. is)
 
-pub reported_more : (history now : List TreeState) (xs : List Record) (i : ℕ) (d : Record) (before after : List ℕ) → now ≡ history → i < length xs
-    → IsReport history (map record_seen (take i xs)) before → IsLonger now (record_seen (slice_index_or xs i d)) before after
-    → IsReport history (map record_seen (take (i + 1) xs)) after
-reported_more history now xs i d before after same l so_far longer first =
-    let r = record_seen (slice_index_or xs i d) in
-    let here : IsLonger history r before after = subst (λ (h : List TreeState). IsLonger h r before after) same longer in
-    subst (λ (rs : List FileRecord). Explains history (λ read. after ≡ flat_map difference_line (differences_from read first rs)))
-    (sym (map_take_more record_seen xs i d l))
-    (one_more history first (map record_seen (take i xs)) r here.0 before after here.1.0 here.1.1 (so_far first))
+pub reported_more : (history now : List TreeState) (xs : List StoredRecord) (i : ℕ) (x : StoredRecord) (before after : List ℕ) → now ≡ history → i < length xs → x ≡ get_or xs i x
+    → IsReport history (map record_seen (take i xs)) before → IsLonger now (record_seen x) before after → IsReport history (map record_seen (take (i + 1) xs)) after
+reported_more history now xs i x before after same l is so_far longer first =
+    let here : IsLonger history (record_seen x) before after = subst (λ (h : List TreeState). IsLonger h (record_seen x) before after) same longer in
+    let more : map record_seen (take (i + 1) xs) ≡ map record_seen (take i xs) ++ record_seen x ∷ [] =
+    ap (map record_seen) (take_more xs i x l ∙ ap (λ y. take i xs ++ y ∷ []) (sym is)) ∙ map-append record_seen (take i xs) (x ∷ []) in
+    subst (λ (rs : List FileRecord). Explains history (λ read. after ≡ flat_map difference_line (differences_from read first rs))) (sym more)
+    (one_more history first (map record_seen (take i xs)) (record_seen x) here.0 before after here.1 here.2 (so_far first))
 
-pub reported_all : (history : List TreeState) (xs : List Record) (i : ℕ) (report : List ℕ) → length xs ≤ i → IsReport history (map record_seen (take i xs)) report → IsReport history (map record_seen xs) report
-reported_all history xs i report l so_far = subst (λ (ys : List Record). IsReport history (map record_seen ys) report) (take_all i xs l) so_far
+pub reported_all : (history : List TreeState) (xs : List StoredRecord) (i : ℕ) (report : List ℕ) → length xs ≤ i → IsReport history (map record_seen (take i xs)) report → IsReport history (map record_seen xs) report
+reported_all history xs i report l so_far = subst (λ (ys : List StoredRecord). IsReport history (map record_seen ys) report) (take_all i xs l) so_far
+
+-- the records are those of some packages
+pub report_of_packages : (history : List TreeState) (first : ℕ) (packages : List Plain) (rs : List FileRecord) (report text : List ℕ) → rs ≡ records_by_path packages → text ≡ report
+    → Explains history (λ read. report ≡ flat_map difference_line (differences_from read first rs)) → Explains history (λ read. text ≡ audit_report read first packages)
+unfolding audit_report
+report_of_packages history first packages rs report text are is so =
+    record { read = so.read; observed = so.observed; is = is ∙ (so.is ∙ ap (λ qs. flat_map difference_line (differences_from so.read first qs)) are) }
 
 -- nothing is said of a failure
 pub nothing_said : {A E : Type 0} (history : List TreeState) (r : Result A E) (P : Reads → A → Type 0) (fault : E) → IsErrAnd r (λ e. e ≡ fault) → Explains history (λ read. IfOk r (P read))
 nothing_said history (Ok x) P fault is = absurd is
 nothing_said history (Err e) P fault is = explained history (λ read. Unit {0}) (λ read. tt)
+
+-- nor of a line that was not added
+pub not_longer : {A E : Type 0} (history : List TreeState) (r : FileRecord) (before after : List ℕ) (result : Result A E) (fault : E) → IsErrAnd result (λ e. e ≡ fault)
+    → (found : Option (List ℕ)) × IfObservable history (λ v. found ≡ files_of v r.path) × OnOk result (after ≡ before ++ flat_map difference_line (difference_found r found))
+not_longer history r before after (Ok x) fault is = absurd is
+not_longer history r before after (Err e) fault is = (reads_or history (λ n name. None) 0 r.path, there history, tt)
+  where
+    there : (history : List TreeState) → IfObservable history (λ v. reads_or history (λ n name. None) 0 r.path ≡ files_of v r.path)
+    there [] = tt
+    there (v ∷ earlier) = refl
+
+-- the path of a record is a name, where those of all are
+pub named_at : (xs : List StoredRecord) (i : ℕ) (x : StoredRecord) → i < length xs → x ≡ get_or xs i x → All (λ r. IsName r.path) (map record_seen xs) → IsName (record_seen x).path
+named_at xs i x l is named =
+    subst (λ (r : FileRecord). IsName r.path) (get_or-map record_seen xs i x ∙ ap record_seen (sym is))
+    (named i (record_seen x) (omega (arith, l, length-map xs record_seen)))

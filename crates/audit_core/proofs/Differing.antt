@@ -11,8 +11,8 @@ use Rattle.make_info.specs.Reads.{Reads}
 use Rattle.audit_core.specs.Audit.{FileDifference, audit_report, difference_at, difference_from, difference_line, differences_from}
 use Rattle.audit_core.specs.Differences.{AreAsRecorded, IsDifferenceIn, IsDifferent, IsRecordOf, file_differences}
 use Rattle.audit_core.specs.Records.{FileRecord, database_records, package_records, record_cmp, records_by_path}
-use Rattle.audit_core.specs.declared.audit.Difference.{Difference}
-use Rattle.audit_core.specs.declared.audit.Difference.TheVariants.{Changed, Missing}
+use Rattle.audit_core.specs.declared.comparing.Difference.{Difference}
+use Rattle.audit_core.specs.declared.comparing.Difference.TheVariants.{Changed, Missing}
 use Rattle.audit_core.proofs.SortedRecords.{from_sorted, in_sorted}
 
 -- ---- over files, whatever the numbers of the reads

@@ -8,3 +8,4 @@ mod SortedRecords
 mod Differing
 mod PathsOnce
 mod RisingPaths
+mod ManifestSteps

@@ -20,7 +20,7 @@ use Rattle.base_core.proofs.Rising.{order, pairs_from_rises}
 use Rattle.audit_core.specs.Audit.{FileDifference, difference_at, difference_from}
 use Rattle.audit_core.specs.Differences.{file_differences}
 use Rattle.audit_core.specs.Records.{FileRecord, database_records, record_cmp, records_by_path}
-use Rattle.audit_core.specs.declared.audit.Difference.{Difference}
+use Rattle.audit_core.specs.declared.comparing.Difference.{Difference}
 use Rattle.audit_core.proofs.PathsOnce.{database_once, record_paths}
 
 abbrev paths : List FileRecord → List (List ℕ)

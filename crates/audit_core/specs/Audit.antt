@@ -4,8 +4,8 @@ use Rattle.std.specs.Prelude.{ℕ, suc, List, [], ◌∷◌, ◌++◌, Option, S
 use Rattle.std.specs.List.{flat_map}
 use Rattle.adb_view.specs.Plain.{Plain}
 use Rattle.audit_core.specs.Records.{FileRecord, records_by_path}
-use Rattle.audit_core.specs.declared.audit.Difference.{Difference}
-use Rattle.audit_core.specs.declared.audit.Difference.TheVariants.{Changed, Missing}
+use Rattle.audit_core.specs.declared.comparing.Difference.{Difference}
+use Rattle.audit_core.specs.declared.comparing.Difference.TheVariants.{Changed, Missing}
 use Rattle.file_guard.specs.AsListed.{is_as_listed}
 use Rattle.make_info.specs.Reads.{Reads}
 use Rattle.report_core.specs.AuditReports.{changed_text, missing_text}

@@ -6,8 +6,8 @@ use Rattle.adb_fields.specs.FirstPair.{IsIn}
 use Rattle.adb_view.specs.Plain.{Plain}
 use Rattle.audit_core.specs.Audit.{FileDifference, difference_at, difference_from}
 use Rattle.audit_core.specs.Records.{FileRecord, package_records, records_by_path}
-use Rattle.audit_core.specs.declared.audit.Difference.{Difference}
-use Rattle.audit_core.specs.declared.audit.Difference.TheVariants.{Changed, Missing}
+use Rattle.audit_core.specs.declared.comparing.Difference.{Difference}
+use Rattle.audit_core.specs.declared.comparing.Difference.TheVariants.{Changed, Missing}
 use Rattle.base_core.specs.Files.{Files}
 use Rattle.file_guard.specs.AsListed.{is_as_listed}
 

@@ -5,4 +5,5 @@ pub mod Manifest
 -- what only the laws say
 pub mod Differences
 -- what only inner contracts and proofs use
+pub mod StoredRecords
 pub mod Seen

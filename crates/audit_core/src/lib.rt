@@ -6,14 +6,14 @@
 //! "`manifest`".
 #![tactic(auto)]
 
-mod audit;
+mod comparing;
+mod digests;
 mod laws;
-mod manifest;
 mod records;
 
-pub use audit::{Difference, audit};
+pub use comparing::{Difference, audit};
+pub use digests::manifest;
 pub use laws::{
     an_audit_reports_just_the_files_that_differ, an_audit_reports_nothing_if_all_is_as_recorded,
     audits_rest_on_their_own_reads,
 };
-pub use manifest::manifest;

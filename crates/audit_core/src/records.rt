@@ -3,7 +3,7 @@
 
 ghost use Rattle.adb_fields.specs.ListValue.{list_value};
 ghost use Rattle.adb_fields.specs.Repeated.{list_of};
-ghost use Rattle.adb_schema.specs.Views.{file_value, package_value};
+ghost use Rattle.adb_schema.specs.Views.{package_value};
 ghost use Rattle.adb_view.specs.Values.{count_of, entries_in, entry_in};
 ghost use Rattle.audit_core.specs.Records.{database_records, file_record, folder_records, package_records, record_cmp, records_by_path};
 ghost use Rattle.audit_core.specs.Seen.{record_seen};
@@ -17,15 +17,36 @@ use adb_fields::FilePath;
 use adb_schema::{DirInfo, FileInfo, List, PackageView};
 use db_core::Db;
 use std::alloc::{AllocError, Global};
-use std::marker::PhantomData;
+use std::marker::{Model, PhantomData};
 
 /// The record of a file: its path, and the package's entry of the file.
-#[derive(Clone, Copy)]
+#[derive(Drop)]
 pub(crate) struct Record<'a> {
     /// The path of the file.
     pub(crate) path: FilePath<'a>,
     /// The entry, which says what bytes the file has.
     pub(crate) file: FileInfo<'a>,
+}
+
+impl<'a> Model for Record<'a> {
+    ghost use Rattle.std.specs.Prelude.{◌≡◌, true};
+    ghost use Rattle.adb_fields.specs.JoinedPath.{joined_path};
+    ghost use Rattle.adb_view.specs.Adb.{payload_of};
+    ghost use Rattle.adb_view.specs.Values.{is_sound};
+    ghost use Rattle.adb_view.specs.declared.tables.Kind.TheVariants as Kinds;
+    ghost use Rattle.adb_view.specs.declared.tables.Which.TheVariants as Tables;
+    ghost use Rattle.audit_core.specs.StoredRecords.{StoredRecord};
+
+    ghost Value = { StoredRecord };
+
+    ghost view = { λ r. record {
+      path = joined_path r.path;
+      payload = payload_of r.file.adb;
+      word = r.file.word;
+    } };
+
+    ghost invariant = { λ r. is_sound (payload_of r.file.adb) (Kinds.Obj Tables.File) r.file.word
+        ≡ true };
 }
 
 /// The records of all files that the packages of a database list, in byte order of their paths. It
@@ -124,24 +145,29 @@ fn add_files<'a>(
         ++ map (file_record folder.now) (list_of (entries_in (list_value files.now)))) }
 {
     for i in 0..files.len() {
-        add_file(records, folder, files.get(i + 1))?;
+        add_file(records, folder, files, i)?;
     }
     Ok(())
 }
 
-// Adds the record of a file of the folder with a name.
+// Adds the record of the file at a place of the folder with a name, counted from 0.
 fn add_file<'a>(
     records: &mut Vec<Record<'a>>,
     folder: &'a [u8],
-    file: FileInfo<'a>,
+    files: &List<'a, FileInfo<'a>>,
+    i: usize,
 ) -> Result<(), AllocError>
+    requires { i < count_of (entries_in (list_value files.now)) }
     ensures { OnOk result (map record_seen records.new.items ≡ map record_seen records.old.items
-        ++ file_record folder.now (file_value file) ∷ []) }
+        ++ file_record folder.entry.now (entry_in (list_value files.now) i) ∷ []) }
 {
+    // Never so, by the contract; `len` tells that a list has less than 2^32 entries.
+    if i >= files.len() {
+        unreachable!();
+    }
+    let file = files.get(i + 1);
     let name = file.name();
-    records.push(Record {
-        path: FilePath { folder, name },
-        file,
-    })?;
+    let path = FilePath { folder, name };
+    records.push(Record { path, file })?;
     Ok(())
 }

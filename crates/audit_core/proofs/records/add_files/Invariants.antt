@@ -1,5 +1,5 @@
--- The records of the files that are left are still to be added.
-use Rattle.std.proofs.Common.{◌≡◌, ◌++◌, map, drop}
+-- The records of the files so far are added.
+use Rattle.std.proofs.Common.{◌≡◌, ◌++◌, map, take}
 use Rattle.adb_fields.specs.ListValue.{list_value}
 use Rattle.adb_fields.specs.Repeated.{list_of}
 use Rattle.adb_view.specs.Values.{entries_in}
@@ -9,5 +9,5 @@ use Rattle.audit_core.proofs.records.add_files.Given as goal
 
 abbrev pub invariant-loop-i : goal.invariant-loop-i
 invariant-loop-i l =
-    map record_seen l.records.items ++ map (file_record l.folder.now) (drop l.i (list_of (entries_in (list_value l.files))))
-    ≡ map record_seen l.fn.records.items ++ map (file_record l.folder.now) (list_of (entries_in (list_value l.files)))
+    map record_seen l.records.items
+    ≡ map record_seen l.fn.records.items ++ map (file_record l.folder) (take l.i (list_of (entries_in (list_value l.files))))

@@ -1,5 +1,5 @@
--- The records of the folders that are left are still to be added.
-use Rattle.std.proofs.Common.{◌≡◌, ◌++◌, map, drop}
+-- The records of the folders so far are added.
+use Rattle.std.proofs.Common.{◌≡◌, ◌++◌, map, take}
 use Rattle.std.specs.List.{flat_map}
 use Rattle.adb_fields.specs.ListValue.{list_value}
 use Rattle.adb_fields.specs.Repeated.{list_of}
@@ -10,5 +10,5 @@ use Rattle.audit_core.proofs.records.add_folders.Given as goal
 
 abbrev pub invariant-loop-i : goal.invariant-loop-i
 invariant-loop-i l =
-    map record_seen l.records.items ++ flat_map folder_records (drop l.i (list_of (entries_in (list_value l.folders))))
-    ≡ map record_seen l.fn.records.items ++ flat_map folder_records (list_of (entries_in (list_value l.folders)))
+    map record_seen l.records.items
+    ≡ map record_seen l.fn.records.items ++ flat_map folder_records (take l.i (list_of (entries_in (list_value l.folders))))

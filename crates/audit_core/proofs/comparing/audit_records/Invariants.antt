@@ -5,7 +5,7 @@ use Rattle.base_core.specs.declared.tree.TreeFault.{TreeFault}
 use Rattle.base_core.specs.declared.tree.TreeFault.TheVariants.{Disk}
 use Rattle.audit_core.specs.Seen.{record_seen}
 use Rattle.audit_core.proofs.AuditSteps.{IsReport}
-use Rattle.audit_core.proofs.audit.audit_records.Given as goal
+use Rattle.audit_core.proofs.comparing.audit_records.Given as goal
 
 abbrev pub invariant-loop-record : goal.invariant-loop-record
 invariant-loop-record g l = record {

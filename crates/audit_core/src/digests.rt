@@ -4,7 +4,6 @@
 ghost use Rattle.adb_fields.specs.ListValue.{list_value};
 ghost use Rattle.adb_fields.specs.Repeated.{list_of};
 ghost use Rattle.adb_fields.specs.Paths.{path_of};
-ghost use Rattle.adb_schema.specs.Views.{file_value};
 ghost use Rattle.adb_view.specs.Values.{count_of, entries_in, entry_in};
 ghost use Rattle.audit_core.specs.Manifest.{manifest_line, manifest_of, package_manifest};
 ghost use Rattle.audit_core.specs.Records.{file_record, folder_records};
@@ -40,7 +39,6 @@ const SHA512_LEN: usize = 64;
 ///
 /// Within the answer `NotInstalled` at the first operand that names no installed package. Else out
 /// of memory.
-#[tactic(auto, unfolding(crate::specs::Manifest::manifest_of))]
 pub fn manifest(
     alloc: Global,
     db: &Db<'_>,
@@ -126,21 +124,28 @@ fn push_files<'a>(
         (map (file_record folder.now) (list_of (entries_in (list_value files.now))))) }
 {
     for i in 0..files.len() {
-        push_file(alloc, report, folder, &files.get(i + 1))?;
+        push_file(alloc, report, folder, files, i)?;
     }
     Ok(())
 }
 
-// Adds the line of a file of the folder with a name.
-fn push_file(
+// Adds the line of the file at a place of the folder with a name, counted from 0.
+fn push_file<'a>(
     alloc: Global,
     report: &mut Vec<u8>,
     folder: &[u8],
-    file: &FileInfo<'_>,
+    files: &List<'a, FileInfo<'a>>,
+    i: usize,
 ) -> Result<(), AllocError>
+    requires { i < count_of (entries_in (list_value files.now)) }
     ensures { OnOk result (report.new.items ≡ report.old.items
-        ++ manifest_line (file_record folder.now (file_value file.now))) }
+        ++ manifest_line (file_record folder.now (entry_in (list_value files.now) i))) }
 {
+    // Never so, by the contract; `len` tells that a list has less than 2^32 entries.
+    if i >= files.len() {
+        unreachable!();
+    }
+    let file = files.get(i + 1);
     push_digest(alloc, report, file.hashes())?;
     report.extend_from_slice(b"  ")?;
     push_path(report, folder, file.name())
