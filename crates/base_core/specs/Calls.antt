@@ -1,4 +1,4 @@
--- What a call on a tree says of the tree's history and counts. The rules stand in
+-- What a call on a tree says of the tree's history and counts. The rules are in
 -- `docs/crash-safety.md`, "Moments" (the history) and "Misuses, faults and counts".
 use Rattle.std.specs.Prelude.{◌≡◌, ◌⊎◌, List, [], ◌∷◌, Result, OnOk, OnErr}
 use Rattle.base_core.specs.Tree.{TreeState}
@@ -7,7 +7,7 @@ use Rattle.base_core.specs.Faults.{Counts, GoesOn, HasCause, IsNoFault, next_cou
 -- A tree's history is the list of its states so far, the newest first. It is observable where it is
 -- not empty: a tree whose states nobody can know, as one over the host's files, has an empty one.
 
--- P holds of the newest state, where the history is observable
+-- P holds of the newest state, if the history is observable
 abbrev pub IfObservable : List TreeState → (TreeState → Type 0) → Type 0
 IfObservable [] P = Unit {0}
 IfObservable (v ∷ earlier) P = P v
@@ -18,7 +18,7 @@ HasNow [] P = ⊥
 HasNow (v ∷ earlier) P = P v
 
 -- what a call that writes makes of the history: one that succeeds adds the state `done`; one that
--- fails adds the state `failed`, or none, and none where it was a misuse. `can` says at which
+-- fails adds the state `failed`, or none, and none if it was a misuse. `can` says at which
 -- states the call is no misuse
 pub record Moves {T E : Type 0} (can : TreeState → Type 0) (done failed : TreeState → TreeState)
     (old new : List TreeState) (result : Result T E) : Type 0 where

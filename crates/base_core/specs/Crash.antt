@@ -1,4 +1,4 @@
--- What a crash leaves of a tree, and what holds at each moment of a run. The rules stand in
+-- What a crash leaves of a tree, and what holds at each moment of a run. The rules are in
 -- `docs/crash-safety.md`, "What a crash leaves" and "Moments".
 use Rattle.std.specs.Prelude.{◌≡◌, ℕ, true, List, ◌++◌, Option, Some, None, All}
 use Rattle.base_core.specs.Files.{Files, NameMap}

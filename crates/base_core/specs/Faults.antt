@@ -1,5 +1,5 @@
 -- The counts of a tree or a sink: u64 numbers that never fall, and stay at their last value. The
--- rules stand in `docs/crash-safety.md`, "Misuses, faults and counts".
+-- rules are in `docs/crash-safety.md`, "Misuses, faults and counts".
 use Rattle.std.specs.Prelude.{◌≡◌, ◌⊎◌, ◌≤◌, ℕ, ◌+◌, ◌-◌, ◌^◌, min, Bool, IsTrue, Result, OnOk, OnErr}
 
 -- what a tree or a sink counts of its calls, and whether one may still fail
@@ -8,7 +8,7 @@ pub record Counts : Type 0 where
   pub faults : ℕ
   -- calls that had to fail; a sink has none
   pub misuses : ℕ
-  -- calls that failed for want of the object's own memory
+  -- calls that failed as the object's own memory ran out
   pub wants : ℕ
   -- whether a call may yet fail for another reason
   pub fallible : Bool
@@ -30,15 +30,15 @@ pub record GoesOn (before now : Counts) : Type 0 where
   -- what cannot fail for another reason does not become able to
   pub fallible : IsTrue now.fallible → IsTrue before.fallible
 
--- a failure was counted, and has its reason: one of the world's, a misuse, or want of the object's
+-- a failure was counted, and has its reason: one of the world's, a misuse, or lack of the object's
 -- own memory
 pub record HasCause (before now : Counts) : Type 0 where
   pub fault : Rose before.faults now.faults
-  -- one of the world's, which `fallible` allows, a misuse, or want of the object's own memory
+  -- one of the world's, which `fallible` allows, a misuse, or lack of the object's own memory
   pub reason : IsTrue before.fallible ⊎ (Rose before.misuses now.misuses
       ⊎ Rose before.wants now.wants)
 
--- between two moments no fault was counted, and no want of memory
+-- between two moments no fault was counted, and no lack of memory
 pub record IsNoFault (before now : Counts) : Type 0 where
   pub faults : now.faults ≡ before.faults
   pub wants : now.wants ≡ before.wants

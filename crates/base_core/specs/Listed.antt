@@ -1,4 +1,4 @@
--- The listing of a folder. The rules stand in `docs/crash-safety.md`, "A tree at one moment" ("Each
+-- The listing of a folder. The rules are in `docs/crash-safety.md`, "A tree at one moment" ("Each
 -- state that a tree shows is *whole*") and "What each call does" (`list`).
 use Rattle.std.specs.Prelude.{◌≡◌, ◌↔◌, ℕ, List, Option, IsSome, All, AllPairs, Contains}
 use Rattle.std.specs.Ordering.{nat_cmp}

@@ -7,7 +7,7 @@ use Rattle.base_core.specs.Calls.{IfObservable}
 use Rattle.base_core.specs.Faults.{Counts, GoesOn, HasCause, IsNoFault}
 use Rattle.base_core.specs.Tree.{TreeState, files_of}
 
--- the bytes that a read found, without where they lie in memory; None where it found no file
+-- the bytes that a read found, without where they lie in memory; None if it found no file
 abbrev pub bytes_in : Option (Vec ℕ Global) → Option (List ℕ)
 bytes_in found = option_map (λ bytes. bytes.items) found
 
@@ -22,7 +22,7 @@ pub record HasReadBehind (history : List TreeState) (name : List ℕ) (at len : 
   pub told : IfObservable history
       (λ v. IfSome (files_of v name) (λ file. read ≡ take len (drop at file)))
 
--- a call that only reads the tree; `disk_fault` is what it answers where the tree failed
+-- a call that only reads the tree; `disk_fault` is what it answers if the tree failed
 pub record OnlyReads {A E : Type 0} (disk_fault : E) (old new : List TreeState)
     (before now : Counts)
     (result : Result A E) : Type 0 where
@@ -30,11 +30,11 @@ pub record OnlyReads {A E : Type 0} (disk_fault : E) (old new : List TreeState)
   pub same : new ≡ old
   -- no count falls
   pub goes_on : GoesOn before now
-  -- the tree failed only where that has its cause
+  -- the tree failed only if that has its cause
   pub disk : IsErrOf result disk_fault → HasCause before now
   -- an answer that is no fault of the tree raised neither faults nor wants
   pub kept : OnOk result (IsNoFault before now)
   -- nor did an error other than `disk_fault`
   pub others : IfErr result (λ fault. (fault ≡ disk_fault → ⊥) → IsNoFault before now)
-  -- where the history is observable, no call was a misuse
+  -- if the history is observable, no call was a misuse
   pub proper : IfObservable old (λ v. now.misuses ≡ before.misuses)

@@ -1,4 +1,4 @@
--- What stands after a crash, and what holds at a moment by those before it. The rules stand in
+-- What stands after a crash, and what holds at a moment by those before it. The rules are in
 -- `docs/crash-safety.md`, "What a crash leaves", and of `HasLed` in "Moments".
 use Rattle.std.specs.Prelude.{◌≡◌, ◌⊎◌, ◌≤◌, ℕ, true, List, [], ◌∷◌, ◌++◌, Some}
 use Rattle.base_core.specs.Crash.{IsImage}

@@ -1,5 +1,5 @@
 -- A tree of files at one moment, what each call makes of it, and where a call is a misuse. The
--- rules stand in `docs/crash-safety.md`, "A tree at one moment", "What each call does" and
+-- rules are in `docs/crash-safety.md`, "A tree at one moment", "What each call does" and
 -- "Misuses, faults and counts".
 use Rattle.std.specs.Prelude.{◌≡◌, ◌⊎◌, ◌≢◌, ◌≤◌, ◌<◌, ℕ, ◌+◌, Bool, true, false, if◌then◌else◌, ◌==◌, List, [], ◌∷◌, ◌++◌, Option, Some, None, IsSome, length}
 use Rattle.base_core.specs.Lists.{IsIn}
@@ -52,7 +52,7 @@ change_at change v (Some n) = record v { files = set_file v.files n (change (v.f
 abbrev pub with_names : TreeState → NameMap → TreeState
 with_names v names = record v { names = names; older = v.names ∷ v.older }
 
--- the state after `create`: a new empty file, not synced, stands under the name
+-- the state after `create`: a new empty file, not synced, is under the name
 abbrev pub after_create : List ℕ → TreeState → TreeState
 after_create name v = record {
   files = set_file v.files v.made (record { bytes = []; synced = false });
@@ -75,22 +75,22 @@ after_failed_append name v =
 abbrev pub after_sync : List ℕ → TreeState → TreeState
 after_sync name v = change_at (λ f. record { bytes = f.bytes; synced = true }) v (v.names name)
 
--- the state in which the file of this number stands under `to`, and none under `from`; without a
+-- the state in which the file of this number is under `to`, and none under `from`; without a
 -- number it stays
 abbrev pub move_at : List ℕ → List ℕ → TreeState → Option ℕ → TreeState
 move_at from to v None = v
 move_at from to v (Some n) = with_names v (move_name v.names from to n)
 
--- after `rename`: the file of the first name stands under the second, in place of what stood there
+-- after `rename`: the file of the first name is under the second, in place of what stood there
 abbrev pub after_rename : List ℕ → List ℕ → TreeState → TreeState
 after_rename from to v = move_at from to v (v.names from)
 
--- the state in which nothing stands under the name; without a number it stays
+-- the state in which nothing is under the name; without a number it stays
 abbrev pub remove_at : List ℕ → TreeState → Option ℕ → TreeState
 remove_at name v None = v
 remove_at name v (Some n) = with_names v (drop_name v.names name)
 
--- after `remove`: nothing stands under the name; its file itself is as it was
+-- after `remove`: nothing is under the name; its file itself is as it was
 abbrev pub after_remove : List ℕ → TreeState → TreeState
 after_remove name v = remove_at name v (v.names name)
 
@@ -108,7 +108,7 @@ same_state v = v
 abbrev pub Anywhere : TreeState → Type 0
 Anywhere v = Unit {0}
 
--- for `append` and `sync`: a file stands under the name
+-- for `append` and `sync`: a file is under the name
 abbrev pub HasName : List ℕ → TreeState → Type 0
 HasName name v = IsSome (v.names name)
 
@@ -117,18 +117,18 @@ abbrev pub CanRead : List ℕ → ℕ → ℕ → TreeState → Type 0
 CanRead name at len v =
     (bytes : List ℕ) × (files_of v name ≡ Some bytes) × (at + len ≤ length bytes)
 
--- for `create`: nothing stands under the name, and no file's name would be a folder of another
+-- for `create`: nothing is under the name, and no file's name would be a folder of another
 pub record CanCreate (name : List ℕ) (v : TreeState) : Type 0 where
   pub absent : v.names name ≡ None
   -- with the new name no name is a folder of another
   pub folders : IsFolderLike (put_name v.names name v.made)
 
--- for `rename`: a file stands under the first name, the names differ, and no file's name would be a
+-- for `rename`: a file is under the first name, the names differ, and no file's name would be a
 -- folder of another
 pub record CanRename (from to : List ℕ) (v : TreeState) : Type 0 where
   pub present : IsSome (v.names from)
   pub apart : from ≢ to
-  -- which file stands under a name does not matter to this, so 0 stands for its number
+  -- which file is under a name does not matter to this, so 0 stands for its number
   pub folders : IsFolderLike (put_name (drop_name v.names from) to 0)
 
 -- ---- the maps of names

@@ -1,6 +1,6 @@
 //! Laws: what follows from the definitions of a tree's states, of a crash, of a listing and of the
 //! counts. A crate above learns a law by a call of the function, which does nothing when it runs.
-//! What the laws of a crash say in words stands in `docs/crash-safety.md`, "What a crash leaves";
+//! What the laws of a crash say in words is in `docs/crash-safety.md`, "What a crash leaves";
 //! that a listing exists, and that there is no second one, in "A tree at one moment".
 ghost use Rattle.std.specs.Prelude.{◌≡◌, ◌≤◌, ◌++◌, ℕ, List, Option, Result, Bool};
 ghost use Rattle.base_core.specs.Crash.{IsImage, IsImageBy, IsOrderly};

@@ -8,7 +8,7 @@
 //! `Listed` (listings), `Faults` (the counts), `Sink`, `Sorted` and `ByteOrder` (lists in order) of
 //! `specs/`; those that only inner contracts need are `Read` and `Write`.
 //!
-//! The rules stand in `docs/crash-safety.md`, sections "A tree at one moment" to "Misuses, faults
+//! The rules are in `docs/crash-safety.md`, sections "A tree at one moment" to "Misuses, faults
 //! and counts", in `docs/commands.md`, "Words" (what a name is), and in `docs/names.md`, *sorted*
 //! and *byte order*.
 #![tactic(auto)]

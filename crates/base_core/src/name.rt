@@ -1,4 +1,4 @@
-//! Names of files, and lists of them. What a name is stands in `docs/commands.md`, "Words" ("A file
+//! Names of files, and lists of them. What a name is, is in `docs/commands.md`, "Words" ("A file
 //! is named by a path below the root").
 ghost use Rattle.std.specs.Prelude.{◌≡◌, ◌↔◌, ◌<◌, ◌==◌, ◌++◌, ◌∷◌, [], length, slice_get, Some, IfOk, IfSome, OnOk, OnErr, is_some, IsTrue, All};
 ghost use Rattle.std.specs.List.{list_all};
@@ -29,7 +29,7 @@ impl Model for Name {
 }
 
 impl Name {
-    /// The name that the bytes are. None comes exactly where they are no name.
+    /// The name that the bytes are. None comes exactly when they are no name.
     pub fn read(alloc: Global, bytes: &[u8]) -> Result<Option<Name>, AllocError>
         ensures when { IfOk result (λ found. is_some found ≡ is_name bytes.now) }
         ensures value { IfOk result (λ found. IfSome found (λ name. name ≡ bytes.now)) }
@@ -41,7 +41,7 @@ impl Name {
         Ok(Some(Name { bytes }))
     }
 
-    /// The name that the bytes are, where they are known to be one.
+    /// The name that the bytes are, if they are known to be one.
     pub fn of(alloc: Global, bytes: &[u8]) -> Result<Name, AllocError>
         requires { IsName bytes.now }
         ensures { IfOk result (λ name. name ≡ bytes.now) }
@@ -82,7 +82,7 @@ pub fn is_name(bytes: &[u8]) -> bool
     has_parts(bytes)
 }
 
-/// Whether each part between slashes may stand in a name.
+/// Whether each part between slashes may be in a name.
 fn has_parts(bytes: &[u8]) -> bool
     ensures { result ≡ list_all is_part (parts_of bytes.now) }
 {
@@ -99,7 +99,7 @@ fn is_text(bytes: &[u8]) -> bool
     }
 }
 
-/// Whether a part may stand in a name: it is not empty, and neither `.` nor `..`.
+/// Whether a part may be in a name: it is not empty, and neither `.` nor `..`.
 fn is_part(part: &[u8]) -> bool
     ensures { result ≡ is_part part.now }
 {

@@ -3,7 +3,7 @@
 //! The contracts of the crates above cite `Sorted` and `ByteOrder` of `specs/`; two laws say what
 //! follows from them.
 //!
-//! The rules stand in `docs/names.md`, *sorted* and *byte order*; the orders of names in
+//! The rules are in `docs/names.md`, *sorted* and *byte order*; the orders of names in
 //! `docs/formats.md`, "World" and "The database after a change", stand on them.
 
 ghost use Rattle.base_core.specs.ByteOrder.{bytes_cmp, smallest_text};

@@ -1,5 +1,5 @@
 //! What holds files: the trait `Tree` with the meaning of its calls, and reads of a whole file.
-//! What each call does stands in `docs/crash-safety.md`, "What each call does"; where a call is a
+//! What each call does is in `docs/crash-safety.md`, "What each call does"; where a call is a
 //! misuse, and what is counted, in "Misuses, faults and counts".
 ghost use Rattle.std.specs.Prelude.{◌≡◌, ℕ, List, Option, Some, length, take, drop, IfOk, OnOk, IfSome, IsErrOf, All};
 ghost use Rattle.std.specs.Option.{option_map, option_copied};
@@ -42,21 +42,21 @@ impl From<Disk> for TreeFault {
 impl From<AllocError> for TreeFault {
     ghost from_gives = { λ _ fault. fault ≡ Memory };
 
-    // Want of memory as the fault of such a call.
+    // Lack of memory as the fault of such a call.
     fn from(_: AllocError) -> TreeFault {
         TreeFault::Memory
     }
 }
 
 /// Files under names, as a folder of the host or a tree in memory. A call that would make one name
-/// a folder of another is a misuse. Each call answers `Disk` only where the tree's count of faults
-/// rose in it, also where its history is not observable.
+/// a folder of another is a misuse. Each call answers `Disk` only if the tree's count of faults
+/// rose in it, also if its history is not observable.
 ///
 /// In the clauses of the calls `same` says that the history stays, `moves` which states are added,
 /// `counts` what becomes of the counts, and `value` what is answered where the history is
 /// observable.
 pub trait Tree {
-    /// The states so far, the newest first. It is empty where they are not observable.
+    /// The states so far, the newest first. It is empty if they are not observable.
     ghost history: { Self → List TreeState };
 
     /// How often a call failed, and why.
@@ -67,7 +67,7 @@ pub trait Tree {
     /// `check_target` gives it, so code over any tree that has it has asked.
     ghost accepts: { Option (List ℕ) → List ℕ → Type 0 };
 
-    /// The file's length in bytes, or None exactly where the name is absent.
+    /// The file's length in bytes, or None exactly if the name is absent.
     fn size(&mut self, name: &Name) -> Result<Option<u64>, Disk>
         ensures same { history self.new ≡ history self.old }
         ensures counts { IsCounted Anywhere (history self.old) (counts self.old)
@@ -134,7 +134,7 @@ pub trait Tree {
             (counts self.new) result };
 
     /// All names below a folder, at any depth. They are names below the folder in byte order, each
-    /// once, also where the history is not observable. Want of memory is no fault of the tree.
+    /// once, also if the history is not observable. Lack of memory is no fault of the tree.
     fn list(&mut self, alloc: Global, folder: &Name) -> Result<Names, TreeFault>
         ensures same { history self.new ≡ history self.old }
         ensures goes_on { GoesOn (counts self.old) (counts self.new) }
@@ -163,12 +163,12 @@ pub trait Tree {
     ghost whole: { (tree : Self) → All IsWhole (history tree) };
 }
 
-/// The whole file, or None exactly where it is absent. The tree stays as it is, whatever the
+/// The whole file, or None exactly if it is absent. The tree stays as it is, whatever the
 /// answer.
 ///
 /// # Errors
 ///
-/// `Disk` where the tree failed, `Memory` where there was no memory for the bytes.
+/// `Disk` if the tree failed, `Memory` if there was no memory for the bytes.
 pub fn read_all<T: Tree>(
     alloc: Global,
     tree: &mut T,
@@ -197,7 +197,7 @@ const LONGEST_READ: u64 = 131_072;
 ///
 /// # Errors
 ///
-/// `Disk` where the tree failed, `Memory` where there was no memory for the bytes; then some may
+/// `Disk` if the tree failed, `Memory` if there was no memory for the bytes; then some may
 /// stand behind the others.
 pub fn read_behind<T: Tree>(
     tree: &mut T,

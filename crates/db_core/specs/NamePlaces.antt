@@ -1,5 +1,5 @@
 -- The names of packages in byte order, among which one is found.
--- The rule stands in `docs/DECISIONS.md`, "The installed database". Serves the contracts of
+-- The rule is in `docs/DECISIONS.md`, "The installed database". Serves the contracts of
 -- `src/name_places.rt`.
 use Rattle.std.specs.Prelude.{ℕ, ◌+◌, List, [], ◌∷◌, Option, bytes_eq, option_map}
 use Rattle.std.specs.List.{find}

@@ -1,5 +1,5 @@
 -- The packages of a database, and who of them lists a file.
--- The rules stand in `docs/formats.md`, "Schemas", tables 7 and 9, and "The texts" (which paths may
+-- The rules are in `docs/formats.md`, "Schemas", tables 7 and 9, and "The texts" (which paths may
 -- be listed, and the reserved names); who owns a path, in `docs/commands.md`, "`info`".
 use Rattle.std.specs.Prelude.{ℕ, Bool, List, [], Option, Some, None, not, ◌||◌, bytes_eq}
 use Rattle.std.specs.List.{list_all, list_any}

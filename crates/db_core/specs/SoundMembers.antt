@@ -1,5 +1,5 @@
 -- Members whose packages come out of sound containers, and files that a database may list.
--- The rules stand in `docs/formats.md`, "Tests of a container" (what is sound), "Names that stand
+-- The rules are in `docs/formats.md`, "Tests of a container" (what is sound), "Names that stand
 -- twice" and "The texts", field 401 (which paths a database may list). Serves the law of `db_write`
 -- that a new database is sound.
 use Rattle.std.specs.Prelude.{◌≡◌, ℕ, true, false, List, [], ◌∷◌, length, map, Option, Some, None}

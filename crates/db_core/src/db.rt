@@ -1,5 +1,5 @@
 //! The installed database as it is read.
-//! The rules stand in `docs/formats.md`, "Tests of a container" (which file is read), and
+//! The rules are in `docs/formats.md`, "Tests of a container" (which file is read), and
 //! "Schemas", tables 7 and 9 (what it holds); what `find` and `owner_of` answer, in
 //! `docs/DECISIONS.md`, "The installed database", and `docs/commands.md`, "`info`".
 ghost use Rattle.adb_fields.specs.ListValue.{list_value};
@@ -89,7 +89,7 @@ impl<'a> Db<'a> {
     ///
     /// # Errors
     ///
-    /// Want of memory.
+    /// Lack of memory.
     pub fn open(alloc: Global, payload: &'a [u8]) -> Result<Db<'a>, AllocError>
         requires { payload_fault Tables.Idb payload.now ≡ None }
         ensures { IfOk result (λ db. packages_of db
@@ -134,7 +134,7 @@ impl<'a> Db<'a> {
     }
 
     /// The place of the package with this name, counted from 0; of several the first. None comes
-    /// exactly where no package has the name. The name is found by halving.
+    /// exactly when no package has the name. The name is found by halving.
     pub fn find(&self, name: &[u8]) -> Option<usize>
         ensures found { result
             ≡ position_from (is_package_named name.now) 0 (packages_of self.now) }
@@ -144,7 +144,7 @@ impl<'a> Db<'a> {
     }
 
     /// The place of the package that lists this path, counted from 0; of several the first. None
-    /// comes exactly where no package lists it. It looks at all that the database lists.
+    /// comes exactly when no package lists it. It looks at all that the database lists.
     pub fn owner_of(&self, path: &Name) -> Option<usize>
         ensures found { result ≡ position_from (lists_path path.now) 0 (packages_of self.now) }
         ensures within { IfSome result (λ i. i < length (packages_of self.now)) }

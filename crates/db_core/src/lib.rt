@@ -4,7 +4,7 @@
 //! change, those that stay and those that come, and `Owned` says which of the files that they list
 //! are theirs. The contracts cite `Members` (members and the files that they list) and `Packages`
 //! (the packages of a database) of `specs/`.
-//! The rules stand in `docs/formats.md`, "Schemas", table 9, "Tests of a container" and "The
+//! The rules are in `docs/formats.md`, "Schemas", table 9, "Tests of a container" and "The
 //! database after a change", and in `docs/commands.md`, "`info`" (who owns a path).
 #![tactic(auto)]
 

@@ -1,5 +1,5 @@
 //! Whether folders list a file with some path, which is not joined.
-//! What a path is, stands in `docs/formats.md`, "The texts", fields 401 and 501: the folder's name,
+//! What a path is, is in `docs/formats.md`, "The texts", fields 401 and 501: the folder's name,
 //! which is empty for the root, `/`, and the file's name. Who owns a path is asked by `info`
 //! (`docs/commands.md`, "`info`").
 ghost use Rattle.adb_fields.specs.ListValue.{list_value};

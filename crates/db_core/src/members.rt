@@ -1,5 +1,5 @@
 //! The packages after a change.
-//! The rule stands in `docs/formats.md`, "The database after a change": those that stay and those
+//! The rule is in `docs/formats.md`, "The database after a change": those that stay and those
 //! that come, in byte order of their names. How a member is added is said in `docs/DECISIONS.md`,
 //! "The installed database".
 
@@ -114,7 +114,7 @@ impl<'a> Members<'a> {
     ///
     /// # Errors
     ///
-    /// Want of memory.
+    /// Lack of memory.
     pub fn stays(&mut self, i: usize) -> Result<(), AllocError>
         requires at { i < length (packages_before self.old) }
         requires behind { (pkg : Plain) → slice_get (packages_before self.old) i ≡ Some pkg
@@ -134,7 +134,7 @@ impl<'a> Members<'a> {
     ///
     /// # Errors
     ///
-    /// Want of memory.
+    /// Lack of memory.
     pub fn comes_in_pieces(&mut self, contents: &Contents<'a>) -> Result<(), AllocError>
         requires behind { comes_behind (package_name (value_of_contents contents.now))
             (members_of self.old) ≡ true }
@@ -165,7 +165,7 @@ impl<'a> Members<'a> {
         order.is_lt()
     }
 
-    /// The place of the package with this name, counted from 0. None comes exactly where no package
+    /// The place of the package with this name, counted from 0. None comes exactly when no package
     /// has the name. The name is found by halving.
     pub fn find(&self, name: &[u8]) -> Option<usize>
         ensures found { (i : ℕ) (m : Member) → slice_get (members_of self.now) i ≡ Some m

@@ -1,5 +1,5 @@
 //! Names of packages in byte order, each with the place of its package.
-//! The rule stands in `docs/DECISIONS.md`, "The installed database": a database may have its
+//! The rule is in `docs/DECISIONS.md`, "The installed database": a database may have its
 //! packages in any order of names, so their names are kept in byte order beside it.
 ghost use Rattle.adb_fields.specs.ListValue.{list_value};
 ghost use Rattle.adb_fields.specs.Repeated.{list_of, package_name};

@@ -1,5 +1,5 @@
 //! Which files of the members are theirs.
-//! What a member owns, stands in `docs/commands.md`, "Files that several packages list"; that a
+//! What a member owns, is in `docs/commands.md`, "Files that several packages list"; that a
 //! database lists of a package's files those that it owns, in `docs/formats.md`, "The database
 //! after a change".
 ghost use Rattle.std.specs.Prelude.{◌≡◌, ◌<◌, ◌==◌, ◌++◌, ◌∷◌, [], Some, length, slice_get, OnOk, OnErr};
@@ -44,7 +44,7 @@ impl Owned {
     ///
     /// # Errors
     ///
-    /// Want of memory.
+    /// Lack of memory.
     pub fn push(&mut self, owned: bool) -> Result<(), AllocError>
         ensures ok { OnOk result (self.new ≡ self.old ++ owned ∷ []) }
         ensures err { OnErr result (self.new ≡ self.old) }

@@ -1,5 +1,5 @@
 -- The record of what was made of a tree, and the states that it gives.
--- What each call makes of a state stands in `docs/crash-safety.md`, "What each call does". Serves the
+-- What each call makes of a state is in `docs/crash-safety.md`, "What each call does". Serves the
 -- proofs of `store`, and *after_put* the contract of `put`.
 use Rattle.std.specs.Prelude.{ℕ, ◌+◌, Bool, true, false, ◌&&◌, is_some, nat_lt, nat_le, List, [], ◌∷◌, map, length, slice_index_or, take, Some}
 use Rattle.base_core.specs.Files.{no_names, put_name}
@@ -8,7 +8,7 @@ use Rattle.tree_memory.specs.declared.store.Change.{Change}
 use Rattle.tree_memory.specs.declared.store.Change.TheVariants.{Put, Create, Append, Sync, Rename, Remove, SyncNames, Stay}
 use Rattle.tree_memory.specs.declared.store.Stored.{Stored}
 
--- what stands under a number of which no file was made
+-- what is under a number of which no file was made
 abbrev pub no_file : File
 no_file = record { bytes = []; synced = false }
 

@@ -1,4 +1,4 @@
--- What a crash leaves, by a number. The rule stands in `docs/crash-safety.md`, "Images of the
+-- What a crash leaves, by a number. The rule is in `docs/crash-safety.md`, "Images of the
 -- tree in memory"; what a crash may leave at all, in "What a crash leaves".
 use Rattle.std.specs.Prelude.{◌≡◌, ℕ, ◌+◌, ◌/◌, ◌%◌, Bool, true, false, if◌then◌else◌, ◌||◌, ◌==◌, List, [], ◌∷◌, reverse, length, replicate, slice_index_or}
 use Rattle.std.specs.Option.{option_map}

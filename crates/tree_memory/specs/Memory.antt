@@ -1,5 +1,5 @@
 -- What a tree in memory shows, and what each of its calls says beyond what every tree says.
--- The rules stand in `docs/crash-safety.md`, "Misuses, faults and counts".
+-- The rules are in `docs/crash-safety.md`, "Misuses, faults and counts".
 use Rattle.std.specs.Prelude.{◌≡◌, ◌⊎◌, ℕ, true, false, if◌then◌else◌, List, Result, OnOk, OnErr, is_ok}
 use Rattle.base_core.specs.Faults.{Counts, next_count}
 use Rattle.base_core.specs.Tree.{TreeState}
@@ -53,7 +53,7 @@ longest_of tree = tree.longest
 -- ---- a call that reads
 
 -- a call that reads: it is counted, the plan is one call nearer, and an error is a fault, never for
--- want of memory
+-- lack of memory
 pub record IsRead {T E : Type 0} (old new : MemoryTree) (result : Result T E) : Type 0 where
   pub calls : calls_of new ≡ next_count (calls_of old)
   pub writes : writes_of new ≡ writes_of old
@@ -74,7 +74,7 @@ pub record HadToFail (can : TreeState → Type 0) (old new : MemoryTree) : Type 
   pub reason : (is_next (plan_of old) ≡ true) ⊎ (can (tree_state old) → ⊥)
   pub wants : (counts_of new).wants ≡ (counts_of old).wants
 
--- a call failed for want of memory alone
+-- a call failed for lack of memory alone
 pub record FailedForWant (can : TreeState → Type 0) (old new : MemoryTree) : Type 0 where
   pub free : IsFree can old
   pub wants : (counts_of new).wants ≡ next_count (counts_of old).wants

@@ -1,12 +1,12 @@
 -- A sink in memory, and what a write makes of it.
--- The rules stand in `docs/crash-safety.md`, "Misuses, faults and counts", for the counts of a sink,
+-- The rules are in `docs/crash-safety.md`, "Misuses, faults and counts", for the counts of a sink,
 -- and are else those of `fail_after` and `take_at_most`, as the README of this crate says.
 use Rattle.std.specs.Prelude.{◌≡◌, ◌⊎◌, ℕ, ◌-◌, ◌<◌, min, max, List, [], ◌++◌, length, take, Option, Some, None, is_some}
 use Rattle.std.specs.Option.{option_map}
 use Rattle.base_core.specs.Faults.{Counts, next_count}
 
 -- a sink in memory: its bytes, how many more it takes and how many a write takes at most, where these
--- are planned, and how often it failed, also for want of its own memory
+-- are planned, and how often it failed, also for lack of its own memory
 pub record SinkState : Type 0 where
   pub bytes : List ℕ
   pub room : Option ℕ
@@ -18,7 +18,7 @@ pub record SinkState : Type 0 where
 abbrev pub new_sink : SinkState
 new_sink = record { bytes = []; room = None; most = None; faults = 0; wants = 0 }
 
--- the counts of a sink: it may fail for a reason of the world's (`fallible`) only where an end is
+-- the counts of a sink: it may fail for a reason of the world's (`fallible`) only if an end is
 -- planned
 abbrev pub sink_counts : SinkState → Counts
 sink_counts sink = record {
@@ -34,7 +34,7 @@ abbrev pub len_that_fits : Option ℕ → ℕ → ℕ
 len_that_fits None len = len
 len_that_fits (Some room) len = min len room
 
--- how many of so many bytes a write takes, by the most that was said: at least one, where there is one
+-- how many of so many bytes a write takes, by the most that was said: at least one, if there is one
 abbrev pub part : Option ℕ → ℕ → ℕ
 part None len = len
 part (Some n) len = min len (max n 1)

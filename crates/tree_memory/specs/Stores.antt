@@ -1,5 +1,5 @@
 -- The states that a store shows.
--- What a history is stands in `docs/crash-safety.md`, "Moments".
+-- What a history is is in `docs/crash-safety.md`, "Moments".
 use Rattle.std.specs.Prelude.{List, [], ◌∷◌}
 use Rattle.base_core.specs.Tree.{TreeState}
 use Rattle.tree_memory.specs.Changes.{empty_state, contents_of, state_on, earlier_on}

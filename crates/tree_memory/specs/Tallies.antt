@@ -1,5 +1,5 @@
 -- The counts of a tree in memory, and what a call makes of them.
--- The rules stand in `docs/crash-safety.md`, "Misuses, faults and counts". Serves the contracts of
+-- The rules are in `docs/crash-safety.md`, "Misuses, faults and counts". Serves the contracts of
 -- `calls`.
 use Rattle.std.specs.Prelude.{◌≤◌, Bool, true, false}
 use Rattle.base_core.specs.Faults.{next_count}

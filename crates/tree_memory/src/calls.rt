@@ -1,5 +1,5 @@
 //! The calls of a tree in memory: which are to fail, and how many there were.
-//! The rules stand in `docs/crash-safety.md`, "Misuses, faults and counts".
+//! The rules are in `docs/crash-safety.md`, "Misuses, faults and counts".
 
 ghost use Rattle.std.specs.Prelude.{◌≡◌, [], None, Some, OnOk, OnErr, is_ok, if◌then◌else◌, ◌⊎◌, ◌+◌, ℕ, false};
 ghost use Rattle.base_core.specs.Faults.{next_count, HasCause, Rose};
@@ -18,7 +18,7 @@ use std::marker::Model;
 pub struct Plan {
     // The calls with these numbers are to fail.
     listed: Vec<u64>,
-    // All calls behind the next so many are to fail, where that is planned.
+    // All calls behind the next so many are to fail, if that is planned.
     stop: Option<u64>,
 }
 
@@ -180,7 +180,7 @@ impl Calls {
         }
     }
 
-    /// Counts a call. It fails where it is a misuse, or where that is planned.
+    /// Counts a call. It fails if it is a misuse, or if that is planned.
     pub fn begin(&mut self, can: bool) -> Result<(), Disk>
         // The plan is one call nearer, and the call is counted, with its failure if it has one.
         ensures plan { self.new.plan ≡ one_on self.old.plan }
@@ -202,7 +202,7 @@ impl Calls {
         Ok(())
     }
 
-    /// Counts a call that writes. It fails where it is a misuse, or where that is planned.
+    /// Counts a call that writes. It fails if it is a misuse, or if that is planned.
     pub fn begin_write(&mut self, can: bool) -> Result<(), Disk>
         ensures plan { self.new.plan ≡ one_on self.old.plan }
         ensures tally { self.new.tally ≡ with_begun_call can (is_next self.old.plan)
@@ -232,7 +232,7 @@ impl Calls {
     }
 }
 
-/// Where no failure of a tree in memory is planned, a fault is a misuse, or comes for want of its
+/// Where no failure of a tree in memory is planned, a fault is a misuse, or comes for lack of its
 /// own memory.
 pub fn an_unplanned_fault_has_its_reason()
     ensures { (before now : MemoryTree) → has_more (plan_of before) ≡ false
@@ -241,13 +241,13 @@ pub fn an_unplanned_fault_has_its_reason()
         ⊎ Rose (counts_of before).wants (counts_of now).wants }
 {}
 
-/// Where no end of a sink in memory is planned, a fault comes for want of its own memory.
+/// Where no end of a sink in memory is planned, a fault comes for lack of its own memory.
 pub fn an_endless_sink_fails_for_want_of_memory()
     ensures { (before now : SinkState) → before.room ≡ None
         → HasCause (sink_counts before) (sink_counts now) → Rose before.wants now.wants }
 {}
 
-/// Of the calls from now on, call k fails, apart from misuses and want of memory, exactly where it
+/// Of the calls from now on, call k fails, apart from misuses and lack of memory, exactly when it
 /// is listed or behind the stop.
 pub fn a_call_fails_where_it_is_planned()
     ensures { (plan : PlanState) (k : ℕ) → is_next (plan_after k plan) ≡ is_to_fail plan (k + 1) }

@@ -1,5 +1,5 @@
 //! What a crash leaves of a store.
-//! The rule stands in `docs/crash-safety.md`, "Images of the tree in memory".
+//! The rule is in `docs/crash-safety.md`, "Images of the tree in memory".
 ghost use Rattle.std.specs.Prelude.{◌≡◌, ◌+◌, ◌-◌, ◌<◌, ◌≤◌, ◌^◌, ℕ, List, true, IfOk, length, take, slice_index_or};
 ghost use Rattle.base_core.specs.Files.{no_names};
 ghost use Rattle.base_core.specs.Restart.{IsCrashOf};
@@ -161,7 +161,7 @@ fn replay(
     }
 }
 
-// What a file holds after a crash: its bytes where it is synced, and else by the way that was
+// What a file holds after a crash: its bytes if it is synced, and else by the way that was
 // chosen its bytes as read, nothing, or as many bytes of value 255.
 fn crash_bytes(alloc: Global, file: &Stored, way: u64) -> Result<Vec<u8>, AllocError>
     ensures { IfOk result (λ bytes. bytes.items ≡ crash_bytes way (stored_file file.now)) }

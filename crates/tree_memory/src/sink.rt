@@ -16,11 +16,11 @@ pub struct MemorySink {
     bytes: Vec<u8>,
     // How many more bytes it takes, where its end is planned.
     room: Option<usize>,
-    // How many bytes a write takes at most, where that is planned.
+    // How many bytes a write takes at most, if that is planned.
     most: Option<usize>,
     // How many writes failed.
     faults: u64,
-    // How many of these failed for want of memory.
+    // How many of these failed for lack of memory.
     wants: u64,
 }
 
@@ -75,7 +75,7 @@ impl MemorySink {
         self.most = Some(n);
     }
 
-    /// How many writes failed for want of the sink's own memory.
+    /// How many writes failed for lack of the sink's own memory.
     pub fn wants(&self) -> u64
         ensures { result ≡ self.now.wants }
     {
@@ -91,7 +91,7 @@ impl MemorySink {
         SinkFault
     }
 
-    /// Counts a write that failed for want of memory, which is a fault too.
+    /// Counts a write that failed for lack of memory, which is a fault too.
     fn want(&mut self) -> SinkFault
         ensures is { self.new ≡ record self.old {
           faults = next_count self.old.faults;
@@ -117,7 +117,7 @@ fn len_that_fits(room: Option<usize>, len: usize) -> usize
 }
 
 // How many of so many bytes a write takes, by the most that was said. At least one byte is taken
-// where there is one.
+// if there is one.
 fn part(most: Option<usize>, len: usize) -> usize
     ensures { result ≡ part most len }
 {
@@ -141,8 +141,8 @@ impl Sink for MemorySink {
         ensures unchanged { OnErr result (Some self.new.bytes ≡ Some self.old.bytes) }
         ensures cause { FailsWithCause (sink_counts self.old) (sink_counts self.new) result }
 
-        // It takes all that fits, or the most that a write takes, and fails only where nothing
-        // fits, or for want of its own memory.
+        // It takes all that fits, or the most that a write takes, and fails only if nothing
+        // fits, or for lack of its own memory.
         ensures ok { IfOk result (λ n. Takes self.old piece.now n self.new) }
         ensures err { OnErr result (Refuses self.old piece.now self.new) }
     {

@@ -1,5 +1,5 @@
 //! The store of a tree in memory: its record of changes, and what stands now.
-//! The rules stand in `docs/crash-safety.md`, "What each call does", for what a change makes, and
+//! The rules are in `docs/crash-safety.md`, "What each call does", for what a change makes, and
 //! "Misuses, faults and counts", for what is a misuse.
 
 ghost use Rattle.std.specs.Prelude.{◌≡◌, ◌↔◌, ℕ, ◌<◌, ◌≤◌, ◌+◌, [], ◌∷◌, ◌++◌, List, IsTrue, IfOk, IfSome, OnOk, OnErr, length, take, drop, false, All};
@@ -45,7 +45,7 @@ impl Store {
 
     // ---- what is read
 
-    /// The bytes of a file as read, or None exactly where the name is absent.
+    /// The bytes of a file as read, or None exactly if the name is absent.
     pub fn file(&self, name: &Name) -> Option<&[u8]>
         ensures { option_copied result ≡ files_of (store_state self.now) name.now }
     {
@@ -335,7 +335,7 @@ pub struct Stored {
 }
 
 impl Stored {
-    /// Adds a piece at the end of the file, which is not synced then. Where there is no memory
+    /// Adds a piece at the end of the file, which is not synced then. If there is no memory
     /// nothing changes.
     pub fn append(&mut self, piece: &[u8]) -> Result<(), AllocError>
         ensures bytes { OnOk result (self.new.bytes.items ≡ self.old.bytes.items ++ piece.now) }

@@ -58,7 +58,7 @@ impl NameTable {
             .binary_search_by(|entry| entry.name.as_bytes().cmp(name))
     }
 
-    /// Lets a name lead to a number. Where there is no memory nothing changes.
+    /// Lets a name lead to a number. If there is no memory nothing changes.
     pub fn set(&mut self, name: Name, file: usize) -> Result<(), AllocError>
         ensures ok { OnOk result ((q : List ℕ)
             → lookup self.new.entries.items q

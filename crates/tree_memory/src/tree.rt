@@ -1,5 +1,5 @@
 //! A tree of files in memory: its own calls, and those of the trait `Tree`.
-//! The contracts are those of `Tree` of `base_core`; the rules stand in `docs/crash-safety.md`,
+//! The contracts are those of `Tree` of `base_core`; the rules are in `docs/crash-safety.md`,
 //! "What each call does" and "Misuses, faults and counts".
 ghost use Rattle.std.specs.Prelude.{◌≡◌, ◌↔◌, [], ◌∷◌, List, Some, None, IsTrue, IsOk, IfOk, IfSome, IsErrOf, OnOk, OnErr, false, true, length, max, take, drop, if◌then◌else◌};
 ghost use Rattle.std.specs.Option.{option_map, option_copied};
@@ -76,7 +76,7 @@ impl MemoryTree {
         self.store.put(name, bytes)
     }
 
-    /// The bytes of a file as read, or None exactly where the name is absent.
+    /// The bytes of a file as read, or None exactly if the name is absent.
     pub fn file(&self, name: &Name) -> Option<&[u8]>
         ensures { option_copied result ≡ files_of (tree_state self.now) name.now }
     {
@@ -120,8 +120,8 @@ impl MemoryTree {
 
     /// A new tree, the one after a crash: it has one of the maps of names and all its files are
     /// synced. With m maps, it has map `choice mod m`, counted from the oldest as 0. A file that
-    /// was not synced holds what was read where `(choice / m) mod 3` is 0, nothing where it is 1,
-    /// and as many bytes of value 255 where it is 2. The new tree has no faults and no planned
+    /// was not synced holds what was read where `(choice / m) mod 3` is 0, nothing if it is 1,
+    /// and as many bytes of value 255 if it is 2. The new tree has no faults and no planned
     /// failures. The tree itself stays as it is.
     pub fn pick_image(&self, alloc: Global, choice: u64) -> Result<MemoryTree, AllocError>
         ensures files { IfOk result (λ image.
@@ -162,7 +162,7 @@ impl MemoryTree {
         self.calls.tally.faults
     }
 
-    /// How many of its calls failed for want of the tree's own memory.
+    /// How many of its calls failed for lack of the tree's own memory.
     pub fn wants(&self) -> u64
         ensures { result ≡ (counts_of self.now).wants }
     {
@@ -198,7 +198,7 @@ impl Tree for MemoryTree {
     // A tree in memory takes a file under each name, and gives each up.
     ghost accepts = { λ source name. Unit {0} };
 
-    /// The length of a file in bytes, or None where the name is absent.
+    /// The length of a file in bytes, or None if the name is absent.
     fn size(&mut self, name: &Name) -> Result<Option<u64>, Disk>
         ensures same { history_of self.new ≡ history_of self.old }
         ensures counts { IsCounted Anywhere (history_of self.old) (counts_of self.old)
@@ -207,7 +207,7 @@ impl Tree for MemoryTree {
             IfObservable (history_of self.old)
             (λ v. size ≡ option_map length (files_of v name.now))) }
 
-        // It fails exactly where that is planned.
+        // It fails exactly when that is planned.
         ensures when { IsOk result ↔ (is_next (plan_of self.old) ≡ false) }
         ensures call { IsRead self.old self.new result }
         ensures longest { longest_of self.new ≡ longest_of self.old }
@@ -228,7 +228,7 @@ impl Tree for MemoryTree {
             (λ v. IfSome (files_of v name.now) (λ bytes.
             into.new ≡ take (length into.old) (drop at bytes)))) }
 
-        // It fails exactly where that is planned, and at a misuse.
+        // It fails exactly when that is planned, and at a misuse.
         ensures when { IsOk result ↔ ((is_next (plan_of self.old) ≡ false)
             × CanRead name.now at (length into.old) (tree_state self.old)) }
         ensures same_state { OnErr result (into.new ≡ into.old) }
@@ -249,7 +249,7 @@ impl Tree for MemoryTree {
         ensures counts { IsCounted (CanCreate name.now) (history_of self.old) (counts_of self.old)
             (counts_of self.new) result }
 
-        // It fails exactly at a misuse, where that is planned, and for want of memory, and then
+        // It fails exactly at a misuse, if that is planned, and for lack of memory, and then
         // changes nothing.
         ensures call { IsWrite (CanCreate name.now) self.old self.new result }
     {
@@ -327,7 +327,7 @@ impl Tree for MemoryTree {
         self.calls.finish(done)
     }
 
-    /// The present names below a folder, in byte order. Want of memory for the answer is no fault
+    /// The present names below a folder, in byte order. Lack of memory for the answer is no fault
     /// of the tree.
     fn list(&mut self, alloc: Global, folder: &Name) -> Result<Names, TreeFault>
         ensures same { history_of self.new ≡ history_of self.old }
@@ -342,7 +342,7 @@ impl Tree for MemoryTree {
             IfObservable (history_of self.old) (λ v. IsListOf folder.now v names)) }
         ensures order { IfOk result (λ names. AreNamesBelow folder.now names) }
 
-        // The tree fails exactly where that is planned.
+        // The tree fails exactly when that is planned.
         ensures when { IsErrOf result DiskFault ↔ (is_next (plan_of self.old) ≡ true) }
         ensures plan { plan_of self.new ≡ one_on (plan_of self.old) }
         ensures calls { calls_of self.new ≡ next_count (calls_of self.old) }
@@ -366,7 +366,7 @@ impl Tree for MemoryTree {
         ensures counts { IsCounted Anywhere (history_of self.old) (counts_of self.old)
             (counts_of self.new) result }
 
-        // It fails exactly where that is planned.
+        // It fails exactly when that is planned.
         ensures when { IsOk result ↔ (is_next (plan_of self.old) ≡ false) }
         ensures call { IsRead self.old self.new result }
         ensures longest { longest_of self.new ≡ longest_of self.old }

@@ -3,7 +3,7 @@ use Rattle.std.proofs.Common.{◌≡◌, List, Some, ap, subst}
 use Rattle.base_core.specs.Calls.{IfObservable}
 use Rattle.base_core.specs.Tree.{TreeState, files_of}
 use Rattle.file_guard.specs.declared.compare.Comparison.{Comparison}
-use Rattle.file_guard.proofs.compare.compare_file.Goals as goal
+use Rattle.file_guard.proofs.compare.compare_file_in.Goals as goal
 
 pub returns-clause-found : goal.returns-clause-found
 returns-clause-found g c =
