@@ -60,26 +60,25 @@ pub record Inner (depth : ℕ) (ls : List Line) : Type 0 where
   pub front : (block_at (depth + 1) ls).0 ≡ (split_block (block_at depth ls).0).0
   pub later : block_at depth (block_at (depth + 1) ls).1 ≡ ((split_block (block_at depth ls).0).1, (block_at depth ls).1)
 
+-- with one line more, by what it is without its levels, and without one level more
+abbrev InnerHere : ℕ → Line → List Line → Option Line → Option Line → Type 0
+InnerHere depth l ls o p =
+    ((stop_or_add l ls p (block_at (depth + 1) ls)).0 ≡ (split_block (stop_or_add l ls o (block_at depth ls)).0).0)
+    × (block_at depth (stop_or_add l ls p (block_at (depth + 1) ls)).1 ≡ ((split_block (stop_or_add l ls o (block_at depth ls)).0).1, (stop_or_add l ls o (block_at depth ls)).1))
+
+inner_line : (depth : ℕ) (l : Line) (ls : List Line) (m : Line) (p : Option Line) → strip_prefix (margin depth) l ≡ Some m → strip_prefix (codes "  ") m ≡ p → Inner depth ls → InnerHere depth l ls (Some m) p
+inner_line depth l ls m None e f h = (rw f refl, ap (λ (o : Option Line). stop_or_add l ls o (block_at depth ls)) e ∙ rw f refl)
+inner_line depth l ls m (Some k) e f h = (rw f (ap (λ (x : List Line). k ∷ x) h.front), h.later ∙ rw f refl)
+
 pub inner_block : (depth : ℕ) (ls : List Line) → Inner depth ls
 inner_block depth [] = record { front = refl; later = refl }
 inner_block depth (l ∷ ls) = outer (strip_prefix (margin depth) l) refl (inner_block depth ls)
   where
-    here : Option Line → Option Line → Type 0
-    here o p =
-        ((stop_or_add l ls p (block_at (depth + 1) ls)).0 ≡ (split_block (stop_or_add l ls o (block_at depth ls)).0).0)
-        × (block_at depth (stop_or_add l ls p (block_at (depth + 1) ls)).1 ≡ ((split_block (stop_or_add l ls o (block_at depth ls)).0).1, (stop_or_add l ls o (block_at depth ls)).1))
-
-    inside : (m : Line) (p : Option Line) → strip_prefix (margin depth) l ≡ Some m → strip_prefix (codes "  ") m ≡ p → Inner depth ls → here (Some m) p
-    unfolding here
-    inside m None e f h = (rw f refl, ap (λ (o : Option Line). stop_or_add l ls o (block_at depth ls)) e ∙ rw f refl)
-    inside m (Some k) e f h = (rw f (ap (λ (x : List Line). k ∷ x) h.front), h.later ∙ rw f refl)
-
     outer : (o : Option Line) → strip_prefix (margin depth) l ≡ o → Inner depth ls → Inner depth (l ∷ ls)
-    unfolding here
     outer None e h =
         let f : strip_prefix (margin (depth + 1)) l ≡ None = ap (λ (x : List ℕ). strip_prefix x l) (deeper depth) ∙ two_none (margin depth) (codes "  ") l e in
         record { front = rw (e, f) refl; later = rw (e, f) (rw e refl) }
     outer (Some m) e h =
         let f : strip_prefix (margin (depth + 1)) l ≡ strip_prefix (codes "  ") m = ap (λ (x : List ℕ). strip_prefix x l) (deeper depth) ∙ two_some (margin depth) (codes "  ") l m e in
-        let r = inside m (strip_prefix (codes "  ") m) e refl h in
+        let r = inner_line depth l ls m (strip_prefix (codes "  ") m) e refl h in
         record { front = rw (e, f) r.0; later = rw (e, f) r.1 }

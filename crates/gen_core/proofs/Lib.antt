@@ -1,3 +1,4 @@
 pub mod Escapes
 pub mod TextLines
+pub mod LineReads
 pub mod Blocks

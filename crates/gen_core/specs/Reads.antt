@@ -1,7 +1,7 @@
 -- What reading does to a draft and to the place in the text, by what lines are read as.
 -- The rule is in `docs/formats.md`, "Dump text". Serves the contracts of `src/read.rt` and
 -- `src/value.rt`.
-use Rattle.std.specs.Prelude.{◌≡◌, ◌≢◌, ℕ, ⊤, ◌+◌, ◌<◌, Bool, true, false, List, [], ◌∷◌, Option, None, Result, Ok, Err}
+use Rattle.std.specs.Prelude.{◌≡◌, ◌≢◌, ℕ, ⊤, ◌+◌, ◌<◌, Bool, true, false, List, [], ◌∷◌, Option, Some, None, Result, Ok, Err, bytes_eq, codes}
 use Rattle.std.specs.List.{AllByRecursion}
 use Rattle.adb_view.specs.Plain.{Plain, Plains, Shape, number, text, hash, array, object}
 use Rattle.adb_view.specs.declared.tables.Kind.{Kind}
@@ -72,6 +72,11 @@ values_taken (Err k) block d c = Err (c.number + k)
 abbrev pub entry_block_read : (List Line → LinesRead Plain) → List Line → LinesRead Plain
 entry_block_read f [] = f []
 entry_block_read f (l ∷ ls) = entry_read f l ls
+
+-- whether the first line of a block is `null`
+abbrev pub is_null_line : Option Line → Bool
+is_null_line None = false
+is_null_line (Some l) = bytes_eq l (codes "null")
 
 -- nothing is left of a block; or its first line is bad
 abbrev pub end_read : List Line → ℕ → Result (Unit {0}) GenFault

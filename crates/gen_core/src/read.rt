@@ -10,8 +10,8 @@ ghost use Rattle.adb_view.specs.declared.tables.Kind.TheVariants as Kinds;
 ghost use Rattle.adb_dump.specs.Dump.{Line};
 ghost use Rattle.adb_dump.specs.Margin.{DEPTH_LIMIT};
 ghost use Rattle.adb_dump.specs.ReadBack.{LinesRead, block_read, entries_read, fields_read, named_read, strip_prefix, value_read};
-ghost use Rattle.gen_core.specs.Cursors.{after_block, after_line, block_at};
-ghost use Rattle.gen_core.specs.Reads.{IsLineRead, IsReadFault, block_taken, end_read, entry_block_read, has_one_line, line_read, line_taken, values_taken};
+ghost use Rattle.gen_core.specs.Cursors.{block_at, first_of};
+ghost use Rattle.gen_core.specs.Reads.{IsLineRead, IsReadFault, block_taken, end_read, entry_block_read, has_one_line, is_null_line, line_read, line_taken, values_taken};
 
 use crate::cursor::{Cursor, without_prefix};
 use crate::generate::GenFault;
@@ -232,7 +232,7 @@ fn read_entry(
         IsReadFault fault (block_taken (entry_block_read (block_read (shape_of kind)) block.0)
         block draft.old cursor.old)) }
 {
-    if cursor.at_depth(depth) == Some(b"null".as_slice()) {
+    if is_null_entry(cursor, depth) {
         draft.null()?;
         cursor.turn();
         return end_block(cursor, depth);
@@ -240,8 +240,20 @@ fn read_entry(
     read_block(draft, cursor, scratch, kind, depth)
 }
 
+/// Whether a block has the first line `null`.
+fn is_null_entry(cursor: &Cursor<'_>, depth: u32) -> bool
+    requires { cursor.now.levels ≤ depth }
+    ensures { result ≡ is_null_line (first_of (block_at depth cursor.now.lines).0) }
+{
+    match cursor.at_depth(depth) {
+        Some(line) => line == b"null".as_slice(),
+        None => false,
+    }
+}
+
 /// Reads a block as an object of the table.
 #[cycle(block)]
+#[tactic(auto, using(adb_view::proofs::WalkSteps::table_rank))]
 fn read_object(
     draft: &mut Draft,
     cursor: &mut Cursor<'_>,
@@ -269,6 +281,7 @@ fn read_object(
 
 /// Reads a block as the fields of an object, in their order; a field without a line is Null.
 #[cycle(block)]
+#[tactic(auto, using(adb_view::proofs::WalkSteps::field_rank))]
 fn read_fields(
     draft: &mut Draft,
     cursor: &mut Cursor<'_>,

@@ -1,6 +1,6 @@
-use Rattle.std.proofs.Common.{refl}
+use Rattle.std.proofs.Common.{refl, ap, ◌∙◌}
 use Rattle.std.specs.List.{flat_map}
-use Rattle.adb_dump.specs.Dump.{escape_of}
+use Rattle.adb_dump.specs.Dump.{escape_of, is_bare}
 use Rattle.gen_core.proofs.Escapes.{none_read, quoted_all, quoted_more, quoted_not_read, quoted_of_none}
 use Rattle.gen_core.proofs.value.read_quoted.Goals as goal
 
@@ -14,7 +14,12 @@ pub loop-byte-preserved : goal.loop-byte-preserved
 loop-byte-preserved c = quoted_more c.loop-byte.bytes.items c.loop-byte.rest.now c.args.quoted.now c.in-Some.further.now c.push.new.self.items c.in-Some.byte c.loop-byte.invariant c.in-Some.ensures c.in_ok-push.ensures.items
 
 pub returns-then-not-is_quote : goal.returns-then-not-is_quote
-returns-then-not-is_quote c = ?
+returns-then-not-is_quote c =
+    quoted_not_read c.loop-byte.bytes.items c.loop-byte.rest.now c.args.quoted.now c.loop-byte.invariant c.in_default.ensures
+    (λ is. let t = c.if-not-is_quote.ensures.1 is in absurd cc)
 
 pub returns : goal.returns
-returns c = ?
+returns c =
+    quoted_all c.loop-byte.bytes.items c.loop-byte.rest.now c.args.quoted.now c.is_bare.result c.loop-byte.invariant
+    (λ is. let t = c.if-is_quote.ensures.1 is in absurd cc) (c.is_quote-2.ensures.0 c.if-not-is_quote.false)
+    (c.is_bare.ensures ∙ ap is_bare c.deref.ensures.value)
