@@ -10,4 +10,5 @@ pub mod Queries
 pub mod Appends
 pub mod QueryRanking
 pub mod Lines
+pub mod EntryFound
 pub mod VersionPlaces

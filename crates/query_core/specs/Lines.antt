@@ -21,4 +21,4 @@ description_part c =
 -- the line of a candidate in a form
 abbrev pub line_of : LineForm → Candidate → List ℕ
 line_of Full c = candidate_line c
-line_of Short c = search_line c.name (printed_version c)
+line_of Short c = search_line c.name (printed_version c.version)

@@ -22,7 +22,7 @@ is_list_candidate patterns installed_only c =
 -- the line of a candidate
 abbrev pub candidate_line : Candidate → List ℕ
 candidate_line c =
-    list_line c.name (printed_version c) (text_in (entry_in c.info INFO_ARCH))
+    list_line c.name (printed_version c.version) (text_in (entry_in c.info INFO_ARCH))
     (text_in (entry_in c.info INFO_ORIGIN)) (text_in (entry_in c.info INFO_LICENSE)) c.installed
 
 -- what `list` prints of candidates, by its patterns and whether only installed packages are asked

@@ -1,5 +1,5 @@
 -- The candidates that a query selects, in its order. The rule is in `docs/commands.md`, "Queries".
-use Rattle.std.specs.Prelude.{ℕ, Bool, List, [], unwrap_or, slice_get}
+use Rattle.std.specs.Prelude.{ℕ, Bool, List, [], Option, unwrap_or, slice_get}
 use Rattle.std.specs.List.{filter_map}
 use Rattle.std.specs.Option.{option_cmp}
 use Rattle.std.specs.Ordering.{nat_cmp, on, then_cmp}
@@ -9,10 +9,10 @@ use Rattle.candidate_core.specs.Options.{places_from}
 use Rattle.candidate_core.specs.Rank.{bytes_cmp, greater_version}
 use Rattle.base_core.specs.Sorted.{sorted_by}
 
--- the text of a candidate's version, as it is printed; empty only if the candidate has no version,
--- which none of a tested container lacks
-abbrev pub printed_version : Candidate → List ℕ
-printed_version c = unwrap_or c.version []
+-- the text of a version, as it is printed; empty if there is none, and no candidate of a tested
+-- container lacks one
+abbrev pub printed_version : Option (List ℕ) → List ℕ
+printed_version version = unwrap_or version []
 
 -- the order of two candidates: the byte-lesser name comes first, then the greater version, and of
 -- equal versions the byte-lesser text

@@ -1,9 +1,9 @@
 -- What `policy` prints (apk(8)). The rule is in `docs/commands.md`, "`policy`".
-use Rattle.std.specs.Prelude.{ℕ, ◌+◌, ◌==◌, Bool, false, ◌&&◌, if◌then◌else◌, List, [], ◌∷◌, ◌++◌, map}
+use Rattle.std.specs.Prelude.{ℕ, ◌+◌, ◌==◌, Bool, false, ◌&&◌, if◌then◌else◌, List, [], ◌∷◌, ◌++◌, map, Option}
 use Rattle.std.specs.List.{filter, flat_map, list_any}
 use Rattle.std.specs.Option.{option_map_or}
 use Rattle.std.specs.Str.{bytes_eq}
-use Rattle.candidate_core.specs.Candidates.{Candidate}
+use Rattle.candidate_core.specs.Candidates.{Candidate, is_same_version}
 use Rattle.command_core.specs.declared.operands.Operand.{Operand}
 use Rattle.dep_core.specs.Repositories.{Repository}
 use Rattle.report_core.specs.QueryReports.{database_line, policy_heading, repository_line, version_heading}
@@ -15,23 +15,25 @@ use Rattle.query_core.specs.Order.{printed_version, selected_candidates}
 abbrev pub has_own_name : List ℕ → Candidate → Bool
 has_own_name name c = bytes_eq name c.name
 
--- texts, each once
-abbrev pub texts_once : List (List ℕ) → List (List ℕ)
-texts_once [] = []
-texts_once (text ∷ texts) =
-    if list_any (bytes_eq text) texts then texts_once texts else text ∷ texts_once texts
+-- versions, of which those with one text are left once
+abbrev pub versions_once : List (Option (List ℕ)) → List (Option (List ℕ))
+versions_once [] = []
+versions_once (version ∷ versions) =
+    if list_any (is_same_version version) versions then versions_once versions
+    else version ∷ versions_once versions
 
--- the versions of the candidates with a name, in the order of queries, each once
-abbrev pub versions_of_name : List Candidate → List ℕ → List (List ℕ)
+-- the versions of the candidates with a name, in the order of queries, each text once
+abbrev pub versions_of_name : List Candidate → List ℕ → List (Option (List ℕ))
 versions_of_name candidates name =
-    texts_once (map printed_version (selected_candidates (has_own_name name) candidates))
+    versions_once
+    (map (λ (c : Candidate). c.version) (selected_candidates (has_own_name name) candidates))
 
 -- ---- where a version is
 
--- whether a candidate has this name of its own and this version
-abbrev pub has_name_and_version : List ℕ → List ℕ → Candidate → Bool
+-- whether a candidate has this name of its own and this text of a version
+abbrev pub has_name_and_version : List ℕ → Option (List ℕ) → Candidate → Bool
 has_name_and_version name version c =
-    has_own_name name c && bytes_eq version (printed_version c)
+    has_own_name name c && is_same_version version c.version
 
 -- whether a candidate is of the repository with this number, counted from 1
 abbrev pub is_of_repository : ℕ → Candidate → Bool
@@ -53,9 +55,10 @@ place_lines repositories candidates =
 -- ---- the report
 
 -- what is printed of a version of a name
-abbrev pub version_policy : List Candidate → List Repository → List ℕ → List ℕ → List ℕ
+abbrev pub version_policy :
+    List Candidate → List Repository → List ℕ → Option (List ℕ) → List ℕ
 version_policy candidates repositories name version =
-    version_heading version
+    version_heading (printed_version version)
     ++ place_lines repositories (filter (has_name_and_version name version) candidates)
 
 -- what is printed of a name

@@ -29,5 +29,5 @@ is_search_candidate patterns c =
 -- what `search` prints of candidates, by its patterns
 abbrev pub search_report : List Candidate → List Operand → List ℕ
 search_report candidates patterns =
-    flat_map (λ (c : Candidate). search_line c.name (printed_version c))
+    flat_map (λ (c : Candidate). search_line c.name (printed_version c.version))
     (selected_candidates (is_search_candidate patterns) candidates)

@@ -1,23 +1,24 @@
 -- Where a version of a name is, gathered before it is printed.
--- No rule of a document: serves the contracts of `src/version_places.rt` and `src/policy.rt`.
-use Rattle.std.specs.Prelude.{◌≡◌, ◌<◌, ◌≤◌, ◌↔◌, ◌-◌, ℕ, Bool, true, nat_lt, if◌then◌else◌, List, [], ◌∷◌, ◌++◌, slice_get}
+-- No rule of a document: serves the contracts of `src/version_places.rt` and `src/policy_query.rt`.
+use Rattle.std.specs.Prelude.{◌≡◌, ◌<◌, ◌≤◌, ◌↔◌, ◌-◌, ℕ, Bool, true, nat_lt, if◌then◌else◌, List, [], ◌∷◌, ◌++◌, Option, slice_get}
 use Rattle.std.specs.List.{filter, list_any}
 use Rattle.std.specs.Option.{option_map_or}
 use Rattle.candidate_core.specs.Candidates.{Candidate}
 use Rattle.candidate_core.specs.Options.{IsIn}
 use Rattle.dep_core.specs.Repositories.{Repository}
 use Rattle.report_core.specs.QueryReports.{database_line, repository_line, version_heading}
+use Rattle.query_core.specs.Order.{printed_version}
 use Rattle.query_core.specs.Policy.{has_name_and_version, is_of_repository}
 
 -- a version of a name, whether a candidate with it is installed, and the numbers of the
 -- repositories that have one, none less than those before it
 pub record VersionPlaces : Type 0 where
-  pub version : List ℕ
+  pub version : Option (List ℕ)
   pub is_installed : Bool
   pub repositories : List ℕ
 
 -- the places of a version by its parts
-abbrev pub version_places_by : List ℕ → Bool → List ℕ → VersionPlaces
+abbrev pub version_places_by : Option (List ℕ) → Bool → List ℕ → VersionPlaces
 version_places_by version is_installed repositories =
     record { version = version; is_installed = is_installed; repositories = repositories }
 
@@ -43,7 +44,7 @@ rising_lines repositories last (n ∷ numbers) =
 -- what is printed of a version
 abbrev pub version_lines : List Repository → VersionPlaces → List ℕ
 version_lines repositories places =
-    version_heading places.version
+    version_heading (printed_version places.version)
     ++ (if places.is_installed then database_line else [])
     ++ rising_lines repositories 0 places.repositories
 

@@ -8,7 +8,7 @@ ghost use Rattle.report_core.specs.QueryReports.{installed_mark, list_line, sear
 ghost use Rattle.report_core.specs.Reports.{name_version};
 ghost use Rattle.base_core.specs.Sorted.{sorted_by};
 ghost use Rattle.std.specs.List.{filter_map, flat_map};
-ghost use Rattle.std.specs.Prelude.{◌≡◌, ◌<◌, All, IfOk, OnOk, length, map, slice_get};
+ghost use Rattle.std.specs.Prelude.{◌≡◌, ◌<◌, ◌∷◌, ◌++◌, [], All, IfOk, OnOk, if◌then◌else◌, length, map, slice_get};
 
 use crate::order::in_order;
 use crate::report_out::{ReportLength, ReportOut};
@@ -17,6 +17,7 @@ use candidate_core::{CandId, Details};
 use option_ranks::RankedOption;
 use pool_core::Sealed;
 use std::alloc::{AllocError, Global};
+use version_core::Version;
 
 /// What is printed of a candidate.
 #[derive(Clone, Copy)]
@@ -36,6 +37,21 @@ pub(crate) fn place_of(number: usize) -> Result<CandId, AllocError>
         Ok(place) => Ok(CandId { place }),
         Err(_) => Err(AllocError),
     }
+}
+
+/// Adds a place if its candidate is selected.
+pub(crate) fn push_if(
+    places: &mut Vec<CandId>,
+    place: CandId,
+    is_selected: bool,
+) -> Result<(), AllocError>
+    ensures { OnOk result (places.new.items
+        ≡ places.old.items ++ (if is_selected then place ∷ [] else [])) }
+{
+    if is_selected {
+        places.push(place)?;
+    }
+    Ok(())
 }
 
 /// The lines of the candidates at some places, in the order of queries. The length of the report is
@@ -74,7 +90,8 @@ fn put_lines<O: ReportOut>(
         (filter_map (slice_get pool.now.candidates) (map (λ r. r.place) rankings.now)))) }
 {
     for i in 0..rankings.len() {
-        put_line(out, &pool.details(rankings[i].id), form)?;
+        let ranking = &rankings[i];
+        put_line(out, &pool.details(ranking.id), form)?;
     }
     Ok(())
 }
@@ -97,18 +114,18 @@ fn put_line<O: ReportOut>(
 // Puts name and version of a candidate.
 fn put_name_version<O: ReportOut>(out: &mut O, details: &Details<'_>) -> Result<(), AllocError>
     ensures { OnOk result (Appends O.holds out.old out.new
-        (name_version details.now.name (printed_version details.now))) }
+        (name_version details.now.name (printed_version details.now.version))) }
 {
     out.put(details.name())?;
     out.put(b"-")?;
-    out.put(printed_version(details))
+    out.put(printed_version(&details.version()))
 }
 
-/// The text of a candidate's version.
-pub(crate) fn printed_version<'a>(details: &Details<'a>) -> &'a [u8]
-    ensures { result.now ≡ printed_version details.now }
+/// The text of a version, as it is printed.
+pub(crate) fn printed_version<'a>(version: &Option<Version<'a>>) -> &'a [u8]
+    ensures { result.now ≡ printed_version version.now }
 {
-    match details.version() {
+    match version {
         Some(version) => version.text(),
         None => b"",
     }
@@ -122,10 +139,17 @@ fn put_description<O: ReportOut>(out: &mut O, details: &Details<'_>) -> Result<(
     put_between(out, b" ", info.arch(), b"")?;
     put_between(out, b" {", info.origin(), b"}")?;
     put_between(out, b" (", info.license(), b")")?;
-    if details.is_installed() {
-        out.put(b" [installed]")?;
+    put_installed_mark(out, details.is_installed())
+}
+
+// Puts the mark of a package that is installed.
+fn put_installed_mark<O: ReportOut>(out: &mut O, is_installed: bool) -> Result<(), AllocError>
+    ensures { OnOk result (Appends O.holds out.old out.new (installed_mark is_installed)) }
+{
+    if !is_installed {
+        return Ok(());
     }
-    Ok(())
+    out.put(b" [installed]")
 }
 
 // Puts a text between two others, and nothing if it is empty.

@@ -6,13 +6,13 @@
 #![tactic(auto)]
 
 mod candidates;
-mod list;
+mod list_query;
 mod order;
-mod policy;
+mod policy_query;
 mod report_out;
-mod search;
+mod search_query;
 mod version_places;
 
-pub use list::list;
-pub use policy::policy;
-pub use search::search;
+pub use list_query::list;
+pub use policy_query::policy;
+pub use search_query::search;

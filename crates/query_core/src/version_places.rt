@@ -3,15 +3,16 @@
 //! The rule is in `docs/commands.md`, "`policy`".
 ghost use Rattle.candidate_core.specs.Candidates.{Candidate, is_same_version};
 ghost use Rattle.candidate_core.specs.Options.{places_from};
+ghost use Rattle.candidate_core.specs.Rank.{is_at};
 ghost use Rattle.option_ranks.specs.Ranking.{Ranking};
-ghost use Rattle.query_core.specs.Order.{printed_version, selected_places};
+ghost use Rattle.query_core.specs.Order.{selected_places};
 ghost use Rattle.query_core.specs.Policy.{has_own_name, versions_of_name};
 ghost use Rattle.query_core.specs.QueryRanking.{AreInQueryOrder, have_one_version};
 ghost use Rattle.query_core.specs.VersionPlaces.{IsVersionOf, SaysPlacesOf};
-ghost use Rattle.std.specs.List.{filter_map};
+ghost use Rattle.std.specs.List.{filter, filter_map};
 ghost use Rattle.std.specs.Prelude.{◌≡◌, ◌<◌, ◌≤◌, ◌++◌, ℕ, All, IfOk, OnOk, Some, length, map, option_to_list, slice_get, true, false};
 
-use crate::candidates::printed_version;
+use crate::candidates::push_if;
 use crate::order::{Ordered, in_order};
 use candidate_core::CandId;
 use option_ranks::{RankedOption, VersionKey};
@@ -23,8 +24,8 @@ use version_core::Version;
 /// A version of a name, and where it is.
 #[derive(Drop)]
 pub(crate) struct PlacedVersion<'a> {
-    /// The text of the version.
-    pub(crate) version: &'a [u8],
+    /// The version.
+    pub(crate) version: Option<Version<'a>>,
     /// Whether a candidate with this version is installed.
     pub(crate) is_installed: bool,
     /// The numbers of the repositories that have one, counted from 1; none is less than those
@@ -37,7 +38,7 @@ impl<'a> Model for PlacedVersion<'a> {
 
     ghost Value = { VersionPlaces };
 
-    ghost view = { λ v. version_places_by v.version.now v.is_installed v.repositories.items };
+    ghost view = { λ v. version_places_by v.version v.is_installed v.repositories.items };
 }
 
 /// The versions of the candidates with a name, each once and in the order of queries, and where
@@ -62,13 +63,37 @@ fn named_places(alloc: Global, pool: &Sealed<'_>, name: &[u8]) -> Result<Vec<Can
     ensures { IfOk result (λ places. places.items
         ≡ places_from 0 (has_own_name name.now) pool.now.candidates) }
 {
+    let offers = pool.offers(name);
+    let places = named_among(alloc, pool, name, offers)?;
+    Ok(places)
+}
+
+// Those of some places whose candidates have a name of their own.
+fn named_among(
+    alloc: Global,
+    pool: &Sealed<'_>,
+    name: &[u8],
+    offers: &[CandId],
+) -> Result<Vec<CandId>, AllocError>
+    ensures { IfOk result (λ places. places.items
+        ≡ filter (λ place. is_at pool.now (has_own_name name.now) place) offers.now) }
+{
     let mut places = Vec::new(alloc);
-    for place in pool.offers(name) {
-        if pool.details(*place).name() == name {
-            places.push(*place)?;
-        }
+    for place in offers {
+        let is_named = is_named_at(pool, *place, name);
+        push_if(&mut places, *place, is_named)?;
     }
     Ok(places)
+}
+
+// Whether there is a candidate at a place that has a name of its own.
+fn is_named_at(pool: &Sealed<'_>, place: CandId, name: &[u8]) -> bool
+    ensures { result ≡ is_at pool.now (has_own_name name.now) place }
+{
+    match pool.at(place) {
+        Some(details) => name == details.name(),
+        None => false,
+    }
 }
 
 // The versions of candidates in the order of queries, each once, and where each of them is. Those
@@ -110,11 +135,12 @@ fn end_of_version(rankings: &[RankedOption<'_>], key: VersionKey, start: usize) 
     ensures other { (a b : Ranking) → slice_get rankings.now start ≡ Some a
         → slice_get rankings.now result ≡ Some b → have_one_version key a b ≡ false }
 {
-    let mut end = start + 1;
-    while end < rankings.len() && have_one_version(&rankings[start], &rankings[end], key) {
-        end += 1;
+    for end in start + 1..rankings.len() {
+        if !have_one_version(&rankings[start], &rankings[end], key) {
+            return end;
+        }
     }
-    end
+    rankings.len()
 }
 
 // Whether two candidates have one version.
@@ -149,20 +175,22 @@ fn placed_version<'a>(
     requires within { All (λ r. r.place < length pool.now.candidates) rankings.now }
     ensures version { IfOk result (λ placed. (c : Candidate)
         → slice_get (filter_map (λ r. slice_get pool.now.candidates r.place) rankings.now) 0
-        ≡ Some c → placed.version ≡ printed_version c) }
+        ≡ Some c → placed.version ≡ c.version) }
     ensures places { IfOk result (λ placed. SaysPlacesOf
         (filter_map (λ r. slice_get pool.now.candidates r.place) rankings.now) placed) }
 {
     let mut is_installed = false;
     let mut repositories = Vec::new(alloc);
     for i in 0..rankings.len() {
-        let details = pool.details(rankings[i].id);
+        let ranking = &rankings[i];
+        let details = pool.details(ranking.id);
         is_installed |= details.is_installed();
         push_repository(&mut repositories, details.repo())?;
     }
     repositories.sort()?;
+    let first = &rankings[0];
     Ok(PlacedVersion {
-        version: printed_version(&pool.details(rankings[0].id)),
+        version: pool.details(first.id).version(),
         is_installed,
         repositories,
     })

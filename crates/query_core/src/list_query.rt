@@ -3,7 +3,7 @@ ghost use Rattle.candidate_core.specs.Options.{places_from};
 ghost use Rattle.query_core.specs.List.{is_list_candidate, is_name_matched, list_report};
 ghost use Rattle.std.specs.Prelude.{◌≡◌, ◌==◌, ◌||◌, IfOk, length};
 
-use crate::candidates::{LineForm, place_of, report};
+use crate::candidates::{LineForm, place_of, push_if, report};
 use base_core::Text;
 use candidate_core::{CandId, Details};
 use command_core::Operands;
@@ -42,9 +42,12 @@ fn listed_places(
     let mut places = Vec::new(alloc);
     for number in 0..pool.len() {
         let place = place_of(number)?;
-        if is_list_candidate(&pool.details(place), patterns, installed_only) {
-            places.push(place)?;
-        }
+        let details = pool.details(place);
+        push_if(
+            &mut places,
+            place,
+            is_list_candidate(&details, patterns, installed_only),
+        )?;
     }
     Ok(places)
 }

@@ -2,10 +2,11 @@
 ghost use Rattle.query_core.specs.Appends.{Appends};
 ghost use Rattle.query_core.specs.Policy.{name_policy, policy_report};
 ghost use Rattle.query_core.specs.VersionPlaces.{numbered_line, rising_lines, version_lines};
-ghost use Rattle.report_core.specs.QueryReports.{place_line, policy_heading, repository_line, version_heading};
+ghost use Rattle.report_core.specs.QueryReports.{database_line, place_line, policy_heading, repository_line, version_heading};
 ghost use Rattle.std.specs.List.{flat_map};
-ghost use Rattle.std.specs.Prelude.{◌≡◌, ◌<◌, ◌++◌, IfOk, OnOk, codes, option_copied};
+ghost use Rattle.std.specs.Prelude.{◌≡◌, ◌<◌, ◌++◌, [], IfOk, OnOk, codes, if◌then◌else◌, nat_lt, option_copied};
 
+use crate::candidates::printed_version;
 use crate::report_out::{ReportLength, ReportOut};
 use crate::version_places::{PlacedVersion, placed_versions};
 use base_core::Text;
@@ -82,11 +83,20 @@ fn put_version<O: ReportOut>(
     ensures { OnOk result (Appends O.holds out.old out.new
         (version_lines repositories.now version.now)) }
 {
-    put_version_heading(out, version.version)?;
-    if version.is_installed {
-        put_place(out, b"lib/apk/db/installed")?;
-    }
+    put_version_heading(out, printed_version(&version.version))?;
+    put_database(out, version.is_installed)?;
     put_repositories(out, repositories, &version.repositories)
+}
+
+// Puts the line of the database of installed packages if a version is installed.
+fn put_database<O: ReportOut>(out: &mut O, is_installed: bool) -> Result<(), AllocError>
+    ensures { OnOk result (Appends O.holds out.old out.new
+        (if is_installed then database_line else [])) }
+{
+    if !is_installed {
+        return Ok(());
+    }
+    put_place(out, b"lib/apk/db/installed")
 }
 
 // Puts the line of a version, below the name.
@@ -110,13 +120,28 @@ fn put_repositories<O: ReportOut>(
 {
     let mut last = 0;
     for i in 0..numbers.len() {
-        let number = numbers[i];
-        if last < number {
-            put_numbered(out, repositories, number)?;
-            last = number;
-        }
+        last = put_greater(out, repositories, last, numbers[i])?;
     }
     Ok(())
+}
+
+// Puts the line of the repository with a number if the number is greater than the last one, and
+// answers the greater of the two.
+fn put_greater<O: ReportOut>(
+    out: &mut O,
+    repositories: &Repos,
+    last: u64,
+    number: u64,
+) -> Result<u64, AllocError>
+    ensures last { IfOk result (λ now. now ≡ (if nat_lt last number then number else last)) }
+    ensures put { OnOk result (Appends O.holds out.old out.new
+        (if nat_lt last number then numbered_line repositories.now number else [])) }
+{
+    if last < number {
+        put_numbered(out, repositories, number)?;
+        return Ok(number);
+    }
+    Ok(last)
 }
 
 // Puts the line of the repository with a number, counted from 1, if there is one.
@@ -147,7 +172,7 @@ fn put_repository<O: ReportOut>(
     path: &[u8],
 ) -> Result<(), AllocError>
     ensures { OnOk result (Appends O.holds out.old out.new
-        (repository_line (option_copied tag) path.now)) }
+        (repository_line (option_copied tag.entry) path.now)) }
 {
     match tag {
         Some(tag) => put_tagged(out, tag, path),

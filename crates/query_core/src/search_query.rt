@@ -1,13 +1,16 @@
 //! What `search` prints (apk(8)). The rule is in `docs/commands.md`, "`search`".
 ghost use Rattle.candidate_core.specs.Options.{places_from};
+ghost use Rattle.dep_core.specs.Meets.{dependency};
+ghost use Rattle.query_core.specs.EntryFound.{is_entry_found};
 ghost use Rattle.query_core.specs.Search.{is_name_found, is_search_candidate, provided_names, search_report};
 ghost use Rattle.std.specs.List.{list_any};
 ghost use Rattle.std.specs.Prelude.{◌≡◌, IfOk};
 
-use crate::candidates::{LineForm, place_of, report};
+use crate::candidates::{LineForm, place_of, push_if, report};
 use base_core::Text;
 use candidate_core::{CandId, Deps, Details};
 use command_core::Operands;
+use dep_core::Dep;
 use pool_core::Sealed;
 use std::alloc::{AllocError, Global};
 
@@ -37,9 +40,8 @@ fn found_places(
     let mut places = Vec::new(alloc);
     for number in 0..pool.len() {
         let place = place_of(number)?;
-        if is_search_candidate(&pool.details(place), patterns) {
-            places.push(place)?;
-        }
+        let details = pool.details(place);
+        push_if(&mut places, place, is_search_candidate(&details, patterns))?;
     }
     Ok(places)
 }
@@ -62,12 +64,22 @@ fn is_provided_name_found(patterns: &Operands, provides: &Deps<'_>) -> bool
     ensures { result ≡ list_any (is_name_found patterns.now) (provided_names provides.now) }
 {
     for i in 0..provides.len() {
-        let entry = provides.get(i);
-        if !entry.conflict && is_name_found(patterns, entry.name) {
+        if is_entry_found(patterns, &provides.get(i)) {
             return true;
         }
     }
     false
+}
+
+// Whether an entry of provides is no conflict, and one of the patterns matches some part of its
+// name.
+fn is_entry_found(patterns: &Operands, entry: &Dep<'_>) -> bool
+    ensures { result ≡ is_entry_found patterns.now (dependency entry.now) }
+{
+    if entry.conflict {
+        return false;
+    }
+    is_name_found(patterns, entry.name)
 }
 
 // Whether one of the patterns matches some part of a name.
