@@ -1,9 +1,7 @@
 -- A command that only reports is refused for its input alone.
-use Rattle.std.proofs.Common.{◌≡◌, ℕ, Bool, true, false, List, [], ◌∷◌, Option, Some, None, Result, Ok, Err, refl, ap, sym, subst, ◌∙◌}
-use Rattle.std.specs.Option.{option_map_or}
-use Rattle.std.specs.Prelude.{if◌then◌else◌, is_some}
+use Rattle.std.proofs.Common.{◌≡◌, ℕ, Bool, true, false, List, [], ◌∷◌, ◌++◌, Option, Some, None, Result, Ok, Err, refl, ap, sym, subst, ◌∙◌}
 use Rattle.adb_view.specs.Plain.{Plain}
-use Rattle.audit_core.specs.Manifest.{manifest_of}
+use Rattle.audit_core.specs.Manifest.{manifest_of, manifest_with, operand_package, package_manifest}
 use Rattle.candidate_core.specs.Rank.{no_names}
 use Rattle.change_inputs.specs.Candidates.{root_pool}
 use Rattle.change_inputs.specs.Chains.{and_then}
@@ -12,19 +10,15 @@ use Rattle.command_core.specs.Command.{CommandLine}
 use Rattle.command_core.specs.declared.command.Applet.{Applet}
 use Rattle.command_core.specs.declared.command.Applet.TheVariants.{Audit, Info, List as ListApplet, Manifest, Policy, Search}
 use Rattle.command_core.specs.declared.operands.Operand.{Operand}
-use Rattle.installed_info.specs.Info.{info_of, info_refusal}
-use Rattle.installed_info.specs.Packages.{package_asked}
+use Rattle.installed_info.specs.Info.{info_of}
 use Rattle.installed_info.specs.Refusals.{IsOfAnOperand}
-use Rattle.installed_info.specs.declared.telling.Form.{Form}
-use Rattle.installed_info.specs.declared.telling.Form.TheVariants.{Description}
 use Rattle.installed_info.specs.declared.telling.InfoDone.{InfoDone}
 use Rattle.make_info.specs.Reads.{Reads}
 use Rattle.report_core.specs.declared.refusal.Refusal.{Refusal}
-use Rattle.report_core.specs.declared.refusal.Refusal.TheVariants.{NotInstalled}
 use Rattle.tell_core.specs.AuditTold.{audit_of, manifest_report}
 use Rattle.tell_core.specs.QueryTold.{query_report, query_told}
 use Rattle.tell_core.specs.ToldBy.{told_by, told_for}
-use Rattle.outcome.proofs.Ends.{HasKnownRefusal, database_stated, inputs_stated, pool_stated}
+use Rattle.outcome.proofs.Ends.{HasKnownRefusal, database_stated, inputs_stated, pool_stated, then_stated}
 use Rattle.outcome.specs.ChangeEnd.{is_input_refusal}
 
 abbrev IsStated : Refusal → Type 0
@@ -41,22 +35,14 @@ then_all_stated (Err refusal) next h rest = h
 
 -- ---- a manifest
 
--- of an operand that asks for what is not installed
-place_stated : (refused : Option Refusal) (report : List ℕ) → ((refusal : Refusal) → refused ≡ Some refusal → IsStated refusal) → HasKnownRefusal is_input_refusal (option_map_or Err refused (Ok report))
-place_stated None report h = tt
-place_stated (Some refusal) report h = h refusal refl
-
-first_stated : (form : Form) (packages : List Plain) (operands : List Operand) (refusal : Refusal) → info_refusal form packages operands ≡ Some refusal → IsStated refusal
-first_stated form packages [] refusal e = absurd (cc (e))
-first_stated form packages (o ∷ operands) refusal e = by_test (is_some (package_asked form packages o.text)) e (first_stated form packages operands refusal)
-  where
-    by_test : (b : Bool) → (if b then info_refusal form packages operands else Some (NotInstalled o.place)) ≡ Some refusal → (info_refusal form packages operands ≡ Some refusal → IsStated refusal) → IsStated refusal
-    by_test true e more = more e
-    by_test false e more = let same : refusal ≡ NotInstalled o.place = cc in ap is_input_refusal same
+-- with one operand more
+with_stated : (o : Operand) (found : Option Plain) (further : Result (List ℕ) Refusal) → HasKnownRefusal is_input_refusal further → HasKnownRefusal is_input_refusal (manifest_with o found further)
+with_stated o None further h = refl
+with_stated o (Some pkg) further h = then_stated is_input_refusal further (λ more. Ok (package_manifest pkg ++ more)) h (λ more. tt)
 
 manifest_stated : (packages : List Plain) (operands : List Operand) → HasKnownRefusal is_input_refusal (manifest_of packages operands)
-unfolding manifest_of
-manifest_stated packages operands = place_stated (info_refusal Description packages operands) _ (first_stated Description packages operands)
+manifest_stated packages [] = tt
+manifest_stated packages (o ∷ operands) = with_stated o (operand_package packages o) (manifest_of packages operands) (manifest_stated packages operands)
 
 -- ---- a query
 
