@@ -31,10 +31,11 @@ use Rattle.report_core.specs.declared.refusal.Refusal.TheVariants.{Usage}
 use Rattle.command_core.specs.Command.{CommandLine}
 use Rattle.words_core.specs.Faults.{IsWordsFault}
 use Rattle.words_core.specs.Grammar.{command_of}
+use Rattle.words_core.specs.HelpTexts.{help_text, version_text}
 use Rattle.words_core.specs.declared.read.WordsFault.{WordsFault}
 use Rattle.words_core.specs.declared.read.WordsFault.TheVariants.{Usage as WrongWord}
 use Rattle.command_core.specs.declared.command.Applet.{Applet}
-use Rattle.command_core.specs.declared.command.Applet.TheVariants.{Adbdump, Adbgen, Mkndx, Mkpkg, Verify, Version}
+use Rattle.command_core.specs.declared.command.Applet.TheVariants.{Adbdump, Adbgen, Help, Mkndx, Mkpkg, ProgramVersion, Verify, Version}
 use Rattle.command_core.specs.declared.operands.Operand.{Operand}
 use Rattle.outcome.proofs.Looking.{look_leaves}
 use Rattle.apk_front.specs.Answers.{answer_by}
@@ -392,44 +393,66 @@ not_on_words Tells writes rests = cc (rests)
 not_on_words Makes writes rests = cc (rests)
 not_on_words Changes writes rests = cc (rests)
 
+-- ---- an outcome that rests on no read
+
+-- what is judged is the outcome, whatever is read and whatever the files are
+abbrev pub Ran : CommandLine → Verdict → Type 0
+Ran command verdict = (read : Reads) (files : Files) → as_outcome files verdict ≡ command_outcome command nothing_given read files
+
+pub ran_found : (old : History) (command : CommandLine) (verdict : Verdict) → Ran command verdict → IfObservable old (λ v. as_outcome (files_of v) verdict ≡ command_outcome command nothing_given (reads_in (files_of v)) (files_of v))
+ran_found [] command verdict ran = tt
+ran_found (v ∷ old) command verdict ran = ran (reads_in (files_of v)) (files_of v)
+
+pub ran_read : (command : CommandLine) (verdict : Verdict) → Ran command verdict → (read : Reads) × (as_outcome no_names verdict ≡ command_outcome command nothing_given read no_names)
+ran_read command verdict ran = (λ k name. None, ran (λ k name. None) no_names)
+
+pub ran_by_words : (command : CommandLine) (verdict : Verdict) → Ran command verdict → (files : Files) → as_outcome files verdict ≡ command_outcome command nothing_given (reads_in files) files
+ran_by_words command verdict ran files = ran (reads_in files) files
+
+-- by the applet as it is read of the command
+ran_as : (command : CommandLine) (applet : Applet) (asked : Applet) (verdict : Verdict) → applet ≡ command.applet → applet ≡ asked
+    → ((read : Reads) (files : Files) → as_outcome files verdict ≡ applet_outcome asked command nothing_given read files) → Ran command verdict
+ran_as command applet asked verdict same is ran read files = ran read files ∙ ap (λ (a : Applet). applet_outcome a command nothing_given read files) (sym is ∙ same)
+
+pub help_ran : (command : CommandLine) (applet : Applet) (operands : List Operand) (text : List ℕ) (verdict : Verdict) → applet ≡ command.applet → applet ≡ Help → operands ≡ command.operands → text ≡ help_text operands
+    → ((files : Files) → as_outcome files verdict ≡ just_report files text) → Ran command verdict
+help_ran command applet operands text verdict same is of told reported =
+    ran_as command applet Help verdict same is (λ read files. reported files ∙ ap (just_report files) (told ∙ ap help_text of))
+
+pub version_ran : (command : CommandLine) (applet : Applet) (text : List ℕ) (verdict : Verdict) → applet ≡ command.applet → applet ≡ ProgramVersion → text ≡ version_text
+    → ((files : Files) → as_outcome files verdict ≡ just_report files text) → Ran command verdict
+version_ran command applet text verdict same is told reported = ran_as command applet ProgramVersion verdict same is (λ read files. reported files ∙ ap (just_report files) told)
+
 -- ---- `demo` by itself
 
-computes_nothing : (applet : Applet) (command : CommandLine) (files : Files) → (applet ≡ Version → ⊥) → computing_outcome applet command files ≡ just_report files []
-computes_nothing Version command files n = absurd (n refl)
-computes_nothing other command files n = refl
+-- an applet that is none of those that are looked at
+abbrev pub IsNoneOfThese : Applet → Type 0
+IsNoneOfThese applet =
+    (applet ≡ Verify → ⊥) × (applet ≡ Version → ⊥) × (applet ≡ Help → ⊥) × (applet ≡ ProgramVersion → ⊥) × (applet ≡ Adbdump → ⊥) × (applet ≡ Adbgen → ⊥)
 
-reads_nothing : (applet : Applet) (command : CommandLine) (read : Reads) (files : Files) → (applet ≡ Verify → ⊥) → (applet ≡ Adbdump → ⊥) → (applet ≡ Adbgen → ⊥) → reading_outcome applet command read files ≡ just_report files []
-reads_nothing Verify command read files v d g = absurd (v refl)
-reads_nothing Adbdump command read files v d g = absurd (d refl)
-reads_nothing Adbgen command read files v d g = absurd (g refl)
-reads_nothing other command read files v d g = refl
+computes_nothing : (applet : Applet) (command : CommandLine) (files : Files) → IsNoneOfThese applet → computing_outcome applet command files ≡ just_report files []
+computes_nothing Version command files (verify, version, help, program, dump, generate) = absurd (version refl)
+computes_nothing Help command files (verify, version, help, program, dump, generate) = absurd (help refl)
+computes_nothing ProgramVersion command files (verify, version, help, program, dump, generate) = absurd (program refl)
+computes_nothing other command files none = refl
 
-nothing_of : (effect : Effect) (applet : Applet) (command : CommandLine) → (applet ≡ Verify → ⊥) → (applet ≡ Version → ⊥) → (applet ≡ Adbdump → ⊥) → (applet ≡ Adbgen → ⊥) → does_only_read effect ≡ true
-    → (read : Reads) (files : Files) → effect_outcome effect applet command nothing_given read files ≡ just_report files []
-nothing_of Computes applet command v n d g reads read files = computes_nothing applet command files n
-nothing_of OnlyReading applet command v n d g reads read files = reads_nothing applet command read files v d g
-nothing_of Tells applet command v n d g reads read files = absurd (false≢true reads)
-nothing_of Makes applet command v n d g reads read files = absurd (false≢true reads)
-nothing_of Changes applet command v n d g reads read files = absurd (false≢true reads)
+reads_nothing : (applet : Applet) (command : CommandLine) (read : Reads) (files : Files) → IsNoneOfThese applet → reading_outcome applet command read files ≡ just_report files []
+reads_nothing Verify command read files (verify, version, help, program, dump, generate) = absurd (verify refl)
+reads_nothing Adbdump command read files (verify, version, help, program, dump, generate) = absurd (dump refl)
+reads_nothing Adbgen command read files (verify, version, help, program, dump, generate) = absurd (generate refl)
+reads_nothing other command read files none = refl
 
--- the outcome of a command is empty
-abbrev pub IsNothing : CommandLine → Type 0
-IsNothing command = (read : Reads) (files : Files) → command_outcome command nothing_given read files ≡ just_report files []
+nothing_of : (effect : Effect) (applet : Applet) (command : CommandLine) → IsNoneOfThese applet → does_only_read effect ≡ true → (read : Reads) (files : Files) → effect_outcome effect applet command nothing_given read files ≡ just_report files []
+nothing_of Computes applet command none reads read files = computes_nothing applet command files none
+nothing_of OnlyReading applet command none reads read files = reads_nothing applet command read files none
+nothing_of Tells applet command none reads read files = absurd (false≢true reads)
+nothing_of Makes applet command none reads read files = absurd (false≢true reads)
+nothing_of Changes applet command none reads read files = absurd (false≢true reads)
 
-pub is_nothing : (command : CommandLine) (applet : Applet) → applet ≡ command.applet → (applet ≡ Verify → ⊥) → (applet ≡ Version → ⊥) → (applet ≡ Adbdump → ⊥) → (applet ≡ Adbgen → ⊥) → does_only_read (effect_of command.applet) ≡ true → IsNothing command
-is_nothing command applet same v n d g reads =
-    nothing_of (effect_of command.applet) command.applet command (λ is. v (same ∙ is)) (λ is. n (same ∙ is)) (λ is. d (same ∙ is)) (λ is. g (same ∙ is)) reads
-
-pub nothing_found : (old : History) (command : CommandLine) (verdict : Verdict) → IsNothing command → ((files : Files) → as_outcome files verdict ≡ just_report files [])
-    → IfObservable old (λ v. as_outcome (files_of v) verdict ≡ command_outcome command nothing_given (reads_in (files_of v)) (files_of v))
-nothing_found [] command verdict nothing is = tt
-nothing_found (v ∷ old) command verdict nothing is = is (files_of v) ∙ sym (nothing (reads_in (files_of v)) (files_of v))
-
-pub nothing_read : (command : CommandLine) (verdict : Verdict) → IsNothing command → ((files : Files) → as_outcome files verdict ≡ just_report files []) → (read : Reads) × (as_outcome no_names verdict ≡ command_outcome command nothing_given read no_names)
-nothing_read command verdict nothing is = (λ k name. None, is no_names ∙ sym (nothing (λ k name. None) no_names))
-
-pub nothing_by_words : (command : CommandLine) (verdict : Verdict) → IsNothing command → ((files : Files) → as_outcome files verdict ≡ just_report files []) → (files : Files) → as_outcome files verdict ≡ command_outcome command nothing_given (reads_in files) files
-nothing_by_words command verdict nothing is files = is files ∙ sym (nothing (reads_in files) files)
+pub nothing_ran : (command : CommandLine) (applet : Applet) (verdict : Verdict) → applet ≡ command.applet → IsNoneOfThese applet → does_only_read (effect_of command.applet) ≡ true
+    → ((files : Files) → as_outcome files verdict ≡ just_report files []) → Ran command verdict
+nothing_ran command applet verdict same none reads empty read files =
+    empty files ∙ sym (nothing_of (effect_of command.applet) command.applet command (subst IsNoneOfThese same none) reads read files)
 
 -- ---- what is said of every run
 

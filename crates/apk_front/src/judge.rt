@@ -33,7 +33,7 @@ use base_core::{Tree, TreeFault, Words};
 use command_core::{Applet, Command};
 use report_core::Refusal;
 use std::alloc::{AllocError, Global};
-use words_core::{WordsFault, read_words};
+use words_core::{WordsFault, help, read_words, version_line};
 
 /// Judges a command line over a tree, and carries it out: gives what it reports, and its refusal,
 /// if there is one. Nothing is printed yet.
@@ -188,6 +188,14 @@ fn look<T: Tree>(alloc: Global, command: &Command, tree: &mut T) -> Result<Verdi
         Applet::Version => {
             let verdict = version(alloc, command.flags(), command.operands())?;
             Ok(verdict)
+        }
+        Applet::Help => {
+            let text = help(alloc, command.operands())?;
+            Ok(Verdict::reported(text))
+        }
+        Applet::ProgramVersion => {
+            let text = version_line(alloc)?;
+            Ok(Verdict::reported(text))
         }
         Applet::Adbdump => adbdump(alloc, command.operands(), tree),
         Applet::Adbgen => adbgen(alloc, command.operands(), tree),

@@ -11,10 +11,11 @@ use Rattle.report_core.specs.declared.refusal.Refusal.{Refusal}
 use Rattle.report_core.specs.declared.refusal.Refusal.TheVariants.{IntentBad, Usage}
 use Rattle.command_core.specs.Command.{CommandLine}
 use Rattle.command_core.specs.declared.command.Applet.{Applet}
-use Rattle.command_core.specs.declared.command.Applet.TheVariants.{Adbdump, Adbgen, Mkndx, Mkpkg, Verify, Version}
+use Rattle.command_core.specs.declared.command.Applet.TheVariants.{Adbdump, Adbgen, Help, Mkndx, Mkpkg, ProgramVersion, Verify, Version}
 use Rattle.engine_core.specs.ChangeRun.{HasSpoiledPackage}
 use Rattle.engine_core.specs.Changed.{packages_found, selected_for}
 use Rattle.tell_core.specs.ToldBy.{told_by}
+use Rattle.words_core.specs.HelpTexts.{help_text, version_text}
 use Rattle.outcome.specs.Changing.{change}
 use Rattle.outcome.specs.Dump.{adbdump}
 use Rattle.outcome.specs.Effect.{Effect, Computes, Reads as OnlyReads, Tells, Makes, Changes, does_recover, effect_of}
@@ -33,6 +34,8 @@ use Rattle.outcome.specs.Work.{recovery_fault, work_files}
 -- runs is defined in `Demo`
 abbrev pub computing_outcome : Applet → CommandLine → Files → Outcome
 computing_outcome Version command files = version files command.flags command.operands
+computing_outcome Help command files = just_report files (help_text command.operands)
+computing_outcome ProgramVersion command files = just_report files version_text
 computing_outcome other command files = just_report files []
 
 -- the outcome of an applet that reads files, by what its reads find
