@@ -109,7 +109,7 @@ unless_makes None true behind command makes = tt
 unless_makes None false behind command makes = inl makes
 
 -- what words ask for only looks at the words
-AskComputes : Option Applet → Type 0
+abbrev AskComputes : Option Applet → Type 0
 AskComputes None = Unit {0}
 AskComputes (Some applet) = does_only_read (effect_of applet) ≡ true
 
