@@ -3,8 +3,8 @@
 //!
 //! The contracts cite `Recovery` (the state that files stand for, and what a crash leaves of it),
 //! `Replacing` and `Reading` (a whole file in the place of another), `Staged` (a stage, its
-//! moments, and what a recovery leaves) and `Quiet` (moments at which nothing happens to the state)
-//! of `specs/`, and `Intent` of `journal_intent`.
+//! moments, and what a recovery leaves), `Quiet` (moments at which nothing happens to the state) and
+//! `Targets` (the names that are asked for) of `specs/`, and `Intent` of `journal_intent`.
 //! The rules stand in `docs/crash-safety.md`, from "What files stand for" to "Recovery".
 #![tactic(auto)]
 
@@ -14,6 +14,7 @@ mod fault;
 mod laws;
 mod publishing;
 mod stage;
+mod targets;
 
 pub use fault::RecoverFault;
 pub use journal_intent::{
@@ -30,3 +31,4 @@ pub use laws::{
     what_is_not_synced_is_not_safe,
 };
 pub use stage::{Stage, apply_all};
+pub use targets::{check_target, check_targets};
