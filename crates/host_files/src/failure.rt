@@ -1,5 +1,5 @@
 //! Why a call on the host fails, and what of it the program tells.
-//! The rules stand in `docs/commands.md`, "A fault of the tree".
+//! The rules are in `docs/commands.md`, "A fault of the tree".
 
 use std::alloc::{AllocError, Global};
 use std::io;
@@ -64,7 +64,7 @@ pub enum HostFault {
     Memory,
     /// The host's own reason.
     Host(io::Error),
-    /// A reason of this program, and the path that it holds of, where that is not the call's own.
+    /// A reason of this program, and the path that it holds of, if that is not the call's own.
     Own { reason: Reason, at: Option<Vec<u8>> },
 }
 
@@ -74,7 +74,7 @@ impl HostFault {
         HostFault::Own { reason, at: None }
     }
 
-    /// A reason of this program that holds of a path. Where there is no memory for the path it goes
+    /// A reason of this program that holds of a path. If there is no memory for the path it goes
     /// untold.
     pub fn at(alloc: Global, reason: Reason, path: &[u8]) -> HostFault {
         HostFault::Own {
@@ -85,14 +85,14 @@ impl HostFault {
 }
 
 impl From<AllocError> for HostFault {
-    /// Want of memory is a fault of its own.
+    /// Lack of memory is a fault of its own.
     fn from(_: AllocError) -> HostFault {
         HostFault::Memory
     }
 }
 
 impl From<io::Error> for HostFault {
-    /// The host's error; that it has no memory is told as want of memory.
+    /// The host's error; that it has no memory is told as lack of memory.
     fn from(error: io::Error) -> HostFault {
         if error.kind() == ErrorKind::OutOfMemory {
             return HostFault::Memory;
@@ -106,7 +106,7 @@ impl From<io::Error> for HostFault {
 pub struct Failure {
     // The call in words, as `rename`.
     call: &'static str,
-    // The path that it was given; empty where there is none to tell.
+    // The path that it was given; empty if there is none to tell.
     path: Vec<u8>,
     // The second path of a rename; empty for other calls.
     target: Vec<u8>,
@@ -114,7 +114,7 @@ pub struct Failure {
 }
 
 impl Failure {
-    /// The failure of a call on a path, and on a second path or none (empty). Where there is no
+    /// The failure of a call on a path, and on a second path or none (empty). If there is no
     /// memory for a path it goes untold.
     pub fn new(
         alloc: Global,

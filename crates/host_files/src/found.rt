@@ -1,5 +1,5 @@
 //! What the host has at a path, and what its errors mean.
-//! The rules stand in `docs/crash-safety.md`, "What the host's tree does", the row of each call on
+//! The rules are in `docs/crash-safety.md`, "What the host's tree does", the row of each call on
 //! a path and that of `size`.
 
 use super::failure::{HostFault, Reason};

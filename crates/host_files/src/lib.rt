@@ -3,7 +3,7 @@
 //!
 //! This crate is trusted: no contract can say what a host does. It is to be read with `host_tree`,
 //! which stands on it.
-//! The rules stand in `docs/crash-safety.md`, "What the host's tree does".
+//! The rules are in `docs/crash-safety.md`, "What the host's tree does".
 #![tactic(auto)]
 
 mod failure;

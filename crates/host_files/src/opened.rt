@@ -19,7 +19,7 @@ pub struct Opened {
     file: File,
     // How many bytes it has, as far as this run knows.
     len: u64,
-    // The offset at which the next read goes on; None where that is not known.
+    // The offset at which the next read goes on; None if that is not known.
     at: Option<u64>,
 }
 

@@ -1,5 +1,5 @@
 //! Folders: those on the way to a file, those that hold nothing, and those whose names changed. The
-//! rules stand in `docs/crash-safety.md`, "What the host's tree does".
+//! rules are in `docs/crash-safety.md`, "What the host's tree does".
 
 use host_files::{
     FOLDER_MODE, Found, Host, HostFault, LastFolder, Reason, look, parent_of, path_text,
@@ -251,7 +251,7 @@ pub fn look_at<R: Files>(rt: &R, alloc: Global, path: &[u8]) -> Result<Found, Ho
     look(rt, alloc, path, path_text(path)?)
 }
 
-/// Puts a folder among others. Where there is no memory they stay as they are.
+/// Puts a folder among others. If there is no memory they stay as they are.
 fn keep(folders: &mut BTreeSet<Vec<u8>>, folder: Vec<u8>) -> Result<(), HostFault> {
     match folders.insert(folder) {
         Ok(_) => Ok(()),

@@ -1,5 +1,5 @@
 //! The root: the folder that the program runs in, with the files that stay open between calls. The
-//! rules stand in `docs/crash-safety.md`, "What the host's tree does": the rows of its table, and
+//! rules are in `docs/crash-safety.md`, "What the host's tree does": the rows of its table, and
 //! what follows the table.
 
 use super::folders::Folders;
@@ -118,7 +118,7 @@ impl<'a, R: Host> Root<'a, R> {
         Ok(())
     }
 
-    /// The length of the regular file at a path, or None where there is none.
+    /// The length of the regular file at a path, or None if there is none.
     pub fn length_of(&mut self, path: &[u8]) -> Result<Option<u64>, HostFault> {
         self.enter()?;
         match self.folders.find(self.rt, path)? {

@@ -1,4 +1,4 @@
-//! Answers questions to `host_tree` on the folder that it runs in. The rules stand in
+//! Answers questions to `host_tree` on the folder that it runs in. The rules are in
 //! `docs/crash-safety.md`, "What the host's tree does". Its stored run has all rows;
 //! `tests/lines.md` describes their form, and the README of this crate has a row for each question.
 #![tactic(auto)]

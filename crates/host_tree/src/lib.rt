@@ -89,7 +89,7 @@ impl<'a, R: Host> HostTree<'a, R> {
         Disk
     }
 
-    /// What a call on a name answers, with its fault counted. Want of memory is a fault too.
+    /// What a call on a name answers, with its fault counted. Lack of memory is a fault too.
     fn note_answer<T>(
         &mut self,
         call: &'static str,
@@ -124,7 +124,7 @@ impl<'a, R: Host> Tree for HostTree<'a, R> {
     // What the host answered is known to nobody else.
     ghost accepts = { λ source name. Unit {0} };
 
-    // How many bytes the file under a name has, or None where there is none.
+    // How many bytes the file under a name has, or None if there is none.
     fn size(&mut self, name: &Name) -> Result<Option<u64>, Disk> {
         let answer = self.root.length_of(name.as_bytes());
         self.note_answer("look at", name, answer)
@@ -178,7 +178,7 @@ impl<'a, R: Host> Tree for HostTree<'a, R> {
         }
     }
 
-    // The files below a folder, by their names; want of memory for the answer is no fault of the
+    // The files below a folder, by their names; lack of memory for the answer is no fault of the
     // tree.
     fn list(&mut self, alloc: Global, folder: &Name) -> Result<Names, TreeFault> {
         match list_below(&mut self.root, alloc, folder) {

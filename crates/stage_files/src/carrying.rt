@@ -1,5 +1,5 @@
 //! A change is carried through: its files are staged, and one step lets all of them count. The
-//! rules stand in `docs/crash-safety.md`, "A change of several files".
+//! rules are in `docs/crash-safety.md`, "A change of several files".
 ghost use Rattle.std.specs.Prelude.{◌≡◌, ◌<◌, ◌+◌, ◌++◌, ◌∷◌, ◌⊎◌, [], ℕ, false, List, None, length, take, IfErr, IsErrOf, OnErr, OnOk};
 ghost use Rattle.base_core.specs.Calls.{IfObservable};
 ghost use Rattle.base_core.specs.Faults.{GoesOn, HasCause, IsNoFault};
@@ -71,7 +71,7 @@ fn stage_each<T: Tree>(
 /// # Errors
 ///
 /// `Bad` where a file of a package does not have its digest any more, before anything is published;
-/// or `Disk` where the tree failed.
+/// or `Disk` if the tree failed.
 pub fn carry_out<T: Tree>(
     stage: &mut Stage,
     tree: &mut T,
