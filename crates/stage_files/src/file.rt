@@ -29,7 +29,7 @@ pub(crate) fn stage_file<T: Tree>(
     requires closed { stage.old.is_open ≡ false }
     requires more { stage.old.staged < length stage.old.intent.writes }
 
-    // Whatever the tree shows of the package, and whatever is answered, only what waits has changed
+    // Whatever the tree shows of the package, and whatever is returned, only what waits has changed
     // at each moment.
     ensures run { (contents : List (List ℕ)) (v : TreeState) (first : List TreeState)
         → IsStaging stage.old contents None v first (T.history tree.old)

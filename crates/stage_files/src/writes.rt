@@ -89,7 +89,7 @@ pub(crate) fn stage_write<T: Tree>(
 ) -> Result<(), StageFault>
     requires closed { stage.old.is_open ≡ false }
     requires more { stage.old.staged < length stage.old.intent.writes }
-    // Whatever is answered, only what waits has changed at each moment. `first` is the tree's
+    // Whatever is returned, only what waits has changed at each moment. `first` is the tree's
     // history as the staging began, `v` its newest state then, and `contents` what waits already.
     ensures run { (contents : List (List ℕ)) (v : TreeState) (first : List TreeState)
         → IsStaging stage.old contents None v first (T.history tree.old)
@@ -109,7 +109,7 @@ pub(crate) fn stage_write<T: Tree>(
         → IsStaging stage.old contents None v first (T.history tree.old)
         → OnOk result ((bytes : List ℕ) × MayStandFor source.now bytes
         × IsStaging stage.new (contents ++ bytes ∷ []) None v first (T.history tree.new)) }
-    // A package is told as bad only if the source is a file of it that is spoiled so.
+    // A package is reported bad only if the source is a file of it that is spoiled so.
     ensures bad { (member : ℕ) (cause : Cause) → IsErrOf result (Bad member cause)
         → IsSpoiledAt member cause source.now }
     // The next write of the stage has its file then.

@@ -46,7 +46,7 @@ pub record IsStageRun (files : Files) (v : TreeState) (old now : List TreeState)
   pub reads : Since (IsReadInChange files (files_of v)) old now
   pub last : ShownNamesLast v → Since LastsUnread old now
 
--- a change that leads to these files has come to its end: no intent is read, and no crash brings
+-- a change that leads to these files is complete: no intent is read, and no crash brings
 -- one back, or undoes a change of a name
 pub record IsStageRunDone (files : Files) (v : TreeState) (now : List TreeState) : Type 0 where
   pub reads : HasNow now (λ w. (files_of w ≡ files) × (w.names intent_name ≡ None))

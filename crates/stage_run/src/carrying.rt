@@ -20,8 +20,8 @@ pub fn carry_through<T: Tree>(stage: &mut Stage, tree: &mut T) -> Result<(), Dis
     requires closed { stage.old.is_open ≡ false }
     requires all { stage.old.staged ≡ length stage.old.intent.writes }
 
-    // Whatever it answers, the files come to wait and are then moved to their names in one change;
-    // and once it has answered Ok, this has come to its end.
+    // Whatever it returns, the files come to wait and are then moved to their names in one change;
+    // and once it has returned Ok, this is complete.
     ensures run { (contents : List (List ℕ)) (v : TreeState) (first : List TreeState)
         → IsStaging stage.old contents None v first (T.history tree.old)
         → IsStageRun (after_actions stage.old.intent (with_staged 1 contents (files_of v)))
@@ -31,7 +31,7 @@ pub fn carry_through<T: Tree>(stage: &mut Stage, tree: &mut T) -> Result<(), Dis
         → OnOk result (IsStageRunDone
         (after_actions stage.old.intent (with_staged 1 contents (files_of v)))
         v (T.history tree.new)) }
-    // How the tree's counts explain the answer: no count falls, and a fault is answered just where
+    // How the tree's counts explain the answer: no count falls, and a fault is returned just where
     // a count of faults rose.
     ensures goes_on { GoesOn (T.counts tree.old) (T.counts tree.new) }
     ensures cause { OnErr result (HasCause (T.counts tree.old) (T.counts tree.new)) }

@@ -20,18 +20,18 @@ pub fn begin_file<T: Tree>(stage: &mut Stage, tree: &mut T) -> Result<(), Disk>
     requires closed { stage.old.is_open ≡ false }
     requires more { stage.old.staged < length stage.old.intent.writes }
 
-    // Whatever it answers, only what waits has changed at each moment.
+    // Whatever it returns, only what waits has changed at each moment.
     ensures run { (contents : List (List ℕ)) (v : TreeState) (first : List TreeState)
         → IsStaging stage.old contents None v first (T.history tree.old)
         → IsStagingRun v first (T.history tree.new) }
-    // Once it has answered Ok an empty file waits, which is begun.
+    // Once it has returned Ok an empty file waits, which is begun.
     ensures staging { (contents : List (List ℕ)) (v : TreeState) (first : List TreeState)
         → IsStaging stage.old contents None v first (T.history tree.old)
         → OnOk result (IsStaging stage.new contents (Some []) v first (T.history tree.new)) }
     // The stage then has an open file; behind an error it is as before.
     ensures view { OnOk result (stage.new ≡ record stage.old { is_open = true }) }
     ensures err { OnErr result (stage.new ≡ stage.old) }
-    // How the tree's counts explain the answer: no count falls, and a fault is answered just where
+    // How the tree's counts explain the answer: no count falls, and a fault is returned just where
     // a count of faults rose.
     ensures goes_on { GoesOn (T.counts tree.old) (T.counts tree.new) }
     ensures cause { OnErr result (HasCause (T.counts tree.old) (T.counts tree.new)) }
