@@ -116,7 +116,8 @@ pub fn write_int(draft: &mut Draft, n: u64) -> Result<(), AllocError>
     draft.int(n)
 }
 
-/// Writes an array of texts of a payload. `known` has the long ones that the draft has already.
+/// Writes an array of texts of a payload. `known` has the long ones that the draft already
+/// contains.
 pub fn write_text_list<'a>(
     draft: &mut Draft,
     adb: Adb<'a>,

@@ -20,7 +20,8 @@ use std::collections::BTreeMap;
 /// fewer periods are found; with a smaller one more bytes around a text are tested.
 const PART: usize = 4;
 
-/// How many bytes around a text are compared at once; the last ones singly. Any number is right.
+/// How many bytes around a text are compared at once; the last ones one by one. Any number is
+/// correct.
 const STEP: usize = 64;
 
 /// Where a text is in its payload.
@@ -64,7 +65,7 @@ impl PeriodicRange {
         (text.from - self.from).checked_rem(self.period)
     }
 
-    /// Whether the range shows that two texts are equal: both are in it, with one phase and one
+    /// Whether the range proves that two texts are equal: both are in it, with one phase and one
     /// length.
     fn shows_equal(self, left: TextPlace, right: TextPlace) -> bool
         ensures { OnTrue result (AreEqualUnder self left right) }

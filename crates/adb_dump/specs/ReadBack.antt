@@ -86,8 +86,7 @@ abbrev pub blob_read : List ℕ → Option Plain
 blob_read [] = None
 blob_read (c ∷ cs) = Some (blob (c ∷ cs))
 
--- the value of a number below 2^64 in decimal digits; whether anything else rests on the line is found
--- by *if_form*
+-- the value of a number below 2^64 in decimal digits; *if_form* tests that the line has nothing else
 abbrev pub int_read : Line → Option Plain
 int_read l = if nat_lt (digits_value 10 l) (2 ^ 64) then Some (int (digits_value 10 l)) else None
 
@@ -165,7 +164,7 @@ if_named other this None = other
 if_named other this (Some rest) = this rest
 
 unfoldable mutual
-  -- the value of a shape that has just these lines
+  -- the value of a shape with exactly these lines
   pub block_read : Shape → List Line → LinesRead Plain
   block_read number ls = only_line (λ l. if_form int_line l (int_read l)) ls
   block_read text ls = only_line (λ l. if_form text_line l (text_read l)) ls

@@ -296,7 +296,7 @@ impl BlobOut for Count {
 
     // Counts the digits of a hash.
     fn put_hash(&mut self, hash: &[u8]) -> Result<(), AllocError> {
-        // Two digits for each byte: their number cannot overflow if it is counted in two steps.
+        // Two digits for each byte: their number cannot overflow if it is added in two steps.
         self.add(hash.len())?;
         self.add(hash.len())?;
         Ok(())

@@ -17,7 +17,7 @@ use Rattle.adb_view.specs.declared.tables.Which.TheVariants.{File, Dir, Package,
 
 -- ---- lists of names
 
--- names at positions in a row, the first of them at position n
+-- names at consecutive positions, the first of them at position n
 abbrev pub numbered_from : ℕ → List (List ℕ) → List NameWithPosition
 numbered_from n [] = []
 numbered_from n (name ∷ names) = record { name = name; position = n } ∷ numbered_from (n + 1) names

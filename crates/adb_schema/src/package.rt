@@ -377,7 +377,7 @@ impl<'a> PackageView<'a> {
         )
     }
 
-    /// The patterns of the folders for which its trigger is due.
+    /// The patterns of the folders whose changes run its trigger.
     pub fn triggers(&self) -> List<'a, &'a [u8]>
         ensures { list_value result ≡ entry_in (package_value self.now) PACKAGE_TRIGGERS }
     {

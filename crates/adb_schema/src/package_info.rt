@@ -45,7 +45,7 @@ impl<'a> DepView<'a> {
     ghost use Rattle.adb_view.specs.Values.{entry_in, int_in, text_in};
     ghost use Rattle.adb_schema.specs.Views.{dependency_value};
 
-    /// The name that is asked for.
+    /// The name of the dependency.
     pub fn name(&self) -> &'a [u8]
         ensures { result.now ≡ text_in (entry_in (dependency_value self.now) DEP_NAME) }
     {

@@ -73,7 +73,7 @@ impl From<AllocError> for ReadFault {
 
     ghost from_gives = { λ _ fault. fault ≡ Memory };
 
-    // Want of memory as the fault of a read.
+    // Out of memory, as the fault of a read.
     fn from(_: AllocError) -> ReadFault {
         ReadFault::Memory
     }
@@ -202,7 +202,7 @@ fn check_rest(blocks: &mut Blocks<'_>, which: Which) -> Result<(), Cause>
     }
 }
 
-/// Tests the blocks after the first of a container without files, if no contents are due.
+/// Tests the blocks after the first of a container without files, if it needs no contents.
 #[tactic(auto, unfolding(crate::specs::Soundness::further_fault))]
 fn check_further(blocks: &mut Blocks<'_>) -> Result<(), Cause>
     ensures { result_err result ≡ further_fault (reading_of blocks.old) }

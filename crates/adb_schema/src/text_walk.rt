@@ -304,7 +304,7 @@ fn check_value<'a>(
     }
 }
 
-/// Checks the entries of an array, of equal ones that follow each other the first.
+/// Checks the entries of an array; of adjacent equal ones only the first.
 #[cycle(check)]
 fn check_entries<'a>(
     adb: Adb<'a>,

@@ -24,7 +24,7 @@ abbrev pub each_walk : (ℕ → ℕ → Result ℕ Cause) → ℕ → List ℕ �
 each_walk f n [] = Ok n
 each_walk f n (w ∷ ws) = and_then (f n w) (λ m. each_walk f m ws)
 
--- the walk of the word `w` and what lies below it, after n visits
+-- the walk of the word `w` and the words below it, after n visits
 unfoldable mutual
   pub walk : List ℕ → Shape → ℕ → ℕ → Result ℕ Cause
   walk p number n w = walk_visit p n number w

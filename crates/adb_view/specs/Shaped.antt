@@ -49,7 +49,7 @@ unfoldable mutual
   HasShape (array s) v = IsArrayOf (HasShape s) v
   HasShape (object schema fs) v = IsObjectOf (HaveShapes fs) v
 
-  -- the values of an object are such by its fields, in order
+  -- the values of an object have the shapes of its fields, in order
   pub HaveShapes : Fields → Plains → Type 0
   HaveShapes no_fields none = Unit {0}
   HaveShapes no_fields (more v vs) = ⊥

@@ -6,13 +6,12 @@ use Rattle.adb_view.specs.Plain.{Shape, number, text, hash, array, object, Field
 use Rattle.adb_view.specs.Readers.{int_of, blob_of, run_of, ARRAY, OBJECT}
 use Rattle.base_core.specs.declared.cause.Cause.{Cause}
 
--- the first fault of the walk over a word and the words below it, by a shape; None if there is none
+-- a visit of a walk: a word, and the shape that is demanded of it
 pub record Visit : Type 0 where
   pub shape : Shape
   pub word : ℕ
 
--- The widths of the numbers in a payload. Serves the contracts of `src/words.rt`; the widths are in the
--- table of `docs/formats.md`, "Values".
+-- the entries below a word that are visited; a word that cannot be read has none
 abbrev pub or_empty : Result (List ℕ) Cause → List ℕ
 or_empty (Ok ws) = ws
 or_empty (Err c) = []

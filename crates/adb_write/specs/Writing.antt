@@ -57,7 +57,7 @@ unfoldable pub call : Cell → Writing → ℕ × Writing
 call (in_place word) w = ((if is_over w then 0 else word), w)
 call (apart i) w = if is_over w then (0, w) else unless_over w (put_cell (apart i) (layout_of w))
 
--- a writer has more bytes at a later moment, for which it wanted memory
+-- a writer has more bytes at a later moment, so it needed memory
 abbrev pub Grows : Writing → Writing → Type 0
 Grows before later = length before.body < length later.body
 

@@ -315,7 +315,7 @@ fn entries<'a>(adb: &Adb<'a>, list: ListKind, word: Val) -> Result<Arr<'a>, Caus
 {
     match list {
         ListKind::Array => adb.arr(word),
-        // No field is asked for, only the entries.
+        // Only the entries are read, no field.
         ListKind::Object => Ok(adb.obj::<0>(word)?.entries()),
     }
 }

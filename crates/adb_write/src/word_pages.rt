@@ -277,7 +277,7 @@ fn likely_index(page: &[u64], fingerprint: u64) -> usize
     if fingerprint >= high {
         return page.len();
     }
-    // Where the product does not fit in 64 bits the guess is a bad one, and no more than that.
+    // If the product does not fit in 64 bits, only the guess is a bad one.
     let index = (fingerprint - low).wrapping_mul(page.len() as u64) / (high - low);
     page.len().min(index as usize)
 }

@@ -41,7 +41,7 @@ impl From<AllocError> for WriteFault {
 
     ghost from_gives = { λ _ fault. fault ≡ Memory };
 
-    // Want of memory as the reason for which a writer gave no payload.
+    // Out of memory, as the reason why a writer has no payload.
     fn from(_: AllocError) -> WriteFault {
         WriteFault::Memory
     }

@@ -129,7 +129,7 @@ pub data Need : Type 0 where
   entry : Dependency → Need
   named : List ℕ → Need
 
--- the name that a need asks for
+-- the name of a need
 abbrev pub need_name : Need → List ℕ
 need_name (entry d) = d.name
 need_name (named name) = name

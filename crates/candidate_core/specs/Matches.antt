@@ -13,7 +13,7 @@ use Rattle.candidate_core.specs.Candidates.{Need, entry, named}
 use Rattle.candidate_core.specs.declared.matches.KnownMatches.{KnownMatches}
 use Rattle.candidate_core.specs.declared.packages.Source.{Source}
 
--- whether a dependency wants a version, if there is one
+-- whether a dependency accepts a version, if there is one
 abbrev pub is_wanted_by : Dependency → Option (List ℕ) → Bool
 is_wanted_by d version = is_wanted d.version d.bits version
 

@@ -41,7 +41,7 @@ is_last_id id ids = option_map_or (λ last. last == id) (last_or None ids) false
 abbrev pub with_last : List ℕ → ℕ → List ℕ
 with_last ids id = if is_last_id id ids then ids else ids ++ id ∷ []
 
--- places, with one more after them if it is to be added and is not the last of them
+-- places, with one more at the end if it is to be added and is not already the last
 abbrev pub with_last_where : Bool → List ℕ → ℕ → List ℕ
 with_last_where added ids id = if added then with_last ids id else ids
 

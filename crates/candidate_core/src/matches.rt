@@ -19,7 +19,7 @@ use version_core::Version;
 /// compute again.
 const SHORT: usize = 64;
 
-/// Whether one dependency wants long versions.
+/// The remembered results for the long versions that one dependency accepts.
 #[derive(Drop)]
 pub struct KnownMatches {
     /// The results, each by the index of the version's source and the word of its text there.
@@ -41,7 +41,7 @@ impl KnownMatches {
     ///
     /// # Errors
     ///
-    /// Want of memory.
+    /// Out of memory.
     pub(crate) fn is_wanted(
         &mut self,
         dep: &Dep<'_>,

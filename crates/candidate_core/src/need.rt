@@ -31,7 +31,7 @@ pub enum NeedRef<'a> {
 }
 
 impl<'a> NeedRef<'a> {
-    /// The name that the need asks for.
+    /// The name of the need.
     pub fn name(&self) -> &'a [u8]
         ensures { result.now ≡ need_name (need_by self.now) }
     {

@@ -31,7 +31,7 @@ pub struct PackageDep<'d> {
     pub index: usize,
 }
 
-/// Whether dependencies of packages want long versions.
+/// The remembered results for the long versions that dependencies of packages accept.
 #[derive(Drop)]
 pub struct PackageMatches<'p> {
     /// The allocator.
@@ -62,7 +62,7 @@ impl<'p> PackageMatches<'p> {
     ///
     /// # Errors
     ///
-    /// Want of memory.
+    /// Out of memory.
     pub fn meets(&mut self, place: usize, held: &PackageDep<'_>) -> Result<bool, AllocError>
         requires within { place < length (candidates_of_packages self.old.packages.now) }
         requires held { IsDepOf (candidates_of_packages self.old.packages.now) held.now }

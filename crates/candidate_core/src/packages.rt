@@ -129,7 +129,7 @@ impl<'a> Packages<'a> {
     ///
     /// # Errors
     ///
-    /// Want of memory.
+    /// Out of memory.
     pub fn meets_need(
         &self,
         place: usize,

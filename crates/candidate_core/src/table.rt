@@ -187,7 +187,7 @@ fn pair(alloc: Global, first: CandId, second: CandId) -> Result<Vec<CandId>, All
     Ok(ids)
 }
 
-// Puts a candidate after others, unless it is the last of them.
+// Appends a candidate, unless it is already the last one.
 fn push_once(ids: &mut Vec<CandId>, id: CandId) -> Result<(), AllocError>
     ensures { OnOk result (ids.new.items ≡ with_last ids.old.items id) }
 {

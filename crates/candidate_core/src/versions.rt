@@ -435,7 +435,7 @@ fn found_entry_meets<'a>(
     known.is_wanted(dep, &version_of_entry(source, place, entry, &found))
 }
 
-// Whether a dependency asks for this name.
+// Whether a dependency is one on this name.
 fn is_named_as(dep: &Dep<'_>, name: &[u8]) -> bool
     ensures { result ≡ bytes_eq (dependency dep.now).name name.now }
 {

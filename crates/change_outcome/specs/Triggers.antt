@@ -1,4 +1,4 @@
--- The triggers that a change makes due. The rules stand in `docs/commands.md`, "`add` and `del`",
+-- The triggers that a change makes due. The rules are in `docs/commands.md`, "`add` and `del`",
 -- which triggers are due; the line under what is reported.
 use Rattle.std.specs.Prelude.{ℕ, ◌==◌, Bool, true, false, ◌&&◌, if◌then◌else◌, List, [], ◌∷◌, length, map, codes, Result, Ok, Err, bytes_eq}
 use Rattle.std.specs.List.{filter, flat_map, list_any}

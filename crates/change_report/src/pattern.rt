@@ -1,4 +1,4 @@
-//! Whether a pattern of a trigger matches a folder. The rule stands in `docs/commands.md`,
+//! Whether a pattern of a trigger matches a folder. The rule is in `docs/commands.md`,
 //! "`add` and `del`", which triggers are due: the sentences on patterns.
 ghost use Rattle.base_core.specs.Name.{parts_of};
 ghost use Rattle.change_outcome.specs.Triggers.{are_parts_matched, is_folder_matched};

@@ -1,5 +1,5 @@
 //! What an entry of a file says of its bytes, and a file of a tree, read once and compared with two
-//! entries. The rules stand in `docs/commands.md`, "What a change does with files", what counts as
+//! entries. The rules are in `docs/commands.md`, "What a change does with files", what counts as
 //! changed.
 
 ghost use Rattle.std.specs.Prelude.{◌≡◌, ℕ, List, length, Option, Some, IfOk};
@@ -123,9 +123,9 @@ fn compare_present<T: Tree>(
 pub struct ListedFile<'a> {
     /// How many bytes there are; 0 where the entry tells none.
     pub size: u64,
-    /// The digest of the bytes, by the function that its length tells; empty where there is none.
+    /// The digest of the bytes, by the function that its length tells; empty if there is none.
     pub hash: &'a [u8],
-    /// A link's target, behind a number of two bytes; empty where it is no link.
+    /// A link's target, behind a number of two bytes; empty if it is no link.
     pub target: &'a [u8],
 }
 

@@ -81,7 +81,7 @@ abbrev pub AreReadAlike : VersionKind → List Ranking → Type 0
 AreReadAlike kind rankings = (text : ℕ → ℕ → List ℕ)
     × All (λ r. IsReadBy text (version_of kind r)) rankings
 
--- one function of places gives the texts of these versions and of one more
+-- one function of places has the texts of these versions and of one more
 abbrev pub IsReadTogether : List RankedVersion → RankedVersion → Type 0
 IsReadTogether versions v = (text : ℕ → ℕ → List ℕ)
     × (IsReadBy text v × All (IsReadBy text) versions)

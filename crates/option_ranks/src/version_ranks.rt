@@ -25,7 +25,7 @@ use version_core::{Version, order_is_total};
 ///
 /// # Errors
 ///
-/// Want of memory.
+/// Out of memory.
 pub fn rank_long_versions<'a>(
     alloc: Global,
     options: &mut Vec<RankedOption<'a>>,
@@ -66,7 +66,7 @@ fn rank_versions<'a>(
     // Then options that read one text are adjacent.
     options.sort_by(|one, other| by_place(one.version_of(kind), other.version_of(kind)))?;
     let mut versions = distinct_versions(alloc, options, kind)?;
-    // Where ranks are known, they are nearly the order, and few versions are compared then.
+    // Known ranks are nearly the order, and then few versions are compared.
     versions.sort_by(|one, other| one.rank.cmp(&other.rank))?;
     versions.sort_by(|one, other| compare_versions(kind, &one.version, &other.version))?;
     rank_sorted(&mut versions, kind);

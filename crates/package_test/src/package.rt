@@ -57,7 +57,7 @@ impl TestedPackage {
     pub fn file(&self, folder: u32, file: u32) -> FilePieces<'_>
         ensures name { package_of_file result ≡ tested_name self.now }
         ensures len { len_around_file result ≡ tested_len self.now }
-        // Whatever the tree shows: its bytes are compared with the size and the digest that the
+        // Whatever the tree has, its bytes are compared with the size and the digest that the
         // package's value lists for it.
         ensures due { file_due result ≡ expected_with_positions folder file
             (expected_contents (tested_value self.now)) }

@@ -64,7 +64,7 @@ abbrev pub AreAsDue : Option Expected → List ℕ → Type 0
 AreAsDue None bytes = bytes ≡ []
 AreAsDue (Some e) bytes = (length bytes ≡ e.size) × (hash_fault e.hash bytes ≡ None)
 
--- the bytes have the size that is due, and another digest
+-- the bytes have the expected size, and another digest
 abbrev pub HaveOtherDigest : Option Expected → List ℕ → Cause → Type 0
 HaveOtherDigest None bytes c = ⊥
 HaveOtherDigest (Some e) bytes c = (length bytes ≡ e.size) × (hash_fault e.hash bytes ≡ Some c)

@@ -92,7 +92,7 @@ AnswersNext AreToCome before bytes (Ok None) = (before ≡ no_piece) × AreToCom
 AnswersNext AreToCome before bytes (Err (Bad c)) = (before ≡ refusal c) × AreToCome (refusal c)
 AnswersNext AreToCome before bytes (Err Disk) = Unit {0}
 
--- the piece is one of the first file that is due, and this one is due until its last piece came
+-- the piece is one of the first expected file, which is expected until its last piece was read
 pub record IsOfFirstDue (before : List Expected) (part : Part)
     (after : List Expected) : Type 0 where
   pub first : Expected
@@ -129,7 +129,7 @@ abbrev pub handed_out_from : ℕ → Option OpenFile → ℕ
 handed_out_from start None = 0
 handed_out_from start (Some o) = o.at - start
 
--- how many bytes a reader has handed out of the file that is open
+-- how many bytes of the open file a reader has returned
 abbrev pub handed_out : PieceReader → ℕ
 handed_out reader = handed_out_from reader.start reader.opened
 

@@ -138,7 +138,7 @@ impl<'a> FilePieces<'a> {
         tree: &mut T,
         piece: &mut Piece,
     ) -> Result<bool, PieceFault>
-        // Where the tree shows the package.
+        // If the tree has the package.
         ensures piece { IfObservable (T.history tree.old) (λ v. (pkg left : List ℕ)
             → files_of v (package_of_file self.old) ≡ Some pkg → IsFileReading self.old pkg left
             → GivesBytes (IsFileReading self.new pkg) left piece.new result) }
@@ -149,7 +149,7 @@ impl<'a> FilePieces<'a> {
         ensures due { file_due self.new ≡ file_due self.old }
         ensures left { IfOk result (HasFewerLeft self.old (length piece.new) self.new) }
         ensures refused { IfErr result (λ fault. HasRefusedFile fault self.new) }
-        // A test that failed is answered by every later call.
+        // Each later call returns a test that failed.
         ensures again { IfSome (kept_fault self.old) (λ cause. result ≡ Err (Bad cause)) }
         ensures name { package_of_file self.new ≡ package_of_file self.old }
         ensures len { len_around_file self.new ≡ len_around_file self.old }

@@ -17,7 +17,7 @@ use Rattle.pkg_core.specs.declared.walk.Wanted.{Wanted}
 use Rattle.pkg_core.specs.declared.walk.Rest.{Rest}
 use Rattle.pkg_core.specs.declared.walk.FileContents.{FileContents}
 
--- the contents of a file that was handed out
+-- the contents of a file that was returned
 abbrev pub contents_view : FileContents → Contents
 contents_view f = record { folder = f.path; file = f.file; bytes = f.bytes.now }
 

@@ -40,7 +40,7 @@ pieces_at place file =
 abbrev pub payload_at : Frame → BlockPlace → List ℕ → List ℕ
 payload_at frame place file = (framed_piece frame (drop place.at file)).payload
 
--- the positions that a reader hands in are the first bytes of the block's payload, if it has as many
+-- the positions that a reader passes are the first bytes of the block's payload, if it has as many
 abbrev pub HasPositions : Option Frame → List ℕ → BlockPlace → List ℕ → Type 0
 HasPositions None positions place file = Unit {0}
 HasPositions (Some frame) positions place file =

@@ -10,7 +10,7 @@ use Rattle.pkg_core.specs.declared.file.FileCheck.{FileCheck}
 use Rattle.pkg_core.specs.declared.file.Part.{Part}
 use Rattle.pkg_core.specs.declared.file.TheConstants.{PIECE_LEN}
 
--- how many bytes of a file are still to be handed in
+-- how many bytes of a file are still to be taken
 abbrev pub file_bytes_left : FileCheck → ℕ
 file_bytes_left f = f.wanted.size - f.done
 
@@ -18,7 +18,7 @@ file_bytes_left f = f.wanted.size - f.done
 abbrev pub next_len : FileCheck → ℕ
 next_len f = min (file_bytes_left f) PIECE_LEN
 
--- just these bytes of a file were handed in
+-- exactly these bytes of a file were taken
 pub record HasTaken (f : FileCheck) (so_far : List ℕ) : Type 0 where
   pub hashed : HoldsFor f.hasher f.wanted.hash.now so_far
   pub long : length so_far ≡ f.done

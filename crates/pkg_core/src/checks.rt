@@ -65,7 +65,7 @@ pub fn root_of_schema(schema: u32) -> Option<Which>
     }
 }
 
-/// Tests a container that is to have this table at its root.
+/// Tests a container that must have this table at its root.
 fn verify_as(alloc: Global, bytes: &[u8], which: Which) -> Result<(), PackageFault>
     ensures bad { IfErr result (λ fault. IsFaultOf fault (whole_fault which bytes.now)) }
     ensures sound { IfOk result (λ _. whole_fault which bytes.now ≡ None) }

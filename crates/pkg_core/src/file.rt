@@ -19,7 +19,7 @@ use base_core::Cause;
 /// bytes were taken. Contracts see, by `Taking` of `specs/`, which bytes these were.
 #[derive(Drop)]
 pub struct FileCheck<'a> {
-    /// The file that is due.
+    /// The expected file.
     wanted: Wanted<'a>,
     /// How many of its bytes were taken.
     done: u64,
@@ -112,7 +112,7 @@ fn part_of(wanted: Wanted<'_>, last: bool) -> Part
 ///
 /// # Errors
 ///
-/// First the positions are compared, then the size: `DataOrder`, with (0, 0) if no file is due, or
+/// First the positions are compared, then the size: `DataOrder`, with (0, 0) if none is expected, or
 /// `DataSize`.
 pub fn open_file<'a>(
     walk: &mut Walk<'a>,

@@ -91,7 +91,7 @@ impl<'a> Package<'a> {
         ensures bad { IfErr result
             (λ fault. IsFaultOf fault (first_fault Tables.Package bytes.entry.now)) }
         ensures sound { IfOk result (λ _. first_fault Tables.Package bytes.entry.now ≡ None) }
-        // It shows the value, the id and the contents of the file that it is read from.
+        // It has the value, the id and the contents of the file from which it was read.
         ensures value { IfOk result
             (λ pkg. opened_value pkg ≡ root_value Tables.Package (payload_in bytes.entry.now)) }
         ensures payload { IfOk result (λ pkg. opened_payload pkg ≡ payload_in bytes.entry.now) }

@@ -39,7 +39,7 @@ pub struct Wanted<'a> {
     pub file: u32,
     /// Its size in bytes.
     pub size: u64,
-    /// The digest that its bytes are to have.
+    /// The digest that its bytes must have.
     pub hash: &'a [u8],
 }
 

@@ -174,7 +174,7 @@ pub trait Program {
     /// Finishes what a run that was stopped left undone. Answers false where that failed.
     fn recover(&self, alloc: Global, tree: &mut MemoryTree) -> bool;
 
-    /// The container of a dump text, or None where the text is none.
+    /// The container of a dump text, or None if the text is none.
     fn container_of(&self, alloc: Global, text: &[u8]) -> Result<Option<Vec<u8>>, AllocError>;
 }
 

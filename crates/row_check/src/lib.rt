@@ -1,5 +1,5 @@
 //! What a row wants beside what is seen: the tree that it begins with, what a run left and printed,
-//! and what a crash may leave. The rules stand in `tests/rows.md`.
+//! and what a crash may leave. The rules are in `tests/rows.md`.
 //!
 //! Nothing is proved of what is compared: these are tests.
 #![tactic(auto)]

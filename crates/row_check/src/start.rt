@@ -1,4 +1,4 @@
-//! Trees in memory: what a row begins with, and copies. The rules stand in `tests/rows.md`,
+//! Trees in memory: what a row begins with, and copies. The rules are in `tests/rows.md`,
 //! "Lines": `from`, `file`, and what a command line begins on.
 use crate::check::Program;
 use crate::differences::{RowFault, differs};

@@ -1,5 +1,5 @@
 //! A command line with each of its calls failing in turn, cut off behind each of them, and with a
-//! stream that ends behind each number of bytes. The rules stand in `tests/rows.md`,
+//! stream that ends behind each number of bytes. The rules are in `tests/rows.md`,
 //! "What goes wrong", its table and what follows.
 use crate::run::{StreamEnds, run_once};
 use row_check::{

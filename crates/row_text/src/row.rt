@@ -53,17 +53,17 @@ pub struct Step {
     pub out: Content,
     /// The bytes of standard error.
     pub err: Vec<u8>,
-    /// The exit status: 0 where none is said.
+    /// The exit status: 0 if none is said.
     pub status: Option<u64>,
     /// What stands afterwards at these paths. All others are as they were before.
     pub files: Vec<NamedFile>,
-    /// All names that there are afterwards, where that is said.
+    /// All names that there are afterwards, if that is said.
     pub names: Option<Vec<Name>>,
-    /// How many calls the run makes of the tree, where that is said.
+    /// How many calls the run makes of the tree, if that is said.
     pub calls: Option<u64>,
-    /// How many of these calls write, where that is said.
+    /// How many of these calls write, if that is said.
     pub writes: Option<u64>,
-    /// How many bytes a call asks for at most, where that is said.
+    /// How many bytes a call asks for at most, if that is said.
     pub reads: Option<u64>,
 }
 
@@ -139,7 +139,7 @@ pub enum Trouble {
     BadHex,
     /// The dump text that begins here is none.
     BadDump,
-    /// It has no decimal number where one is due.
+    /// It has no decimal number if one is due.
     BadNumber,
     /// A quotation of the command line does not end.
     BadQuotation,
@@ -184,14 +184,14 @@ impl Trouble {
 }
 
 impl From<AllocError> for Trouble {
-    // Want of memory, as a fault of the text.
+    // Lack of memory, as a fault of the text.
     fn from(_: AllocError) -> Trouble {
         Trouble::Memory
     }
 }
 
 impl<T: Drop> From<AllocFailed<T>> for Trouble {
-    // Want of memory, where what was to be kept comes back.
+    // Lack of memory, where what was to be kept comes back.
     fn from(_: AllocFailed<T>) -> Trouble {
         Trouble::Memory
     }

@@ -1,6 +1,6 @@
-//! The tests of payloads and containers: which fault the shape walk reports and how many values it
-//! visits, the rules of texts and numbers, the first failed test, and names that stand twice. The
-//! rules are in `docs/formats.md`, "Tests of a container", and the words of values in "Values".
+//! The tests of payloads and containers: the fault of the shape walk and its number of visits, the
+//! rules of texts and numbers, the first failed test, and repeated names. The rules are in
+//! `docs/formats.md`, "Tests of a container", and the words of values in "Values".
 
 use crate::payloads::{add_run, ints_of, object_payload, payload_of, table_of};
 use crate::words::{add_cause, add_outcome, int_of};
@@ -10,7 +10,7 @@ use base_core::{Cause, Words};
 use row_lines::{add_number, word_at};
 use std::alloc::{AllocError, Global};
 
-/// The root's word of the payloads below: an object that follows the head.
+/// The root's word of the payloads below: an object after the head.
 const ROOT: u32 = 0xe000_0008;
 
 /// The most values that a payload may have (`docs/formats.md`, "The shape").
@@ -35,7 +35,7 @@ pub(crate) fn add_shape(
     add_outcome(alloc, found, answer)
 }
 
-/// A word of another kind than the field's: a blob where an integer is due, else the integer 1.
+/// A word of another kind than the field's: a blob for an integer field, else the integer 1.
 fn of_another_kind(kind: Kind) -> u32 {
     match kind {
         Kind::Int => 0x8000_0008,
@@ -43,7 +43,7 @@ fn of_another_kind(kind: Kind) -> u32 {
     }
 }
 
-/// A word of the field's kind whose range leaves every payload here.
+/// A word of the field's kind whose range leaves every payload in these tests.
 fn outside(kind: Kind) -> u32 {
     match kind {
         Kind::Int => 0x3fff_fff0,
@@ -53,8 +53,8 @@ fn outside(kind: Kind) -> u32 {
     }
 }
 
-/// Adds for how many fields of a table both faults of a value are reported, where the fields before
-/// are null, and then the fault of words after the last field, at which nothing looks.
+/// Adds for how many fields of a table both faults of a value are reported, with null in all fields
+/// before, and then the fault of words after the last field, which are ignored.
 pub(crate) fn add_faults(
     alloc: Global,
     table: &[u8],
@@ -70,7 +70,7 @@ pub(crate) fn add_faults(
         before.push(0)?;
     }
     add_number(alloc, answer, u128::from(told))?;
-    // The integer 1 after the last field, and after that a word that has no meaning.
+    // The integer 1 after the last field, followed by a word without a meaning.
     before.push(0x1000_0001)?;
     add_outcome(
         alloc,
@@ -109,8 +109,8 @@ fn fault_behind(
     Ok(fault_of(&payload, which))
 }
 
-/// Adds how many values are visited once the words of `visits TABLE BEFORE WORD ..` are walked as
-/// fields of the table, after so many visits, or the fault.
+/// Adds the number of visits of a walk over the words of `visits TABLE BEFORE WORD ..` as fields of
+/// the table, after BEFORE earlier visits, or the fault.
 pub(crate) fn add_visits(
     alloc: Global,
     words: &Words,
@@ -135,7 +135,7 @@ fn visits_of(payload: &[u8], which: Which, before: u32) -> Result<u32, Cause> {
     walk_fields(adb, fields_of(which), before, entries)
 }
 
-/// Adds the fault of a package of one folder of so many files, which is at as many places.
+/// Adds the fault of a package with one folder of this many files, which occurs in as many places.
 pub(crate) fn add_many_files(
     alloc: Global,
     count: &[u8],
@@ -166,7 +166,7 @@ pub(crate) fn add_rule(
     add_outcome(alloc, cause_in(checked)?, answer)
 }
 
-/// Tests a payload: its shape, its texts, and names that stand twice.
+/// Tests a payload: its shape, its texts, and repeated names.
 fn check(alloc: Global, payload: &[u8], which: Which) -> Result<(), ReadFault> {
     let shaped = shape(Adb::new(payload)?, which)?;
     Checked::new(alloc, shaped)?;
@@ -183,7 +183,7 @@ pub(crate) fn add_container(
     add_outcome(alloc, cause_in(read)?, answer)
 }
 
-/// The cause of a refusal, if it is not out of memory, which is passed on.
+/// The cause of an error; running out of memory is passed on.
 fn cause_in<T: Drop>(found: Result<T, ReadFault>) -> Result<Result<(), Cause>, AllocError> {
     match found {
         Ok(_) => Ok(Ok(())),

@@ -12,7 +12,7 @@ use row_packages::{Row, split_word};
 use solve_core::{Trace, solve};
 use std::alloc::{AllocError, AllocFailed, Global};
 
-/// The most names that a command upgrades in a row; more are answered `no row`.
+/// The most names that a command upgrades in a row; with more the answer is `no row`.
 const MOST_NAMES: usize = 1000;
 
 /// The answer if a text of the row cannot be read, or a question is unknown.

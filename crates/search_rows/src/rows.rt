@@ -75,7 +75,7 @@ struct Run<'t> {
     rows: u64,
     /// How many answers were computed.
     answers: u64,
-    /// How many of them differ from the wanted ones, or are out of place.
+    /// How many of them differ from the expected ones, or are out of place.
     failed: u64,
 }
 

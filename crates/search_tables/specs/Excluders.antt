@@ -10,7 +10,7 @@ use Rattle.search_tables.specs.Conflicts.{conflicts_among, conflicts_in}
 use Rattle.search_tables.specs.Selection.{depends_at, exclude_each_other}
 use Rattle.search_tables.specs.declared.conflicts.Conflicts.{Conflicts}
 
--- the table has for each name just the conflicts of the choices
+-- the table has for each name exactly the conflicts of the choices
 abbrev pub AreListed : SealedPool → List ℕ → Conflicts → Type 0
 AreListed pool chosen conflicts =
     (name : List ℕ) → conflicts_in conflicts.by_name name ≡ conflicts_among pool chosen name

@@ -153,7 +153,7 @@ impl<'p> Conflicts<'p> {
     ///
     /// # Errors
     ///
-    /// Want of memory.
+    /// Out of memory.
     pub fn choice_against(
         &self,
         name: &[u8],

@@ -23,7 +23,7 @@ use std::alloc::AllocError;
 ///
 /// # Errors
 ///
-/// Want of memory.
+/// Out of memory.
 pub fn choice_meeting_held(
     pool: &Sealed<'_>,
     choices: &CandidateSet,
@@ -53,7 +53,7 @@ pub fn choice_meeting_held(
 ///
 /// # Errors
 ///
-/// Want of memory.
+/// Out of memory.
 pub fn is_held_met(
     pool: &Sealed<'_>,
     choices: &CandidateSet,

@@ -18,8 +18,8 @@ pub struct RaisedDep<'p> {
     dep: Dep<'p>,
     /// The choice that has the dependency; None for an entry of world.
     by: Option<CandId>,
-    /// The index of the dependency among those of the choice, or among the entries of world, counted
-    /// from 0.
+    /// The index of the dependency among those of the choice, or among the entries of world,
+    /// counted from 0.
     index: usize,
 }
 
@@ -47,8 +47,8 @@ impl<'p> RaisedDep<'p> {
         self.by
     }
 
-    /// The index of the dependency among those of the choice, or among the entries of world, counted
-    /// from 0.
+    /// The index of the dependency among those of the choice, or among the entries of world,
+    /// counted from 0.
     pub fn index(&self) -> usize
         ensures { result ≡ self.now.2 }
     {

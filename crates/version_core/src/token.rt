@@ -126,7 +126,7 @@ impl TokenAt<'_> {
 /// The tokens of a text, read from the front.
 #[derive(Clone, Copy)]
 pub struct Tokens<'a> {
-    // What is not skipped yet, which includes the digits of a hash that was taken last.
+    // The bytes that are not skipped yet; the digits of a hash that was taken last are among them.
     rest: &'a [u8],
     // The class of the token that was taken last; None at the front.
     last: Option<Class>,

@@ -27,7 +27,7 @@ impl<'p> Choices<'p> {
     ///
     /// # Errors
     ///
-    /// Want of memory.
+    /// Out of memory.
     pub fn excluder(
         &self,
         id: CandId,
