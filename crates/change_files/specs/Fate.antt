@@ -1,4 +1,4 @@
--- What becomes of a file that comes, and of the one that stands under its path. The rules stand in
+-- What becomes of a file that comes, and of the one that is under its path. The rules are in
 -- `docs/commands.md`, "What a change does with files", on files below `etc/`.
 use Rattle.std.specs.Prelude.{ℕ, Bool, false, not, ◌&&◌, ◌||◌, if◌then◌else◌, List, ◌++◌, length, nat_le, codes, Option, Some, None, nat_eq}
 use Rattle.std.specs.List.{starts_with}
@@ -55,7 +55,7 @@ fate_beside change path entry =
     && (nat_le (length (aside_name path)) longest_name && not (is_claimed change (aside_name path)))
     then goes_aside else gives_way
 
--- What becomes of a file that comes, by what stands under its path. The user changed a guarded file
+-- What becomes of a file that comes, by what is under its path. The user changed a guarded file
 -- where its bytes are neither those of the new entry nor those of the old one.
 abbrev pub fate_by : FileChange → List ℕ → Plain → Option (List ℕ) → Fate
 fate_by change path entry None = goes_in

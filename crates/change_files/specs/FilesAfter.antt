@@ -1,4 +1,4 @@
--- The files after a change, name by name. The rules stand in `docs/commands.md`,
+-- The files after a change, name by name. The rules are in `docs/commands.md`,
 -- "What a change does with files", behind the three tests.
 use Rattle.std.specs.Prelude.{ℕ, ◌-◌, Bool, true, false, not, ◌&&◌, if◌then◌else◌, List, [], ◌∷◌, length, take, Option, Some, None, is_some, option_and_then, bytes_eq, nat_eq}
 use Rattle.std.specs.List.{ends_with}
@@ -76,7 +76,7 @@ unfoldable pub is_kept : FileChange → Files → List ℕ → Bool
 is_kept change files path =
     is_left_over change files path && may_stay change path (files path) (old_entry change path)
 
--- whether a change removes what stands under a path; so it is also where no file stands there
+-- whether a change removes what is under a path; so it is also where no file stands there
 unfoldable pub is_removed : FileChange → Files → List ℕ → Bool
 is_removed change files path =
     is_left_over change files path && not (may_stay change path (files path) (old_entry change path))
@@ -99,7 +99,7 @@ world_bytes_after [] (Some old) = Some []
 world_bytes_after (b ∷ bytes) old = Some (b ∷ bytes)
 
 -- What a name has that is none of the records: the bytes of the file that is written there, or
--- nothing where it is removed, or what it had before.
+-- nothing if it is removed, or what it had before.
 abbrev pub bytes_after : (Listing → List ℕ) → Option Listing → Bool → Option (List ℕ) → Option (List ℕ)
 bytes_after bytes_of (Some l) is_gone old = Some (bytes_of l)
 bytes_after bytes_of None true old = None

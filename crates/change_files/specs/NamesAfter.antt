@@ -1,4 +1,4 @@
--- Which names there are after a change, of which none may be a folder of another. The rules stand
+-- Which names there are after a change, of which none may be a folder of another. The rules are
 -- in `docs/commands.md`, "What a change does with files", test 2.
 use Rattle.std.specs.Prelude.{ℕ, Bool, not, ◌&&◌, ◌||◌, List, ◌∷◌, map, is_some, option_and_then, bytes_eq}
 use Rattle.std.specs.List.{filter, list_any}

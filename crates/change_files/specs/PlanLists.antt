@@ -1,4 +1,4 @@
--- What a change removes, writes and keeps, as lists in byte order. The rules stand in
+-- What a change removes, writes and keeps, as lists in byte order. The rules are in
 -- `docs/commands.md`, "What a change does with files"; the first test there is that of reserved
 -- names.
 use Rattle.std.specs.Prelude.{ℕ, cond, List, [], ◌∷◌, ◌++◌, map, Option, option_map, is_some, bytes_eq}

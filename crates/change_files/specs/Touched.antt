@@ -1,6 +1,6 @@
 -- What the laws say of single names: which are those of the records, of files beside others, of
 -- packages that come. (Not what `docs/names.md` calls touched.) Serves the laws of `src/laws.rt`;
--- the rules stand in `docs/commands.md`, "What a change does with files".
+-- the rules are in `docs/commands.md`, "What a change does with files".
 use Rattle.std.specs.Prelude.{◌≡◌, ℕ, Bool, true, false, ◌&&◌, ◌||◌, List, Some, is_some, option_and_then, bytes_eq}
 use Rattle.std.specs.List.{list_any}
 use Rattle.base_core.specs.Files.{Files}
@@ -28,7 +28,7 @@ is_aside_name change files name =
 abbrev pub is_coming_path : FileChange → List ℕ → Bool
 is_coming_path change path = list_any (bytes_eq path) (coming_paths change.members)
 
--- configuration that the user changed: what stands under a guarded path is neither as a package
+-- configuration that the user changed: what is under a guarded path is neither as a package
 -- that comes lists it nor as one listed it before
 pub record IsUsersFile (change : FileChange) (files : Files) (path bytes : List ℕ) : Type 0 where
   pub guarded : is_guarded path ≡ true

@@ -49,7 +49,7 @@ pub fn what_comes_takes_its_path()
 
 /// Beside a file that the user changed the new one is laid, where no package listed the path before
 /// or what it listed says something else, and the name beside is one that no package lists; and
-/// only there. It stands under that name.
+/// only there. It is under that name.
 pub fn what_differs_lies_beside_the_users_file()
     // Where the new file is laid beside.
     ensures beside { (change : FileChange) (files : Files) (path bytes : List ℕ) (l : Listing)
@@ -203,7 +203,7 @@ pub fn the_names_after_a_change_are_those_of_its_files()
 
 // ---- the records
 
-/// The new database and the new world stand under their names; a world that was absent and has
+/// The new database and the new world are under their names; a world that was absent and has
 /// nothing to say stays absent, and so is a text database that was taken over.
 pub fn the_records_of_a_change_stand_under_their_names()
     ensures database { (change : FileChange) (bytes_of : Listing → List ℕ) (records : Records)

@@ -1,4 +1,4 @@
-//! What a change of packages makes of the files, name by name. The rules stand in
+//! What a change of packages makes of the files, name by name. The rules are in
 //! `docs/commands.md`, "What a change does with files".
 //!
 //! It is a crate of definitions. `FileChange` of `specs/` says which packages list a path before

@@ -1,6 +1,6 @@
 //! Claims in the order of their paths: the claim of a path, one claim of each path, and the names
 //! that paths are.
-//! What a claim is, stands in `docs/commands.md`, "Files that several packages list"; which bytes
+//! What a claim is, is in `docs/commands.md`, "Files that several packages list"; which bytes
 //! are a name, in "Words" there. The calls here are dictionaries of claims: their contracts say all
 //! of them.
 
@@ -22,7 +22,7 @@ use path_clashes::path_bytes;
 use std::alloc::{AllocError, Global};
 
 /// The place of the first claim of a path, counted from 0, among claims in the order of their
-/// paths. None comes exactly where no claim has the path. It compares as a binary search does.
+/// paths. None comes exactly when no claim has the path. It compares as a binary search does.
 pub fn find_claim(claims: &[Claim<'_>], path: &FilePath<'_>) -> Option<usize>
     requires { IsSorted claim_cmp (map claim_seen claims.now) }
     ensures within { IfSome result (λ i. i < length claims.now) }
@@ -106,7 +106,7 @@ fn place_of(claims: &[Claim<'_>], path: &FilePath<'_>) -> usize
 ///
 /// # Errors
 ///
-/// Want of memory.
+/// Lack of memory.
 pub fn one_of_each_path<'a>(
     alloc: Global,
     claims: &[Claim<'a>],
@@ -128,7 +128,7 @@ pub fn one_of_each_path<'a>(
 ///
 /// # Errors
 ///
-/// Want of memory.
+/// Lack of memory.
 pub fn name_of_path(alloc: Global, path: &FilePath<'_>) -> Result<Name, AllocError>
     requires { IsName (joined_path path.now) }
     ensures { IfOk result (λ name. name ≡ joined_path path.now) }
@@ -141,7 +141,7 @@ pub fn name_of_path(alloc: Global, path: &FilePath<'_>) -> Result<Name, AllocErr
 ///
 /// # Errors
 ///
-/// Want of memory.
+/// Lack of memory.
 pub fn names_of_claims(alloc: Global, claims: &[Claim<'_>]) -> Result<Names, AllocError>
     requires { HaveNames (map claim_seen claims.now) }
     ensures { IfOk result (λ names. names ≡ map (λ c. c.path) (map claim_seen claims.now)) }

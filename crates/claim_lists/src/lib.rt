@@ -4,7 +4,7 @@
 //! `one_of_each_path` keeps it alone.
 //! `name_of_path` makes the name that a path is, whose parts are not joined. The contracts cite
 //! `Once` of `specs/`.
-//! The rules stand in `docs/commands.md`, "Files that several packages list" (a claim), and "Words"
+//! The rules are in `docs/commands.md`, "Files that several packages list" (a claim), and "Words"
 //! (which bytes are a name).
 #![tactic(auto)]
 

@@ -1,5 +1,5 @@
 -- What the information of a package tells of its file.
--- The rule stands in `docs/formats.md`, "The database after a change": its `file-size` is as it
+-- The rule is in `docs/formats.md`, "The database after a change": its `file-size` is as it
 -- was. Serves the law `a_package_keeps_its_information`.
 use Rattle.std.specs.Prelude.{ℕ}
 use Rattle.adb_view.specs.Plain.{Plain}

@@ -1,6 +1,6 @@
 -- The database that lists members: of each its folders, and the files that it owns. No integer in
 -- it is 0.
--- The rules stand in `docs/formats.md`, "The database after a change"; the fields in "Schemas",
+-- The rules are in `docs/formats.md`, "The database after a change"; the fields in "Schemas",
 -- tables 5, 7 and 9.
 use Rattle.std.specs.Prelude.{ℕ, ◌+◌, Bool, true, false, List, [], ◌∷◌, Option, length, drop, unwrap_or, Result, Ok, Err}
 use Rattle.adb_view.specs.Plain.{Plain, Plains, none, more, blob_value, arr_value, obj_value}

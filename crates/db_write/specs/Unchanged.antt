@@ -1,5 +1,5 @@
 -- Nothing changed: each package stays, and owns all files that it lists.
--- The rule stands in `docs/formats.md`, "The database after a change", the last sentence. Serves
+-- The rule is in `docs/formats.md`, "The database after a change", the last sentence. Serves
 -- the laws `a_database_without_changes_stays_the_same` and
 -- `a_written_database_is_written_again_alike`.
 use Rattle.std.specs.Prelude.{Bool, true, List, replicate}

@@ -1,5 +1,5 @@
 //! The database's container.
-//! The rules stand in `docs/formats.md`, "The database after a change" and "Container"; the limits
+//! The rules are in `docs/formats.md`, "The database after a change" and "Container"; the limits
 //! of a payload in "Canonical layout"; what is asked of the flags, in `docs/DECISIONS.md`, "The
 //! installed database".
 ghost use Rattle.adb_values.specs.Drafts.{draft_with};

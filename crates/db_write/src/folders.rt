@@ -1,6 +1,6 @@
 //! The folders of a package, and of their files those that it owns.
-//! The rule stands in `docs/formats.md`, "The database after a change": "each folder with its name
-//! and its access list, also where it is empty, and of its files those that the package owns"; the
+//! The rule is in `docs/formats.md`, "The database after a change": "each folder with its name
+//! and its access list, also if it is empty, and of its files those that the package owns"; the
 //! fields in "Schemas", tables 5 and 7.
 ghost use Rattle.adb_copy.specs.Known.{AreBlobsOf};
 ghost use Rattle.adb_fields.specs.Fields.{are_all_sound, array_at};

@@ -1,6 +1,6 @@
 //! What a database that is written says when it is read, and that nothing changes where nothing was
 //! to be changed.
-//! The rules stand in `docs/formats.md`, "The database after a change", and in `docs/DECISIONS.md`,
+//! The rules are in `docs/formats.md`, "The database after a change", and in `docs/DECISIONS.md`,
 //! "The installed database" (what is asked of files that are owned).
 ghost use Rattle.adb_copy.specs.Zeros.{without_zeros};
 ghost use Rattle.adb_fields.specs.FirstPair.{IsIn};

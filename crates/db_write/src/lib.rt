@@ -4,7 +4,7 @@
 //! The contracts cite `NewDatabase` (the database's value, field by field, and its file) and
 //! `SoundMembers` (members that come out of sound containers) of `specs/`. `laws` says what
 //! follows.
-//! The rules stand in `docs/formats.md`, "The database after a change", and "Schemas", tables 5, 7
+//! The rules are in `docs/formats.md`, "The database after a change", and "Schemas", tables 5, 7
 //! and 9.
 #![tactic(auto)]
 

@@ -1,5 +1,5 @@
 //! The packages of a database.
-//! The rule stands in `docs/formats.md`, "The database after a change": what a database has of each
+//! The rule is in `docs/formats.md`, "The database after a change": what a database has of each
 //! package; the fields in "Schemas", table 7.
 ghost use Rattle.adb_copy.specs.Known.{AreBlobsOf};
 ghost use Rattle.adb_view.specs.FieldIndexes.{PACKAGE_INFO};

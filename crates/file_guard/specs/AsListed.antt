@@ -1,4 +1,4 @@
--- Whether bytes are what a package's entry of a file says of them. The rules stand in
+-- Whether bytes are what a package's entry of a file says of them. The rules are in
 -- `docs/commands.md`, "What a change does with files", what counts as changed; the fields in
 -- `docs/formats.md`, "Schemas", table 4.
 use Rattle.std.specs.Prelude.{ℕ, ◌==◌, Bool, not, ◌&&◌, if◌then◌else◌, List, ◌++◌, length, drop, codes, bytes_eq, is_none}
@@ -42,7 +42,7 @@ abbrev pub link_bytes : Plain → List ℕ
 link_bytes entry = link_to (file_target entry)
 
 -- Whether bytes are as an entry tells by a size, a hash and a target: a link's bytes; bytes with
--- the hash; or, where there is none, no bytes at a size of 0.
+-- the hash; or, if there is none, no bytes at a size of 0.
 unfoldable pub is_as_listed_by : ℕ → List ℕ → List ℕ → List ℕ → Bool
 is_as_listed_by size hash target bytes =
     if not (length target == 0) then bytes_eq bytes (link_to target)

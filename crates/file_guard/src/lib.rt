@@ -1,4 +1,4 @@
-//! Whether a file of a tree has the bytes that a package's entry tells. The rules stand in
+//! Whether a file of a tree has the bytes that a package's entry tells. The rules are in
 //! `docs/commands.md`, "What a change does with files", what counts as changed.
 //!
 //! `ListedFile` is what an entry of a file (apk-package(5)) says of its bytes. `compare_file` reads
@@ -13,5 +13,5 @@ mod compare;
 mod link;
 mod watch;
 
-pub use compare::{Comparison, ListedFile, compare_file, listed_file};
+pub use compare::{Comparison, ListedFile, compare_file, compare_file_in, listed_file};
 pub use link::{LINK_MARK, target_text};

@@ -1,4 +1,4 @@
-//! What a file holds that is written for a link: a mark, and the link's text. The rules stand in
+//! What a file holds that is written for a link: a mark, and the link's text. The rules are in
 //! `docs/commands.md`, "What a change does with files", and of an entry's target in
 //! `docs/formats.md`, "The texts", field 406.
 

@@ -1,5 +1,5 @@
 //! A comparison of a file's bytes, which come piece by piece, with an entry. It serves
-//! `compare_file`; the rules stand in `docs/commands.md`, "What a change does with files", what
+//! `compare_file`; the rules are in `docs/commands.md`, "What a change does with files", what
 //! counts as changed.
 
 ghost use Rattle.std.specs.Prelude.{◌≡◌, ℕ, Bool, List, [], ◌++◌, Some};

@@ -1,5 +1,5 @@
 -- Who owns the files that members list.
--- The rules stand in `docs/commands.md`, "Files that several packages list"; the words *claim*,
+-- The rules are in `docs/commands.md`, "Files that several packages list"; the words *claim*,
 -- *owner*, *contested* and *rivals* in `docs/names.md`, "The installed database and a change of
 -- it".
 use Rattle.std.specs.Prelude.{ℕ, ◌+◌, Bool, false, List, [], ◌∷◌, map, Option, Some, None, slice_get}

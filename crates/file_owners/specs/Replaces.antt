@@ -1,5 +1,5 @@
 -- Which of two packages takes over the files of the other (apk-package(5), "replaces").
--- The rule stands in `docs/commands.md`, "Files that several packages list".
+-- The rule is in `docs/commands.md`, "Files that several packages list".
 use Rattle.std.specs.Prelude.{ℕ, ◌==◌, nat_lt, Bool, false, not, ◌&&◌, ◌||◌, List, Option, Some, None}
 use Rattle.std.specs.List.{list_any}
 use Rattle.adb_view.specs.Plain.{Plain}

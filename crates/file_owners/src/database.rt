@@ -1,5 +1,5 @@
 //! The files that the packages of a database list, as claims.
-//! What a database lists stands in `docs/formats.md`, "Schemas", tables 4, 5, 7 and 9; that a
+//! What a database lists is in `docs/formats.md`, "Schemas", tables 4, 5, 7 and 9; that a
 //! package which stays claims those files, in `docs/commands.md`, "Files that several packages
 //! list".
 
@@ -25,7 +25,7 @@ use std::marker::PhantomData;
 ///
 /// # Errors
 ///
-/// Want of memory.
+/// Lack of memory.
 pub fn claims_in_database<'a>(alloc: Global, db: &Db<'a>) -> Result<Vec<Claim<'a>>, AllocError>
     ensures { IfOk result (λ claims. map claim_seen claims.items
         ≡ sorted_by claim_cmp (claims_in (map staying_member (packages_of db.now)))) }

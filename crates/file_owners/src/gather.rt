@@ -1,5 +1,5 @@
 //! The files that members list, as claims.
-//! The rule stands in `docs/commands.md`, "Files that several packages list": a package that comes
+//! The rule is in `docs/commands.md`, "Files that several packages list": a package that comes
 //! claims each file that it lists, and one that stays those that the database lists for it. Members
 //! count from 0, folders and files from 1, as in *Listing* of `db_core`.
 

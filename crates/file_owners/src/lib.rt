@@ -4,7 +4,7 @@
 //! tells for each file that one of them lists whether that package owns it. `claims_in_database`
 //! gathers the files that the packages of a database list. The contracts cite `Replaces` (which
 //! package takes over the files of another) and `Owners` of `specs/`.
-//! The rules stand in `docs/commands.md`, "Files that several packages list"; the words in
+//! The rules are in `docs/commands.md`, "Files that several packages list"; the words in
 //! `docs/names.md`, "The installed database and a change of it".
 #![tactic(auto)]
 

@@ -1,5 +1,5 @@
 //! Which members each member names in what it replaces.
-//! The rule stands in `docs/commands.md`, "Files that several packages list": "One package *names*
+//! The rule is in `docs/commands.md`, "Files that several packages list": "One package *names*
 //! another where an entry of its `replaces` that is no conflict is met by the other's name and
 //! version." Since no two members have one name, an entry names one at most.
 

@@ -1,6 +1,6 @@
 //! The owners of the files that members list, by which of two packages takes over the files of the
 //! other.
-//! The rules stand in `docs/commands.md`, "Files that several packages list": which of two packages
+//! The rules are in `docs/commands.md`, "Files that several packages list": which of two packages
 //! beats the other, who owns a path, and which path is reported where nobody does.
 
 ghost use Rattle.std.specs.Prelude.{◌≡◌, ◌<◌, Some, IfOk, length, map, option_map, slice_get, List, true, false};
@@ -79,7 +79,7 @@ fn member_beats(members: &Members<'_>, named: &[Vec<u32>], one: u32, other: u32)
 ///
 /// # Errors
 ///
-/// Want of memory.
+/// Lack of memory.
 pub fn owners_of_files<'a>(alloc: Global, members: &Members<'a>) -> Result<Owners<'a>, AllocError>
     // The files in the order of their paths, each with the places at which it is listed.
     ensures claims { IfOk result (λ found. map claim_seen found.claims.items

@@ -2,7 +2,7 @@
 //!
 //! The contract cites `Lengths` of `specs/`, and `Replacing`, `Reading` and `Recovery` (the state
 //! that files stand for) of `journal_core`.
-//! The rules stand in `docs/crash-safety.md`, "A whole file replaced".
+//! The rules are in `docs/crash-safety.md`, "A whole file replaced".
 #![tactic(auto)]
 
 mod replacing;

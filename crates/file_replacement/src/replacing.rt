@@ -1,5 +1,5 @@
 //! A whole file in the place of another.
-//! The rules stand in `docs/crash-safety.md`, "A whole file replaced", its four steps and what
+//! The rules are in `docs/crash-safety.md`, "A whole file replaced", its four steps and what
 //! follows of them.
 ghost use Rattle.std.specs.Prelude.{◌≡◌, ◌≢◌, ◌≤◌, [], ◌∷◌, ℕ, Bool, List, length, IfOk, OnOk, OnErr, IsErrOf};
 ghost use Rattle.base_core.specs.Calls.{HasNow, IfObservable};
@@ -26,7 +26,7 @@ use std::alloc::{AllocError, Global};
 ///
 /// # Errors
 ///
-/// `Disk` where a call of the tree failed; then the name may have either file, and the scratch name
+/// `Disk` if a call of the tree failed; then the name may have either file, and the scratch name
 /// may have a part of the new one. `Memory` before any call of the tree.
 pub fn replace<T: Tree>(
     alloc: Global,
@@ -74,17 +74,17 @@ pub fn replace<T: Tree>(
     ensures synced { IfObservable (T.history tree.old)
         (λ v. OnOk result (HasNow (T.history tree.new) (IsSyncedAt name.now))) }
 
-    // Where there is no memory, no call of the tree was made.
+    // If there is no memory, no call of the tree was made.
     ensures memory { IsErrOf result TreeFault.Memory → tree.new ≡ tree.old }
 
-    // No count of faults falls; a fault of the tree is answered only where that count rose, and Ok
-    // only where it did not.
+    // No count of faults falls; a fault of the tree is answered only if that count rose, and Ok
+    // only if it did not.
     ensures goes_on { GoesOn (T.counts tree.old) (T.counts tree.new) }
     ensures disk { IsErrOf result TreeFault.Disk
         → HasCause (T.counts tree.old) (T.counts tree.new) }
     ensures kept { OnOk result (IsNoFault (T.counts tree.old) (T.counts tree.new)) }
 
-    // Where there is room, no call is a misuse.
+    // If there is room, no call is a misuse.
     ensures proper { IfObservable (T.history tree.old) (λ v. HasRoom name.now (files_of v)
         → (T.counts tree.new).misuses ≡ (T.counts tree.old).misuses) }
 {
@@ -122,8 +122,8 @@ fn write_beside<T: Tree>(
         Since (KeepsMapsBut (name.now ∷ scratch.now ∷ []) v) (T.history tree.old)
         (T.history tree.new)) }
 
-    // No count of faults falls; a fault of the tree is answered only where that count rose, and Ok
-    // only where it did not.
+    // No count of faults falls; a fault of the tree is answered only if that count rose, and Ok
+    // only if it did not.
     ensures goes_on { GoesOn (T.counts tree.old) (T.counts tree.new) }
     ensures cause { OnErr result (HasCause (T.counts tree.old) (T.counts tree.new)) }
     ensures kept { OnOk result (IsNoFault (T.counts tree.old) (T.counts tree.new)) }
@@ -145,8 +145,8 @@ fn fill<T: Tree>(tree: &mut T, name: &Name, bytes: &[u8]) -> Result<(), Disk>
         (λ v. OnOk result (IfObservable (T.history tree.new)
         (IsFilling name.now (synced_file bytes.now) v))) }
 
-    // No count of faults falls; a fault of the tree is answered only where that count rose, and Ok
-    // only where it did not.
+    // No count of faults falls; a fault of the tree is answered only if that count rose, and Ok
+    // only if it did not.
     ensures goes_on { GoesOn (T.counts tree.old) (T.counts tree.new) }
     ensures cause { OnErr result (HasCause (T.counts tree.old) (T.counts tree.new)) }
     ensures kept { OnOk result (IsNoFault (T.counts tree.old) (T.counts tree.new)) }
@@ -182,8 +182,8 @@ fn settle<T: Tree>(tree: &mut T, from: &Name, to: &Name) -> Result<(), Disk>
         Since (KeepsMapsBut (to.now ∷ from.now ∷ []) v) (T.history tree.old)
         (T.history tree.new)) }
 
-    // No count of faults falls; a fault of the tree is answered only where that count rose, and Ok
-    // only where it did not.
+    // No count of faults falls; a fault of the tree is answered only if that count rose, and Ok
+    // only if it did not.
     ensures goes_on { GoesOn (T.counts tree.old) (T.counts tree.new) }
     ensures cause { OnErr result (HasCause (T.counts tree.old) (T.counts tree.new)) }
     ensures kept { OnOk result (IsNoFault (T.counts tree.old) (T.counts tree.new)) }

@@ -1,5 +1,5 @@
 -- The actions of a stage, one after another.
--- The rules stand in `docs/crash-safety.md`, "A change of several files". Serves the contracts of
+-- The rules are in `docs/crash-safety.md`, "A change of several files". Serves the contracts of
 -- `acting`, and those of `publishing`.
 use Rattle.std.specs.Prelude.{◌≡◌, ◌⊎◌, ◌<◌, ◌+◌, ◌^◌, ℕ, Bool, true, false, List, ◌∷◌, length, None, Result, OnOk, OnErr}
 use Rattle.base_core.specs.Calls.{IfObservable}
@@ -30,7 +30,7 @@ full_stage intent = record {
 }
 
 -- what the move of a file that may wait at a place makes of the tree: a file that is there is moved to
--- its name, and nothing happens where none is there; after a fault the file was moved or not
+-- its name, and nothing happens if none is there; after a fault the file was moved or not
 pub record MovesIfThere {T E : Type 0} (place name : List ℕ) (old new : List TreeState)
     (result : Result T E) : Type 0 where
   pub ok : OnOk result (IfObservable old (λ v.

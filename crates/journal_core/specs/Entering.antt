@@ -1,5 +1,5 @@
--- How an intent comes to stand under its name.
--- The rules stand in `docs/crash-safety.md`, "A change of several files", step 2 of the table. Serves
+-- How an intent comes to are under its name.
+-- The rules are in `docs/crash-safety.md`, "A change of several files", step 2 of the table. Serves
 -- the contracts of `publishing`.
 use Rattle.std.specs.Prelude.{◌≡◌, ◌≢◌, ◌≤◌, ◌<◌, ℕ, ◌+◌, ◌^◌, Bool, true, List, Some, None, length}
 use Rattle.base_core.specs.Files.{Files}
@@ -11,7 +11,7 @@ use Rattle.journal_intent.specs.FreeNames.{HasFreeNames}
 use Rattle.journal_core.specs.Quiet.{IsQuiet}
 use Rattle.journal_core.specs.Staged.{Publishes}
 
--- a moment at which a new file stands under a name, where none stood at the start, and nothing else has
+-- a moment at which a new file is under a name, where none stood at the start, and nothing else has
 -- changed
 pub record IsWritten (place : List ℕ) (file : File) (start v : TreeState) : Type 0 where
   pub absent : start.names place ≡ None
@@ -26,7 +26,7 @@ pub record IsWritten (place : List ℕ) (file : File) (start v : TreeState) : Ty
 -- files of its writes; `base` are the files as read without the intent, and `made` is how many files
 -- were made before it
 pub record IsReady (intent : Intent) (base : Files) (made : ℕ) (v : TreeState) : Type 0 where
-  -- no intent stands under its name
+  -- no intent is under its name
   pub absent : v.names intent_name ≡ None
   -- the files beside it have none under the name where it waits
   pub none_waits : base (stage_name 0) ≡ None

@@ -1,5 +1,5 @@
 -- What a call of a stage keeps: the files under other names, and the names that no crash undoes.
--- The rules stand in `docs/crash-safety.md`, "A change of several files", the list of what is proved,
+-- The rules are in `docs/crash-safety.md`, "A change of several files", the list of what is proved,
 -- and in "Recovery".
 use Rattle.std.specs.Prelude.{◌≡◌, ◌≢◌, ◌⊎◌, ℕ, ◌+◌, true, false, List, [], length, None, Some, slice_get}
 use Rattle.base_core.specs.Crash.{Since}

@@ -1,5 +1,5 @@
 -- A moment at which nothing has happened to the state.
--- The rules stand in `docs/crash-safety.md`, "What files stand for", the table, *quiet* and *still*.
+-- The rules are in `docs/crash-safety.md`, "What files stand for", the table, *quiet* and *still*.
 use Rattle.std.specs.Prelude.{◌≡◌, ◌≤◌, ℕ, Bool, List}
 use Rattle.base_core.specs.Crash.{IsImage, IsOrderly}
 use Rattle.base_core.specs.Files.{Files}

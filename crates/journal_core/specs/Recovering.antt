@@ -1,5 +1,5 @@
 -- What a recovery makes of the tree, and its faults.
--- The rules stand in `docs/crash-safety.md`, "Recovery". Serves the contracts of `journal_recovery`.
+-- The rules are in `docs/crash-safety.md`, "Recovery". Serves the contracts of `journal_recovery`.
 use Rattle.std.specs.Prelude.{◌≡◌, ℕ, true, if◌then◌else◌, List, Option, None, All}
 use Rattle.std.specs.List.{list_any}
 use Rattle.std.specs.Str.{bytes_eq}

@@ -1,6 +1,6 @@
 -- What files stand for, also in the midst of a change: the intent that is still to be done, and the
 -- names that no state has.
--- The rules stand in `docs/crash-safety.md`, "What files stand for", the table.
+-- The rules are in `docs/crash-safety.md`, "What files stand for", the table.
 use Rattle.std.specs.Prelude.{◌≡◌, ◌⊎◌, ◌≤◌, ◌<◌, ℕ, ◌+◌, Bool, false, ◌||◌, if◌then◌else◌, List, [], ◌∷◌, length, Option, Some, None}
 use Rattle.std.specs.Str.{bytes_eq}
 use Rattle.std.specs.List.{list_any}
@@ -50,7 +50,7 @@ abbrev pub recovered_files_by : Option Intent → Files → Files
 recovered_files_by None files = files
 recovered_files_by (Some intent) files = drop_name (after_actions intent files) intent_name
 
--- the files once their intent is done and gone; the same files, where there is none or it is no
+-- the files once their intent is done and gone; the same files, if there is none or it is no
 -- intent container
 abbrev pub recovered_files : Files → Files
 recovered_files files = recovered_files_by (intent_of files) files

@@ -1,6 +1,6 @@
 -- A stage: how new files come to wait, what the publishing of the intent does, the actions behind
 -- it, and what a recovery leaves.
--- The rules stand in `docs/crash-safety.md`, "A change of several files", and for what a recovery
+-- The rules are in `docs/crash-safety.md`, "A change of several files", and for what a recovery
 -- leaves in "Recovery".
 use Rattle.std.specs.Prelude.{◌≡◌, ◌⊎◌, ◌≤◌, ◌<◌, ℕ, ◌+◌, Bool, true, false, if◌then◌else◌, List, [], ◌∷◌, ◌++◌, length, Option, Some, None, IsSome, slice_get}
 use Rattle.base_core.specs.Files.{Files, NameMap, IsFolderOf, put_name}
@@ -36,7 +36,7 @@ new_stage removals writes = record {
   acted = 0;
 }
 
--- what stands under the intent's name is no intent container, for this cause
+-- what is under the intent's name is no intent container, for this cause
 abbrev pub IsIntentFault : Files → Cause → Type 0
 IsIntentFault files cause = (file : List ℕ) × (files intent_name ≡ Some file)
     × (first_fault IntentTable file ≡ Some cause)
@@ -54,7 +54,7 @@ abbrev pub with_begun : ℕ → Option (List ℕ) → Files → Files
 with_begun k None files = files
 with_begun k (Some bytes) files = put_name files (stage_name k) bytes
 
--- a file stands under the name, and under no other name in any map; and in none of these maps an
+-- a file is under the name, and under no other name in any map; and in none of these maps an
 -- action of the intent takes it
 pub record IsAlone (name : List ℕ) (v : TreeState) : Type 0 where
   pub number : ℕ

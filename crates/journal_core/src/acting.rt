@@ -1,5 +1,5 @@
 //! The actions of an intent, one after another: its removals, and behind them its moves.
-//! The rules stand in `docs/crash-safety.md`, "A change of several files", step 3 of the table and
+//! The rules are in `docs/crash-safety.md`, "A change of several files", step 3 of the table and
 //! what is said of the actions below it.
 ghost use Rattle.std.specs.Prelude.{◌≡◌, ◌≤◌, ◌<◌, ◌+◌, ℕ, Bool, List, length, IfOk, OnOk, OnErr, IsSome};
 ghost use Rattle.base_core.specs.Calls.{HasNow, IfObservable};
@@ -47,8 +47,8 @@ pub(crate) fn act<T: Tree>(
     ensures none_left { action_count intent.now ≤ acted
         → IfOk result (λ next. next ≡ acted) × (tree.new ≡ tree.old) }
 
-    // No count of faults falls; a fault of the tree is answered only where that count rose, and Ok
-    // only where it did not.
+    // No count of faults falls; a fault of the tree is answered only if that count rose, and Ok
+    // only if it did not.
     ensures goes_on { GoesOn (T.counts tree.old) (T.counts tree.new) }
     ensures cause { OnErr result (HasCause (T.counts tree.old) (T.counts tree.new)) }
     ensures kept { OnOk result (IsNoFault (T.counts tree.old) (T.counts tree.new)) }
@@ -96,8 +96,8 @@ fn remove_one<T: Tree>(intent: &PreparedIntent, i: usize, tree: &mut T) -> Resul
     ensures others { IfObservable (T.history tree.old) (λ v.
         HasNow (T.history tree.new) (KeepsFilesBut (IsOfAction intent.now i) v)) }
 
-    // No count of faults falls; a fault of the tree is answered only where that count rose, and Ok
-    // only where it did not.
+    // No count of faults falls; a fault of the tree is answered only if that count rose, and Ok
+    // only if it did not.
     ensures goes_on { GoesOn (T.counts tree.old) (T.counts tree.new) }
     ensures cause { OnErr result (HasCause (T.counts tree.old) (T.counts tree.new)) }
     ensures kept { OnOk result (IsNoFault (T.counts tree.old) (T.counts tree.new)) }
@@ -142,8 +142,8 @@ fn move_one<T: Tree>(
     ensures others { IfObservable (T.history tree.old) (λ v.
         HasNow (T.history tree.new) (KeepsFilesBut (IsOfAction intent.now acted) v)) }
 
-    // No count of faults falls; a fault of the tree is answered only where that count rose, and Ok
-    // only where it did not.
+    // No count of faults falls; a fault of the tree is answered only if that count rose, and Ok
+    // only if it did not.
     ensures goes_on { GoesOn (T.counts tree.old) (T.counts tree.new) }
     ensures cause { OnErr result (HasCause (T.counts tree.old) (T.counts tree.new)) }
     ensures kept { OnOk result (IsNoFault (T.counts tree.old) (T.counts tree.new)) }
@@ -166,8 +166,8 @@ fn move_waiting<T: Tree>(tree: &mut T, place: &Name, name: &Name) -> Result<(), 
     ensures moves { MovesIfThere place.now name.now (T.history tree.old) (T.history tree.new)
         result }
 
-    // No count of faults falls; a fault of the tree is answered only where that count rose, and Ok
-    // only where it did not.
+    // No count of faults falls; a fault of the tree is answered only if that count rose, and Ok
+    // only if it did not.
     ensures goes_on { GoesOn (T.counts tree.old) (T.counts tree.new) }
     ensures cause { OnErr result (HasCause (T.counts tree.old) (T.counts tree.new)) }
     ensures kept { OnOk result (IsNoFault (T.counts tree.old) (T.counts tree.new)) }

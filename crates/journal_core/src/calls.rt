@@ -1,6 +1,6 @@
 //! The calls of a tree that change it, each under a name of its own, so that a caller's proof can
 //! cite their clauses.
-//! What each call does stands in `docs/crash-safety.md`, "What each call does"; the contract is
+//! What each call does is in `docs/crash-safety.md`, "What each call does"; the contract is
 //! that of the same call of the trait `Tree` of `base_core`.
 ghost use Rattle.base_core.specs.Calls.{IsCounted, Moves};
 ghost use Rattle.base_core.specs.Tree.{after_append, after_create, after_failed_append, after_remove, after_rename, after_sync, after_sync_names, same_state, Anywhere, CanCreate, CanRename, HasName};

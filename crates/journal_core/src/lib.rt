@@ -5,7 +5,7 @@
 //! `Replacing` and `Reading` (a whole file in the place of another), `Staged` (a stage, its
 //! moments, and what a recovery leaves) and `Quiet` (moments at which nothing happens to the state)
 //! of `specs/`, and `Intent` of `journal_intent`.
-//! The rules stand in `docs/crash-safety.md`, from "What files stand for" to "Recovery".
+//! The rules are in `docs/crash-safety.md`, from "What files stand for" to "Recovery".
 #![tactic(auto)]
 
 mod acting;

@@ -1,5 +1,5 @@
-//! The intent of a stage comes to stand under its name.
-//! The rules stand in `docs/crash-safety.md`, "A change of several files", step 2 of the table, and
+//! The intent of a stage comes to are under its name.
+//! The rules are in `docs/crash-safety.md`, "A change of several files", step 2 of the table, and
 //! the syncs before and behind the rename of the intent.
 ghost use Rattle.std.specs.Prelude.{◌≡◌, ◌⊎◌, ◌∷◌, [], ℕ, Bool, List, None, IsSome, OnOk, OnErr};
 ghost use Rattle.base_core.specs.Calls.{HasNow, IfObservable};
@@ -62,13 +62,13 @@ pub(crate) fn publish_intent<T: Tree>(tree: &mut T, intent: &PreparedIntent) -> 
     ensures only_intent { IfObservable (T.history tree.old) (λ v. OnOk result
         (HasNow (T.history tree.new) (KeepsFilesBut (λ q. q ≡ intent_name) v))) }
 
-    // No count of faults falls; a fault of the tree is answered only where that count rose, and Ok
-    // only where it did not.
+    // No count of faults falls; a fault of the tree is answered only if that count rose, and Ok
+    // only if it did not.
     ensures goes_on { GoesOn (T.counts tree.old) (T.counts tree.new) }
     ensures cause { OnErr result (HasCause (T.counts tree.old) (T.counts tree.new)) }
     ensures kept { OnOk result (IsNoFault (T.counts tree.old) (T.counts tree.new)) }
 
-    // Where there is room for the stage, no call is a misuse.
+    // If there is room for the stage, no call is a misuse.
     ensures proper { IfObservable (T.history tree.old) (λ v. (contents : List (List ℕ))
         (base : Files) → IsStaged (full_stage intent.now) contents None base v
         → HasRoomToStage base → (T.counts tree.new).misuses ≡ (T.counts tree.old).misuses) }
@@ -98,8 +98,8 @@ fn write_waiting<T: Tree>(tree: &mut T, place: &Name, bytes: &[u8]) -> Result<()
     ensures absent { OnOk result
         (IfObservable (T.history tree.old) (λ v. v.names place.now ≡ None)) }
 
-    // No count of faults falls; a fault of the tree is answered only where that count rose, and Ok
-    // only where it did not.
+    // No count of faults falls; a fault of the tree is answered only if that count rose, and Ok
+    // only if it did not.
     ensures goes_on { GoesOn (T.counts tree.old) (T.counts tree.new) }
     ensures cause { OnErr result (HasCause (T.counts tree.old) (T.counts tree.new)) }
     ensures kept { OnOk result (IsNoFault (T.counts tree.old) (T.counts tree.new)) }
@@ -150,8 +150,8 @@ fn enter<T: Tree>(tree: &mut T, place: &Name, name: &Name) -> Result<(), Disk>
     ensures moved { OnOk result
         (IfObservable (T.history tree.new) (λ w. w.names (stage_name 0) ≡ None)) }
 
-    // No count of faults falls; a fault of the tree is answered only where that count rose, and Ok
-    // only where it did not.
+    // No count of faults falls; a fault of the tree is answered only if that count rose, and Ok
+    // only if it did not.
     ensures goes_on { GoesOn (T.counts tree.old) (T.counts tree.new) }
     ensures cause { OnErr result (HasCause (T.counts tree.old) (T.counts tree.new)) }
     ensures kept { OnOk result (IsNoFault (T.counts tree.old) (T.counts tree.new)) }

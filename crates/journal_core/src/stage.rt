@@ -1,5 +1,5 @@
 //! A stage: new files wait under names of their own until one step lets all of them count.
-//! The rules stand in `docs/crash-safety.md`, "A change of several files".
+//! The rules are in `docs/crash-safety.md`, "A change of several files".
 ghost use Rattle.std.specs.Prelude.{◌≡◌, ◌⊎◌, ◌≤◌, ◌<◌, ◌+◌, ◌++◌, ◌∷◌, [], ◌^◌, ℕ, Bool, true, false, List, Some, None, length, IfOk, OnOk, OnErr, IsErrOf, IsSome, nat_lt};
 ghost use Rattle.adb_schema.specs.Soundness.{first_fault};
 ghost use Rattle.adb_view.specs.declared.tables.Which.TheVariants.{Intent as IntentTable};
@@ -76,7 +76,7 @@ impl Stage {
     ///
     /// # Errors
     ///
-    /// `TooLarge` exactly where the payload of the intent's container would pass a limit of the
+    /// `TooLarge` exactly when the payload of the intent's container would pass a limit of the
     /// writer, with the counts there; or `Memory`.
     pub fn begin(alloc: Global, removals: &Names, writes: &Names) -> Result<Stage, WriteFault>
         requires { AreChangeNames (removals.now ++ writes.now) }
@@ -185,13 +185,13 @@ impl Stage {
         ensures view { OnOk result (self.new ≡ record self.old { is_open = true }) }
         ensures err { OnErr result (self.new ≡ self.old) }
 
-        // No count of faults falls; a fault of the tree is answered only where that count rose, and
-        // Ok only where it did not.
+        // No count of faults falls; a fault of the tree is answered only if that count rose, and
+        // Ok only if it did not.
         ensures goes_on { GoesOn (T.counts tree.old) (T.counts tree.new) }
         ensures cause { OnErr result (HasCause (T.counts tree.old) (T.counts tree.new)) }
         ensures kept { OnOk result (IsNoFault (T.counts tree.old) (T.counts tree.new)) }
 
-        // Where there is room for the stage, no call is a misuse.
+        // If there is room for the stage, no call is a misuse.
         ensures proper { IfObservable (T.history tree.old) (λ v. (contents : List (List ℕ))
             (base : Files) → IsStaged self.old contents None base v → HasRoomToStage base
             → (T.counts tree.new).misuses ≡ (T.counts tree.old).misuses) }
@@ -230,8 +230,8 @@ impl Stage {
         ensures view { OnOk result (self.new ≡ self.old) }
         ensures err { OnErr result (self.new ≡ self.old) }
 
-        // No count of faults falls; a fault of the tree is answered only where that count rose, and
-        // Ok only where it did not.
+        // No count of faults falls; a fault of the tree is answered only if that count rose, and
+        // Ok only if it did not.
         ensures goes_on { GoesOn (T.counts tree.old) (T.counts tree.new) }
         ensures cause { OnErr result (HasCause (T.counts tree.old) (T.counts tree.new)) }
         ensures kept { OnOk result (IsNoFault (T.counts tree.old) (T.counts tree.new)) }
@@ -272,8 +272,8 @@ impl Stage {
             (self.new ≡ record self.old { staged = self.old.staged + 1; is_open = false }) }
         ensures err { OnErr result (self.new ≡ self.old) }
 
-        // No count of faults falls; a fault of the tree is answered only where that count rose, and
-        // Ok only where it did not.
+        // No count of faults falls; a fault of the tree is answered only if that count rose, and
+        // Ok only if it did not.
         ensures goes_on { GoesOn (T.counts tree.old) (T.counts tree.new) }
         ensures cause { OnErr result (HasCause (T.counts tree.old) (T.counts tree.new)) }
         ensures kept { OnOk result (IsNoFault (T.counts tree.old) (T.counts tree.new)) }
@@ -349,13 +349,13 @@ impl Stage {
         ensures view { OnOk result (self.new ≡ record self.old { published = true; acted = 0 }) }
         ensures err { OnErr result (self.new ≡ self.old) }
 
-        // No count of faults falls; a fault of the tree is answered only where that count rose, and
-        // Ok only where it did not.
+        // No count of faults falls; a fault of the tree is answered only if that count rose, and
+        // Ok only if it did not.
         ensures goes_on { GoesOn (T.counts tree.old) (T.counts tree.new) }
         ensures cause { OnErr result (HasCause (T.counts tree.old) (T.counts tree.new)) }
         ensures kept { OnOk result (IsNoFault (T.counts tree.old) (T.counts tree.new)) }
 
-        // Where there is room for the stage, no call is a misuse.
+        // If there is room for the stage, no call is a misuse.
         ensures proper { IfObservable (T.history tree.old) (λ v. (contents : List (List ℕ))
             (base : Files) → IsStaged self.old contents None base v → HasRoomToStage base
             → (T.counts tree.new).misuses ≡ (T.counts tree.old).misuses) }
@@ -366,7 +366,7 @@ impl Stage {
         Ok(())
     }
 
-    /// Does the next action; true exactly where one was left.
+    /// Does the next action; true exactly when one was left.
     pub fn apply_one<T: Tree>(&mut self, tree: &mut T) -> Result<bool, Disk>
         requires { self.old.published ≡ true }
 
@@ -397,7 +397,7 @@ impl Stage {
         ensures others { IfObservable (T.history tree.old) (λ v. HasNow (T.history tree.new)
             (KeepsFilesBut (IsOfAction self.old.intent self.old.acted) v)) }
 
-        // True is answered exactly where an action was left, which then counts as done; where none
+        // True is answered exactly when an action was left, which then counts as done; where none
         // was left no call is made. A call that fails leaves the stage as it was.
         ensures answer { IfOk result
             (λ was_left. was_left ≡ nat_lt self.old.acted (action_count self.old.intent)) }
@@ -407,8 +407,8 @@ impl Stage {
             → OnOk result (self.new ≡ self.old) × (tree.new ≡ tree.old) }
         ensures err { OnErr result (self.new ≡ self.old) }
 
-        // No count of faults falls; a fault of the tree is answered only where that count rose, and
-        // Ok only where it did not.
+        // No count of faults falls; a fault of the tree is answered only if that count rose, and
+        // Ok only if it did not.
         ensures goes_on { GoesOn (T.counts tree.old) (T.counts tree.new) }
         ensures cause { OnErr result (HasCause (T.counts tree.old) (T.counts tree.new)) }
         ensures kept { OnOk result (IsNoFault (T.counts tree.old) (T.counts tree.new)) }
@@ -466,8 +466,8 @@ impl Stage {
             (T.history tree.old) (T.history tree.new)) }
         ensures view { self.new ≡ self.old }
 
-        // No count of faults falls; a fault of the tree is answered only where that count rose, and
-        // Ok only where it did not.
+        // No count of faults falls; a fault of the tree is answered only if that count rose, and
+        // Ok only if it did not.
         ensures goes_on { GoesOn (T.counts tree.old) (T.counts tree.new) }
         ensures cause { OnErr result (HasCause (T.counts tree.old) (T.counts tree.new)) }
         ensures kept { OnOk result (IsNoFault (T.counts tree.old) (T.counts tree.new)) }
@@ -507,8 +507,8 @@ pub fn apply_all<T: Tree>(stage: &mut Stage, tree: &mut T) -> Result<(), Disk>
     ensures all { OnOk result (stage.new.acted ≡ action_count stage.new.intent) }
     ensures published { OnOk result (stage.new.published ≡ true) }
 
-    // No count of faults falls; a fault of the tree is answered only where that count rose, and Ok
-    // only where it did not.
+    // No count of faults falls; a fault of the tree is answered only if that count rose, and Ok
+    // only if it did not.
     ensures goes_on { GoesOn (T.counts tree.old) (T.counts tree.new) }
     ensures cause { OnErr result (HasCause (T.counts tree.old) (T.counts tree.new)) }
     ensures kept { OnOk result (IsNoFault (T.counts tree.old) (T.counts tree.new)) }

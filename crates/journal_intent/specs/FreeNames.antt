@@ -1,5 +1,5 @@
 -- What the actions of an intent need of its names.
--- The rules stand in `docs/formats.md`, "The texts", the row of 1001 and 1002, and "Names that stand
+-- The rules are in `docs/formats.md`, "The texts", the row of 1001 and 1002, and "Names that stand
 -- twice"; what they are for in `docs/crash-safety.md`, "A change of several files".
 use Rattle.std.specs.Prelude.{◌≡◌, ◌⊎◌, ◌≢◌, ℕ, zero, suc, ◌+◌, true, false, List, [], ◌∷◌}
 use Rattle.std.specs.Str.{bytes_eq}

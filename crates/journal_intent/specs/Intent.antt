@@ -1,6 +1,6 @@
 -- The intent: what a change of several files has still to do, the file that says so, and the names
 -- under which new files wait.
--- The rules stand in `docs/crash-safety.md`, "What files stand for" and "A change of several files",
+-- The rules are in `docs/crash-safety.md`, "What files stand for" and "A change of several files",
 -- the table of names; of the container in `docs/formats.md`, "Schemas", table 10.
 use Rattle.std.specs.Prelude.{◌≡◌, ℕ, Bool, List, ◌++◌, map, Option, Some, None, codes, decimal, nat_eq, true, false, AllPairs}
 use Rattle.std.specs.Str.{bytes_eq}
@@ -52,7 +52,7 @@ abbrev pub intent_unless : Option Cause → Plain → Option Intent
 intent_unless None v = Some (intent_in v)
 intent_unless (Some cause) v = None
 
--- the intent that a file's bytes spell, or none where they are no intent container
+-- the intent that a file's bytes spell, or none if they are no intent container
 unfoldable pub read_intent : List ℕ → Option Intent
 read_intent file = intent_unless (first_fault IntentTable file)
     (root_value IntentTable (payload_in file))

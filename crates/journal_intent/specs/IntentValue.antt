@@ -1,5 +1,5 @@
 -- The plain value of an intent, which its container holds.
--- The rule stands in `docs/formats.md`, "Schemas", table 10.
+-- The rule is in `docs/formats.md`, "Schemas", table 10.
 use Rattle.std.specs.Prelude.{ℕ, List}
 use Rattle.adb_view.specs.Plain.{Plain, Plains, none, more, arr_value, obj_value, text_plains}
 use Rattle.journal_intent.specs.Intent.{Intent}

@@ -1,4 +1,4 @@
-//! The container of an intent is written, and is read back as this intent. The rules stand in
+//! The container of an intent is written, and is read back as this intent. The rules are in
 //! `docs/formats.md`, "Schemas", table 10, and "Canonical layout".
 ghost use Rattle.std.specs.Prelude.{◌≡◌, ◌++◌, ◌<◌, ◌+◌, ◌^◌, ℕ, List, Some, None, length, IfOk, OnOk, IsErrOf};
 ghost use Rattle.adb_schema.specs.declared.read.TheConstants.{INTENT_WORD};
@@ -22,7 +22,7 @@ use std::alloc::{AllocError, Global};
 ///
 /// # Errors
 ///
-/// `TooLarge` exactly where the payload passes a limit of the writer, or `Memory`.
+/// `TooLarge` exactly when the payload passes a limit of the writer, or `Memory`.
 pub(crate) fn intent_file(
     alloc: Global,
     removals: &Names,

@@ -5,7 +5,7 @@
 //! names, or read from a file. The contracts cite `Intent` (the names, the intent and the file that
 //! spells it), `IntentValue` (the plain value of its container) and `FreeNames` (what the actions
 //! need of the names) of `specs/`.
-//! The rules stand in `docs/crash-safety.md`, "What files stand for" and "A change of several
+//! The rules are in `docs/crash-safety.md`, "What files stand for" and "A change of several
 //! files".
 #![tactic(auto)]
 

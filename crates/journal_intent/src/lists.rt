@@ -1,5 +1,5 @@
 //! The lists of an intent are read from its container.
-//! The rules stand in `docs/formats.md`, "Schemas", table 10, and "Tests of a container".
+//! The rules are in `docs/formats.md`, "Schemas", table 10, and "Tests of a container".
 ghost use Rattle.std.specs.Prelude.{◌≡◌, ◌<◌, ◌+◌, ◌^◌, Some, None, length, map, IfOk, IfErr, OnOk};
 ghost use Rattle.adb_fields.specs.ListValue.{list_value};
 ghost use Rattle.adb_fields.specs.Repeated.{list_of};
@@ -29,7 +29,7 @@ pub(crate) struct IntentLists {
 ///
 /// # Errors
 ///
-/// `Bad` exactly where the file is no intent container, with the first test that failed; or
+/// `Bad` exactly when the file is no intent container, with the first test that failed; or
 /// `Memory`.
 pub(crate) fn read_lists(alloc: Global, file: &[u8]) -> Result<IntentLists, ReadFault>
     ensures intent { IfOk result

@@ -1,6 +1,6 @@
 //! The fixed names of a change: that of the intent, the folder of the stage, and those of the files
 //! that wait in it. Laws say what follows of them and of an intent that is read.
-//! The rules stand in `docs/crash-safety.md`, "A change of several files", the table of names; the
+//! The rules are in `docs/crash-safety.md`, "A change of several files", the table of names; the
 //! law of free names in `docs/formats.md`, "The texts" and "Names that stand twice".
 
 ghost use Rattle.std.specs.Prelude.{◌≡◌, IfOk, ◌≢◌, ◌<◌, ◌^◌, ◌++◌, ℕ, true, List, Some, None};

@@ -1,4 +1,4 @@
-//! An intent with all the memory that its actions need. The rules stand in `docs/crash-safety.md`,
+//! An intent with all the memory that its actions need. The rules are in `docs/crash-safety.md`,
 //! "A change of several files": memory is taken when a stage begins, and never later.
 ghost use Rattle.std.specs.Prelude.{◌≡◌, ◌++◌, ◌≤◌, ◌<◌, ◌+◌, ◌^◌, ℕ, List, Some, None, length, slice_get, IfOk, IfErr, OnOk, IsErrOf};
 ghost use Rattle.adb_schema.specs.ReadFaults.{IsReadFault};
@@ -52,7 +52,7 @@ impl PreparedIntent {
     ///
     /// # Errors
     ///
-    /// `TooLarge` exactly where the payload of its container passes a limit of the writer, with the
+    /// `TooLarge` exactly when the payload of its container passes a limit of the writer, with the
     /// counts there; or `Memory`.
     pub fn of_names(
         alloc: Global,
@@ -81,7 +81,7 @@ impl PreparedIntent {
     ///
     /// # Errors
     ///
-    /// `Bad` exactly where the file is no intent container, with the first test that failed; or
+    /// `Bad` exactly when the file is no intent container, with the first test that failed; or
     /// `Memory`.
     pub fn of_file(alloc: Global, file: Vec<u8>) -> Result<PreparedIntent, ReadFault>
         ensures intent { IfOk result (λ intent. read_intent file.items ≡ Some intent) }

@@ -2,7 +2,7 @@
 //!
 //! The contracts cite `Recovery` (what files stand for), `Quiet`, `Staged` and `Kept` of
 //! `journal_core`.
-//! The rules stand in `docs/crash-safety.md`, "Recovery".
+//! The rules are in `docs/crash-safety.md`, "Recovery".
 #![tactic(auto)]
 
 mod recovering;

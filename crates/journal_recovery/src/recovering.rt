@@ -1,5 +1,5 @@
 //! What an earlier change left to do is done, and nothing waits any more.
-//! The rules stand in `docs/crash-safety.md`, "Recovery"; which actions an intent has, in "A change
+//! The rules are in `docs/crash-safety.md`, "Recovery"; which actions an intent has, in "A change
 //! of several files".
 ghost use Rattle.std.specs.Prelude.{◌≡◌, [], ℕ, Bool, true, List, Some, None, IsSome, OnOk, OnErr, IsErrOf};
 ghost use Rattle.adb_schema.specs.Soundness.{first_fault};
@@ -72,11 +72,11 @@ pub fn recover<T: Tree>(alloc: Global, tree: &mut T) -> Result<(), RecoverFault>
     ensures gone { IfObservable (T.history tree.old) (λ v. IsSome (v.names intent_name)
         → OnOk result (HasNow (T.history tree.new) (IsInNoMap intent_name))) }
 
-    // Where there is nothing to do, no writing call is made.
+    // If there is nothing to do, no writing call is made.
     ensures idle { IfObservable (T.history tree.old) (λ v. v.names intent_name ≡ None
         → IsEmptyStage v.names → T.history tree.new ≡ T.history tree.old) }
 
-    // The intent is refused exactly where it is no intent container. There nothing changes,
+    // The intent is refused exactly when it is no intent container. There nothing changes,
     // whatever is answered.
     ensures bad { (cause : Cause) → IsErrOf result (RecoverFault.IntentBad cause)
         → (T.history tree.new ≡ T.history tree.old)
@@ -88,8 +88,8 @@ pub fn recover<T: Tree>(alloc: Global, tree: &mut T) -> Result<(), RecoverFault>
     ensures found { (cause : Cause) → IsErrOf result (RecoverFault.IntentBad cause)
         → (file : List ℕ) × (first_fault IntentTable file ≡ Some cause) }
 
-    // No count of faults falls; a fault of the tree is answered only where that count rose, and Ok
-    // only where it did not.
+    // No count of faults falls; a fault of the tree is answered only if that count rose, and Ok
+    // only if it did not.
     ensures goes_on { GoesOn (T.counts tree.old) (T.counts tree.new) }
     ensures disk { IsErrOf result RecoverFault.Disk
         → HasCause (T.counts tree.old) (T.counts tree.new) }
@@ -145,8 +145,8 @@ fn replay<T: Tree>(alloc: Global, tree: &mut T) -> Result<(), RecoverFault>
     ensures found { (cause : Cause) → IsErrOf result (RecoverFault.IntentBad cause)
         → (file : List ℕ) × (first_fault IntentTable file ≡ Some cause) }
 
-    // No count of faults falls; a fault of the tree is answered only where that count rose, and Ok
-    // only where it did not.
+    // No count of faults falls; a fault of the tree is answered only if that count rose, and Ok
+    // only if it did not.
     ensures goes_on { GoesOn (T.counts tree.old) (T.counts tree.new) }
     ensures disk { IsErrOf result RecoverFault.Disk
         → HasCause (T.counts tree.old) (T.counts tree.new) }
@@ -169,7 +169,7 @@ fn replay<T: Tree>(alloc: Global, tree: &mut T) -> Result<(), RecoverFault>
 
 /// Does the actions of the intent that this file spells, all of them, since which were done before
 /// is not told, and takes the intent away. The clauses are those of `replay`, where the file is
-/// what stands under the intent's name.
+/// what is under the intent's name.
 fn replay_file<T: Tree>(alloc: Global, tree: &mut T, file: Vec<u8>) -> Result<(), RecoverFault>
     ensures moments { IfObservable (T.history tree.old) (λ v. (ignored : List ℕ → Bool)
         → IsOrderly (RestsOn ignored) v → files_of v intent_name ≡ Some file.items
@@ -200,8 +200,8 @@ fn replay_file<T: Tree>(alloc: Global, tree: &mut T, file: Vec<u8>) -> Result<()
     ensures bad_idle { (cause : Cause) → first_fault IntentTable file.items ≡ Some cause
         → T.history tree.new ≡ T.history tree.old }
 
-    // No count of faults falls; a fault of the tree is answered only where that count rose, and Ok
-    // only where it did not.
+    // No count of faults falls; a fault of the tree is answered only if that count rose, and Ok
+    // only if it did not.
     ensures goes_on { GoesOn (T.counts tree.old) (T.counts tree.new) }
     ensures disk { IsErrOf result RecoverFault.Disk
         → HasCause (T.counts tree.old) (T.counts tree.new) }
@@ -242,8 +242,8 @@ fn empty_stage<T: Tree>(alloc: Global, tree: &mut T) -> Result<(), TreeFault>
     ensures idle { IfObservable (T.history tree.old) (λ v. IsEmptyStage v.names
         → T.history tree.new ≡ T.history tree.old) }
 
-    // No count of faults falls; a fault of the tree is answered only where that count rose, and Ok
-    // only where it did not.
+    // No count of faults falls; a fault of the tree is answered only if that count rose, and Ok
+    // only if it did not.
     ensures goes_on { GoesOn (T.counts tree.old) (T.counts tree.new) }
     ensures disk { IsErrOf result TreeFault.Disk
         → HasCause (T.counts tree.old) (T.counts tree.new) }
@@ -281,8 +281,8 @@ fn remove_all<T: Tree>(tree: &mut T, names: &Names) -> Result<(), Disk>
         → HasNow (T.history tree.new) (IsInNoMap intent_name))) }
     ensures none { names.now ≡ [] → T.history tree.new ≡ T.history tree.old }
 
-    // No count of faults falls; a fault of the tree is answered only where that count rose, and Ok
-    // only where it did not.
+    // No count of faults falls; a fault of the tree is answered only if that count rose, and Ok
+    // only if it did not.
     ensures goes_on { GoesOn (T.counts tree.old) (T.counts tree.new) }
     ensures cause { OnErr result (HasCause (T.counts tree.old) (T.counts tree.new)) }
     ensures kept { OnOk result (IsNoFault (T.counts tree.old) (T.counts tree.new)) }

@@ -51,7 +51,7 @@ AreClaimsOf members cs = (i : ℕ) (c : PathClaim) → slice_get cs i ≡ Some c
 
 -- ---- members that come
 
--- whether a member comes; not where there is none
+-- whether a member comes; not if there is none
 abbrev pub comes_if_any : Option Member → Bool
 comes_if_any None = false
 comes_if_any (Some m) = is_coming m

@@ -1,5 +1,5 @@
 -- What becomes of files that come, claim by claim.
--- The rule stands in `docs/commands.md`, "What a change does with files", **Files below `etc/` are
+-- The rule is in `docs/commands.md`, "What a change does with files", **Files below `etc/` are
 -- the user's**, and is said by *fate_by* of `change_files`.
 use Rattle.std.specs.Prelude.{ℕ, Bool, true, false, not, ◌&&◌, nat_le, List, [], ◌∷◌, length, Option, Some, None, cond}
 use Rattle.adb_view.specs.Plain.{Plain}
@@ -19,7 +19,7 @@ fate_seen GoesIn = goes_in
 fate_seen GivesWay = gives_way
 fate_seen GoesAside = goes_aside
 
--- the fate of the file that a claim of a coming owner speaks of, by what stands under its path
+-- the fate of the file that a claim of a coming owner speaks of, by what is under its path
 -- (`found`; none where no file stands there)
 abbrev pub claim_fate : FileChange → PathClaim → Option (List ℕ) → Fates.Fate
 claim_fate change c found = fate_by change c.path (claim_entry change.members c) found

@@ -1,4 +1,4 @@
--- The plan's fault where the tree failed, or a call that reads it found no memory.
+-- The plan's fault if the tree failed, or a call that reads it found no memory.
 -- No rule of a document: serves the contract of `PlanFault::from` in `src/fault.rt`.
 use Rattle.base_core.specs.declared.tree.TreeFault.{TreeFault}
 use Rattle.base_core.specs.declared.tree.TreeFault.TheVariants as Reads

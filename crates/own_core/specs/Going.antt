@@ -1,5 +1,5 @@
 -- What becomes of the files that were listed before, claim by claim.
--- The rules stand in `docs/commands.md`, "What a change does with files": which files are removed,
+-- The rules are in `docs/commands.md`, "What a change does with files": which files are removed,
 -- and which of those below `etc/` stay.
 use Rattle.std.specs.Prelude.{ℕ, Bool, not, ◌&&◌, List, Option, option_and_then, is_some}
 use Rattle.std.specs.List.{find}
@@ -22,7 +22,7 @@ is_left change asides path = not (is_claimed change path) && not (is_beside asid
 
 -- whether the file that a claim of a package before the change speaks of stays: it is
 -- configuration, the user changed it, and changed files do not go with their packages; `found` is
--- what stands under its path
+-- what is under its path
 abbrev pub does_stay : FileChange → PathClaim → Option (List ℕ) → Bool
 does_stay change c found =
     is_guarded c.path

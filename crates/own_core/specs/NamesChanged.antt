@@ -1,5 +1,5 @@
 -- What a change does with names, by the parts of its files.
--- The rule stands in `docs/commands.md`, "What a change does with files", test 2. Serves the
+-- The rule is in `docs/commands.md`, "What a change does with files", test 2. Serves the
 -- contracts of `src/clashes.rt`.
 use Rattle.std.specs.Prelude.{◌&&◌, ◌||◌, ◌++◌, ◌∷◌, [], ℕ, Bool, not, List, map, bytes_eq, is_some}
 use Rattle.std.specs.List.{filter, find, list_any}

@@ -1,5 +1,5 @@
 -- The files that come and those that go, as the program holds them.
--- The rules stand in `docs/commands.md`, "What a change does with files". Serves the contract of
+-- The rules are in `docs/commands.md`, "What a change does with files". Serves the contract of
 -- `parts_of` in `src/parts.rt`.
 use Rattle.std.specs.Prelude.{◌≡◌, Bool, true, false, List, map}
 use Rattle.std.specs.List.{filter}

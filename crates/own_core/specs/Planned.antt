@@ -1,5 +1,5 @@
 -- What a plan of a change says, and why there is none.
--- The rules stand in `docs/commands.md`, "What a change does with files", and are said by
+-- The rules are in `docs/commands.md`, "What a change does with files", and are said by
 -- `change_files`, `path_clashes` and `file_owners`; this file says which of them a plan or a
 -- refusal promises, and over which files.
 use Rattle.std.specs.Prelude.{◌≡◌, ℕ, Bool, true, false, List, map, Option, Some, None, All, Contains, option_map, slice_get}
@@ -128,7 +128,7 @@ pub record IsClashBySome (change : FileChange) (history : List TreeState)
   pub told : IfObservable history (λ v. files ≡ files_of v)
   pub may : MayBeClashOf (name_change change files) clash
 
--- over any tree: a clash of names is told only where there may be one, and a contested path only
+-- over any tree: a clash of names is told only if there may be one, and a contested path only
 -- where there may be none
 abbrev pub MayBeRefusalOf : FileChange → List TreeState → PlanFault → Type 0
 MayBeRefusalOf change history (Reserved path) = Unit {0}
@@ -139,7 +139,7 @@ MayBeRefusalOf change history Disk = Unit {0}
 MayBeRefusalOf change history Memory = Unit {0}
 
 -- over any tree, by the members alone: a reserved path is the first, another fault is told only
--- where there is none (want of memory aside), and a contested path has the names of its rivals
+-- if there is none (lack of memory aside), and a contested path has the names of its rivals
 abbrev pub IsRefusalFor : List Member → PlanFault → Type 0
 IsRefusalFor members (Reserved path) = first_reserved members ≡ Some path
 IsRefusalFor members (PathClash path other) = first_reserved members ≡ None

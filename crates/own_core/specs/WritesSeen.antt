@@ -1,5 +1,5 @@
 -- What writes of the program stand for.
--- The rule stands in `docs/commands.md`, "What a change does with files": a file that is written
+-- The rule is in `docs/commands.md`, "What a change does with files": a file that is written
 -- takes its path, or is laid beside as `PATH.apk-new`.
 use Rattle.std.specs.Prelude.{◌≡◌, ℕ, ◌≤◌, List, Some, length, map, slice_get}
 use Rattle.std.specs.Ordering.{on}

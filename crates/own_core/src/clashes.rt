@@ -1,6 +1,6 @@
 //! The names that a change writes and lets go of, among which `path_clashes` looks for one that is
 //! a folder of another.
-//! The rule stands in `docs/commands.md`, "What a change does with files", test 2: which names
+//! The rule is in `docs/commands.md`, "What a change does with files", test 2: which names
 //! there are afterwards. The words *lets go* and *counts as written* stand in `docs/names.md`, "The
 //! installed database and a change of it".
 

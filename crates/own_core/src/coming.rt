@@ -1,5 +1,5 @@
 //! The files that come: claims by which members that come list paths that they own.
-//! The rules stand in `docs/commands.md`, "Files that several packages list" (owners) and "What a
+//! The rules are in `docs/commands.md`, "Files that several packages list" (owners) and "What a
 //! change does with files" ("each file that a package which comes owns is written").
 
 ghost use Rattle.std.specs.Prelude.{◌≡◌, IfOk, map};

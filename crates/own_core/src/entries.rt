@@ -1,5 +1,5 @@
 //! What the entries of files say, to which claims lead.
-//! What an entry says of a file's bytes, stands in `docs/commands.md`, "What a change does with
+//! What an entry says of a file's bytes, is in `docs/commands.md`, "What a change does with
 //! files", **Files below `etc/` are the user's**; the fields of an entry in `docs/formats.md`,
 //! "Schemas", table 4.
 

@@ -1,5 +1,5 @@
 //! What becomes of each file that comes.
-//! The rule stands in `docs/commands.md`, "What a change does with files", **Files below `etc/` are
+//! The rule is in `docs/commands.md`, "What a change does with files", **Files below `etc/` are
 //! the user's**: when a file counts as changed, and where the new one is laid then.
 
 ghost use Rattle.std.specs.Prelude.{◌≡◌, ◌↔◌, ◌∷◌, ◌++◌, [], Option, true, false, map, IfOk, IsTrue, IsSomeAnd, OnOk};
@@ -27,7 +27,7 @@ use path_claims::Claim;
 use std::alloc::{AllocError, Global};
 use std::marker::PhantomData;
 
-/// What becomes of a file that comes, and of the one that stands under its path.
+/// What becomes of a file that comes, and of the one that is under its path.
 #[derive(Clone, Copy)]
 pub(crate) enum Fate {
     /// The file takes the path.

@@ -1,5 +1,5 @@
 //! Why there is no plan.
-//! The rules stand in `docs/commands.md`, "What a change does with files", the tests 1 to 3 in
+//! The rules are in `docs/commands.md`, "What a change does with files", the tests 1 to 3 in
 //! their order; how each is printed, in "Error lines" there.
 
 ghost use Rattle.own_core.specs.declared.fault.PlanFault.TheVariants as Faults;
@@ -40,7 +40,7 @@ impl From<AllocError> for PlanFault {
 
     ghost from_gives = { λ _ fault. fault ≡ Memory };
 
-    // The fault that want of memory is.
+    // The fault that lack of memory is.
     fn from(_: AllocError) -> PlanFault {
         PlanFault::Memory
     }

@@ -1,5 +1,5 @@
 //! Configuration, which the user may change, and the names beside it.
-//! The rule stands in `docs/commands.md`, "What a change does with files", **Files below `etc/` are
+//! The rule is in `docs/commands.md`, "What a change does with files", **Files below `etc/` are
 //! the user's**.
 
 ghost use Rattle.std.specs.Prelude.{◌≡◌, ◌≤◌, IfOk, length, option_map};
@@ -37,7 +37,7 @@ pub(crate) fn aside_bytes(alloc: Global, name: &[u8]) -> Result<Vec<u8>, AllocEr
     Ok(bytes)
 }
 
-/// The name beside a name, `NAME.apk-new`, where that is not too long for a name.
+/// The name beside a name, `NAME.apk-new`, if that is not too long for a name.
 pub fn name_beside(alloc: Global, name: &Name) -> Result<Name, AllocError>
     requires { length (aside_name name.now) ≤ longest_name }
     ensures { IfOk result (λ beside. beside ≡ aside_name name.now) }

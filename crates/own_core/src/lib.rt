@@ -8,7 +8,7 @@
 //! `Fates` and `Going` (what becomes of a file that comes, and of one that is left over), `Found`
 //! (the same, as the tree shows it) and `Parts`.
 //!
-//! The rules stand in `docs/commands.md`, "What a change does with files"; the words *fate*, *aside*,
+//! The rules are in `docs/commands.md`, "What a change does with files"; the words *fate*, *aside*,
 //! *left over* and *kept* in `docs/names.md`, "The installed database and a change of it"; what is
 //! read and what is refused, in the README of this crate.
 #![tactic(auto)]

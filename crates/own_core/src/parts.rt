@@ -1,5 +1,5 @@
 //! The files that come by what becomes of them, and the files that go.
-//! The rules stand in `docs/commands.md`, "What a change does with files": what is removed ("a file
+//! The rules are in `docs/commands.md`, "What a change does with files": what is removed ("a file
 //! that the old database lists and that no package lists any more"), and what stays below `etc/`.
 
 ghost use Rattle.std.specs.Prelude.{◌≡◌, IfOk, OnOk, Some, [], ◌∷◌, ◌++◌, length, map};

@@ -1,5 +1,5 @@
 //! The plan of files of a change.
-//! The rules stand in `docs/commands.md`, "What a change does with files": the tests, in their
+//! The rules are in `docs/commands.md`, "What a change does with files": the tests, in their
 //! order, and then what is written, removed, laid beside and kept.
 
 ghost use Rattle.std.specs.Prelude.{◌≡◌, ◌<◌, All, IfErr, IfOk, None, Some, length, map, option_map};
@@ -265,8 +265,8 @@ fn plan_of_claims<T: Tree>(
 ///
 /// # Errors
 ///
-/// `Reserved` before any look at the tree; then `PathClash`; then `Owned`. `Disk` where the tree
-/// failed, `Memory` where there was no memory.
+/// `Reserved` before any look at the tree; then `PathClash`; then `Owned`. `Disk` if the tree
+/// failed, `Memory` if there was no memory.
 pub fn plan<'c, T: Tree>(
     alloc: Global,
     old: &'c Db<'_>,

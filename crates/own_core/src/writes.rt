@@ -1,6 +1,6 @@
 //! The names at which files that come are written, and whose contents they get.
-//! The rules stand in `docs/commands.md`, "What a change does with files": "each file that a
-//! package which comes owns is written", and where one is laid beside as `PATH.apk-new`. Positions
+//! The rules are in `docs/commands.md`, "What a change does with files": "each file that a
+//! package which comes owns is written", and if one is laid beside as `PATH.apk-new`. Positions
 //! of folders and files count as in `docs/formats.md`, "The other blocks".
 
 ghost use Rattle.std.specs.Prelude.{◌≡◌, ◌<◌, ◌==◌, ◌++◌, ◌∷◌, [], IfOk, OnOk, Some, length, map, slice_get};

@@ -1,5 +1,5 @@
 -- What becomes of each package where a selection takes the place of the packages before.
--- The rules stand in `docs/selection.md`, "What there is to choose from" (when a candidate is the
+-- The rules are in `docs/selection.md`, "What there is to choose from" (when a candidate is the
 -- installed package), in `docs/commands.md`, "`add` and `del`" and "`upgrade` and `fix`", and in
 -- `docs/formats.md`, "Versions" (their order).
 use Rattle.std.specs.Prelude.{ℕ, Bool, not, ◌&&◌, ◌||◌, if◌then◌else◌, List, ◌++◌, map, Option, Some, None, bytes_eq, is_some}

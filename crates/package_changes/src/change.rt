@@ -1,5 +1,5 @@
 //! What becomes of one package.
-//! The rules stand in `docs/selection.md`, "What there is to choose from" (when a candidate is the
+//! The rules are in `docs/selection.md`, "What there is to choose from" (when a candidate is the
 //! installed package), in `docs/formats.md`, "Versions" (their order), and in `docs/names.md`,
 //! "What a change comes to" (*what becomes of a package*).
 ghost use Rattle.adb_schema.specs.Views.{package_value};
@@ -38,7 +38,7 @@ pub enum Change<'a> {
     Replace(&'a [u8], &'a [u8], &'a [u8]),
 }
 
-/// What becomes of a package, and where it is found.
+/// What becomes of a package, and if it is found.
 #[derive(Clone, Copy)]
 pub struct PlacedChange<'a> {
     /// What becomes of the package.

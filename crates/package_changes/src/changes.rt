@@ -1,5 +1,5 @@
 //! What becomes of each package that changes.
-//! The rule stands in `docs/commands.md`, "`add` and `del`", **What is reported**: a line for each
+//! The rule is in `docs/commands.md`, "`add` and `del`", **What is reported**: a line for each
 //! package that changes, in byte order of the names. `PlacedNames` has the packages that stay too.
 ghost use Rattle.package_changes.specs.Changes.{changes_of};
 ghost use Rattle.package_changes.specs.Placed.{change_in, placed_changes_of, replacement_of};

@@ -6,7 +6,7 @@
 //! The contracts cite `Changes` (what becomes of a package), `Placed` (the places of the packages
 //! that a change is of) and `Report` of `specs/`.
 //!
-//! The rules stand in `docs/commands.md`, "`add` and `del`" (a line for each package that changes,
+//! The rules are in `docs/commands.md`, "`add` and `del`" (a line for each package that changes,
 //! in byte order of the names; what is reported), and "`upgrade` and `fix`" (what is installed
 //! again); the words in `docs/names.md`, "What a change comes to".
 #![tactic(auto)]

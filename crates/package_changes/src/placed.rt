@@ -1,5 +1,5 @@
 //! What becomes of each package, name by name, also of those that stay.
-//! The rules stand in `docs/commands.md`, "`add` and `del`", **What is reported**, and "`upgrade`
+//! The rules are in `docs/commands.md`, "`add` and `del`", **What is reported**, and "`upgrade`
 //! and `fix`"; *placed* in `docs/names.md`, "What a change comes to".
 ghost use Rattle.adb_fields.specs.Repeated.{package_name};
 ghost use Rattle.adb_schema.specs.Views.{package_value};

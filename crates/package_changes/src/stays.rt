@@ -217,7 +217,7 @@ fn push_name_in_need<'a>(
     }
 }
 
-/// Adds a name to a list where it is wanted.
+/// Adds a name to a list if it is wanted.
 fn push_name_if<'a>(
     names: &mut Vec<&'a [u8]>,
     name: &'a [u8],

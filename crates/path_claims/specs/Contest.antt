@@ -1,5 +1,5 @@
 -- Of members that beat each other, the one that beats every other.
--- The rule stands in `docs/commands.md`, "Files that several packages list". Which member beats
+-- The rule is in `docs/commands.md`, "Files that several packages list". Which member beats
 -- which is given as `beats`.
 use Rattle.std.specs.Prelude.{◌≡◌, ℕ, ◌==◌, Bool, true, false, not, ◌||◌, List, [], ◌∷◌, Option, None, option_map}
 use Rattle.std.specs.List.{find, list_all}

@@ -1,5 +1,5 @@
 //! Claims in the order of their paths.
-//! What a claim is, stands in `docs/commands.md`, "Files that several packages list": a package
+//! What a claim is, is in `docs/commands.md`, "Files that several packages list": a package
 //! claims each file that it lists. The order serves `src/owner.rt`, so that the claims of one path
 //! stand together.
 

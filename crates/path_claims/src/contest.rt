@@ -1,5 +1,5 @@
 //! Which of several members, of which some beat others, beats every other one.
-//! The rule stands in `docs/commands.md`, "Files that several packages list": "the one that beats
+//! The rule is in `docs/commands.md`, "Files that several packages list": "the one that beats
 //! every other owns it", and which two packages are reported where none does. Which member beats
 //! which, a `Contest` says.
 

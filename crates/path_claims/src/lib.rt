@@ -3,7 +3,7 @@
 //! A claim is a file that a member lists. `owners_of` sorts claims by their paths, and finds for
 //! each path the member that beats every other one that claims it. Which member beats which one a
 //! `Contest` says. The contracts cite `Contest` and `Claims` of `specs/`.
-//! The rules stand in `docs/commands.md`, "Files that several packages list"; the words in
+//! The rules are in `docs/commands.md`, "Files that several packages list"; the words in
 //! `docs/names.md`, "The installed database and a change of it".
 #![tactic(auto)]
 

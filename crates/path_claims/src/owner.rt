@@ -1,5 +1,5 @@
 //! The owner of each path, and which claims are their owner's.
-//! The rule stands in `docs/commands.md`, "Files that several packages list", also for the path
+//! The rule is in `docs/commands.md`, "Files that several packages list", also for the path
 //! that is reported where no member owns it.
 
 ghost use Rattle.std.specs.Prelude.{◌≡◌, ◌+◌, ◌<◌, ℕ, Bool, Option, Some, true, IfOk, is_none, length, map, option_and_then, option_map, slice_get, ◌==◌, List};
@@ -193,7 +193,7 @@ fn owned_flags(
 ///
 /// # Errors
 ///
-/// Want of memory.
+/// Lack of memory.
 pub fn owners_of<'a, C: Contest>(
     alloc: Global,
     contest: &C,

@@ -1,5 +1,5 @@
 -- Names after a change of which one is a folder of another.
--- The rule stands in `docs/commands.md`, "What a change does with files", test 2.
+-- The rule is in `docs/commands.md`, "What a change does with files", test 2.
 use Rattle.std.specs.Prelude.{◌≡◌, ℕ, Bool, true, not, ◌&&◌, ◌||◌, List, bytes_eq, is_some}
 use Rattle.base_core.specs.Files.{Files, IsFolderOf}
 use Rattle.base_core.specs.ByteOrder.{precedes}

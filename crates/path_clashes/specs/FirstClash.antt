@@ -1,5 +1,5 @@
 -- What is told of the clashes of a change.
--- The rule stands in `docs/commands.md`, "What a change does with files", test 2: the first pair in
+-- The rule is in `docs/commands.md`, "What a change does with files", test 2: the first pair in
 -- byte order is reported.
 use Rattle.std.specs.Prelude.{Option, Some, None}
 use Rattle.base_core.specs.Files.{Files}

@@ -6,7 +6,7 @@ use Rattle.base_core.specs.Files.{Files, IsFolderOf, no_names}
 use Rattle.base_core.specs.ByteOrder.{precedes}
 use Rattle.path_clashes.specs.Clash.{IsClash, NameChange, NamePair, is_name_after, precedes_pair}
 
--- whether a file stands under the name and does not go
+-- whether a file is under the name and does not go
 abbrev pub is_standing : (List ℕ → Bool) → Files → List ℕ → Bool
 is_standing lets_go files name = is_some (files name) && not (lets_go name)
 
@@ -32,7 +32,7 @@ pub record IsShortestFolder (change : NameChange) (files : Files) (name : List �
       → is_name_after change files other ≡ true → length folder ≤ length other
 
 -- what is found is the shortest folder above the name of at least `len` bytes that is there after
--- the change; where none is found, there is none
+-- the change; if none is found, there is none
 abbrev pub IsFolderFound : NameChange → Files → List ℕ → ℕ → Option (List ℕ) → Type 0
 IsFolderFound change files name len None =
     (other : List ℕ) → IsFolderOf other name → len ≤ length other
@@ -50,7 +50,7 @@ pub record IsFirstBelow (lets_go : List ℕ → Bool) (files : Files) (folder na
   pub first : (other : List ℕ) → IsFolderOf folder other
       → is_standing lets_go files other ≡ true → precedes other name ≡ false
 
--- what is found is the first such name; where none is found, nothing stands below the folder but
+-- what is found is the first such name; if none is found, nothing stands below the folder but
 -- what is let go
 abbrev pub IsNameFound : (List ℕ → Bool) → Files → List ℕ → Option (List ℕ) → Type 0
 IsNameFound lets_go files folder None =

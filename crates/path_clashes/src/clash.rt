@@ -1,5 +1,5 @@
 //! The first clash of a change, which says under which names it lets a file go.
-//! The rule stands in `docs/commands.md`, "What a change does with files", test 2: "No name may be
+//! The rule is in `docs/commands.md`, "What a change does with files", test 2: "No name may be
 //! a folder of another one afterwards", and the first pair in byte order is reported.
 
 ghost use Rattle.std.specs.Prelude.{◌≡◌, ◌<◌, ◌≤◌, ℕ, List, true, IfOk, All, length, map, option_map, take, Bool, Option, IsSome};
@@ -63,7 +63,7 @@ fn first_of(one: Option<Clash>, other: Option<Clash>) -> Option<Clash>
 ///
 /// # Errors
 ///
-/// Want of memory.
+/// Lack of memory.
 pub fn path_bytes(alloc: Global, path: &FilePath<'_>) -> Result<Vec<u8>, AllocError>
     ensures { IfOk result (λ bytes. bytes.items ≡ joined_path path.now) }
 {
@@ -132,7 +132,7 @@ fn clash_near<T: Tree, G: LetGo>(
     }
 }
 
-/// The first clash of a change that writes these paths, or None where there is none. The paths
+/// The first clash of a change that writes these paths, or None if there is none. The paths
 /// stand in byte order, and one may stand there several times. It only reads the tree.
 ///
 /// The tree is asked for the names below each path, and at most once for each folder above them.
@@ -140,7 +140,7 @@ fn clash_near<T: Tree, G: LetGo>(
 ///
 /// # Errors
 ///
-/// `Disk` where the tree failed, `Memory` where there was no memory.
+/// `Disk` if the tree failed, `Memory` if there was no memory.
 pub fn first_clash<T: Tree, G: LetGo>(
     alloc: Global,
     tree: &mut T,

@@ -3,7 +3,7 @@
 //! The change is given by the paths that it writes, and by a `LetGo`, which says under which names
 //! a file goes. `first_clash` looks near the paths alone: at the folders above them, and at the
 //! names below them. The contracts cite `Clash`, `FirstClash` and `WrittenPaths` of `specs/`.
-//! The rule stands in `docs/commands.md`, "What a change does with files", test 2; the words
+//! The rule is in `docs/commands.md`, "What a change does with files", test 2; the words
 //! *clash* and *counts as written* in `docs/names.md`, "The installed database and a change of it".
 #![tactic(auto)]
 

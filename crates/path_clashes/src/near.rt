@@ -1,5 +1,5 @@
 //! The names above and below one name that are there after a change.
-//! The rule stands in `docs/commands.md`, "What a change does with files", test 2: which names
+//! The rule is in `docs/commands.md`, "What a change does with files", test 2: which names
 //! there are afterwards. That no others are looked at is said by the README of this crate, third
 //! paragraph.
 
@@ -30,7 +30,7 @@ fn is_path_of(paths: &[FilePath<'_>], name: &[u8]) -> bool
     paths.binary_search_by(|other| other.compare(&path)).is_ok()
 }
 
-/// Whether a file stands under a name and does not go. The tree is not asked where the change lets
+/// Whether a file is under a name and does not go. The tree is not asked where the change lets
 /// the file go.
 fn is_standing<T: Tree, G: LetGo>(tree: &mut T, let_go: &G, name: &Name) -> Result<bool, TreeFault>
     ensures answer { IfOk result (λ standing. IfObservable (T.history tree.old) (λ v.

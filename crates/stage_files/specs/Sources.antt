@@ -1,4 +1,4 @@
--- Which bytes stand behind what is to be staged. The rules stand in `docs/commands.md`,
+-- Which bytes stand behind what is to be staged. The rules are in `docs/commands.md`,
 -- "What a change does with files"; the digests in `docs/formats.md`, "The other blocks".
 use Rattle.std.specs.Prelude.{◌≡◌, ℕ, List, [], ◌∷◌, Some, length, slice_get}
 use Rattle.base_core.specs.Files.{Files}

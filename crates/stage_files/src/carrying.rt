@@ -1,5 +1,5 @@
 //! A change is carried through: its files are staged, and one step lets all of them count. The
-//! rules stand in `docs/crash-safety.md`, "A change of several files".
+//! rules are in `docs/crash-safety.md`, "A change of several files".
 ghost use Rattle.std.specs.Prelude.{◌≡◌, ◌<◌, ◌+◌, ◌++◌, ◌∷◌, ◌⊎◌, [], ℕ, false, List, None, length, take, IfErr, IsErrOf, OnErr, OnOk};
 ghost use Rattle.base_core.specs.Calls.{IfObservable};
 ghost use Rattle.base_core.specs.Faults.{GoesOn, HasCause, IsNoFault};
@@ -20,7 +20,7 @@ use journal_core::Stage;
 use piece_reader::Piece;
 use stage_run::{a_new_stage_is_staging, a_staging_run_is_a_stage_run, carry_through};
 
-/// Looks at what stands under a name. What it is does not count here: that a host's tree can look
+/// Looks at what is under a name. What it is does not count here: that a host's tree can look
 /// at it does.
 fn look_at<T: Tree>(tree: &mut T, name: &Name) -> Result<(), Disk>
     ensures { OnlyReads (record {}) (T.history tree.old) (T.history tree.new)
@@ -30,7 +30,7 @@ fn look_at<T: Tree>(tree: &mut T, name: &Name) -> Result<(), Disk>
     Ok(())
 }
 
-/// Looks at what stands under the name of each write, so that what is no file ends the run while
+/// Looks at what is under the name of each write, so that what is no file ends the run while
 /// nothing is written yet.
 fn look_at_each<T: Tree>(tree: &mut T, writes: &[StagedWrite<'_>]) -> Result<(), Disk>
     ensures { OnlyReads (record {}) (T.history tree.old) (T.history tree.new)
@@ -89,13 +89,13 @@ fn stage_each<T: Tree>(
     Ok(())
 }
 
-/// Carries a change through whose stage is begun: it looks at what stands under the name of each
+/// Carries a change through whose stage is begun: it looks at what is under the name of each
 /// write, stages the files, publishes the intent, and does all actions. It asks for no memory.
 ///
 /// # Errors
 ///
 /// `Bad` where a file of a package does not have its digest any more, before anything is published;
-/// or `Disk` where the tree failed.
+/// or `Disk` if the tree failed.
 pub fn carry_out<T: Tree>(
     stage: &mut Stage,
     tree: &mut T,

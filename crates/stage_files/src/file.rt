@@ -1,4 +1,4 @@
-//! A file of a package is staged, piece by piece. The rules stand in `docs/crash-safety.md`,
+//! A file of a package is staged, piece by piece. The rules are in `docs/crash-safety.md`,
 //! "A change of several files", and of the pieces in `docs/formats.md`, "The other blocks".
 ghost use Rattle.std.specs.Prelude.{◌≡◌, ◌<◌, ◌+◌, ◌++◌, ◌∷◌, [], ℕ, false, List, None, length, IfErr, IsErrOf, OnOk};
 ghost use Rattle.base_core.specs.Faults.{GoesOn, HasCause, IsNoFault};
@@ -19,7 +19,7 @@ use stage_run::{append_piece, begin_file, end_file};
 ///
 /// # Errors
 ///
-/// `Bad` where the file does not have its digest any more, or `Disk` where the tree failed.
+/// `Bad` where the file does not have its digest any more, or `Disk` if the tree failed.
 pub(crate) fn stage_file<T: Tree>(
     stage: &mut Stage,
     tree: &mut T,
@@ -50,7 +50,7 @@ pub(crate) fn stage_file<T: Tree>(
         (first : List TreeState) → IsStaging stage.old contents None v first (T.history tree.old)
         → OnOk result ((bytes : List ℕ) × AreAsDue (file_due file.entry) bytes
         × IsStaging stage.new (contents ++ bytes ∷ []) None v first (T.history tree.new)) }
-    // Where it was not refused from the start: a test fails only of bytes that have the size that
+    // If it was not refused from the start: a test fails only of bytes that have the size that
     // is due, and another digest.
     ensures bad { HaveCome file.entry [] → kept_fault file.entry ≡ None → (cause : Cause)
         → IsErrOf result (Bad cause)

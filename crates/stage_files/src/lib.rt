@@ -1,5 +1,5 @@
 //! The files of a change are staged, from given bytes, as links, and out of packages piece by
-//! piece, and the change is carried through. The rules stand in `docs/crash-safety.md`,
+//! piece, and the change is carried through. The rules are in `docs/crash-safety.md`,
 //! "A change of several files".
 //!
 //! `carry_out` does this from a stage that is begun on. The contracts cite `Sources` (which bytes a

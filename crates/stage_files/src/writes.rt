@@ -1,5 +1,5 @@
 //! The writes of a change are staged, one after another: where their bytes come from, and why a
-//! change is not carried through. The rules stand in `docs/commands.md`,
+//! change is not carried through. The rules are in `docs/commands.md`,
 //! "What a change does with files", and in `docs/crash-safety.md`, "A change of several files".
 
 ghost use Rattle.std.specs.Prelude.{◌≡◌, ◌<◌, ◌+◌, ◌++◌, ◌∷◌, [], ℕ, false, List, None, length, IfErr, IsErrOf, OnOk, OnErr};
@@ -26,7 +26,7 @@ use stage_run::{stage_bytes, stage_pieces};
 ///
 /// # Errors
 ///
-/// `Bad` where the file does not have its digest any more, or `Disk` where the tree failed.
+/// `Bad` where the file does not have its digest any more, or `Disk` if the tree failed.
 fn stage_packaged<T: Tree>(
     stage: &mut Stage,
     tree: &mut T,
@@ -79,7 +79,7 @@ fn stage_packaged<T: Tree>(
 ///
 /// # Errors
 ///
-/// `Bad` where a file of a package does not have its digest any more, or `Disk` where the tree
+/// `Bad` where a file of a package does not have its digest any more, or `Disk` if the tree
 /// failed.
 pub(crate) fn stage_write<T: Tree>(
     stage: &mut Stage,
@@ -109,7 +109,7 @@ pub(crate) fn stage_write<T: Tree>(
         → IsStaging stage.old contents None v first (T.history tree.old)
         → OnOk result ((bytes : List ℕ) × MayStandFor source.now bytes
         × IsStaging stage.new (contents ++ bytes ∷ []) None v first (T.history tree.new)) }
-    // A package is told as bad only where the source is a file of it that is spoiled so.
+    // A package is told as bad only if the source is a file of it that is spoiled so.
     ensures bad { (member : ℕ) (cause : Cause) → IsErrOf result (Bad member cause)
         → IsSpoiledAt member cause source.now }
     // The next write of the stage has its file then.

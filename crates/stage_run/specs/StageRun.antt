@@ -1,5 +1,5 @@
 -- What a change makes of a tree in which no intent is read: its files wait, the intent is
--- published, and all its actions are done. The rules stand in `docs/crash-safety.md`,
+-- published, and all its actions are done. The rules are in `docs/crash-safety.md`,
 -- "A change of several files": what is proved of the whole.
 use Rattle.std.specs.Prelude.{◌≡◌, ◌⊎◌, ℕ, Bool, false, List, Option, None, IsSome}
 use Rattle.base_core.specs.Calls.{HasNow}

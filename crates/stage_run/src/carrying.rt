@@ -1,4 +1,4 @@
-//! The second part of a change, from the publishing of its intent on. The rules stand in
+//! The second part of a change, from the publishing of its intent on. The rules are in
 //! `docs/crash-safety.md`, "A change of several files", in the table of steps from 2 on.
 ghost use Rattle.std.specs.Prelude.{◌≡◌, ◌≤◌, ℕ, Bool, true, false, List, None, length, IsSome, OnOk, OnErr};
 ghost use Rattle.base_core.specs.Calls.{HasNow, IfObservable};
@@ -37,7 +37,7 @@ pub fn carry_through<T: Tree>(stage: &mut Stage, tree: &mut T) -> Result<(), Dis
     ensures cause { OnErr result (HasCause (T.counts tree.old) (T.counts tree.new)) }
     ensures kept { OnOk result (IsNoFault (T.counts tree.old) (T.counts tree.new)) }
 
-    // Where there is room for the stage, and beside the files that it leads to, no call is a
+    // If there is room for the stage, and beside the files that it leads to, no call is a
     // misuse.
     ensures proper { (contents : List (List ℕ)) (v : TreeState) (first : List TreeState)
         → IsStaging stage.old contents None v first (T.history tree.old)

@@ -2,7 +2,7 @@
 //! then all actions are published, done and finished.
 //!
 //! The contracts cite `StageRun` of `specs/`: what such a run makes of a tree, moment by moment.
-//! The rules stand in `docs/crash-safety.md`, "A change of several files".
+//! The rules are in `docs/crash-safety.md`, "A change of several files".
 #![tactic(auto)]
 
 mod carrying;

@@ -1,5 +1,5 @@
 //! Files come to wait, one after another. Laws say where the run of a change begins, and what it
-//! leaves. The rules stand in `docs/crash-safety.md`, "A change of several files": step 1 of its
+//! leaves. The rules are in `docs/crash-safety.md`, "A change of several files": step 1 of its
 //! table.
 
 ghost use Rattle.std.specs.Prelude.{◌≡◌, ◌<◌, ◌+◌, ◌++◌, ◌∷◌, [], ℕ, true, false, List, Some, None, length, OnOk, OnErr};
