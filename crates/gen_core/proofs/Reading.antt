@@ -37,10 +37,22 @@ same_fault (Bad n) r s h e = h n e
 same_fault (TooLarge b v) r s h e = e
 same_fault Memory r s h e = e
 
+-- a bad line is reported
+pub bad_fault : (fault : GenFault) (n : ℕ) (read : Read) → fault ≡ Bad n → read ≡ bad_at n → IsReadFault fault read
+bad_fault fault n read e bad = subst (λ (f : GenFault). IsReadFault f read) (sym e) bad
+
+-- what a `?` hands on
+pub handed_on : {T : Type 0} (r : Result T GenFault) (fault : GenFault) (P : GenFault → Type 0) → (y : GenFault) × (r ≡ Err y) × (y ≡ fault) → P fault → IfErr r P
+handed_on r fault P p h = subst (λ r. IfErr r P) (sym (p.1 ∙ ap Err p.2)) h
+
 number_plus_zero : (n : ℕ) → bad_at (n + 0) ≡ bad_at n
 number_plus_zero n = let e : n + 0 ≡ n = omega arith in ap bad_at e
 
-one : (p q : Reading) → Ok {E = ℕ} p ≡ Ok q → p ≡ q
+abbrev pub read_ok : Reading → Read
+read_ok p = Ok p
+
+pub one : (p q : Reading) → Ok p ≡ read_ok q → p ≡ q
+
 one p q e = cc
 
 -- ---- no lines
