@@ -6,3 +6,4 @@ pub mod Reading
 pub mod Entries
 pub mod KindShapes
 pub mod RootText
+pub mod Texts

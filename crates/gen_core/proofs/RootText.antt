@@ -6,11 +6,14 @@ use Rattle.base_core.specs.Lists.{and_then}
 use Rattle.adb_values.specs.Drafts.{DraftState, draft_with, empty_draft}
 use Rattle.adb_write.specs.Canonical.{PayloadCounts, written_of}
 use Rattle.adb_write.specs.File.{file_of}
+use Rattle.adb_write.specs.declared.writer.WriteFault.{WriteFault}
+use Rattle.adb_write.specs.declared.writer.WriteFault.TheVariants as WriteFaults
+use Rattle.adb_values.specs.Written.{IsWrittenAs}
 use Rattle.adb_dump.specs.Dump.{Line}
 use Rattle.adb_dump.specs.ReadBack.{LinesRead, value_read}
 use Rattle.gen_core.specs.Cursors.{CursorState, after_line, cursor_by}
 use Rattle.gen_core.specs.Generated.{DumpedRoot, IsGenFault, dumped_root, file_of_root, file_unless_too_large, generated_file, root_of_lines, root_of_table, root_read, table_of_line, text_lines, unless_rest, word_of_root}
-use Rattle.gen_core.specs.Reads.{IsReadFault, Read, block_taken, has_rest, root_taken, table_read}
+use Rattle.gen_core.specs.Reads.{IsReadFault, Read, block_taken, fault_of_writer, has_rest, root_taken, table_read}
 use Rattle.gen_core.specs.declared.generate.GenFault.{GenFault}
 use Rattle.gen_core.specs.declared.generate.GenFault.TheVariants.{Bad, TooLarge, Memory}
 use Rattle.gen_core.proofs.Reading.{Reading, bad_at, one, taken}
@@ -109,11 +112,11 @@ value_there t which d later e ok = let o = opened t which e in go o (value_read 
         }
 
 pub rest_left : (t : List ℕ) (which : Which) (d : DraftState) (later : Reading) → table_read (text_lines t).0 ≡ Some which → rest_taken t which d ≡ Ok later → true ≡ has_rest (text_lines t).1 → root_taken (dumped_root t) d ≡ bad_root later.1.number
-rest_left t which d later e ok rest = let v = value_there t which d later e ok in ap (λ (r : Result DumpedRoot ℕ). root_taken r d) v.root ∙ go (text_lines t).1 rest ∙ ap bad_root (sym v.number)
+rest_left t which d later e ok rest = let v = value_there t which d later e ok in ap (λ (r : Result DumpedRoot ℕ). root_taken r d) v.root ∙ go (record { which = which; value = v.value }) (text_lines t).1 rest ∙ ap bad_root (sym v.number)
   where
-    go : {root : DumpedRoot} (rest : List ℕ) → true ≡ has_rest rest → root_taken (unless_rest rest (length (text_lines t).0) root) d ≡ bad_root (length (text_lines t).0 + 1)
-    go [] e = absurd cc
-    go (c ∷ cs) e = refl
+    go : (root : DumpedRoot) (rest : List ℕ) → true ≡ has_rest rest → root_taken (unless_rest rest (length (text_lines t).0) root) d ≡ bad_root (length (text_lines t).0 + 1)
+    go root [] e = absurd cc
+    go root (c ∷ cs) e = refl
 
 pub all_read : (t : List ℕ) (which : Which) (d : DraftState) (later : Reading) → table_read (text_lines t).0 ≡ Some which → rest_taken t which d ≡ Ok later → false ≡ has_rest (text_lines t).1 → root_taken (dumped_root t) d ≡ Ok (which, later.0)
 all_read t which d later e ok rest = let v = value_there t which d later e ok in ap (λ (r : Result DumpedRoot ℕ). root_taken r d) v.root ∙ go v.value (text_lines t).1 rest ∙ ap (λ (n : DraftState). let r : RootTaken = Ok (which, n) in r) (sym v.draft)
@@ -156,3 +159,8 @@ root_of_text t which new e = go (dumped_root t) refl e
           draft = sym (ap (λ (p : Which × DraftState). p.1) both);
           file = ap file_of_root is ∙ ap (λ (w : Which). file_unless_too_large (word_of_root w) (written_of root.value)) (ap (λ (p : Which × DraftState). p.0) both);
         }
+
+-- a payload that is not written
+pub writer_fault : (t : List ℕ) (which : Which) (new : DraftState) (fault : WriteFault) → RootOf t which new → ((v : Plain) → new ≡ draft_with v empty_draft → IsWrittenAs {A = List ℕ} (λ file. file) (Err fault) (written_of v)) → IsGenFault (fault_of_writer fault) (generated_file t)
+writer_fault t which new (WriteFaults.TooLarge bytes values) r h = r.file ∙ ap (file_unless_too_large (word_of_root which)) (h r.value r.draft)
+writer_fault t which new WriteFaults.Memory r h = tt
