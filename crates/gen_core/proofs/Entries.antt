@@ -120,7 +120,11 @@ pub no_levels : (ls : List Line) → levels_after ls 0 ≡ 0
 no_levels [] = refl
 no_levels (l ∷ ls) = refl
 
-one : (p q : Reading) → Ok {E = ℕ} p ≡ Ok q → p ≡ q
+abbrev read_ok : Reading → Read
+read_ok p = Ok p
+
+one : (p q : Reading) → Ok p ≡ read_ok q → p ≡ q
+
 one p q e = cc
 
 -- after an entry that was read
@@ -260,7 +264,7 @@ object_made fs (l ∷ ls) line e vs is = go vs (fields_only fs (l ∷ ls) vs is)
   where
     go : (vs : Plains) → FieldsOnly fs (l ∷ ls) vs → obj_read vs ≡ Ok (obj_value vs)
     go none r = absurd (no_line fs l ls r.lines)
-    go (more v vs) r = ap (λ (us : Plains). Ok {E = ℕ} (obj_of us)) (sym r.trim)
+    go (more v vs) r = ap (λ (us : Plains). let x : LinesRead Plain = Ok (obj_of us) in x) (sym r.trim)
 
 -- ---- the value of a field
 
@@ -287,10 +291,10 @@ pub no_space : (s : Shape) → IsOnLine s → (g : List Line → LinesRead Plain
 no_space s h g ls value block d c e =
     ap (λ (r : LinesRead Plains). values_taken r block d c) (h g ls value ∙ ap (field_on_line (line_read s) g ls) (sym e)) ∙ zero_more c.number
 
-pub line_bad : (s : Shape) → IsOnLine s → (g : List Line → LinesRead Plains) (ls : List Line) (value text : Line) (block : Split) (d : DraftState) (c : CursorState) (n : ℕ) → Some text ≡ strip_prefix (codes " ") value → line_taken (line_read s text) d c ≡ bad_at n
+pub line_bad : (s : Shape) → IsOnLine s → (g : List Line → LinesRead Plains) (ls : List Line) (value word : Line) (block : Split) (d : DraftState) (c : CursorState) (n : ℕ) → Some word ≡ strip_prefix (codes " ") value → line_taken (line_read s word) d c ≡ bad_at n
     → values_taken (named_read s g ls value) block d c ≡ bad_at n
-line_bad s h g ls value text block d c n e bad =
-    ap (λ (r : LinesRead Plains). values_taken r block d c) (h g ls value ∙ ap (field_on_line (line_read s) g ls) (sym e)) ∙ go (line_read s text) bad
+line_bad s h g ls value word block d c n e bad =
+    ap (λ (r : LinesRead Plains). values_taken r block d c) (h g ls value ∙ ap (field_on_line (line_read s) g ls) (sym e)) ∙ go (line_read s word) bad
   where
     go : (x : LinesRead Plain) → line_taken x d c ≡ bad_at n → values_taken (and_then x (λ v. after_lines 1 (more v) (g ls))) block d c ≡ bad_at n
     go (Ok v) bad = absurd cc
@@ -301,10 +305,139 @@ pub record NamedLeft (s : Shape) (value : Line) (depth : ℕ) (d : DraftState) (
   pub levels : later.1.levels ≡ 0
   pub goes : (g : List Line → LinesRead Plains) → values_taken (named_read s g (drop 1 (block_at depth c.lines).0) value) (block_at depth c.lines) d c ≡ values_taken (g (block_at depth later.1.lines).0) (block_at depth later.1.lines) later.0 later.1
 
-pub line_left : (s : Shape) → IsOnLine s → (depth : ℕ) (value text : Line) (d : DraftState) (c : CursorState) → 0 < length (block_at depth c.lines).0 → Some text ≡ strip_prefix (codes " ") value → (later : Reading) → line_taken (line_read s text) d c ≡ Ok later
+pub line_left : (s : Shape) → IsOnLine s → (depth : ℕ) (value word : Line) (d : DraftState) (c : CursorState) → 0 < length (block_at depth c.lines).0 → Some word ≡ strip_prefix (codes " ") value → (later : Reading) → line_taken (line_read s word) d c ≡ Ok later
     → NamedLeft s value depth d c later
-line_left s h depth value text d c some e later ok = let (line, f) = block_first depth c some in with_line f (line_read s text) refl ok
+line_left s h depth value word d c some e later ok = go (line_read s word) refl ok
   where
-    with_line : {line : Line} (f : FirstLine depth c.lines line) (x : LinesRead Plain) → line_read s text ≡ x → line_taken x d c ≡ Ok later → NamedLeft s value depth d c later
-    with_line f (Err k) is ok = absurd cc
-    with_line f (Ok v) is ok = ?
+    first : (line : Line) × FirstLine depth c.lines line
+    first = block_first depth c some
+
+    f : FirstLine depth c.lines first.0
+    f = first.1
+
+    t : Split
+    t = block_at depth f.others
+
+    next : after_line c.lines c ≡ cursor_by f.others (c.number + 1) 0
+    next = ap (λ (ls : List Line). after_line ls c) f.lines
+
+    goes : GoesOn (first.0 ∷ t.0, t.1) t 1 c (cursor_by f.others (c.number + 1) 0)
+    goes = record { lines = refl; number = refl; count = omega arith; levels = no_levels t.0 }
+
+    here : (v : Plain) → line_read s word ≡ Ok v → NamedLeft s value depth d c (draft_with v d, cursor_by f.others (c.number + 1) 0)
+    here v is = record {
+      levels = refl;
+      goes = λ g.
+          ap (λ (b : Split). values_taken (named_read s g (drop 1 b.0) value) b d c) f.block
+          ∙ ap (λ (r : LinesRead Plains). values_taken r (first.0 ∷ t.0, t.1) d c) (h g t.0 value ∙ ap (field_on_line (line_read s) g t.0) (sym e))
+          ∙ ap (λ (x : LinesRead Plain). values_taken (and_then x (λ v. after_lines 1 (more v) (g t.0))) (first.0 ∷ t.0, t.1) d c) is
+          ∙ later_values (first.0 ∷ t.0, t.1) t 1 d c (cursor_by f.others (c.number + 1) 0) goes v (g t.0);
+    }
+
+    go : (x : LinesRead Plain) → line_read s word ≡ x → line_taken x d c ≡ Ok later → NamedLeft s value depth d c later
+    go (Err k) is ok = absurd cc
+    go (Ok v) is ok = subst (λ (p : Reading). NamedLeft s value depth d c p) (one (draft_with v d, cursor_by f.others (c.number + 1) 0) later (ap (λ (p : CursorState). taken (draft_with v d) p) (sym next) ∙ ok)) (here v is)
+
+-- a value that is on the line where it should be below
+pub not_below : (s : Shape) → IsBelow s → (g : List Line → LinesRead Plains) (ls : List Line) (value : Line) (block : Split) (d : DraftState) (c : CursorState) → value ≢ [] → values_taken (named_read s g ls value) block d c ≡ bad_at c.number
+not_below s h g ls [] block d c ne = absurd (ne refl)
+not_below s h g ls (x ∷ xs) block d c ne = ap (λ (r : LinesRead Plains). values_taken r block d c) (h g ls (x ∷ xs)) ∙ zero_more c.number
+
+-- the block below a field's name
+record Below (depth : ℕ) (c : CursorState) : Type 0 where
+  line : Line
+  first : FirstLine depth c.lines line
+  next : after_line c.lines c ≡ cursor_by first.others (c.number + 1) 0
+  inner : (block_at (depth + 1) (after_line c.lines c).lines) ≡ ((split_block (block_at depth first.others).0).0, (block_at (depth + 1) first.others).1)
+  later : block_at depth (block_at (depth + 1) first.others).1 ≡ ((split_block (block_at depth first.others).0).1, (block_at depth first.others).1)
+
+below : (depth : ℕ) (c : CursorState) → 0 < length (block_at depth c.lines).0 → Below depth c
+below depth c some =
+    let (line, f) = block_first depth c some in
+    let h = inner_block depth f.others in
+    let next : after_line c.lines c ≡ cursor_by f.others (c.number + 1) 0 = ap (λ (ls : List Line). after_line ls c) f.lines in
+    record {
+      line = line;
+      first = f;
+      next = next;
+      inner = ap (λ (p : CursorState). block_at (depth + 1) p.lines) next ∙ ap (λ (ls : List Line). (ls, (block_at (depth + 1) f.others).1)) h.front;
+      later = h.later;
+    }
+
+-- what is read of a field whose value is below
+below_read : (s : Shape) → IsBelow s → (depth : ℕ) (value : Line) (d : DraftState) (c : CursorState) (b : Below depth c) → value ≡ [] → (g : List Line → LinesRead Plains) → (x : LinesRead Plain) → block_read s (split_block (block_at depth b.first.others).0).0 ≡ x
+    → values_taken (named_read s g (drop 1 (block_at depth c.lines).0) value) (block_at depth c.lines) d c
+    ≡ values_taken (and_then (after_lines 1 (λ v. v) x) (λ v. after_lines (1 + length (split_block (block_at depth b.first.others).0).0) (more v) (g (split_block (block_at depth b.first.others).0).1))) (b.line ∷ (block_at depth b.first.others).0, (block_at depth b.first.others).1) d c
+below_read s h depth value d c b e g x is =
+    let t = block_at depth b.first.others in
+    let r = split_block t.0 in
+    ap (λ (y : Split). values_taken (named_read s g (drop 1 y.0) value) y d c) b.first.block
+    ∙ ap (λ (y : LinesRead Plains). values_taken y (b.line ∷ t.0, t.1) d c) (h g t.0 value ∙ ap (field_below (block_read s) g r) e)
+    ∙ ap (λ (y : LinesRead Plain). values_taken (and_then (after_lines 1 (λ v. v) y) (λ v. after_lines (1 + length r.0) (more v) (g r.1))) (b.line ∷ t.0, t.1) d c) is
+
+-- the block below, as it was taken
+below_taken : (s : Shape) (depth : ℕ) (d : DraftState) (c : CursorState) (b : Below depth c) (y : Read) → block_taken (block_read s (block_at (depth + 1) (after_line c.lines c).lines).0) (block_at (depth + 1) (after_line c.lines c).lines) d (after_line c.lines c) ≡ y
+    → block_taken (block_read s (split_block (block_at depth b.first.others).0).0) ((split_block (block_at depth b.first.others).0).0, (block_at (depth + 1) b.first.others).1) d (cursor_by b.first.others (c.number + 1) 0) ≡ y
+below_taken s depth d c b y e =
+    let r = split_block (block_at depth b.first.others).0 in
+    let left = (block_at (depth + 1) b.first.others).1 in
+    ap (λ (p : CursorState). block_taken (block_read s r.0) (r.0, left) d p) (sym b.next)
+    ∙ ap (λ (x : Split). block_taken (block_read s x.0) x d (after_line c.lines c)) (sym b.inner) ∙ e
+
+pub below_bad : (s : Shape) → IsBelow s → (depth : ℕ) (value : Line) (d : DraftState) (c : CursorState) → 0 < length (block_at depth c.lines).0 → value ≡ [] → (n : ℕ)
+    → block_taken (block_read s (block_at (depth + 1) (after_line c.lines c).lines).0) (block_at (depth + 1) (after_line c.lines c).lines) d (after_line c.lines c) ≡ bad_at n
+    → (g : List Line → LinesRead Plains) → values_taken (named_read s g (drop 1 (block_at depth c.lines).0) value) (block_at depth c.lines) d c ≡ bad_at n
+below_bad s h depth value d c some e n bad g = go (block_read s r.0) refl (below_taken s depth d c b (bad_at n) bad)
+  where
+    b : Below depth c
+    b = below depth c some
+
+    r : Split
+    r = split_block (block_at depth b.first.others).0
+
+    go : (x : LinesRead Plain) → block_read s r.0 ≡ x → block_taken x (r.0, (block_at (depth + 1) b.first.others).1) d (cursor_by b.first.others (c.number + 1) 0) ≡ bad_at n
+        → values_taken (named_read s g (drop 1 (block_at depth c.lines).0) value) (block_at depth c.lines) d c ≡ bad_at n
+    go (Ok v) is bad = absurd cc
+    go (Err k) is bad =
+        let m : c.number + (1 + k) ≡ c.number + 1 + k = omega arith in
+        below_read s h depth value d c b e g (Err k) is ∙ ap bad_at m ∙ bad
+
+pub below_left : (s : Shape) → IsBelow s → (depth : ℕ) (value : Line) (d : DraftState) (c : CursorState) → 0 < length (block_at depth c.lines).0 → value ≡ [] → (later : Reading)
+    → block_taken (block_read s (block_at (depth + 1) (after_line c.lines c).lines).0) (block_at (depth + 1) (after_line c.lines c).lines) d (after_line c.lines c) ≡ Ok later → NamedLeft s value depth d c later
+below_left s h depth value d c some e later ok = go (block_read s r.0) refl (below_taken s depth d c b (Ok later) ok)
+  where
+    b : Below depth c
+    b = below depth c some
+
+    t : Split
+    t = block_at depth b.first.others
+
+    r : Split
+    r = split_block t.0
+
+    left : List Line
+    left = (block_at (depth + 1) b.first.others).1
+
+    place : CursorState
+    place = cursor_by left (c.number + 1 + length r.0) (levels_after r.0 0)
+
+    goes : GoesOn (b.line ∷ t.0, t.1) (r.1, t.1) (1 + length r.0) c place
+    goes = record {
+      lines = refl;
+      number = omega arith;
+      count = omega (arith, split_count t.0);
+      levels = ap (levels_after r.1) (no_levels r.0) ∙ no_levels r.1;
+    }
+
+    here : (v : Plain) → block_read s r.0 ≡ Ok v → NamedLeft s value depth d c (draft_with v d, place)
+    here v is = record {
+      levels = no_levels r.0;
+      goes = λ g.
+          below_read s h depth value d c b e g (Ok v) is
+          ∙ later_values (b.line ∷ t.0, t.1) (r.1, t.1) (1 + length r.0) d c place goes v (g r.1)
+          ∙ ap (λ (x : Split). values_taken (g x.0) x (draft_with v d) place) (sym b.later);
+    }
+
+    go : (x : LinesRead Plain) → block_read s r.0 ≡ x → block_taken x (r.0, left) d (cursor_by b.first.others (c.number + 1) 0) ≡ Ok later → NamedLeft s value depth d c later
+    go (Err k) is ok = absurd cc
+    go (Ok v) is ok = subst (λ (p : Reading). NamedLeft s value depth d c p) (one (draft_with v d, place) later ok) (here v is)

@@ -278,9 +278,9 @@ hash_ends rest l e = go l.bytes l.fits l.is
 
 -- ---- the form of bytes on their line
 
-pub are_bytes : (b : List ℕ) → ((i : ℕ) → get_or b i 0 < 256) → AreBytes b
-are_bytes [] h = tt
-are_bytes (c ∷ cs) h = (h 0, are_bytes cs (λ i. h (suc i)))
+pub are_items : (b : List ℕ) → ((i d : ℕ) → i < length b → get_or b i d < 256) → AreBytes b
+are_items [] h = tt
+are_items (c ∷ cs) h = (h 0 0 (omega arith), are_items cs (λ i d lt. h (suc i) d (omega (arith, lt))))
 
 -- the byte that comes first, and what follows it
 abbrev pub first_byte : ℕ → List ℕ → Option FirstByte

@@ -37,10 +37,31 @@ same_fault (Bad n) r s h e = h n e
 same_fault (TooLarge b v) r s h e = e
 same_fault Memory r s h e = e
 
+-- a bad line is reported
+pub bad_fault : {A : Type 0} (fault : GenFault) (n : ℕ) (read : Result A ℕ) → fault ≡ Bad n → read ≡ Err n → IsReadFault fault read
+bad_fault fault n read e bad = subst (λ (f : GenFault). IsReadFault f read) (sym e) bad
+
+-- what follows from a clause of a call
+pub on_ok : (r : Result (Unit {0}) GenFault) (P Q : Type 0) → (P → Q) → OnOk r P → OnOk r Q
+on_ok (Ok u) P Q f p = f p
+on_ok (Err e) P Q f p = tt
+
+pub if_err : (r : Result (Unit {0}) GenFault) (P Q : GenFault → Type 0) → ((fault : GenFault) → P fault → Q fault) → IfErr r P → IfErr r Q
+if_err (Ok u) P Q f p = tt
+if_err (Err e) P Q f p = f e p
+
+-- what a `?` hands on
+pub handed_on : {T : Type 0} (r : Result T GenFault) (fault : GenFault) (P : GenFault → Type 0) → (y : GenFault) × (r ≡ Err y) × (y ≡ fault) → P fault → IfErr r P
+handed_on r fault P p h = subst (λ r. IfErr r P) (sym (p.1 ∙ ap Err p.2)) h
+
 number_plus_zero : (n : ℕ) → bad_at (n + 0) ≡ bad_at n
 number_plus_zero n = let e : n + 0 ≡ n = omega arith in ap bad_at e
 
-one : (p q : Reading) → Ok {E = ℕ} p ≡ Ok q → p ≡ q
+abbrev pub read_ok : Reading → Read
+read_ok p = Ok p
+
+pub one : (p q : Reading) → Ok p ≡ read_ok q → p ≡ q
+
 one p q e = cc
 
 -- ---- no lines

@@ -2,6 +2,8 @@
 
 -- what the contract of `gen_` says
 pub mod Generated
+-- what a law says
+pub mod FirstBadLine
 -- what only inner contracts and proofs use
 pub mod Cursors
 pub mod Reads

@@ -6,6 +6,8 @@ use Rattle.std.specs.List.{AllByRecursion}
 use Rattle.adb_view.specs.Plain.{Plain, Plains, Shape, number, text, hash, array, object}
 use Rattle.adb_view.specs.declared.tables.Kind.{Kind}
 use Rattle.adb_view.specs.declared.tables.Kind.TheVariants.{Int, Text, Hash, Obj, TextArr, ObjArr}
+use Rattle.adb_write.specs.declared.writer.WriteFault.{WriteFault}
+use Rattle.adb_write.specs.declared.writer.WriteFault.TheVariants as WriteFaults
 use Rattle.adb_values.specs.Drafts.{DraftState, draft_with, draft_with_all}
 use Rattle.adb_dump.specs.Dump.{Line, int_line, text_line, hash_line}
 use Rattle.adb_dump.specs.ReadBack.{LinesRead, entry_read, if_form, int_read, text_read, hash_read}
@@ -106,3 +108,8 @@ has_rest (c ∷ cs) = true
 abbrev pub root_taken : Result DumpedRoot ℕ → DraftState → Result (Which × DraftState) ℕ
 root_taken (Ok root) d = Ok (root.which, draft_with root.value d)
 root_taken (Err line) d = Err line
+
+-- the fault of a writer, as a fault of generating
+abbrev pub fault_of_writer : WriteFault → GenFault
+fault_of_writer (WriteFaults.TooLarge bytes values) = TooLarge bytes values
+fault_of_writer WriteFaults.Memory = Memory

@@ -5,7 +5,7 @@ ghost use Rattle.std.specs.Prelude.{◌≡◌, IfErr, IfOk, OnOk, Ok, Err, Some,
 ghost use Rattle.gen_core.specs.declared.generate.GenFault.TheVariants.{Bad};
 ghost use Rattle.gen_core.specs.Cursors.{after_line};
 ghost use Rattle.gen_core.specs.Generated.{IsGenFault, dumped_root, generated_file, table_of_line, text_lines, word_of_root};
-ghost use Rattle.gen_core.specs.Reads.{IsReadFault, has_rest, root_taken, table_read};
+ghost use Rattle.gen_core.specs.Reads.{IsReadFault, fault_of_writer, has_rest, root_taken, table_read};
 
 use crate::cursor::Cursor;
 use crate::read::read_root;
@@ -31,8 +31,17 @@ pub fn gen_(alloc: Global, text: &[u8]) -> Result<Vec<u8>, GenFault>
     let which = read_text(alloc, &mut draft, text)?;
     match draft.finish() {
         Ok(payload) => Ok(file_of(alloc, word_of_root(which), &payload)?),
-        Err(WriteFault::TooLarge { bytes, values }) => Err(GenFault::TooLarge { bytes, values }),
-        Err(WriteFault::Memory) => Err(GenFault::Memory),
+        Err(fault) => Err(fault_of_writer(fault)),
+    }
+}
+
+/// Why a writer gave no payload, as a fault of generating.
+fn fault_of_writer(fault: WriteFault) -> GenFault
+    ensures { result ≡ fault_of_writer fault }
+{
+    match fault {
+        WriteFault::TooLarge { bytes, values } => GenFault::TooLarge { bytes, values },
+        WriteFault::Memory => GenFault::Memory,
     }
 }
 

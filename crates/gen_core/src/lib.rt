@@ -12,7 +12,9 @@
 
 mod cursor;
 mod generate;
+mod laws;
 mod read;
 mod value;
 
 pub use generate::{GenFault, gen_};
+pub use laws::a_text_is_accepted_exactly_if_a_root_has_it;

@@ -34,10 +34,10 @@ pub(crate) fn read_root(
     ensures err { IfErr result (λ fault. IsReadFault fault (block_taken
         (value_read which cursor.old.lines) (cursor.old.lines, []) draft.old cursor.old)) }
 {
-    if cursor.at_depth(0).is_none() {
+    let Some(_line) = cursor.at_depth(0) else {
         draft.null()?;
         return Ok(());
-    }
+    };
     let mut scratch = Vec::new(alloc);
     read_object(draft, cursor, &mut scratch, which, 0)
 }
@@ -144,7 +144,10 @@ fn read_value(
             draft.blob(scratch)?;
             Ok(true)
         }
-        Kind::Obj(_) | Kind::TextArr | Kind::ObjArr(_) => Ok(false),
+        // Values of these kinds have several lines.
+        Kind::Obj(_) => Ok(false),
+        Kind::TextArr => Ok(false),
+        Kind::ObjArr(_) => Ok(false),
     }
 }
 
@@ -177,9 +180,9 @@ fn read_array(
         IsReadFault fault (block_taken (block_read (array (shape_of kind)) block.0)
         block draft.old cursor.old)) }
 {
-    if cursor.at_depth(depth).is_none() {
+    let Some(_line) = cursor.at_depth(depth) else {
         return Err(cursor.bad_line());
-    }
+    };
     draft.open_list()?;
     read_entries(draft, cursor, scratch, kind, depth)?;
     draft.close_array()?;
@@ -270,9 +273,9 @@ fn read_object(
         IsReadFault fault (block_taken (block_read (shape_of (Kinds.Obj which)) block.0)
         block draft.old cursor.old)) }
 {
-    if cursor.at_depth(depth).is_none() {
+    let Some(_line) = cursor.at_depth(depth) else {
         return Err(cursor.bad_line());
-    }
+    };
     draft.open_list()?;
     read_fields(draft, cursor, scratch, fields_of(which), depth)?;
     draft.close_object()?;
@@ -314,8 +317,10 @@ fn read_fields(
 fn after_name(line: &[u8], name: FieldName) -> Option<&[u8]>
     ensures { option_copied result ≡ strip_prefix (field_name_text name ++ codes ":") line.entry.now }
 {
-    let value = without_prefix(line, name.text().as_bytes())?;
-    without_prefix(value, b":")
+    match without_prefix(line, name.text().as_bytes()) {
+        Some(rest) => without_prefix(rest, b":"),
+        None => None,
+    }
 }
 
 /// Reads the value of a field, of whose first line this is left after its name: on that line, or

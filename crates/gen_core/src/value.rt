@@ -16,7 +16,7 @@ use std::alloc::AllocError;
 /// The integer whose decimal digits are the line; None if there is no such integer below 2^64.
 pub(crate) fn number_in(line: &[u8]) -> Option<u64>
     ensures { MatchOption result ((n : ℕ) → n < 2 ^ 64 → decimal n ≢ line.now)
-        (λ n. decimal n ≡ line.now) }
+        (λ n. (n < 2 ^ 64) × (decimal n ≡ line.now)) }
 {
     let Ok(text) = str::from_utf8(line) else {
         return None;

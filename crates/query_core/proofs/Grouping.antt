@@ -1,6 +1,6 @@
 -- The candidates of a name in the order of queries: those with one version are side by side, and are just those that have it.
-use Rattle.std.proofs.Common.{◌≡◌, ◌⊎◌, inl, inr, All, ℕ, zero, suc, ◌+◌, ◌-◌, ◌<◌, ◌≤◌, Bool, true, false, List, [], ◌∷◌, length, drop, map, get_or, refl, sym, ap, subst, ◌∙◌, arith}
-use Rattle.std.specs.Prelude.{Option, Some, None, slice_get, ◌&&◌}
+use Rattle.std.proofs.Common.{◌≡◌, ◌⊎◌, inl, inr, All, ℕ, zero, suc, ◌+◌, ◌-◌, ◌<◌, ◌≤◌, Bool, true, false, List, [], ◌∷◌, length, drop, take, map, get_or, refl, sym, ap, subst, ◌∙◌, arith}
+use Rattle.std.specs.Prelude.{Option, Some, None, nat_lt, slice_get, ◌&&◌}
 use Rattle.std.specs.Option.{option_cmp, option_map_or}
 use Rattle.std.specs.List.{cons_option, filter, filter_map, list_any}
 use Rattle.std.specs.Cmp.{IsTotalOrder, tied_itself}
@@ -20,16 +20,20 @@ use Rattle.candidate_core.specs.Options.{IsIn, places_from}
 use Rattle.candidate_core.specs.Rank.{bytes_cmp, greater_version}
 use Rattle.candidate_core.proofs.OptionLists.{bool_cases, in_places, places_in}
 use Rattle.candidate_core.proofs.LoopTests.{any_at}
+use Rattle.candidate_core.proofs.Steps.{get_at}
 use Rattle.option_ranks.specs.Ranking.{Ranking}
 use Rattle.option_ranks.specs.declared.rank.VersionKey.{VersionKey}
 use Rattle.option_ranks.proofs.CountedRanks.{here_is}
 use Rattle.option_ranks.proofs.MovedMembers.{member_of_all, moved_member}
 use Rattle.option_ranks.proofs.RankedOptions.{place_of}
 use Rattle.query_core.specs.Order.{name_and_version_cmp, query_cmp, selected_candidates, selected_places}
-use Rattle.query_core.specs.Policy.{has_name_and_version, has_own_name, versions_of_name, versions_once}
+use Rattle.query_core.specs.Policy.{has_name_and_version, has_own_name, is_of_repository, versions_of_name, versions_once}
 use Rattle.query_core.specs.QueryRanking.{AreInQueryOrder, IsQueryRanking, have_one_version}
+use Rattle.query_core.specs.VersionPlaces.{SaysPlacesOf, VersionPlaces}
+use Rattle.query_core.proofs.Gathered.{candidates_of}
 use Rattle.query_core.proofs.QueryOrder.{candidates_total, last_decides, query_total, texts_same}
-use Rattle.query_core.proofs.Runs.{any_filtered, any_found_at, at_some_place, below_length, bool_same, both_true, dropped_at, dropped_twice, found_any_at, from_mapped, is_in_at, mapped_at, mapped_drop, once_run, one_text, passes_at, same_text}
+use Rattle.query_core.proofs.RisingLines.{lt_is, not_lt_is}
+use Rattle.query_core.proofs.Runs.{any_filtered, any_found_at, at_some_place, below_length, below_taken, bool_same, both_true, dropped_at, dropped_twice, found_any_at, from_mapped, is_in_at, mapped_at, mapped_drop, once_run, one_text, passes_at, same_text, taken_at}
 
 abbrev pub version_of : Ranking → Option (List ℕ)
 version_of r = r.version.version
@@ -79,6 +83,10 @@ versions_found cs (r ∷ rs) all =
     let is : here.0.version ≡ version_of r = sym (ap version_of here.1.1) in
     rw here.1.0 (ap (λ (v : Option (List ℕ)). v ∷ map (λ (c : Candidate). c.version) (filter_map (λ (q : Ranking). slice_get cs q.place) rs)) is
     ∙ ap (λ (vs : List (Option (List ℕ))). version_of r ∷ vs) (versions_found cs rs (λ i d h. all (suc i) d (omega (arith, h)))))
+
+first_candidate : (cs : List Candidate) (rs : List Ranking) (r : Ranking) (c : Candidate) → slice_get rs 0 ≡ Some r → slice_get cs r.place ≡ Some c → slice_get (candidates_of cs rs) 0 ≡ Some c
+first_candidate cs [] r c h e = absurd (cc)
+first_candidate cs (q ∷ rs) r c h e = let s : q ≡ r = cc in rw (ap (λ (a : Ranking). slice_get cs a.place) s ∙ e) refl
 
 module _ (versions : IsTotalOrder version_cmp) (cs : List Candidate) (name : List ℕ) (rs : List Ranking) (read : All (IsQueryRanking cs) rs) (places : map place_of rs ≡ selected_places (has_own_name name) cs) where
   -- what is printed of the name are the versions of the rankings
@@ -144,3 +152,121 @@ module _ (versions : IsTotalOrder version_cmp) (cs : List Candidate) (name : Lis
         let alike : have_one_version key s e ≡ true = ordered.same s e (is_in_at rs start s hs) (is_in_at rs end e he) (vs ∙ (middle ∙ sym ve)) in
         let bad : true ≡ false = sym alike ∙ other in
         absurd (cc)
+
+    module _ (start end : ℕ) (s : Ranking) (some : start < end) (within : end ≤ length rs) (first : slice_get rs start ≡ Some s)
+        (one : (i : ℕ) (a b : Ranking) → start ≤ i → i < end → slice_get rs start ≡ Some a → slice_get rs i ≡ Some b → have_one_version key a b ≡ true)
+        (other : (a b : Ranking) → slice_get rs start ≡ Some a → slice_get rs end ≡ Some b → have_one_version key a b ≡ false)
+        (apart : (i j : ℕ) (a b : Ranking) → i < start → start ≤ j → slice_get rs i ≡ Some a → slice_get rs j ≡ Some b → version_of a ≡ version_of b → ⊥) where
+      in_run : (i : ℕ) (b : Ranking) → start ≤ i → i < end → slice_get rs i ≡ Some b → version_of s ≡ version_of b
+      in_run i b low high h = ordered.alike s b (is_in_at rs start s first) (is_in_at rs i b h) (one i s b low high first h)
+
+      none_after : (j : ℕ) (x : Ranking) → end ≤ j → slice_get rs j ≡ Some x → version_of s ≡ version_of x → ⊥
+      none_after j x low h same =
+          let high : j < length rs = below_length rs j x h in
+          let e : Ranking = get_or rs end x in
+          let at : slice_get rs end ≡ Some e = get_at rs end x (omega (arith, low, high)) in
+          past_run start end j s e x (omega (arith, some)) low first at h (other s e first at) same
+
+      -- the versions up to the end of the run are not found after it
+      pub apart_after : (i j : ℕ) (a b : Ranking) → i < end → end ≤ j → slice_get rs i ≡ Some a → slice_get rs j ≡ Some b → version_of a ≡ version_of b → ⊥
+      apart_after i j a b low high h g same = elim (bool_cases (nat_lt i start)) [
+        | inl e ↦ apart i j a b (lt_is i start e) (omega (arith, some, high)) h g same
+        | inr e ↦ none_after j b high g (in_run i a (not_lt_is i start e) low h ∙ same)
+      ]
+
+      -- the version of the run is left once
+      pub next_version : versions_once (map version_of (drop start rs)) ≡ version_of s ∷ versions_once (map version_of (drop end rs))
+      next_version =
+          let n : ℕ = end - start in
+          let z : start + n ≡ end = omega (arith, some) in
+          once_run (map version_of (drop start rs)) n (version_of s) (omega (arith, some))
+          (λ m low.
+          let r : Ranking = get_or rs (start + m) s in
+          let at : slice_get rs (start + m) ≡ Some r = get_at rs (start + m) s (omega (arith, low, within)) in
+          mapped_at version_of (drop start rs) m r (dropped_at rs start m ∙ at) ∙ ap Some (sym (in_run (start + m) r (omega arith) (omega (arith, low)) at)))
+          (λ m low h.
+          let found = from_mapped version_of (drop start rs) m (version_of s) h in
+          none_after (start + m) found.0 (omega (arith, low)) (sym (dropped_at rs start m) ∙ found.1.0) (sym found.1.1))
+          ∙ ap (λ (vs : List (Option (List ℕ))). version_of s ∷ versions_once vs) (sym (mapped_drop version_of (drop start rs) n) ∙ ap (map version_of) (dropped_twice rs start n ∙ ap (λ (k : ℕ). drop k rs) z))
+
+      run_at : (m : ℕ) (r : Ranking) → slice_get (take (end - start) (drop start rs)) m ≡ Some r → (m < end - start) × (slice_get rs (start + m) ≡ Some r)
+      run_at m r h =
+          let low : m < end - start = below_taken (drop start rs) (end - start) m r h in
+          (low, sym (dropped_at rs start m) ∙ (sym (taken_at (drop start rs) (end - start) m low) ∙ h))
+
+      at_run : (i : ℕ) (r : Ranking) → start ≤ i → i < end → slice_get rs i ≡ Some r → slice_get (take (end - start) (drop start rs)) (i - start) ≡ Some r
+      at_run i r low high h =
+          let z : start + (i - start) ≡ i = omega (arith, low) in
+          taken_at (drop start rs) (end - start) (i - start) (omega (arith, low, high)) ∙ (dropped_at rs start (i - start) ∙ (ap (slice_get rs) z ∙ h))
+
+      of_run : (q : Candidate → Bool) → list_any q (filter (has_name_and_version name (version_of s)) cs) ≡ true → list_any q (candidates_of cs (take (end - start) (drop start rs))) ≡ true
+      of_run q h =
+          let p : Candidate → Bool = has_name_and_version name (version_of s) in
+          let found = passes_at (λ (x : Candidate). p x && q x) cs (sym (any_filtered p q cs) ∙ h) in
+          let k : ℕ = found.0 in
+          let x : Candidate = found.1.0 in
+          let here : slice_get cs k ≡ Some x = found.1.1.0 in
+          let pq = both_true (p x) (q x) found.1.1.1 in
+          let named = both_true (has_own_name name x) (is_same_version (version_of s) x.version) pq.0 in
+          let unsorted : List ℕ = places_from 0 (has_own_name name) cs in
+          let passes : option_map_or (has_own_name name) (slice_get cs k) false ≡ true = ap (λ (o : Option Candidate). option_map_or (has_own_name name) o false) here ∙ named.0 in
+          let z : 0 + k ≡ k = omega arith in
+          let placed : IsIn k unsorted = subst (λ (m : ℕ). IsIn m unsorted) z (in_places 0 (has_own_name name) cs k passes) in
+          let sorted : IsIn k (map place_of rs) = subst (λ (ps : List ℕ). IsIn k ps) (sym places) (moved_member unsorted (sorted_by (query_cmp cs) unsorted) k (sorted_same (query_cmp cs) unsorted) placed) in
+          let where_it_is = at_some_place (map place_of rs) k sorted in
+          let i : ℕ = where_it_is.0 in
+          let ranked = from_mapped place_of rs i k where_it_is.1 in
+          let r : Ranking = ranked.0 in
+          let at : slice_get rs i ≡ Some r = ranked.1.0 in
+          let there : slice_get cs r.place ≡ Some x = ap (slice_get cs) ranked.1.1 ∙ here in
+          let same : version_of s ≡ version_of r = one_text (version_of s) x.version named.1 ∙ sym (version_is i r x at there) in
+          elim (bool_cases (nat_lt i start)) [
+            | inl e ↦ absurd (apart i start r s (lt_is i start e) (omega arith) at first (sym same))
+            | inr e ↦ elim (bool_cases (nat_lt i end)) [
+              | inl f ↦ any_found_at (λ (a : Ranking). slice_get cs a.place) q (take (end - start) (drop start rs)) (i - start) r x (at_run i r (not_lt_is i start e) (lt_is i end f) at) there pq.1
+              | inr f ↦ absurd (none_after i r (not_lt_is i end f) at same)
+            ]
+          ]
+
+      from_run : (q : Candidate → Bool) → list_any q (candidates_of cs (take (end - start) (drop start rs))) ≡ true → list_any q (filter (has_name_and_version name (version_of s)) cs) ≡ true
+      from_run q h =
+          let p : Candidate → Bool = has_name_and_version name (version_of s) in
+          let found = found_any_at (λ (a : Ranking). slice_get cs a.place) q (take (end - start) (drop start rs)) h in
+          let m : ℕ = found.0 in
+          let r : Ranking = found.1.0 in
+          let x : Candidate = found.1.1.0 in
+          let at = run_at m r found.1.1.1.0 in
+          let there : slice_get cs r.place ≡ Some x = found.1.1.1.1.0 in
+          let same : version_of s ≡ x.version = in_run (start + m) r (omega arith) (omega (arith, at.0)) at.1 ∙ version_is (start + m) r x at.1 there in
+          let named : has_own_name name x ≡ true = own_name (start + m) r x at.1 there in
+          let version : is_same_version (version_of s) x.version ≡ true = subst (λ (v : Option (List ℕ)). is_same_version (version_of s) v ≡ true) same (same_text (version_of s)) in
+          let both : (p x && q x) ≡ true = rw (named, version) found.1.1.1.1.1 in
+          any_filtered p q cs ∙ any_at (λ (y : Candidate). p y && q y) cs r.place x there both
+
+      -- the candidates of the run are just those of the name with the version
+      pub run_is : (q : Candidate → Bool) → list_any q (filter (has_name_and_version name (version_of s)) cs) ≡ list_any q (candidates_of cs (take (end - start) (drop start rs)))
+      run_is q = bool_same _ _ (of_run q) (from_run q)
+
+      pub run_within : All (λ (r : Ranking). r.place < length cs) (take (end - start) (drop start rs))
+      run_within = λ k d h.
+          let r : Ranking = get_or (take (end - start) (drop start rs)) k d in
+          let at = run_at k r (get_at (take (end - start) (drop start rs)) k d h) in
+          let here = is_read (start + k) r at.1 in
+          below_length cs r.place here.0 here.1.0
+
+      -- the first candidate of the run has the version
+      pub first_of_run : (c : Candidate) × ((slice_get (candidates_of cs (take (end - start) (drop start rs))) 0 ≡ Some c) × (c.version ≡ version_of s))
+      first_of_run =
+          let here = is_read start s first in
+          let z : start - start ≡ 0 = omega arith in
+          let at : slice_get (take (end - start) (drop start rs)) 0 ≡ Some s = ap (slice_get (take (end - start) (drop start rs))) (sym z) ∙ at_run start s (omega arith) some first in
+          (here.0, (first_candidate cs (take (end - start) (drop start rs)) s here.0 at here.1.0, sym (version_is start s here.0 first here.1.0)))
+
+-- what is gathered of some candidates is so of others that pass the same tests
+pub says_same : (xs ys : List Candidate) (v : VersionPlaces) → ((q : Candidate → Bool) → list_any q xs ≡ list_any q ys) → SaysPlacesOf ys v → SaysPlacesOf xs v
+says_same xs ys v same says = record {
+  installed = same (λ (c : Candidate). c.installed) ∙ says.installed;
+  order = says.order;
+  each = λ n h. same (is_of_repository n) ∙ says.each n h;
+  all = λ n h. says.all n (sym (same (is_of_repository n)) ∙ h);
+}

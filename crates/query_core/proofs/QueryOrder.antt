@@ -128,7 +128,7 @@ module _ (versions : IsTotalOrder version_cmp) (owns : List (Option (List ℕ)))
 
 -- ---- sorted rankings
 
-none_read : Ranking
+pub none_read : Ranking
 none_read = ranking_by false false false false (record { version = None; source = 0; word = 0; rank = 0 }) 0 [] (record { version = None; source = 0; word = 0; rank = 0 }) None 0
 
 sorted_places : (cs : List Candidate) (key : VersionKey) (P : Ranking → Type 0) → ((a b : Ranking) → P a → P b → ranking_cmp key a b ≡ query_cmp cs a.place b.place)

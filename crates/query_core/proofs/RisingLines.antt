@@ -12,10 +12,10 @@ use Rattle.report_core.specs.QueryReports.{repository_line}
 use Rattle.query_core.specs.Policy.{is_of_repository, repository_lines}
 use Rattle.query_core.specs.VersionPlaces.{NeverFall, numbered_line, rising_lines}
 
-lt_is : (m n : ℕ) → nat_lt m n ≡ true → m < n
+pub lt_is : (m n : ℕ) → nat_lt m n ≡ true → m < n
 lt_is m n h = grind (arith, nat_tests)
 
-not_lt_is : (m n : ℕ) → nat_lt m n ≡ false → n ≤ m
+pub not_lt_is : (m n : ℕ) → nat_lt m n ≡ false → n ≤ m
 not_lt_is m n h = grind (arith, nat_tests)
 
 is_lt_when : (m n : ℕ) → m < n → nat_lt m n ≡ true

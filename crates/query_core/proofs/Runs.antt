@@ -1,5 +1,5 @@
 -- Lists by their places, and what is the same along a run of them.
-use Rattle.std.proofs.Common.{◌≡◌, inl, inr, ℕ, zero, suc, ◌+◌, ◌<◌, ◌≤◌, Bool, true, false, List, [], ◌∷◌, length, drop, map, refl, sym, ap, subst, ◌∙◌, arith}
+use Rattle.std.proofs.Common.{◌≡◌, inl, inr, ℕ, zero, suc, ◌+◌, ◌<◌, ◌≤◌, Bool, true, false, List, [], ◌∷◌, length, drop, take, map, refl, sym, ap, subst, ◌∙◌, arith}
 use Rattle.std.specs.Prelude.{Option, Some, None, slice_get, ◌&&◌, ◌||◌, if◌then◌else◌}
 use Rattle.std.specs.List.{cons_option, filter, filter_map, list_any}
 use Rattle.std.proofs.lemmas.Slice.Eq.{bytes_eq-Decides}
@@ -67,6 +67,20 @@ pub mapped_drop : {X Y : Type 0} (f : X → Y) (xs : List X) (n : ℕ) → map f
 mapped_drop f xs zero = refl
 mapped_drop f [] (suc n) = refl
 mapped_drop f (x ∷ xs) (suc n) = mapped_drop f xs n
+
+pub taken_at : {X : Type 0} (xs : List X) (n i : ℕ) → i < n → slice_get (take n xs) i ≡ slice_get xs i
+taken_at xs zero i low = absurd (omega (arith, low))
+taken_at [] (suc n) i low = refl
+taken_at (x ∷ xs) (suc n) zero low = refl
+taken_at (x ∷ xs) (suc n) (suc i) low = taken_at xs n i (omega (arith, low))
+
+pub below_taken : {X : Type 0} (xs : List X) (n i : ℕ) (x : X) → slice_get (take n xs) i ≡ Some x → i < n
+below_taken xs zero zero x h = absurd (cc)
+below_taken xs zero (suc i) x h = absurd (cc)
+below_taken [] (suc n) zero x h = absurd (cc)
+below_taken [] (suc n) (suc i) x h = absurd (cc)
+below_taken (y ∷ xs) (suc n) zero x h = omega arith
+below_taken (y ∷ xs) (suc n) (suc i) x h = let r = below_taken xs n i x h in omega (arith, r)
 
 -- ---- tests
 

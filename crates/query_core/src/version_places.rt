@@ -19,7 +19,7 @@ use option_ranks::{RankedOption, VersionKey};
 use pool_core::Sealed;
 use std::alloc::{AllocError, Global};
 use std::marker::Model;
-use version_core::Version;
+use version_core::{Version, order_is_total};
 
 /// A version of a name, and where it is.
 #[derive(Drop)]
@@ -113,6 +113,7 @@ fn grouped<'a>(
     ensures places { IfOk result (λ versions.
         All (IsVersionOf pool.now.candidates name.now) versions.items) }
 {
+    order_is_total();
     let rankings = ordered.rankings.as_slice();
     let mut versions = Vec::new(alloc);
     let mut start = 0;
