@@ -1,8 +1,7 @@
 //! Replaces a whole file.
 //! The rules are in `docs/crash-safety.md`, "A whole file replaced", its four steps and what
 //! follows from them.
-//! follows of them.
-ghost use Rattle.std.specs.Prelude.{◌≡◌, ◌≢◌, ◌≤◌, [], ◌∷◌, ℕ, Bool, List, length, IfOk, OnOk, OnErr, IsErrOf};
+ghost use Rattle.std.specs.Prelude.{◌≡◌, ◌⊎◌, ◌≢◌, ◌≤◌, [], ◌∷◌, ℕ, Bool, List, Some, length, IfOk, OnOk, OnErr, IsErrOf};
 ghost use Rattle.base_core.specs.Calls.{HasNow, IfObservable};
 ghost use Rattle.base_core.specs.Crash.{Since, IsOrderly};
 ghost use Rattle.base_core.specs.Faults.{GoesOn, HasCause, IsNoFault};
@@ -15,10 +14,11 @@ ghost use Rattle.journal_core.specs.Recovery.{RestsOn, IsSettled, intent_name};
 ghost use Rattle.journal_core.specs.Replacing.{HidesScratch, HasRoom, IsReplacing, replaced_files, scratch_of};
 
 use base_core::{
-    Disk, Name, Tree, TreeFault, a_crash_may_leave_the_files_as_read, order_outlasts_a_crash,
+    Disk, Name, Tree, TreeFault, a_crash_may_leave_the_files_as_read,
+    counts_of_calls_in_a_row_join, order_outlasts_a_crash,
 };
-use journal_core::Journal;
 use journal_core::calls::{append, create, remove, rename, sync_all_names, sync_file};
+use journal_core::{Journal, check_target};
 use std::alloc::{AllocError, Global};
 
 /// Writes one whole file: after a crash at any moment its name has the old file or the new one, and
@@ -29,7 +29,8 @@ use std::alloc::{AllocError, Global};
 /// # Errors
 ///
 /// `Disk` if a call of the tree failed; then the name may have either file, and the scratch name
-/// may have a part of the new one. `Memory` before any call of the tree.
+/// may have a part of the new one. If the tree can never take the file it fails before anything is
+/// written. `Memory` before any call of the tree.
 pub fn replace<T: Tree>(
     alloc: Global,
     tree: &mut T,
@@ -76,7 +77,13 @@ pub fn replace<T: Tree>(
     ensures synced { IfObservable (T.history tree.old)
         (λ v. OnOk result (HasNow (T.history tree.new) (IsSyncedAt name.now))) }
 
-    // If out of memory, no call of the tree was made.
+    // The name is asked for first: either nothing has happened, or the tree accepts that a file is
+    // renamed to it from the scratch name. Ok is answered only if it does.
+    ensures asked { (T.history tree.new ≡ T.history tree.old)
+        ⊎ T.accepts (Some (scratch_of name.now)) name.now }
+    ensures accepted { OnOk result (T.accepts (Some (scratch_of name.now)) name.now) }
+
+    // If there is no memory, no call of the tree was made.
     ensures memory { IsErrOf result TreeFault.Memory → tree.new ≡ tree.old }
 
     // No count of faults falls; a fault of the tree is returned only if that count rose, and Ok
@@ -106,9 +113,47 @@ fn scratch_name(alloc: Global, name: &Name) -> Result<Name, AllocError>
     Name::of(alloc, &bytes)
 }
 
-/// Makes the new file under the scratch name and moves it to its name. The clauses are those of
-/// `replace`, for any scratch name on which no state depends.
+/// Asks for the name, and then does as `make_and_move` does, whose clauses it has.
 fn write_beside<T: Tree>(
+    tree: &mut T,
+    scratch: &Name,
+    name: &Name,
+    bytes: &[u8],
+) -> Result<(), Disk>
+    requires { name.now ≢ intent_name }
+    ensures moments { IfObservable (T.history tree.old) (λ v.
+        Since (IsMoving scratch.now name.now bytes.now v) (T.history tree.old)
+        (T.history tree.new)) }
+    ensures lasting { IfObservable (T.history tree.old) (λ v.
+        OnOk result (HasNow (T.history tree.new) (IsLasting scratch.now name.now bytes.now v))) }
+    ensures others { IfObservable (T.history tree.old) (λ v.
+        Since (KeepsMapsBut (name.now ∷ scratch.now ∷ []) v) (T.history tree.old)
+        (T.history tree.new)) }
+
+    // The name is asked for first: either nothing has happened, or the tree accepts it.
+    ensures asked { (T.history tree.new ≡ T.history tree.old)
+        ⊎ T.accepts (Some scratch.now) name.now }
+    ensures accepted { OnOk result (T.accepts (Some scratch.now) name.now) }
+
+    // No count of faults falls; a fault of the tree is answered only where that count rose, and Ok
+    // only where it did not.
+    ensures goes_on { GoesOn (T.counts tree.old) (T.counts tree.new) }
+    ensures cause { OnErr result (HasCause (T.counts tree.old) (T.counts tree.new)) }
+    ensures kept { OnOk result (IsNoFault (T.counts tree.old) (T.counts tree.new)) }
+
+    // Where the names may have a file each, no call is a misuse.
+    ensures proper { IfObservable (T.history tree.old) (λ v. HasBothPlaces scratch.now name.now v
+        → (T.counts tree.new).misuses ≡ (T.counts tree.old).misuses) }
+{
+    // A law that the proof needs; it computes nothing.
+    counts_of_calls_in_a_row_join();
+    check_target(tree, name, Some(scratch))?;
+    make_and_move(tree, scratch, name, bytes)
+}
+
+/// Makes the new file under the scratch name and moves it to its name. The clauses are those of
+/// `replace`, for any scratch name on which no state rests.
+fn make_and_move<T: Tree>(
     tree: &mut T,
     scratch: &Name,
     name: &Name,

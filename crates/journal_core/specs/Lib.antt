@@ -5,6 +5,7 @@ pub mod Replacing
 pub mod Quiet
 pub mod Staged
 pub mod Kept
+pub mod Targets
 -- what only inner contracts and proofs use
 pub mod Reading
 pub mod Filling

@@ -4,8 +4,8 @@
 //!
 //! The contracts cite `Recovery` (the state that files stand for, and what a crash leaves of it),
 //! `Replacing` and `Reading` (replacing a whole file), `Staged` (a stage, its moments, and what a
-//! recovery leaves) and `Quiet` (moments at which the state does not change) of `specs/`, and
-//! `Intent` of `journal_intent`.
+//! recovery leaves), `Quiet` (moments at which the state does not change) and `Targets` (the names
+//! that are asked for) of `specs/`, and `Intent` of `journal_intent`.
 //! The rules are in `docs/crash-safety.md`, from "What files stand for" to "Recovery".
 #![tactic(auto)]
 
@@ -15,6 +15,7 @@ mod fault;
 mod laws;
 mod publishing;
 mod stage;
+mod targets;
 
 pub use fault::RecoverFault;
 pub use journal_intent::{
@@ -31,3 +32,4 @@ pub use laws::{
     what_is_not_synced_is_not_safe,
 };
 pub use stage::{Stage, apply_all};
+pub use targets::{check_target, check_targets};

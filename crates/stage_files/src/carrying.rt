@@ -3,11 +3,11 @@
 ghost use Rattle.std.specs.Prelude.{◌≡◌, ◌<◌, ◌+◌, ◌++◌, ◌∷◌, ◌⊎◌, [], ℕ, false, List, None, length, take, IfErr, IsErrOf, OnErr, OnOk};
 ghost use Rattle.base_core.specs.Calls.{IfObservable};
 ghost use Rattle.base_core.specs.Faults.{GoesOn, HasCause, IsNoFault};
-ghost use Rattle.base_core.specs.Read.{OnlyReads};
 ghost use Rattle.base_core.specs.Tree.{TreeState, files_of};
 ghost use Rattle.base_core.specs.declared.cause.Cause.{Cause};
 ghost use Rattle.journal_core.specs.Recovery.{after_actions, intent_name};
 ghost use Rattle.journal_core.specs.Staged.{HasRoomBeside, IsEmptyStage, new_stage, with_staged};
+ghost use Rattle.journal_core.specs.Targets.{AreAccepted};
 ghost use Rattle.stage_files.specs.Carried.{IsCarriedTo};
 ghost use Rattle.stage_files.specs.Sources.{MayStandForEach, StandForEach};
 ghost use Rattle.stage_files.specs.Spoiled.{HasSpoiledFile};
@@ -15,33 +15,10 @@ ghost use Rattle.stage_files.specs.declared.writes.StageFault.TheVariants.{Bad, 
 ghost use Rattle.stage_run.specs.StageRun.{IsStageRun, IsStageRunDone, IsStaging, IsStagingRun};
 
 use crate::writes::{StageFault, StagedWrite, stage_write};
-use base_core::{Disk, Name, Tree, readings_in_a_row_join};
-use journal_core::Stage;
+use base_core::Tree;
+use journal_core::{Stage, check_targets};
 use piece_reader::Piece;
 use stage_run::{a_new_stage_is_staging, a_staging_run_is_a_stage_run, carry_through};
-
-/// Looks at what is under a name. The answer does not matter, only that a host's tree can give one.
-fn look_at<T: Tree>(tree: &mut T, name: &Name) -> Result<(), Disk>
-    ensures { OnlyReads (record {}) (T.history tree.old) (T.history tree.new)
-        (T.counts tree.old) (T.counts tree.new) result }
-{
-    tree.size(name)?;
-    Ok(())
-}
-
-/// Looks at what is under the name of each write, so that the run ends before anything is written
-/// if that is no file.
-fn look_at_each<T: Tree>(tree: &mut T, writes: &[StagedWrite<'_>]) -> Result<(), Disk>
-    ensures { OnlyReads (record {}) (T.history tree.old) (T.history tree.new)
-        (T.counts tree.old) (T.counts tree.new) result }
-{
-    // A law that the proof needs; it computes nothing.
-    readings_in_a_row_join::<u8, (), Disk>();
-    for write in writes {
-        look_at(tree, write.name)?;
-    }
-    Ok(())
-}
 
 /// Stages the files of all writes, in their order. The clauses are those of `stage_write`, over all
 /// of them.
@@ -88,8 +65,9 @@ fn stage_each<T: Tree>(
     Ok(())
 }
 
-/// Carries through a change whose stage is begun: it looks at what is under the name of each write,
-/// stages the files, publishes (commits) the intent, and does all actions. It allocates no memory.
+/// Carries through a change whose stage is begun: it asks the tree for each name that is removed or
+/// written, stages the files, publishes (commits) the intent, and does all actions. It allocates no
+/// memory.
 ///
 /// # Errors
 ///
@@ -131,6 +109,11 @@ pub fn carry_out<T: Tree>(
         ⊎ ((contents : List (List ℕ)) × MayStandForEach writes.now contents
         × IsStageRun (after_actions stage.old.intent (with_staged 1 contents (files_of v)))
         v (T.history tree.old) (T.history tree.new)))) }
+    // All targets are asked for first: either nothing has happened, or the tree accepts each. Ok is
+    // answered only if it accepts them.
+    ensures asked { (T.history tree.new ≡ T.history tree.old)
+        ⊎ AreAccepted T.accepts stage.old.intent }
+    ensures accepted { OnOk result (AreAccepted T.accepts stage.old.intent) }
     // A package is reported bad only with the cause of some file that has the values of the tested
     // one, and other contents.
     ensures bad { (member : ℕ) (cause : Cause) → IsErrOf result (Bad member cause)
@@ -152,7 +135,7 @@ pub fn carry_out<T: Tree>(
     // Laws that the proof needs; they compute nothing.
     a_new_stage_is_staging();
     a_staging_run_is_a_stage_run();
-    look_at_each(tree, writes)?;
+    check_targets(stage, tree)?;
     stage_each(stage, tree, writes, piece)?;
     carry_through(stage, tree)?;
     Ok(())

@@ -1,6 +1,7 @@
 pub mod Sites
 pub mod OneMore
 pub mod Found
+pub mod Helped
 pub mod KindsKept
 pub mod GivenKept
 pub mod WhatIsRead

@@ -2,6 +2,7 @@
 -- what the contract of `apk` says
 pub mod Options
 pub mod Grammar
+pub mod HelpTexts
 -- what only inner contracts and proofs use
 pub mod Rows
 pub mod Steps
