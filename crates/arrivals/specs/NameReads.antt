@@ -1,4 +1,4 @@
--- What a call answers of one name, by the file that a read finds.
+-- The result of a call for one name, given the file that a read finds.
 -- The rules are in `docs/commands.md`, "`add` and `del`", **What is read** and **What is
 -- refused**, and are said by *name_by_change* of `change_outcome`. Serves the contracts of
 -- `src/package.rt` and `src/arrivals.rt`.

@@ -45,7 +45,7 @@ pub record IsKeyed (name version id : List ℕ) (entry : Plain) : Type 0 where
   pub by_id : id ≡ id_in entry
   pub sound : IsTrue (is_version version)
 
--- ---- answers
+-- ---- results
 
 -- a result, seen by a view, is the value of a definition; out of memory says nothing, and no tree can
 -- have failed

@@ -1,5 +1,5 @@
 //! Packages and databases, from the words of rows. How a row writes them is in
-//! `tests/lines.md`; the fields in `docs/formats.md`, "Schemas", which count from 1 and the
+//! `tests/lines.md`; the fields in `docs/formats.md`, "Schemas". They count from 1, the
 //! places here from 0.
 
 use adb_schema::{IDB_WORD, PACKAGE_WORD};
