@@ -195,7 +195,7 @@ impl From<AllocError> for Refused {
     ghost use Rattle.std.specs.Prelude.{◌≡◌};
     ghost use Rattle.change_inputs.specs.declared.root.Refused.TheVariants.{Memory};
 
-    // What becomes of it, as a caller that uses `?` sees it.
+    // The fault that a caller gets by `?`.
     ghost from_gives = { λ _ refused. refused ≡ Memory };
 
     // Out of memory as the end of a command.
@@ -207,7 +207,7 @@ impl From<AllocError> for Refused {
 impl From<TreeFault> for Refused {
     ghost use Rattle.change_inputs.specs.Faults.{IsRefusedOf};
 
-    // What becomes of it, as a caller that uses `?` sees it.
+    // The fault that a caller gets by `?`.
     ghost from_gives = { λ fault refused. IsRefusedOf fault refused };
 
     // A fault of the tree as the end of a command.

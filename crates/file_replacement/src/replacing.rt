@@ -136,7 +136,7 @@ fn write_beside<T: Tree>(
     ensures accepted { OnOk result (T.accepts (Some scratch.now) name.now) }
 
     // No count of faults falls; a fault of the tree is returned only if that count rose, and Ok
-    // only where it did not.
+    // only if it did not.
     ensures goes_on { GoesOn (T.counts tree.old) (T.counts tree.new) }
     ensures cause { OnErr result (HasCause (T.counts tree.old) (T.counts tree.new)) }
     ensures kept { OnOk result (IsNoFault (T.counts tree.old) (T.counts tree.new)) }
