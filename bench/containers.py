@@ -194,6 +194,18 @@ def package_of(payload, fields, folders=()):
     return b"ADB.pckg" + block(0, payload.done(payload.object([payload.object(fields), payload.array(list(folders))])))
 
 
+def package_of_patterns(pattern, count, folder):
+    """The pieces of a package with a trigger script, whose triggers are so many places of one pattern, and a file of one byte in this folder."""
+    payload = Payload()
+    info = payload.object([payload.blob(b"a"), payload.blob(b"1")])
+    file = payload.object([payload.blob(b"f"), 0, payload.int(1), 0, payload.blob(hashlib.sha256(b"x").digest())])
+    paths = payload.array([payload.object([payload.blob(folder), 0, payload.array([file])])])
+    scripts = payload.object([payload.blob(b"true")])
+    triggers = payload.array([payload.blob(pattern)] * count)
+    yield b"ADB.pckg" + block(0, payload.done(payload.object([info, paths, scripts, triggers])))
+    yield block(2, struct.pack("<II", 1, 1) + b"x")
+
+
 def shared_tags(size, places):
     """A package in which so many tags share a text of this size."""
     payload = Payload()

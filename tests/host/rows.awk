@@ -52,6 +52,7 @@ function print_line(form, line,    commands, groups, count, i, at) {
 function end_text() {
     if (target == "given" && form == "dump") text = "printf '" escapes(container()) "'\n"
     if (target == "given") row = row "{\n:\n" text "} >\"$content\"\ngiven " quoted(path) "\n"
+    if (target == "printed") { out = out text; is_dump = (form == "dump") }
     if (target == "then") wanted = wanted "{\n:\n" text "} >\"$content\"\n" (form == "dump" ? "then_dump " : "then_file ") quoted(path) "\n"
     target = ""; text = ""
 }
@@ -61,9 +62,10 @@ function end_command() {
     end_text()
     if (command != "") {
         row = row "{\n:\n" out "} >\"$wanted_out\"\n{\n:\n" err "} >\"$wanted_err\"\nrun" command "\n"
-        row = row "wanted_status " status "\n" wanted "compare " quoted(name) " " line_number "\n"
+        row = row "wanted_status " status "\n" (is_dump ? "printed_dump\n" : "")
+        row = row wanted "compare " quoted(name) " " line_number "\n"
     }
-    command = ""; out = ""; err = ""; wanted = ""; status = 0
+    command = ""; out = ""; err = ""; wanted = ""; status = 0; is_dump = 0
 }
 
 function end_row() {
@@ -123,6 +125,11 @@ $1 == "then" {
     path = $2; form = $3
     if (form == "absent") wanted = wanted "then_absent " quoted(path) "\n"
     else target = "then"
+    next
+}
+$1 == "out" && ($2 == "hex" || $2 == "dump") {
+    end_text()
+    form = $2; target = "printed"
     next
 }
 $1 == "status" { end_text(); status = $2; next }

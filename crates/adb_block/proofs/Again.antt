@@ -84,7 +84,7 @@ not_empty last at bytes h some is =
     let t : eqb (length bytes) 0 ≡ false = ne_eqb _ _ (omega arith) in
     rw (t, is) refl
 
--- behind the padding stands what the grammar says
+-- after the padding stands what the grammar says
 rest_again : (size : ℕ) (pad rest : List ℕ) → IsPadding size pad rest → drop (padding_of size) (pad ++ rest) ≡ rest
 rest_again size pad rest (inl full) = drop_at pad rest (padding_of size) full
 rest_again size pad rest (inr cut) = drop_all (padding_of size) (pad ++ rest) (omega (arith, length-append pad rest, ap length cut.1)) ∙ sym cut.1

@@ -76,7 +76,7 @@ step_failed last at bytes c e =
 
 -- ---- block by block
 
--- blocks, and behind them the fault
+-- blocks, and after them the fault
 record Fails (total : ℕ) (last : Option BlockKind) (bytes : List ℕ) (c : Cause) : Type 0 where
   pub blocks : List Piece
   pub rest : List ℕ
@@ -93,7 +93,7 @@ fails_behind : (total : ℕ) (last : Option BlockKind) (bytes : List ℕ) (c : C
 fails_behind total last bytes c b behind may is f =
     record { blocks = b ∷ f.blocks; rest = f.rest; before = (behind, may, is, f.before); at = f.at; stands = f.stands; fault = f.fault }
 
--- nothing fails at the end behind a block
+-- nothing fails at the end after a block
 nothing_fails : (n at : ℕ) (kind : BlockKind) (bytes : List ℕ) (c : Cause) → bytes ≡ [] → length bytes < n → pieces_of (reading_from n (Some kind) at bytes) ≡ Err c → ⊥
 unfolding reading_from next_step
 nothing_fails zero at kind bytes c none enough e = omega arith

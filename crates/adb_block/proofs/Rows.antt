@@ -117,7 +117,7 @@ with_contents : blocks_of (file ++ (signature ++ contents)) ≡ Ok (adb ∷ sign
 unfolding header_of next_step head_of reading_from reading_of rest_of blocks_of
 with_contents = refl
 
--- the contents' padding stands before the signature
+-- the contents' padding precedes the signature
 signature_late : blocks_of (file ++ (contents ++ ((0 ∷ 0 ∷ 0 ∷ []) ++ signature))) ≡ Err (BlockOrder 56)
 unfolding header_of next_step head_of reading_from reading_of rest_of blocks_of
 signature_late = refl
@@ -163,6 +163,6 @@ at_none = refl
 at_second : next_offset (standing_behind (start_of 0x676b6370 (file ++ signature)) Adb 40) ≡ Some 48
 at_second = refl
 
--- behind cut padding the offset is past the file's end
+-- after cut padding the offset is past the file's end
 at_padding : next_offset (standing_behind (start_of 0x676b6370 (take 45 file)) Adb 40) ≡ None
 at_padding = refl

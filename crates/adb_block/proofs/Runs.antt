@@ -25,7 +25,7 @@ IsBlock-shorter b bytes rest is =
 pub step_shorter : (last : Option BlockKind) (at : ℕ) (bytes : List ℕ) (b : Piece) (size : ℕ) → next_step last at bytes ≡ block b size → length (drop size bytes) < length bytes
 step_shorter last at bytes b size e = IsBlock-shorter b bytes (drop size bytes) (step_sound last at bytes b size e).1
 
--- ---- one block, and then what is read behind it
+-- ---- one block, and then what is read after it
 
 stepped_same : (at : ℕ) (f g : Piece → ℕ → Reading) (s : Step) → ((b : Piece) (size : ℕ) → s ≡ block b size → f b size ≡ g b size) → reading_by_step at f s ≡ reading_by_step at g s
 stepped_same at f g ended same = refl

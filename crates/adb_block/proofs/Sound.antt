@@ -72,7 +72,7 @@ head_sound bytes h e =
       ]
     ]
 
--- ---- the tests behind the header
+-- ---- the tests after the header
 
 kind_is : (n : ℕ) (k : BlockKind) → kind_of_number n ≡ Some k → n ≡ kind_number k
 kind_is zero Adb e = refl

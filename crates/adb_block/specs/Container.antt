@@ -1,4 +1,4 @@
--- A container as a grammar on its whole bytes (apk-v3(5)). The rules stand in `docs/formats.md`,
+-- A container as a grammar on its whole bytes (apk-v3(5)). The rules are in `docs/formats.md`,
 -- "Container", from "A file begins with" to "One ADB block comes first".
 use Rattle.std.specs.Prelude.{◌≡◌, ℕ, ◌+◌, ◌*◌, ◌^◌, ◌<◌, ◌≤◌, ◌⊎◌, true, codes, List, [], ◌∷◌, ◌++◌, length, take, drop, Option, Some, None}
 use Rattle.std.specs.Int.{w32, w64, from_le_bytes}
@@ -11,30 +11,30 @@ pub record IsShortHead (kind : BlockKind) (len : ℕ) (head : List ℕ) : Type 0
   pub size : length head ≡ 4
   -- the kind and the raw size, in one number
   pub word : from_le_bytes w32 head ≡ kind_number kind * 2 ^ 30 + (4 + len)
-  -- the raw size has room below the kind
+  -- the raw size fits below the kind
   pub small : 4 + len < 2 ^ 30
 
--- a header of sixteen bytes: the number 3 with the kind below it, four bytes that nobody looks at,
--- and the raw size, which counts the header's 16 bytes and the `len` of the payload
+-- a header of sixteen bytes: the number 3 with the kind below it, four bytes that are ignored, and the
+-- raw size, which counts the header's 16 bytes and the `len` of the payload
 pub record IsLongHead (kind : BlockKind) (len : ℕ) (head : List ℕ) : Type 0 where
   pub size : length head ≡ 16
   -- 3 in the top two bits, and the kind below
   pub word : from_le_bytes w32 (take 4 head) ≡ 3 * 2 ^ 30 + kind_number kind
-  -- the raw size, behind four bytes that nobody looks at
+  -- the raw size, after four bytes that are ignored
   pub raw : from_le_bytes w64 (drop 8 head) ≡ 16 + len
 
--- a header of a block of this kind whose payload has `len` bytes; either form may stand
+-- a header of a block of this kind whose payload has `len` bytes, in either form
 abbrev pub IsHead : BlockKind → ℕ → List ℕ → Type 0
 IsHead kind len head = IsShortHead kind len head ⊎ IsLongHead kind len head
 
--- the padding behind a header and a payload of so many bytes, before the rest of the file; where
--- nothing comes behind it, it may be cut or missing
+-- the padding after a header and a payload of this size, before the rest of the file; at the end of the
+-- file it may be cut or absent
 abbrev pub IsPadding : ℕ → List ℕ → List ℕ → Type 0
 IsPadding size pad rest =
     (length pad ≡ padding_of size) ⊎ ((length pad < padding_of size) × (rest ≡ []))
 
--- the bytes begin with this block, whose header, payload and padding stand one behind the other,
--- and go on with the rest
+-- the bytes begin with this block, which is its header, payload and padding in sequence, and end with
+-- the rest
 pub record IsBlock (b : Piece) (bytes rest : List ℕ) : Type 0 where
   -- the bytes of the header
   pub head : List ℕ
@@ -42,23 +42,23 @@ pub record IsBlock (b : Piece) (bytes rest : List ℕ) : Type 0 where
   pub pad : List ℕ
   pub is_head : IsHead b.kind (length b.payload) head
   pub parts : bytes ≡ head ++ (b.payload ++ (pad ++ rest))
-  -- as much as the size of header and payload asks for
+  -- it fills up the size of header and payload
   pub is_pad : IsPadding (length head + length b.payload) pad rest
 
--- a block may stand behind one of the kind `last` (None: it is the first), and its payload is no
--- shorter than its kind asks for
+-- a block may follow one of the kind `last` (None: it is the first), and its payload is at least as
+-- long as its kind needs
 pub record MayFollow (last : Option BlockKind) (b : Piece) : Type 0 where
-  -- its kind may stand here
+  -- its kind is allowed here
   pub order : comes_after last b.kind ≡ true
-  -- its payload has the bytes that its kind asks for
+  -- its payload has the bytes that its kind needs
   pub long : least_payload b.kind ≤ length b.payload
 
--- the file may end here, since a block came before: no container is without one
+-- the file may end here, since at least one block precedes
 abbrev pub IsLater : Option BlockKind → Type 0
 IsLater None = ⊥
 IsLater (Some kind) = Unit {0}
 
--- the bytes from here to the end of a file, behind a block of the kind `last`, are these blocks
+-- the bytes from here to the end of a file, after a block of the kind `last`, are these blocks
 abbrev pub SpellsBlocks : Option BlockKind → List ℕ → List Piece → Type 0
 SpellsBlocks last bytes [] = (bytes ≡ []) × IsLater last
 SpellsBlocks last bytes (b ∷ bs) =
@@ -76,8 +76,8 @@ pub record Spells (file : List ℕ) (schema : ℕ) (pieces : List Piece) : Type 
   pub is_schema : from_le_bytes w32 word ≡ schema
   pub blocks : SpellsBlocks None body pieces
 
--- these blocks may be written in this order behind a block of the kind `last`, and each payload's
--- size, with the 16 bytes of the longest header, fits in 64 bits
+-- these blocks may be written in this order after a block of the kind `last`, and each payload's size,
+-- with the 16 bytes of the longest header, fits in 64 bits
 abbrev pub MayStand : Option BlockKind → List Piece → Type 0
 MayStand last [] = IsLater last
 MayStand last (b ∷ bs) =

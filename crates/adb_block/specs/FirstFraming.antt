@@ -1,6 +1,6 @@
--- Which test of a container's framing fails first: block by block, and of each block first its
--- header, then its kind, then its size. The rule is the order of the table in `docs/formats.md`,
--- "Container", rows "each block, at its offset".
+-- Which test of a container's framing fails first: block by block, and of each block first its header,
+-- then its kind, then its size. The rule is the order of the table in `docs/formats.md`, "Container",
+-- rows "each block, at its offset".
 use Rattle.std.specs.Prelude.{◌≡◌, ℕ, ◌+◌, ◌<◌, ◌⊎◌, false, true, List, [], ◌∷◌, length, drop, Option, Some, None}
 use Rattle.base_core.specs.declared.Cause.{Cause}
 use Rattle.base_core.specs.declared.Cause.TheVariants.{Truncated, BlockOrder}
@@ -9,31 +9,31 @@ use Rattle.adb_block.specs.Container.{IsBlock, MayFollow}
 use Rattle.adb_block.specs.Framing.{HeadFields, head_of, kind_of_number}
 use Rattle.adb_block.specs.declared.block.BlockKind.{BlockKind}
 
--- behind a block of the kind `last`, the bytes begin with these blocks and go on with the rest
+-- after a block of the kind `last`, the bytes begin with these blocks and end with the rest
 abbrev pub BeginWithBlocks : Option BlockKind → List ℕ → List Piece → List ℕ → Type 0
 BeginWithBlocks last bytes [] rest = bytes ≡ rest
 BeginWithBlocks last bytes (b ∷ bs) rest =
     (behind : List ℕ) × MayFollow last b × IsBlock b bytes behind
     × BeginWithBlocks (Some b.kind) behind bs rest
 
--- the kind of the last of these blocks, or `last` where there are none
+-- the kind of the last of these blocks, or `last` if there are none
 abbrev pub last_kind : Option BlockKind → List Piece → Option BlockKind
 last_kind last [] = last
 last_kind last (b ∷ bs) = last_kind (Some b.kind) bs
 
--- ---- the tests of one block, behind a block of the kind `last`, in their order
+-- ---- the tests of one block, after a block of the kind `last`, in their order
 
--- first: the bytes hold no whole header
+-- first: the bytes have no complete header
 pub record LackHead (at : ℕ) (bytes : List ℕ) (c : Cause) : Type 0 where
   pub head : head_of bytes ≡ None
   pub cause : c ≡ Truncated at
 
--- a kind may not stand behind `last`, or there is none, since its number is that of no kind
+-- a kind is not allowed after `last`, or is unknown
 abbrev pub MayNotStand : Option BlockKind → Option BlockKind → Type 0
 MayNotStand last None = Unit {0}
 MayNotStand last (Some kind) = comes_after last kind ≡ false
 
--- second: the bytes begin with a whole header, whose kind may not stand here
+-- second: the bytes begin with a complete header, whose kind is not allowed here
 pub record HaveWrongKind (last : Option BlockKind) (at : ℕ) (bytes : List ℕ)
     (c : Cause) : Type 0 where
   pub head : HeadFields
@@ -41,14 +41,12 @@ pub record HaveWrongKind (last : Option BlockKind) (at : ℕ) (bytes : List ℕ)
   pub wrong : MayNotStand last (kind_of_number head.kind)
   pub cause : c ≡ BlockOrder at
 
--- the raw size is too small for the header and the least payload of the kind, or more than the
--- bytes that there are
+-- the raw size is too small for the header and the least payload of the kind, or exceeds the bytes
 abbrev pub IsWrongSize : HeadFields → BlockKind → List ℕ → Type 0
 IsWrongSize head kind bytes =
     (head.raw < head.len + least_payload kind) ⊎ (length bytes < head.raw)
 
--- third: the bytes begin with a header whose kind may stand here, and do not hold the size that it
--- says
+-- third: the bytes begin with a header whose kind is allowed here, but whose size is wrong
 pub record HaveWrongSize (last : Option BlockKind) (at : ℕ) (bytes : List ℕ)
     (c : Cause) : Type 0 where
   pub head : HeadFields
@@ -66,14 +64,14 @@ HaveBlockFault last at bytes c =
 
 -- ---- the whole file
 
--- a file has this as its first fault of framing: there are blocks that pass their tests, and behind
--- them, at the offset of the rest, a block that has it
+-- this is the first fault of a file's framing: some blocks pass their tests, and the block after them
+-- has the fault, at the offset of the rest
 pub record IsFirstFramingFault (file : List ℕ) (c : Cause) : Type 0 where
   -- the blocks that pass their tests
   pub blocks : List Piece
-  -- the bytes behind them
+  -- the bytes after them
   pub rest : List ℕ
-  -- behind the file's header of 8 bytes the file begins with these blocks
+  -- after the file's header of 8 bytes the file begins with these blocks
   pub before : BeginWithBlocks None (drop 8 file) blocks rest
   -- the offset of the rest
   pub at : ℕ

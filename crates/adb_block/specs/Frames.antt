@@ -1,6 +1,6 @@
--- A block as its header frames it, and a header and a read block of the program as the definitions
--- have them. Serves the contracts of `frame_of` and `head_len` (their row in the README of this
--- crate); what a header says stands in `docs/formats.md`, "Container" ("A block is a header").
+-- A block as its header frames it, and the headers and blocks that the program reads as values of the
+-- definitions. Serves the contracts of `frame_of` and `head_len` (their row in the README of this
+-- crate); the fields of a header are defined in `docs/formats.md`, "Container" ("A block is a header").
 use Rattle.std.specs.Prelude.{◌≡◌, ◌≤◌, ℕ, ◌+◌, ◌/◌, ◌^◌, ◌==◌, nat_lt, if◌then◌else◌, List, length, take, drop, Option, Some, None, Result, Ok, Err}
 use Rattle.base_core.specs.declared.Cause.{Cause}
 use Rattle.adb_block.specs.Piece.{Piece, padding_of}
@@ -12,52 +12,50 @@ use Rattle.adb_block.specs.declared.block.ReadBlock.{ReadBlock}
 
 -- ---- a block by its header
 
--- how many bytes a header takes that begins with these: 16 where its top two bits are 3, else 4
+-- the length in bytes of a header that begins with these bytes: 16 if its top two bits are 3, else 4
 abbrev pub head_len : List ℕ → ℕ
 head_len bytes =
     if nat_lt (length bytes) 4 then 4 else if word_at 0 bytes / 2 ^ 30 == 3 then 16 else 4
 
--- of the `left` bytes that are left of a file `head` are the first, as many as a header takes where
--- all of it is there
+-- `head` is the first of the `left` bytes up to the file's end: as many as a header has, if they are
+-- all there
 pub record HoldsHead (head : List ℕ) (left : ℕ) : Type 0 where
   pub within : length head ≤ left
   pub whole : head_len head ≤ left → head_len head ≤ length head
 
--- how many bytes the header and the payload of a framed block have
+-- the length of the header and the payload of a framed block in bytes
 abbrev pub raw_size : Frame → ℕ
 raw_size frame = frame.head_len + frame.payload_len
 
--- the block that a frame cuts out of the bytes that it begins
+-- the block of a frame at the front of these bytes
 abbrev pub framed_piece : Frame → List ℕ → Piece
 framed_piece frame bytes =
     record { kind = frame.kind; payload = take frame.payload_len (drop frame.head_len bytes) }
 
--- a frame of the bytes that are left is what the tests find there: a block, the end, or the first
--- failed test
+-- the result for the rest of a file is that of the tests: a frame, the end, or the first failed test
 abbrev pub IsFramed : Result (Option Frame) Cause → List ℕ → Step → Type 0
 IsFramed (Ok None) bytes s = s ≡ ended
 IsFramed (Ok (Some frame)) bytes s =
     s ≡ block (framed_piece frame bytes) (raw_size frame + padding_of (raw_size frame))
 IsFramed (Err c) bytes s = s ≡ failed c
 
--- the same of an answer that cannot be the end
+-- the same for a result that cannot be the end
 abbrev pub IsFramedBy : Result Frame Cause → List ℕ → Step → Type 0
 IsFramedBy (Ok frame) bytes s =
     s ≡ block (framed_piece frame bytes) (raw_size frame + padding_of (raw_size frame))
 IsFramedBy (Err c) bytes s = s ≡ failed c
 
--- ---- a block in a file that is held
+-- ---- a block in a file in memory
 
--- the fields of a header that the program read
+-- the fields of a header that the program has read
 abbrev pub fields_of : BlockHead → HeadFields
 fields_of head = record { kind = head.kind; len = head.len; raw = head.raw }
 
--- the kind and the payload of a block that the program read
+-- the kind and the payload of a block that the program has read
 abbrev pub piece_in : ReadBlock → Piece
 piece_in b = record { kind = b.kind; payload = b.payload.now }
 
--- what a read of the program answers is what the tests find: the end, a block with its size in the
--- file, or a fault
+-- the program's result is that of the tests: the end, a block with its size in the file, or a fault
 abbrev pub IsReadBlock : Result (Option ReadBlock) Cause → Step → Type 0
 IsReadBlock (Ok None) s = s ≡ ended
 IsReadBlock (Ok (Some b)) s = s ≡ block (piece_in b) b.size

@@ -1,6 +1,6 @@
--- What stands at an offset: the end, a block and how far the next one is, or the first failed test.
--- The rules stand in `docs/formats.md`, "Container" ("A block is a header") and the rows "each
--- block, at its offset" of its table.
+-- The tests at one offset, whose result is the end, a block and the distance to the next one, or the
+-- first failed test. The rules are in `docs/formats.md`, "Container" ("A block is a header") and the
+-- rows "each block, at its offset" of its table.
 use Rattle.std.specs.Prelude.{ℕ, zero, suc, ◌+◌, ◌-◌, ◌/◌, ◌%◌, ◌^◌, ◌||◌, ◌==◌, nat_lt, if◌then◌else◌, List, length, take, drop, Option, Some, None}
 use Rattle.base_core.specs.declared.Cause.{Cause}
 use Rattle.base_core.specs.declared.Cause.TheVariants.{Truncated, BlockOrder}
@@ -9,27 +9,27 @@ use Rattle.adb_block.specs.Header.{word_at, long_at}
 use Rattle.adb_block.specs.declared.block.BlockKind.{BlockKind}
 use Rattle.adb_block.specs.declared.block.BlockKind.TheVariants.{Adb, Signature, Contents}
 
--- what a block's header says: the number of its kind, how many bytes the header has, and the raw
--- size, which counts these and the payload
+-- the fields of a block's header: the number of its kind, its length in bytes, and the raw size, which
+-- counts the header and the payload
 pub record HeadFields : Type 0 where
   -- the number of the kind
   pub kind : ℕ
-  -- how many bytes the header has
+  -- the length of the header in bytes
   pub len : ℕ
-  -- how many bytes the header and the payload have
+  -- the length of the header and the payload in bytes
   pub raw : ℕ
 
--- what a header of four bytes says by its number: two bits of kind, 30 of size
+-- the fields of a header of four bytes: two bits of kind, 30 of size
 abbrev pub short_head : ℕ → HeadFields
 short_head word = record { kind = word / 2 ^ 30; len = 4; raw = word % 2 ^ 30 }
 
--- what a header of 16 bytes says: by its first number the kind, where a short one has the size, and
--- a size of 64 bits
+-- the fields of a header of 16 bytes: the kind in the low 30 bits of its first number, and a size of 64
+-- bits
 abbrev pub long_head : ℕ → ℕ → HeadFields
 long_head word raw = record { kind = word % 2 ^ 30; len = 16; raw = raw }
 
--- what the header says that the bytes begin with, or None where it is not whole; 3 in the top two
--- bits says that it has 16 bytes
+-- the header at the front of the bytes, or None if it is not complete; 3 in the top two bits marks 16
+-- bytes
 unfoldable pub head_of : List ℕ → Option HeadFields
 head_of bytes =
     if nat_lt (length bytes) 4 then None
@@ -38,22 +38,22 @@ head_of bytes =
     else Some (long_head (word_at 0 bytes) (long_at 8 bytes)))
     else Some (short_head (word_at 0 bytes))
 
--- the kind with this number: 0, 1 or 2; None where no kind has it
+-- the kind with this number, or None; the numbers are 0, 1 and 2
 abbrev pub kind_of_number : ℕ → Option BlockKind
 kind_of_number zero = Some Adb
 kind_of_number (suc zero) = Some Signature
 kind_of_number (suc (suc zero)) = Some Contents
 kind_of_number (suc (suc (suc n))) = None
 
--- what a reader finds where it stands: the file's end, the first failed test, or a block with its
--- size, its padding counted
+-- the result at one offset: the file's end, the first failed test, or a block with its size, padding
+-- included
 pub data Step : Type 0 where
   ended : Step
   failed : Cause → Step
   block : Piece → ℕ → Step
 
--- what is found where a header stands whose kind is allowed: the test of its raw size, then that of
--- its payload's length
+-- the result for a header whose kind is allowed: the test of its raw size, then that of its payload's
+-- length
 abbrev pub step_by_size : ℕ → List ℕ → HeadFields → BlockKind → Step
 step_by_size at bytes head kind =
     if nat_lt head.raw head.len || nat_lt (length bytes) head.raw then failed (Truncated at)
@@ -61,25 +61,25 @@ step_by_size at bytes head kind =
     else block (record { kind = kind; payload = take (head.raw - head.len) (drop head.len bytes) })
     (head.raw + padding_of head.raw)
 
--- what is found where a whole header stands: first the test of its kind, then those of its size
+-- the result for a complete header: first the test of its kind, then those of its size
 abbrev pub step_by_order : Option BlockKind → ℕ → List ℕ → HeadFields → Option BlockKind → Step
 step_by_order last at bytes head None = failed (BlockOrder at)
 step_by_order last at bytes head (Some kind) =
     if comes_after last kind then step_by_size at bytes head kind else failed (BlockOrder at)
 
--- what is found where bytes are left: first the test that a whole header stands there, then the
+-- the result for a rest that is not empty: first the test that it has a complete header, then the
 -- others
 abbrev pub step_by_head : Option BlockKind → ℕ → List ℕ → Option HeadFields → Step
 step_by_head last at bytes None = failed (Truncated at)
 step_by_head last at bytes (Some head) = step_by_order last at bytes head (kind_of_number head.kind)
 
--- what is found where no byte is left: the end, but before the first block it comes too early
+-- the result for an empty rest: the end, or a fault if no block precedes
 abbrev pub step_at_end : Option BlockKind → ℕ → Step
 step_at_end None at = failed (Truncated at)
 step_at_end (Some kind) at = ended
 
--- what is found behind a block of the kind `last` (None: before the first), at the offset `at`,
--- from which on these bytes stand
+-- the result after a block of the kind `last` (None: before the first), at the offset `at` at which
+-- these bytes begin
 unfoldable pub next_step : Option BlockKind → ℕ → List ℕ → Step
 next_step last at bytes =
     if length bytes == 0 then step_at_end last at else step_by_head last at bytes (head_of bytes)

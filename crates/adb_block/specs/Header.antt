@@ -1,4 +1,4 @@
--- The header of a file: its schema, or the first failed test. The rules stand in `docs/formats.md`,
+-- The header of a file: its schema, or the first failed test. The rules are in `docs/formats.md`,
 -- "Container" ("A file begins with") and the rows "header" of its table.
 use Rattle.std.specs.Prelude.{ℕ, Bool, not, ◌||◌, nat_lt, if◌then◌else◌, List, length, take, drop, codes, Result, Ok, Err}
 use Rattle.std.specs.Str.{bytes_eq}
@@ -6,11 +6,11 @@ use Rattle.std.specs.Int.{w32, w64, from_le_bytes}
 use Rattle.base_core.specs.declared.Cause.{Cause}
 use Rattle.base_core.specs.declared.Cause.TheVariants.{NotAdb, Compressed, Truncated}
 
--- the number of four bytes at an offset, the least significant first
+-- the number in the four bytes at an offset, the least significant first
 abbrev pub word_at : ℕ → List ℕ → ℕ
 word_at at bytes = from_le_bytes w32 (take 4 (drop at bytes))
 
--- the number of eight bytes at an offset, the least significant first
+-- the number in the eight bytes at an offset, the least significant first
 abbrev pub long_at : ℕ → List ℕ → ℕ
 long_at at bytes = from_le_bytes w64 (take 8 (drop at bytes))
 
@@ -18,7 +18,7 @@ long_at at bytes = from_le_bytes w64 (take 8 (drop at bytes))
 abbrev pub is_compressed : List ℕ → Bool
 is_compressed front = bytes_eq front (codes "ADBd") || bytes_eq front (codes "ADBc")
 
--- the schema of a file, which is the number behind its first four bytes, or the first fault of its
+-- the schema of a file, which is the number after its first four bytes, or the first fault of its
 -- header
 unfoldable pub header_of : List ℕ → Result ℕ Cause
 header_of file =

@@ -1,13 +1,13 @@
--- The definitions of `adb_block`. The head of each file says where its rule stands.
+-- The definitions of `adb_block`. The head of each file names the section with its rule.
 
--- what the contract of `apk` says
+-- cited by the contract of `apk`
 pub mod Piece
 pub mod Header
 pub mod Framing
 pub mod Standing
 pub mod Reading
 pub mod Written
--- what only inner contracts and proofs use
+-- used by inner contracts and proofs only
 pub mod AllBlocks
 pub mod Container
 pub mod Reader

@@ -1,30 +1,29 @@
--- A block by itself: its kind and its payload, and which kind may stand behind which. The rules
--- stand in `docs/formats.md`, "Container": the kinds and the padding below "A block is a header",
--- the order below "One ADB block comes first".
+-- One block: its kind, its payload, and which kind may follow which. The rules are in
+-- `docs/formats.md`, "Container": the kinds and the padding below "A block is a header", the order
+-- below "One ADB block comes first".
 use Rattle.std.specs.Prelude.{ℕ, ◌-◌, ◌%◌, Bool, true, false, List, Option, Some, None}
 use Rattle.adb_block.specs.declared.block.BlockKind.{BlockKind}
 use Rattle.adb_block.specs.declared.block.BlockKind.TheVariants.{Adb, Signature, Contents}
 
--- a block, without where it stands
+-- a block, without its offset
 pub record Piece : Type 0 where
-  -- what the block holds
+  -- what the block contains
   pub kind : BlockKind
   -- its bytes, without header and padding
   pub payload : List ℕ
 
--- the number of a kind of block, as a header has it
+-- the number of a kind of block in a header
 abbrev pub kind_number : BlockKind → ℕ
 kind_number Adb = 0
 kind_number Signature = 1
 kind_number Contents = 2
 
--- how many bytes of padding stand behind a header and a payload of so many bytes: up to the next
--- multiple of 8
+-- how many bytes of padding follow a header and a payload of this size: up to the next multiple of 8
 abbrev pub padding_of : ℕ → ℕ
 padding_of size = (8 - size % 8) % 8
 
--- whether a block of a kind may stand behind one of another, or first: one ADB block comes first,
--- then signatures, then contents
+-- whether a block of this kind may follow another, or be the first: one ADB block, then signatures,
+-- then contents
 abbrev pub comes_after : Option BlockKind → BlockKind → Bool
 comes_after None Adb = true
 comes_after None Signature = false
@@ -35,7 +34,7 @@ comes_after (Some Adb) Signature = true
 comes_after (Some Signature) Signature = true
 comes_after (Some last) Contents = true
 
--- how many bytes the payload of a block of this kind has at least: an ADB block has its head of 8
+-- the least length in bytes of the payload of a block of this kind: an ADB block has a head of 8
 abbrev pub least_payload : BlockKind → ℕ
 least_payload Adb = 8
 least_payload Signature = 0

@@ -1,6 +1,6 @@
--- What a call of the reader answers, where it stood before and where it stands then. Serves the
--- contract of `Blocks`, as the rows of `Blocks::next` in the README of this crate say; the rules
--- stand in `docs/formats.md`, "Container".
+-- The result of a call of the reader, and its positions before and after. Serves the contract of
+-- `Blocks`, as the rows of `Blocks::next` in the README of this crate say; the rules are in
+-- `docs/formats.md`, "Container".
 use Rattle.std.specs.Prelude.{◌≡◌, ◌↔◌, ℕ, ◌+◌, ◌-◌, ◌==◌, ◌<◌, if◌then◌else◌, List, [], ◌∷◌, length, drop, Option, Some, None, IsSome, Result, Ok, Err}
 use Rattle.base_core.specs.declared.Cause.{Cause}
 use Rattle.adb_block.specs.Container.{IsBlock, MayFollow, SpellsBlocks}
@@ -12,85 +12,81 @@ use Rattle.adb_block.specs.AllBlocks.{with_block, rest_of}
 use Rattle.adb_block.specs.declared.block.Block.{Block}
 use Rattle.adb_block.specs.declared.block.BlockKind.{BlockKind}
 
--- where a reader stands once it has read a block of this kind, which takes so many bytes with its
--- padding
+-- the position of a reader after a block of this kind, which has this size with its padding
 abbrev pub standing_behind : Standing → BlockKind → ℕ → Standing
 standing_behind s kind size =
     record { schema = s.schema; last = Some kind; at = s.at + size; left = drop size s.left }
 
--- the offset of the next block by where the reader stands, or None where it is at or past the
--- file's end
+-- the offset of the next block, or None if it is at or past the file's end
 abbrev pub next_offset : Standing → Option ℕ
 next_offset s = if length s.left == 0 then None else Some s.at
 
--- a block of the program as the grammar has it: its kind and its payload
+-- a block of the program as a block of the grammar: its kind and its payload
 abbrev pub piece_of : Block → Piece
 piece_of b = record { kind = b.kind; payload = b.payload.now }
 
--- the file spells these blocks from where the reader stands
+-- the file spells these blocks from the reader's position on
 abbrev pub SpelledFrom : Standing → List Piece → Type 0
 SpelledFrom s bs = SpellsBlocks s.last s.left bs
 
--- a list of blocks begins with this one, and goes on behind it as `Goes` says
+-- a list of blocks begins with this one, and `Goes` holds for the blocks after it
 abbrev pub BeginsWith : Piece → (List Piece → Type 0) → List Piece → Type 0
 BeginsWith b Goes [] = ⊥
 BeginsWith b Goes (c ∷ bs) = (c ≡ b) × Goes bs
 
--- a call of the reader gives the blocks of the grammar and no others. With a block, what is spelled
--- begins with it and goes on as is spelled from where the reader stands then; with None nothing
--- more is spelled; with an error the file spells nothing at all
+-- a call of the reader returns the blocks of the grammar and no others. If it returns a block, the
+-- spelled blocks begin with it and go on with those from the new position. If it returns None, no block
+-- is left; and if it returns an error, the file spells nothing at all
 abbrev pub Continues : Standing → Result (Option Block) Cause → Standing → Type 0
 Continues s (Ok None) t = (bs : List Piece) → SpelledFrom s bs ↔ (bs ≡ [])
 Continues s (Ok (Some b)) t =
     (bs : List Piece) → SpelledFrom s bs ↔ BeginsWith (piece_of b) (SpelledFrom t) bs
 Continues s (Err c) t = (bs : List Piece) → ¬ SpelledFrom s bs
 
--- what the reader answers is what the tests in their order find where it stood: nothing behind the
--- last block, a block and how far the next one is, or the first failed test
+-- the result of a call is that of the tests at the old position: nothing after the last block, a block
+-- and the distance to the next one, or the first failed test
 abbrev pub IsStep : Standing → Result (Option Block) Cause → Standing → Type 0
 IsStep s (Ok None) t = next_step s.last s.at s.left ≡ ended
 IsStep s (Ok (Some b)) t = next_step s.last s.at s.left ≡ block (piece_of b) (t.at - s.at)
 IsStep s (Err c) t = next_step s.last s.at s.left ≡ failed c
 
--- a call of the reader has read a block: where the block stood, that it may stand there, its
--- header, payload and padding, and where the reader stands then
+-- a call of the reader has read a block, and moved to the position after it
 pub record Advances (s : Standing) (b : Block) (t : Standing) : Type 0 where
-  -- the block's offset is the one where the reader stood
+  -- the block's offset is the old position
   pub at : b.at ≡ s.at
-  -- it may stand there
+  -- the block is allowed there
   pub follows : MayFollow s.last (piece_of b)
-  -- its header, payload and padding stand there
+  -- its header, payload and padding are there
   pub is_block : IsBlock (piece_of b) s.left t.left
-  -- the reader then stands behind its padding
+  -- the new position is after its padding
   pub stands : t ≡ standing_behind s b.kind (t.at - s.at)
   -- fewer bytes are left, so a loop over all blocks ends
   pub shorter : length t.left < length s.left
 
--- a call of the reader has found the end: nothing is left, at least one block was read, and the
--- reader stays
+-- a call of the reader has found the end: nothing is left, at least one block was read, and the reader
+-- has not moved
 pub record Ends (s t : Standing) : Type 0 where
   -- nothing is left
   pub empty : s.left ≡ []
   -- at least one block was read
   pub later : IsSome s.last
-  -- the reader stands where it stood
+  -- the reader has not moved
   pub stays : t ≡ s
 
--- the reading from where the reader stood, by its answer and the reading from where it stands then
+-- the reading from the old position, by the result of a call and the reading from the new position
 abbrev pub ContinuesReading : Reading → Result (Option Block) Cause → Reading → Type 0
 ContinuesReading r (Ok None) q = r ≡ done
 ContinuesReading r (Ok (Some b)) q = r ≡ more (piece_of b) b.at q
 ContinuesReading r (Err c) q = r ≡ fault c
 
--- all blocks from where the reader stood, by its answer and all blocks from where it stands then
+-- all blocks from the old position, by the result of a call and all blocks from the new position
 abbrev pub ContinuesRest : Result (List Piece) Cause → Result (Option Block) Cause
     → Result (List Piece) Cause → Type 0
 ContinuesRest r (Ok None) q = r ≡ Ok []
 ContinuesRest r (Ok (Some b)) q = r ≡ with_block (piece_of b) q
 ContinuesRest r (Err c) q = r ≡ Err c
 
--- all blocks of a file, by what the reader of its header answers: those from where it stands, or
--- the fault
+-- all blocks of a file, by the result for its header: those from the first position, or the fault
 abbrev pub BeginsRest : Result (List Piece) Cause → Result Standing Cause → Type 0
 BeginsRest r (Ok s) = r ≡ rest_of s
 BeginsRest r (Err c) = r ≡ Err c

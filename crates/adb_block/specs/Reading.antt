@@ -1,6 +1,5 @@
--- What reading on gives: the blocks, one after the other, up to the end or the first failed test.
--- The rules stand in `docs/formats.md`, "Container", whose table has the tests of each block in
--- their order.
+-- All blocks that a reader finds in sequence, up to the end or the first failed test. The rules are in
+-- `docs/formats.md`, "Container", whose table has the tests of each block in their order.
 use Rattle.std.specs.Prelude.{ℕ, zero, suc, ◌+◌, List, length, drop, Option, Some}
 use Rattle.base_core.specs.declared.Cause.{Cause}
 use Rattle.base_core.specs.declared.Cause.TheVariants.{Truncated}
@@ -9,27 +8,27 @@ use Rattle.adb_block.specs.Framing.{Step, ended, failed, block, next_step}
 use Rattle.adb_block.specs.Standing.{Standing}
 use Rattle.adb_block.specs.declared.block.BlockKind.{BlockKind}
 
--- a reading of a file: its end (`done`), the first failed test (`fault`), or a block, its offset,
--- and the reading behind it (`more`)
+-- a reading of a file: its end (`done`), the first failed test (`fault`), or a block, its offset, and
+-- the reading after it (`more`)
 pub data Reading : Type 0 where
   done : Reading
   fault : Cause → Reading
   more : Piece → ℕ → Reading → Reading
 
--- the reading by what is found at an offset: the end or a fault ends it; behind a block it goes on
+-- the reading by the result at one offset: the end or a fault ends it; after a block it goes on
 abbrev pub reading_by_step : ℕ → (Piece → ℕ → Reading) → Step → Reading
 reading_by_step at further ended = done
 reading_by_step at further (failed c) = fault c
 reading_by_step at further (block b size) = more b at (further b size)
 
--- the reading from an offset on, behind a block of the kind `last`. The number bounds the blocks;
--- one more than there are bytes is always enough
+-- the reading from an offset on, after a block of the kind `last`. The number bounds the blocks; the
+-- number of bytes plus one is always enough
 unfoldable pub reading_from : ℕ → Option BlockKind → ℕ → List ℕ → Reading
 reading_from zero last at bytes = fault (Truncated at)
 reading_from (suc n) last at bytes =
     reading_by_step at (λ b size. reading_from n (Some b.kind) (at + size) (drop size bytes))
     (next_step last at bytes)
 
--- the reading of a file from where a reader stands
+-- the reading of a file from a reader's position on
 unfoldable pub reading_of : Standing → Reading
 reading_of s = reading_from (suc (length s.left)) s.last s.at s.left

@@ -1,6 +1,6 @@
--- How blocks and containers are written: the shortest header, and each block padded with zeros, the
--- last one too. The rules stand in `docs/formats.md`, "Canonical layout" ("In a container each
--- block is padded"), and the form of a header in "Container" ("A block is a header").
+-- How blocks and containers are written: with the shortest header, and each block padded with zeros,
+-- the last one too. The rules are in `docs/formats.md`, "Canonical layout" ("In a container each block
+-- is padded"), and the form of a header in "Container" ("A block is a header").
 use Rattle.std.specs.Prelude.{ℕ, ◌+◌, ◌*◌, ◌^◌, codes, List, ◌++◌, length, replicate, nat_lt, if◌then◌else◌}
 use Rattle.std.specs.List.{flat_map}
 use Rattle.std.specs.Int.{w32, w64, to_le_bytes}
@@ -19,13 +19,12 @@ long_head_bytes kind len =
     to_le_bytes w32 (3 * 2 ^ 30 + kind_number kind)
     ++ (to_le_bytes w32 0 ++ to_le_bytes w64 (16 + len))
 
--- the header of a block whose payload has `len` bytes: the short one wherever the raw size fits in
--- 30 bits
+-- the header of a block whose payload has `len` bytes: the short one if the raw size fits in 30 bits
 unfoldable pub head_bytes : BlockKind → ℕ → List ℕ
 head_bytes kind len =
     if nat_lt (4 + len) (2 ^ 30) then short_head_bytes kind len else long_head_bytes kind len
 
--- a block as it is written: its header, its payload, and padding of zeros
+-- a written block: its header, its payload, and padding of zeros
 abbrev pub block_bytes : Piece → List ℕ
 block_bytes b =
     let head = head_bytes b.kind (length b.payload) in

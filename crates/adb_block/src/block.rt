@@ -1,9 +1,9 @@
-//! A block: its kind, its header as it is read and written, its framing, and how far the next one
-//! is. The rules stand in `docs/formats.md`, "Container", "A block is a header" (the header, the
-//! raw size, padding) and the rows "each block, at its offset" of its table; how a header is
-//! written, in "Canonical layout" ("In a container each block is padded"). In the clauses `exact`
-//! says that what is answered is what the tests in their order find, `order` that the kind may
-//! stand there, `fits` that the block ends within the bytes that there are.
+//! One block: its kind, its header as read and as written, its framing, and the distance to the
+//! next block. The rules are in `docs/formats.md`, "Container", "A block is a header" (the header,
+//! the raw size, padding) and the rows "each block, at its offset" of its table. How a header is
+//! written is defined in "Canonical layout" ("In a container each block is padded"). In the clauses
+//! `exact` says that the result is that of the tests in their order, `order` that the kind is
+//! allowed there, and `fits` that the block ends within the bytes.
 
 ghost use Rattle.std.specs.Prelude.{◌≡◌, ◌≤◌, ◌<◌, ◌+◌, ◌-◌, ◌^◌, ◌⊎◌, ℕ, List, Option, None, true, IfOk, IfSome, IsSome, length, take};
 ghost use Rattle.std.specs.Option.{option_map};
@@ -17,7 +17,7 @@ ghost use Rattle.adb_block.specs.Header.{word_at, long_at};
 use base_core::Cause;
 use std::marker::Model;
 
-/// What a block holds.
+/// What a block contains.
 #[derive(Clone, Copy, Debug, PartialEq, Eq)]
 pub enum BlockKind {
     /// The values of the container.
@@ -28,56 +28,55 @@ pub enum BlockKind {
     Contents,
 }
 
-/// A block, and the offset of its header in bytes from the file's start. The payload is lent from
-/// the file: the bytes behind the header, without padding.
+/// A block, and the offset of its header in bytes from the file's start. The payload is borrowed
+/// from the file: the bytes after the header, without padding.
 #[derive(Clone, Copy)]
 pub struct Block<'a> {
-    /// What the block holds.
+    /// What the block contains.
     pub kind: BlockKind,
-    /// The bytes behind the header, without padding.
+    /// The bytes after the header, without padding.
     pub payload: &'a [u8],
     /// The offset of the header.
     pub at: u64,
 }
 
-/// What a block's header says: the number of its kind, how long the header is, and the raw size,
-/// which counts the header and the payload.
+/// The fields of a block's header: the number of its kind, the length of the header, and the raw
+/// size, which counts the header and the payload.
 #[derive(Clone, Copy)]
 struct BlockHead {
     /// The number of the kind, which may be unknown.
     kind: u32,
-    /// How many bytes the header has: 4 or 16.
+    /// The length of the header in bytes: 4 or 16.
     len: u64,
-    /// How many bytes the header and the payload have.
+    /// The length of the header and the payload in bytes.
     raw: u64,
 }
 
-/// A block that passed the tests of its framing: its kind, and how many bytes its header and its
-/// payload have. The payload need not be held.
+/// A block that passed the tests of its framing: its kind, and the lengths of its header and its
+/// payload in bytes. The payload need not be in memory.
 #[derive(Clone, Copy)]
 pub struct Frame {
-    /// What the block holds.
+    /// What the block contains.
     pub kind: BlockKind,
-    /// How many bytes the header has.
+    /// The length of the header in bytes.
     pub head_len: u64,
-    /// How many bytes the payload has.
+    /// The length of the payload in bytes.
     pub payload_len: u64,
 }
 
-/// A block of a file that is held and passed its tests, and how many bytes it takes with its
-/// padding.
+/// A block of a file in memory that passed its tests, and its size with padding.
 #[derive(Clone, Copy)]
 pub(crate) struct ReadBlock<'a> {
-    /// What the block holds.
+    /// What the block contains.
     pub kind: BlockKind,
-    /// The bytes behind the header, without padding.
+    /// The bytes after the header, without padding.
     pub payload: &'a [u8],
-    /// How many bytes lead to the next block: header, payload and padding.
+    /// The distance to the next block in bytes: header, payload and padding.
     pub size: usize,
 }
 
-/// The block at an offset, from which on these bytes stand, behind a block of the kind `last`; None
-/// at the end.
+/// The block at the offset at which these bytes begin, after a block of the kind `last`; None at
+/// the end.
 #[tactic(auto, using(crate::proofs::Heads::begins_whole))]
 pub(crate) fn block_at(
     last: Option<BlockKind>,
@@ -103,9 +102,8 @@ pub(crate) fn block_at(
     }
 }
 
-/// How many bytes the header of a block takes that begins with these: 16 where the top two bits of
-/// the first four are 3, else 4 (apk-v3(5)). Of fewer than four bytes nothing is known, and it is
-/// 4.
+/// The length in bytes of a block's header that begins with these bytes: 16 if the top two bits of
+/// the first four bytes are 3, else 4 (apk-v3(5)). For fewer than four bytes it is 4.
 pub fn head_len(bytes: &[u8]) -> u64
     ensures value { result ≡ head_len bytes.now }
     ensures either { (result ≡ 4) ⊎ (result ≡ 16) }
@@ -116,13 +114,13 @@ pub fn head_len(bytes: &[u8]) -> u64
     if word_at(bytes, 0) >> 30 == 3 { 16 } else { 4 }
 }
 
-/// Frames the block at an offset, behind a block of the kind `last`, by its header: from there on
-/// `left` bytes of the file are left, and `head` is the first of them, as many as the header takes
-/// (`head_len`) where all of it is there. None comes at the end.
+/// Frames the block at an offset, after a block of the kind `last`, by its header. `left` is the
+/// number of bytes from the offset to the end of the file. `head` is the first of these bytes: as
+/// many as the header has (`head_len`), if the file has them all. The result is None at the end.
 ///
 /// # Errors
 ///
-/// The first failed test, as `Blocks::next` tells it.
+/// The first failed test, as in `Blocks::next`.
 #[tactic(auto, unfolding(crate::specs::Framing::next_step), using(crate::proofs::Heads::same_head, crate::proofs::Heads::framed_step))]
 pub fn frame_of(
     last: Option<BlockKind>,
@@ -131,10 +129,10 @@ pub fn frame_of(
     left: u64,
 ) -> Result<Option<Frame>, Cause>
     requires { HoldsHead head.now left }
-    // What is left may be any bytes that begin so.
+    // It holds for any rest of the file that begins with these bytes.
     ensures exact { (bytes : List ℕ) → length bytes ≡ left → take (length head.now) bytes ≡ head.now
         → IsFramed result bytes (next_step last at bytes) }
-    // There is always a first block, or an error.
+    // A file has at least one block, else it is an error.
     ensures first { last ≡ None → IfOk result (λ found. IsSome found) }
     ensures order { IfOk result (λ found. IfSome found (λ frame.
         comes_after last frame.kind ≡ true)) }
@@ -156,8 +154,8 @@ pub fn frame_of(
     Ok(Some(frame))
 }
 
-/// What the header says that the bytes begin with, or None where it is not whole. The number 3 in
-/// the top two bits says that it has 16 bytes.
+/// The header at the front of the bytes, or None if it is not complete. The number 3 in the top two
+/// bits marks a header of 16 bytes.
 #[tactic(auto, unfolding(crate::specs::Framing::head_of))]
 fn read_head(bytes: &[u8]) -> Option<BlockHead>
     ensures exact { option_map fields_of result ≡ head_of bytes.now }
@@ -186,7 +184,8 @@ fn read_head(bytes: &[u8]) -> Option<BlockHead>
     })
 }
 
-/// Frames the block that begins with this header, if it passes the tests of its kind and its size.
+/// Frames the block that begins with this header, if it passes the tests of its kind and of its
+/// size.
 fn frame_by_head(
     last: Option<BlockKind>,
     at: u64,
@@ -231,7 +230,7 @@ fn kind_of_number(number: u32) -> Option<BlockKind>
     }
 }
 
-/// Whether a block of this kind may come behind one of the kind `last`, or first.
+/// Whether a block of this kind may follow one of the kind `last`, or be the first.
 fn comes_after(last: Option<BlockKind>, kind: BlockKind) -> bool
     ensures { result ≡ comes_after last kind }
 {
@@ -244,7 +243,7 @@ fn comes_after(last: Option<BlockKind>, kind: BlockKind) -> bool
     }
 }
 
-/// How many bytes the payload of a block of this kind has at least: an ADB block has its head of 8.
+/// The least length in bytes of the payload of a block of this kind: an ADB block has a head of 8.
 fn least_payload(kind: BlockKind) -> u64
     ensures { result ≡ least_payload kind }
 {
@@ -254,8 +253,8 @@ fn least_payload(kind: BlockKind) -> u64
     }
 }
 
-/// How many bytes lead from a size up to a multiple of eight: the padding of a block whose header
-/// and payload have so many bytes.
+/// How many bytes of padding follow a header and a payload of this size: up to the next multiple of
+/// eight.
 pub fn padding_of(size: usize) -> usize
     ensures value { result ≡ padding_of size }
     ensures few { result < 8 }
@@ -263,15 +262,15 @@ pub fn padding_of(size: usize) -> usize
     (8 - size % 8) % 8
 }
 
-/// The largest raw size that a header of four bytes can tell: it has 30 bits for it.
+/// The largest raw size that fits into a header of four bytes, which has 30 bits for it.
 const MOST_SHORT: u64 = 0x3fff_ffff;
 
 /// The header of a block, of 4 or 16 bytes. Contracts see its bytes.
 #[derive(Drop)]
 pub struct Head {
-    /// The bytes of the header, and zeros behind them.
+    /// The bytes of the header, and zeros after them.
     bytes: [u8; 16],
-    /// How many of these bytes the header has: 4 or 16.
+    /// The length of the header: 4 or 16.
     len: usize,
 }
 
@@ -286,7 +285,7 @@ impl Model for Head {
 }
 
 impl Head {
-    /// The bytes of the header, of which there are 4 or 16.
+    /// The bytes of the header: 4 or 16 of them.
     pub fn bytes(&self) -> &[u8]
         ensures bytes { result.now ≡ self.now }
         ensures short { length result.now ≤ 16 }
@@ -295,9 +294,9 @@ impl Head {
     }
 }
 
-/// The header of a block of this kind whose payload has so many bytes (apk-v3(5)): 4 bytes where
-/// the raw size, which counts them and the payload, is at most 0x3fffffff, else 16 bytes, whose
-/// reserved four are 0.
+/// The header of a block of this kind whose payload has this length (apk-v3(5)). The raw size
+/// counts the header and the payload. The header has 4 bytes if the raw size is at most 0x3fffffff,
+/// else 16, of which four are reserved and 0.
 #[tactic(auto, unfolding(crate::specs::Written::head_bytes))]
 pub fn block_head(kind: BlockKind, payload_len: u64) -> Head
     requires { payload_len < 2 ^ 64 - 16 }
@@ -316,7 +315,7 @@ pub fn block_head(kind: BlockKind, payload_len: u64) -> Head
     Head { bytes, len: 16 }
 }
 
-/// The number of a kind of block, as a header has it.
+/// The number of a kind of block in a header.
 fn kind_number(kind: BlockKind) -> u32
     ensures value { result ≡ kind_number kind }
     ensures few { result < 3 }
@@ -328,7 +327,7 @@ fn kind_number(kind: BlockKind) -> u32
     }
 }
 
-/// The number of four bytes at an offset, the least significant first.
+/// The number in the four bytes at an offset, the least significant first.
 pub(crate) fn word_at(bytes: &[u8], at: usize) -> u32
     requires { at + 4 ≤ length bytes.now }
     ensures { result ≡ word_at at bytes.now }
@@ -337,7 +336,7 @@ pub(crate) fn word_at(bytes: &[u8], at: usize) -> u32
     u32::from_le_bytes([word[0], word[1], word[2], word[3]])
 }
 
-/// The number of eight bytes at an offset, the least significant first.
+/// The number in the eight bytes at an offset, the least significant first.
 pub(crate) fn long_at(bytes: &[u8], at: usize) -> u64
     requires { at + 8 ≤ length bytes.now }
     ensures { result ≡ long_at at bytes.now }

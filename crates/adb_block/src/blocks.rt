@@ -1,6 +1,6 @@
-//! The reader of a file's header and of its blocks, one after the other. Its laws say that its
-//! tests and the grammar of a container agree on every file. The rules stand in `docs/formats.md`,
-//! "Container": the tests in the order of its table.
+//! The reader of a file's header and of its blocks in sequence. Its laws prove that its tests and
+//! the grammar of a container agree on every file. The rules are in `docs/formats.md`, "Container":
+//! the tests in the order of its table.
 
 ghost use Rattle.std.specs.Prelude.{◌≡◌, ◌↔◌, [], drop, IfOk, IfErr, IfSome, IfNone, IsNone, OnErr, ◌<◌, ◌^◌, ℕ, List};
 ghost use Rattle.adb_block.specs.Header.{header_of};
@@ -18,13 +18,13 @@ use crate::block::{Block, BlockKind, block_at, word_at};
 use base_core::Cause;
 use std::marker::Model;
 
-/// The blocks of a file, from the front. Contracts see where the reader stands: `Standing` of
+/// The blocks of a file, from the front. Contracts see the position of the reader: `Standing` of
 /// `specs/`.
 #[derive(Drop)]
 pub struct Blocks<'a> {
     /// The whole file.
     bytes: &'a [u8],
-    /// The schema in its header.
+    /// The schema in the file's header.
     schema: u32,
     /// The kind of the block that was read last; None before the first.
     last: Option<BlockKind>,
@@ -47,16 +47,16 @@ impl<'a> Model for Blocks<'a> {
 impl<'a> Blocks<'a> {
     ghost use Rattle.adb_block.specs.Reader.{Continues, IsStep, Advances, Ends, ContinuesReading, ContinuesRest, BeginsRest};
 
-    /// Reads the header of a file (apk-v3(5)): the four bytes `ADB.` and the schema. The first
-    /// failed test is told: fewer than 4 bytes are truncated at 0, `ADBd` and `ADBc` begin a
-    /// compressed file, anything else than `ADB.` is no container, and fewer than 8 bytes are
-    /// truncated at 0.
+    /// Reads the header of a file (apk-v3(5)): the four bytes `ADB.` and the schema. The error is
+    /// that of the first failed test. Fewer than 4 bytes are truncated at 0. `ADBd` and `ADBc`
+    /// begin a compressed file, and anything else than `ADB.` is no container. Fewer than 8 bytes
+    /// are truncated at 0.
     #[tactic(auto, unfolding(crate::specs::AllBlocks::blocks_of))]
     pub fn new(bytes: &'a [u8]) -> Result<Blocks<'a>, Cause>
         ensures ok { IfOk result (λ blocks. header_of bytes.entry.now ≡ Ok blocks.schema) }
         ensures start { IfOk result (λ blocks. blocks ≡ start_of blocks.schema bytes.entry.now) }
         ensures cause { IfErr result (λ cause. header_of bytes.entry.now ≡ Err cause) }
-        // What a caller's loop over all blocks begins with.
+        // For a caller's loop over all blocks: its start.
         ensures rest { BeginsRest (blocks_of bytes.entry.now) result }
     {
         let schema = read_header(bytes)?;
@@ -68,25 +68,29 @@ impl<'a> Blocks<'a> {
         })
     }
 
-    /// The schema in the header of the file: of which type its root is.
+    /// The schema in the file's header, which is the type of the root value.
     pub fn schema(&self) -> u32
         ensures { result ≡ self.now.schema }
     {
         self.schema
     }
 
-    /// The next block, or None exactly at the end. Else the first failed test is told, with the
-    /// block's offset: the file has no block, or its header is not whole (truncated); its kind is
-    /// unknown or stands where it may not (block order); its raw size is below its header's or past
-    /// the file's end, or an ADB payload has fewer than 8 bytes (truncated). After an error the
-    /// reader stands where it stood, so the same error comes again.
+    /// The next block, or None if and only if the file ends here. Else the error is that of the
+    /// first failed test, with the block's offset:
+    ///
+    /// - truncated: the file has no block, or the block's header is not complete;
+    /// - block order: its kind is unknown or not allowed here;
+    /// - truncated: its raw size is below its header's or past the file's end, or an ADB payload
+    ///   has fewer than 8 bytes.
+    ///
+    /// After an error the reader has not moved, so the next call returns the same error.
     pub fn next(&mut self) -> Result<Option<Block<'a>>, Cause>
-        // The blocks of the grammar and no others.
+        // It returns the blocks of the grammar and no others.
         ensures blocks { Continues self.old result self.new }
-        // The first failed test, or the block that passed them all.
+        // The result is the first failed test, or the block that passed them all.
         ensures exact { IsStep self.old result self.new }
 
-        // A block as the file has it, or None exactly where nothing is left.
+        // The block is a range of the file; None if and only if nothing is left.
         ensures found { IfOk result
             (λ found. IfSome found (λ block. Advances self.old block self.new)) }
         ensures end { IfOk result (λ found. IsNone found ↔ (self.old.left ≡ [])) }
@@ -94,7 +98,7 @@ impl<'a> Blocks<'a> {
         ensures none { IfOk result (λ found. IfNone found (Ends self.old self.new)) }
         ensures err { OnErr result (self.new ≡ self.old) }
 
-        // What a caller's loop over all blocks goes on with.
+        // For a caller's loop over all blocks: its step.
         ensures reading { ContinuesReading (reading_of self.old) result (reading_of self.new) }
         ensures rest { ContinuesRest (rest_of self.old) result (rest_of self.new) }
     {
@@ -115,7 +119,7 @@ impl<'a> Blocks<'a> {
         }
     }
 
-    /// The offset of the next block, or None exactly where that is at or past the file's end.
+    /// The offset of the next block, or None if and only if that is at or past the file's end.
     pub fn next_at(&self) -> Option<u64>
         ensures { result ≡ next_offset self.now }
     {
@@ -127,16 +131,16 @@ impl<'a> Blocks<'a> {
     }
 }
 
-/// The bytes of a file from an offset on; none at or past its end, as where the last padding is
-/// cut.
+/// The bytes of a file from an offset on. There are none at or past its end, as after a last
+/// padding that is cut.
 fn left_from(bytes: &[u8], at: usize) -> &[u8]
     ensures { result.now ≡ drop at bytes.now }
 {
     if at < bytes.len() { &bytes[at..] } else { &[] }
 }
 
-/// The schema that the header of a file has, which is `ADB.` and the number of the next four bytes,
-/// or the first failed test of the header.
+/// The schema in a file's header, which is `ADB.` and four bytes of schema, or the first failed
+/// test of the header.
 #[tactic(auto, unfolding(crate::specs::Header::header_of))]
 pub(crate) fn read_header(file: &[u8]) -> Result<u32, Cause>
     ensures { result ≡ header_of file.now }
@@ -157,35 +161,36 @@ pub(crate) fn read_header(file: &[u8]) -> Result<u32, Cause>
     Ok(word_at(file, 4))
 }
 
-/// A file that is read to its end is spelled by its schema and its blocks. Padding behind the last
-/// block may be missing.
+/// A file that is read to its end is spelled by its schema and its blocks. The padding after the
+/// last block may be absent.
 pub fn what_is_read_is_spelled()
     ensures { (file : List ℕ) (schema : ℕ) (pieces : List Piece)
         → header_of file ≡ Ok schema → blocks_of file ≡ Ok pieces → Spells file schema pieces }
 {}
 
-/// A file that is spelled by a schema and blocks is read as these, to its end.
+/// A file that is spelled by a schema and blocks is read to its end, as this schema and these
+/// blocks.
 pub fn what_is_spelled_is_read()
     ensures { (file : List ℕ) (schema : ℕ) (pieces : List Piece)
         → Spells file schema pieces → (header_of file ≡ Ok schema) × (blocks_of file ≡ Ok pieces) }
 {}
 
-/// The fault of the framing that is reported is the first: behind blocks that pass all tests, the
-/// next one has no whole header; or it has one, and no kind that may stand there; or it has both,
-/// and a size that is too small or more than there is.
+/// The fault of the framing that is reported is the first. The blocks before it pass all tests. The
+/// next one has an incomplete header; or a complete header, but a kind that is not allowed; or both
+/// are good, but its size is too small or exceeds the file.
 pub fn the_first_fault_of_framing_is_reported()
     ensures { (file : List ℕ) (schema : ℕ) (c : Cause)
         → header_of file ≡ Ok schema → blocks_of file ≡ Err c → IsFirstFramingFault file c }
 {}
 
-/// A file is a container of one schema and one list of blocks at most.
+/// A file is a container of at most one schema and one list of blocks.
 pub fn a_container_has_one_reading()
     ensures { (file : List ℕ) (schema other : ℕ) (pieces others : List Piece)
         → Spells file schema pieces → Spells file other others
         → (schema ≡ other) × (pieces ≡ others) }
 {}
 
-/// The container of blocks that may stand in this order is spelled by its schema and these blocks.
+/// The container of blocks in an allowed order is spelled by its schema and these blocks.
 pub fn what_is_written_is_spelled()
     ensures { (schema : ℕ) (pieces : List Piece)
         → schema < 2 ^ 32 → MayStand None pieces → Spells (container schema pieces) schema pieces }

@@ -1,15 +1,20 @@
-//! The blocks of an ADB container (apk-v3(5)), one after the other, lent from the file's bytes. No
-//! memory is taken.
+//! The blocks of an ADB container (apk-v3(5)) in sequence, borrowed from the file's bytes. The
+//! crate allocates no memory.
 //!
-//! The bytes of a file come in; `Blocks` gives its schema and its blocks, or the first test that
-//! failed. The contracts cite `Piece` (a block, and the kinds), `Header` and `Framing` (the tests
-//! in their order), `Standing` (where a reader stands), `Reading` and `AllBlocks` (all that is read
-//! from there), `Reader` (what a call answers), `Written` (how headers, blocks and containers are
-//! written) and `Container` (the grammar of whole files) of `specs/`. `block_head` gives the header
-//! of a block that is written.
+//! `Blocks` reads the bytes of a file. It returns the schema and the blocks, or the first failed
+//! test; `block_head` returns the header of a block to write. The contracts cite these modules of
+//! `specs/`:
 //!
-//! The rules stand in `docs/formats.md`, "Container"; of what is written, in "Canonical layout"
-//! ("In a container each block is padded").
+//! - `Piece`: a block, and the kinds;
+//! - `Header` and `Framing`: the tests in their order;
+//! - `Standing`: the position of a reader;
+//! - `Reading` and `AllBlocks`: all that is read from a position;
+//! - `Reader`: the result of a call;
+//! - `Written`: how headers, blocks and containers are written;
+//! - `Container`: the grammar of whole files.
+//!
+//! The rules are in `docs/formats.md`, "Container"; those for writing in "Canonical layout" ("In a
+//! container each block is padded").
 #![tactic(auto)]
 
 mod block;

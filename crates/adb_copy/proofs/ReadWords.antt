@@ -1,4 +1,4 @@
--- The words of an array stand for its entries, and a text is written as it is.
+-- The words of an array represent its entries, and a text is written as it is.
 use Rattle.std.proofs.Common.{◌≡◌, ◌∙◌, ℕ, ◌<◌, true, List, length, ap, sym, subst}
 use Rattle.std.specs.Prelude.{slice_index}
 use Rattle.adb_view.specs.Plain.{blob_value}

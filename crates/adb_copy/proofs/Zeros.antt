@@ -52,7 +52,7 @@ null_trimmed : (vs : Plains) → ((i : ℕ) → nth vs i ≡ null) → without_l
 null_trimmed none h = refl
 null_trimmed (more v vs) h = (λ j. keep (h zero j) (null_trimmed vs (λ i. h (suc i)) j))
 
--- two lists with the same entries, Nulls behind them, are one without the Nulls that stand last
+-- two lists with the same entries, Nulls after them, are one without the Nulls that are last
 pub trimmed_same : (us vs : Plains) → ((i : ℕ) → nth us i ≡ nth vs i) → without_last_nulls us ≡ without_last_nulls vs
 trimmed_same none vs h = sym (null_trimmed vs (λ i. sym (h i)))
 trimmed_same (more u us) none h = null_trimmed (more u us) h

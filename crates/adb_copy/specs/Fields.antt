@@ -1,7 +1,6 @@
--- Fields of an object that stand side by side.
--- No rule of a document: serves the contracts of `write_ints` and `write_info_texts` in
--- `src/copy.rt`; that 0 is Null says `docs/formats.md`, "The database after a change", and which
--- fields an information has, "Schemas", table 3.
+-- Adjacent fields of an object. No rule of a document: serves the contracts of `write_ints` and
+-- `write_info_texts` in `src/copy.rt`. That 0 is Null is stated in `docs/formats.md`, "The database
+-- after a change"; the fields of an information are in "Schemas", table 3.
 use Rattle.std.specs.Prelude.{ℕ, List, [], ◌∷◌}
 use Rattle.adb_view.specs.Plain.{Plain, Plains, none, more}
 use Rattle.adb_view.specs.FieldIndexes.{INFO_ARCH, INFO_DESCRIPTION, INFO_LICENSE, INFO_MAINTAINER, INFO_NAME, INFO_ORIGIN, INFO_REPO_COMMIT, INFO_URL, INFO_VERSION}

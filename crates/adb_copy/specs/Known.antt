@@ -1,6 +1,6 @@
--- The long texts of a payload that a draft has.
--- No rule of a document: serves the contracts of `src/known_texts.rt` and `src/overlaps.rt`; that a
--- blob is stored once is `docs/formats.md`, "Canonical layout".
+-- The long texts of a payload that a draft contains. No rule of a document: serves the contracts of
+-- `src/known_texts.rt` and `src/overlaps.rt`; that a blob is stored once is `docs/formats.md`,
+-- "Canonical layout".
 use Rattle.std.specs.Prelude.{◌≡◌, ℕ, List, Some, All, ◌≤◌, ◌+◌, ◌-◌, ◌%◌, slice_range, take, drop}
 use Rattle.std.specs.BTreeMap.{BTreeMap, get}
 use Rattle.std.specs.Ordering.{nat_cmp}
@@ -12,32 +12,32 @@ use Rattle.adb_copy.specs.declared.known_texts.KnownTexts.{KnownTexts}
 use Rattle.adb_copy.specs.declared.overlaps.PeriodicRange.{PeriodicRange}
 use Rattle.adb_copy.specs.declared.overlaps.TextPlace.{TextPlace}
 
--- the range has its period in the payload: its bytes but for the first period are those but for the
--- last one
+-- the range has its period in the payload: its bytes except for the first period are those except for
+-- the last one
 abbrev pub HasPeriod : List ℕ → PeriodicRange → Type 0
 HasPeriod payload range =
     slice_range payload (range.from + range.period) range.end
     ≡ slice_range payload range.from (range.end - range.period)
 
--- the text stands in the range, and `phase` is how far behind the beginning of a period it begins
+-- the text is in the range, and `phase` is its distance from the beginning of a period
 pub record IsPhaseOf (range : PeriodicRange) (text : TextPlace) (phase : ℕ) : Type 0 where
   pub behind : range.from ≤ text.from
   pub within : text.from + text.len ≤ range.end
   pub is : phase ≡ (text.from - range.from) % range.period
 
--- the range shows that two texts are equal: in each payload where the range has its period they are
+-- the range proves that two texts are equal: they are in each payload in which the range has its period
 abbrev pub AreEqualUnder : PeriodicRange → TextPlace → TextPlace → Type 0
 AreEqualUnder range left right = (payload : List ℕ) → HasPeriod payload range
     → take left.len (drop left.from payload) ≡ take right.len (drop right.from payload)
 
--- `known` is what is kept for a text of the payload that equals the text of the word
+-- `known` is remembered for a text of the payload that equals the text of the word
 pub record IsKnownFor (payload : List ℕ) (words : BTreeMap ℕ ℕ) (word known : ℕ) : Type 0 where
   pub kept : ℕ
   pub has : get nat_cmp words kept ≡ Some known
   pub same : text_in (value_at payload Text kept) ≡ text_in (value_at payload Text word)
 
--- the texts that are kept are blobs of the draft: each text of the payload has in the draft the
--- word that is kept for it; and the ranges that are kept have their periods
+-- the remembered texts are blobs of the draft: each has there the word that is remembered for it; and
+-- the remembered ranges have their periods
 pub record AreBlobsOf (payload : List ℕ) (draft : DraftState) (texts : KnownTexts) : Type 0 where
   pub known : (word known : ℕ) → get nat_cmp texts.words word ≡ Some known
       → HasBlob draft (text_in (value_at payload Text word)) known

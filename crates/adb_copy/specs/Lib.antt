@@ -1,8 +1,8 @@
--- The definitions of this crate, whose rules stand in `docs/formats.md`, "The database after a
--- change", and "Canonical layout".
+-- The definitions of this crate, whose rules are in `docs/formats.md`, "The database after a change",
+-- and "Canonical layout".
 
--- what the contract of `apk` says
+-- cited by the contract of `apk`
 pub mod Zeros
--- what only inner contracts and proofs use
+-- used by inner contracts and proofs only
 pub mod Fields
 pub mod Known

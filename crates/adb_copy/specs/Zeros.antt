@@ -1,6 +1,6 @@
--- Values in which no integer is 0, and the information of a package with another id and length.
--- The rules stand in `docs/formats.md`, "The database after a change": "An integer 0 is NULL, at
--- every depth", and what the information of a package that comes has.
+-- Values without an integer 0, and the information of a package with another id and length. The rules
+-- are in `docs/formats.md`, "The database after a change": "An integer 0 is NULL, at every depth", and
+-- the information of an added package.
 use Rattle.std.specs.Prelude.{ℕ, zero, suc, List}
 use Rattle.adb_view.specs.Plain.{Plain, null, int, blob, arr, obj, Plains, none, more, blob_value, arr_value, obj_value}
 use Rattle.adb_view.specs.Values.{entries_in}
@@ -11,8 +11,8 @@ int_value zero = null
 int_value (suc n) = int (suc n)
 
 unfoldable mutual
-  -- a value without zeros: an integer 0 in it is Null at every depth, and so is what then holds
-  -- nothing
+  -- a value without zeros: an integer 0 in it is Null at every depth, and so is a list that then has no
+  -- values
   pub without_zeros : Plain → Plain
   without_zeros null = null
   without_zeros (int n) = int_value n
@@ -25,17 +25,16 @@ unfoldable mutual
   all_without_zeros none = none
   all_without_zeros (more v vs) = more (without_zeros v) (all_without_zeros vs)
 
--- values with another one at an index, which counts from 0; where there are too few, Nulls stand in
--- front of it
+-- values with another one at an index, which counts from 0; if there are too few, Nulls precede it
 abbrev pub with_at : ℕ → Plain → Plains → Plains
 with_at zero v none = more v none
 with_at zero v (more u us) = more v us
 with_at (suc i) v none = more null (with_at i v none)
 with_at (suc i) v (more u us) = more u (with_at i v us)
 
--- the information of a package without zeros, with `id` as its field `hashes` and `len` as its
--- field `file-size`: their indices, 2 and 12, count from 0, and table 3 of `docs/formats.md`,
--- "Schemas", has them as 3 and 13
+-- the information of a package without zeros, with `id` as its field `hashes` and `len` as its field
+-- `file-size`. Their indexes, 2 and 12, count from 0; table 3 of `docs/formats.md`, "Schemas", has them
+-- as 3 and 13
 unfoldable pub info_with : Plain → List ℕ → ℕ → Plain
 info_with info id len =
     without_zeros (obj (with_at 12 (int len) (with_at 2 (blob id) (entries_in info))))

@@ -1,7 +1,6 @@
-//! The information of a package, written value by value.
-//! The rules stand in `docs/formats.md`: "The database after a change" (which id and which length
-//! it has; an integer 0 is NULL) and "Schemas", table 3 (its fields in their order) and table 1
-//! (those of a dependency).
+//! Copies the information of a package, value by value. The rules are in `docs/formats.md`: "The
+//! database after a change" (its id and its length; an integer 0 is NULL) and "Schemas", table 3
+//! (its fields in their order) and table 1 (those of a dependency).
 ghost use Rattle.std.specs.Prelude.{◌≡◌, true, Some, OnOk};
 ghost use Rattle.adb_fields.specs.Fields.{are_all_sound, array_at};
 ghost use Rattle.adb_view.specs.Values.{entry_in, is_sound, kind_at, value_at};
@@ -27,8 +26,8 @@ use adb_view::field_indexes::{
 use adb_view::{Adb, Arr, Val, Which, entry_word, values_have_their_shape};
 use std::alloc::AllocError;
 
-/// Writes the information with a word of a payload once more, with `id` as its hash and `len` as
-/// the size of the package's file. An integer 0 is NULL.
+/// Copies the information with a word of a payload, with `id` as its hash and `len` as the size of
+/// the package's file. An integer 0 is NULL.
 pub fn write_info(
     draft: &mut Draft,
     adb: Adb<'_>,
@@ -97,7 +96,7 @@ fn write_info_texts(
     draft.blob(hash_field(adb, Which::PkgInfo, info, INFO_REPO_COMMIT))
 }
 
-/// Writes integers one behind another; 0 is NULL.
+/// Writes integers one after another; 0 is NULL.
 fn write_ints(draft: &mut Draft, ints: &[u64]) -> Result<(), AllocError>
     ensures { OnOk result (draft.new ≡ draft_with_all (int_plains ints.now) draft.old) }
 {
@@ -117,7 +116,8 @@ pub fn write_int(draft: &mut Draft, n: u64) -> Result<(), AllocError>
     draft.int(n)
 }
 
-/// Writes an array of texts of a payload. `known` has the long ones that the draft has already.
+/// Writes an array of texts of a payload. `known` has the long ones that the draft already
+/// contains.
 pub fn write_text_list<'a>(
     draft: &mut Draft,
     adb: Adb<'a>,

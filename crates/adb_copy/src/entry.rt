@@ -1,6 +1,6 @@
-//! Files and their access lists, and scripts, written value by value.
-//! The rules stand in `docs/formats.md`: "The database after a change" (what a database has of a
-//! file; an integer 0 is NULL) and "Schemas", tables 2, 4 and 6 (the fields in their order).
+//! Copies files and their access lists, and scripts, value by value. The rules are in
+//! `docs/formats.md`: "The database after a change" (a file in a database; an integer 0 is NULL)
+//! and "Schemas", tables 2, 4 and 6 (the fields in their order).
 ghost use Rattle.adb_copy.specs.Known.{AreBlobsOf};
 ghost use Rattle.adb_copy.specs.Zeros.{without_zeros};
 ghost use Rattle.adb_view.specs.Values.{is_sound, value_at};
@@ -23,7 +23,7 @@ use adb_view::field_indexes::{
 use adb_view::{Adb, Val, Which, values_have_their_shape};
 use std::alloc::AllocError;
 
-/// Writes the access list with a word of a payload once more.
+/// Copies the access list with a word of a payload.
 pub fn write_acl(
     draft: &mut Draft,
     adb: Adb<'_>,
@@ -50,8 +50,8 @@ pub fn write_acl(
     draft.close_object()
 }
 
-/// Writes the file with a word of a payload once more: its name, access list, size, time, hash and
-/// target, and not its contents.
+/// Copies the file with a word of a payload: its name, access list, size, time, hash and target,
+/// without its contents.
 pub fn write_file(
     draft: &mut Draft,
     adb: Adb<'_>,
@@ -81,7 +81,7 @@ pub fn write_file(
     draft.close_object()
 }
 
-/// Writes the scripts with a word of a payload once more, in the order of table 6.
+/// Copies the scripts with a word of a payload, in the order of table 6.
 pub fn write_scripts(
     draft: &mut Draft,
     adb: Adb<'_>,

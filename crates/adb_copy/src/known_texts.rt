@@ -1,8 +1,8 @@
-//! The long texts of a payload that were written into a draft. Many places may share a text, so a
-//! long one is compared with what the draft has once, and then written by its word. Equal texts
-//! that overlap are found by their period, others by their fingerprints.
-//! That a blob is stored once is the rule of `docs/formats.md`, "Canonical layout". How often a
-//! text is looked at is this crate's own choice, as its README says.
+//! The long texts of a payload that the draft already contains. Many places may share a text. So a
+//! long one is compared with the draft once, and then written by its word. Equal texts that overlap
+//! are found by their period, others by their fingerprints. That a blob is stored once is the rule
+//! of `docs/formats.md`, "Canonical layout". How often a text is read is this crate's own choice,
+//! as its README says.
 
 ghost use Rattle.std.specs.Prelude.{◌≡◌, ℕ, List, true, Some, All, IfOk, IfSome, OnOk};
 ghost use Rattle.adb_view.specs.Adb.{payload_of};
@@ -19,12 +19,11 @@ use adb_view::{Adb, Val, Which};
 use std::alloc::{AllocError, Global};
 use std::collections::BTreeMap;
 
-/// How many bytes a text has at most that is compared at each place where it stands, so that no
-/// memory is taken for it. Any number is right; more make short texts slow, fewer take memory for
-/// each.
+/// The most bytes of a text that is compared wherever it occurs, and takes no memory. Any number is
+/// correct. With a greater one short texts are slow; with a smaller one more texts take memory.
 const SHORT: usize = 64;
 
-/// The long texts of one payload that one draft has.
+/// The long texts of one payload that one draft contains.
 #[derive(Drop)]
 pub struct KnownTexts {
     /// The word of each of them in the draft, by its word in the payload.
@@ -49,7 +48,7 @@ impl KnownTexts {
         }
     }
 
-    /// Writes the text that has a word in the payload. Only long texts take memory, each once.
+    /// Writes the text of a word in the payload. Only long texts need memory, each once.
     pub(crate) fn write(
         &mut self,
         draft: &mut Draft,
@@ -91,8 +90,8 @@ impl KnownTexts {
         self.write(draft, adb, field_word(adb, which, object, field))
     }
 
-    /// The word that the text of a word has in the draft, if the text is known: by this word, or by
-    /// another one that means an equal text.
+    /// The word in the draft of the text of a word, if it is known: by this word, or by another one
+    /// with an equal text.
     fn known_word(&self, adb: Adb<'_>, word: Val) -> Option<u32>
         requires { All (HasPeriod (payload_of adb)) self.now.overlaps.ranges.items }
         ensures { IfSome result (IsKnownFor (payload_of adb.entry) self.now.words word) }
@@ -106,7 +105,7 @@ impl KnownTexts {
         }
     }
 
-    /// The word that an equal text has in the draft, if its fingerprint leads to one.
+    /// The word in the draft of an equal text, if its fingerprint finds one.
     fn word_of_equal(&mut self, adb: Adb<'_>, word: Val) -> Result<Option<u32>, AllocError>
         requires { All (HasPeriod (payload_of adb)) self.old.overlaps.ranges.items }
         ensures words { self.new.words ≡ self.old.words }
@@ -127,7 +126,7 @@ impl KnownTexts {
         Ok(if same { Some(known) } else { None })
     }
 
-    /// Writes a text whose word is not known, and keeps the word.
+    /// Writes a text whose word is not known, and remembers the word.
     fn write_unknown(
         &mut self,
         draft: &mut Draft,
@@ -149,7 +148,7 @@ impl KnownTexts {
         }
     }
 
-    /// Writes a text that is not known, and keeps the word that it has in the draft.
+    /// Writes a text that is not known, and remembers its word in the draft.
     fn write_new(&mut self, draft: &mut Draft, adb: Adb<'_>, word: Val) -> Result<(), AllocError>
         requires sound { is_sound (payload_of adb) Kinds.Text word ≡ true }
         requires known { AreBlobsOf (payload_of adb) draft.old self.old }

@@ -1,8 +1,8 @@
-//! Long texts of a payload that overlap. Where equal texts overlap, their bytes have a period;
-//! which bytes were tested to have one is kept, so that of the texts there that are equal few are
-//! looked at.
-//! No document has a rule for this: the README of this crate says it, in the paragraph on periods,
-//! and *HasPeriod* of `specs/Known.antt` what a range promises. All of it saves time alone.
+//! Long texts of a payload that overlap. If equal texts overlap, their bytes have a period. The
+//! ranges that were tested for a period are remembered, so that few of the equal texts in them are
+//! read. The README of this crate describes the method, in the paragraph on periods; no document
+//! has a rule for it. *HasPeriod* of `specs/Known.antt` is what a range promises. All of it only
+//! saves time.
 
 ghost use Rattle.std.specs.Prelude.{◌≡◌, ◌<◌, ◌≤◌, ◌+◌, ℕ, List, [], All, length, take, drop, IfOk, IfSome, OnOk};
 ghost use Rattle.std.specs.Bool.{OnTrue};
@@ -16,14 +16,15 @@ use std::alloc::{AllocError, Global};
 use std::collections::BTreeMap;
 
 /// A stretch is the length of a text divided by this, and one byte. Two equal texts that begin in
-/// one stretch are less than that apart, so they overlap and show a period. With a greater number
-/// fewer texts show one; with a lesser one more bytes around a text are tested.
+/// one stretch are less than that apart, so they overlap and have a period. With a greater number
+/// fewer periods are found; with a smaller one more bytes around a text are tested.
 const PART: usize = 4;
 
-/// How many bytes around a text are compared at once; the last ones singly. Any number is right.
+/// How many bytes around a text are compared at once; the last ones one by one. Any number is
+/// correct.
 const STEP: usize = 64;
 
-/// Where a text stands in its payload.
+/// Where a text is in its payload.
 #[derive(Clone, Copy)]
 pub(crate) struct TextPlace {
     /// The offset in the payload at which the text begins.
@@ -34,27 +35,27 @@ pub(crate) struct TextPlace {
 
 impl TextPlace {
     /// The number of the stretch of the payload in which the text begins. Equal texts of one
-    /// stretch show a period.
+    /// stretch have a period.
     fn stretch(self) -> usize {
         self.from / (self.len / PART + 1)
     }
 }
 
-/// Bytes of a payload, each of which is the one that stands a period before it, but for the first
-/// period.
+/// Bytes of a payload each of which, except in the first period, equals the byte one period before
+/// it.
 #[derive(Clone, Copy)]
 pub(crate) struct PeriodicRange {
     /// The offset of the first of the bytes.
     pub from: usize,
-    /// The offset behind the last one.
+    /// The offset after the last one.
     pub end: usize,
     /// How many bytes the period has.
     pub period: usize,
 }
 
 impl PeriodicRange {
-    /// The phase of a text: how far behind the beginning of a period it begins. None where the text
-    /// does not stand in the range.
+    /// The phase of a text: its distance from the beginning of a period. None if the text is not in
+    /// the range.
     fn phase_of(self, text: TextPlace) -> Option<usize>
         ensures { IfSome result (IsPhaseOf self text) }
     {
@@ -64,7 +65,7 @@ impl PeriodicRange {
         (text.from - self.from).checked_rem(self.period)
     }
 
-    /// Whether the range shows that two texts are equal: both stand in it, with one phase and one
+    /// Whether the range proves that two texts are equal: both are in it, with one phase and one
     /// length.
     fn shows_equal(self, left: TextPlace, right: TextPlace) -> bool
         ensures { OnTrue result (AreEqualUnder self left right) }
@@ -76,27 +77,26 @@ impl PeriodicRange {
     }
 }
 
-/// Ranges of a payload that have a period, and the texts by which they were found. All but the
-/// ranges are guesses, which are tested where they are used.
+/// Ranges of a payload that have a period, and the texts by which they were found. Everything but
+/// the ranges is a guess, which is tested if it is used.
 #[derive(Drop)]
 pub struct Overlaps {
     /// The ranges that were found.
     ranges: Vec<PeriodicRange>,
-    /// The place in `ranges`, counted from 0, of the last range that was found around a text, by
-    /// the text's length and stretch.
+    /// The index in `ranges` of the last range that was found around a text, by the text's length
+    /// and stretch.
     latest: BTreeMap<(usize, usize), usize>,
-    /// The word of a text that was kept, by the place of its range and its phase there.
+    /// The word of a remembered text, by the index of its range and its phase there.
     words: BTreeMap<(usize, usize), u32>,
-    /// The offset at which a text begins that was kept, by the word that it has in the draft and by
-    /// its stretch.
+    /// The offset of a remembered text, by its word in the draft and by its stretch.
     places: BTreeMap<(u32, usize), usize>,
-    /// The place in `ranges` of the last range that was found with two equal texts, by how they
-    /// stand.
+    /// The index in `ranges` of the last range that was found with two equal texts, by their
+    /// relative places.
     repeats: BTreeMap<(usize, usize, usize), usize>,
 }
 
 impl Overlaps {
-    /// No text is kept.
+    /// No text is remembered yet.
     pub(crate) fn new(alloc: Global) -> Overlaps
         ensures { result.ranges.items ≡ [] }
     {
@@ -109,7 +109,7 @@ impl Overlaps {
         }
     }
 
-    /// The word of a text that was kept and equals the text of `word`, if a range shows that they
+    /// The word of a remembered text that equals the text of `word`, if a range proves that they
     /// are equal.
     pub(crate) fn equal_word(&self, adb: Adb<'_>, word: Val) -> Option<u32>
         requires { All (HasPeriod (payload_of adb)) self.now.ranges.items }
@@ -124,8 +124,8 @@ impl Overlaps {
         if same { Some(kept) } else { None }
     }
 
-    /// Whether the text of a word equals a kept one, which has this word in a draft. Where a range
-    /// shows it, no byte is looked at.
+    /// Whether the text of a word equals a remembered one, which has this word in a draft. If a
+    /// range proves it, no byte is read.
     pub(crate) fn find_equal(
         &mut self,
         adb: Adb<'_>,
@@ -153,8 +153,8 @@ impl Overlaps {
         Ok(range.shows_equal(first, second))
     }
 
-    /// Whether the range that was found last with two texts that stand so shows that these are
-    /// equal.
+    /// Whether the last range that was found with two texts of these relative places proves that
+    /// these are equal.
     fn shows_equal(&self, first: TextPlace, second: TextPlace) -> bool
         ensures { (payload : List ℕ) → All (HasPeriod payload) self.now.ranges.items
             → OnTrue result (take first.len (drop first.from payload)
@@ -206,8 +206,8 @@ impl Overlaps {
         Ok(Some(range))
     }
 
-    /// Keeps a text that was not known, by its word in the payload and the word that it has in a
-    /// draft, which is NULL where the draft passed a limit: then nothing is kept.
+    /// Remembers a text that was not known, by its word in the payload and its word in a draft. The
+    /// latter is NULL if the draft passed a limit; then nothing is remembered.
     pub(crate) fn keep(&mut self, adb: Adb<'_>, word: Val, known: Val) -> Result<(), AllocError>
         requires { All (HasPeriod (payload_of adb)) self.old.ranges.items }
         ensures { OnOk result (All (HasPeriod (payload_of adb.entry)) self.new.ranges.items) }
@@ -220,15 +220,15 @@ impl Overlaps {
         }
         // The bytes of both have the distance to an equal text of this stretch as a period.
         let place = (known.word(), text.stretch());
-        // The text that stood last in this stretch and has this word is equal to this one.
+        // The last text in this stretch with this word is equal to this one.
         if let Some(from) = self.places.insert(place, text.from)? {
             self.keep_range(adb, text, text.from.abs_diff(from))?;
         }
         self.keep_word(text, word)
     }
 
-    /// Keeps the range around a text that has a period, where an equal text begins at this distance
-    /// from the text. A distance that is some periods of the range that is known shows nothing new.
+    /// Remembers the range around a text that has a period, if an equal text begins at this
+    /// distance from it. A distance of some whole periods of the known range gives nothing new.
     fn keep_range(
         &mut self,
         adb: Adb<'_>,
@@ -267,7 +267,7 @@ impl Overlaps {
         }
     }
 
-    /// Keeps the word of a text by its phase, if a range around the text is known.
+    /// Remembers the word of a text by its phase, if a range around the text is known.
     fn keep_word(&mut self, text: TextPlace, word: Val) -> Result<(), AllocError>
         ensures { self.new.ranges.items ≡ self.old.ranges.items }
     {
@@ -291,7 +291,8 @@ impl Overlaps {
     }
 }
 
-/// How two texts stand: how far apart they begin, and the length and the stretch of the one in front.
+/// The relative places of two texts: their distance, and the length and the stretch of the first
+/// one.
 fn repeat_place(first: TextPlace, second: TextPlace) -> (usize, usize, usize) {
     let front = TextPlace {
         from: first.from.min(second.from),
@@ -301,7 +302,7 @@ fn repeat_place(first: TextPlace, second: TextPlace) -> (usize, usize, usize) {
     (distance, front.len, front.stretch())
 }
 
-/// Where the text of a word stands in the payload; none where the word means no bytes at an offset.
+/// The place of a word's text in the payload; None if it has no bytes at an offset.
 pub(crate) fn text_place(adb: Adb<'_>, word: Val) -> Option<TextPlace>
     ensures text { IfSome result (λ text. text_in (value_at (payload_of adb.entry) Kinds.Text word)
         ≡ take text.len (drop text.from (payload_of adb.entry))) }
@@ -316,9 +317,9 @@ pub(crate) fn text_place(adb: Adb<'_>, word: Val) -> Option<TextPlace>
     }
 }
 
-/// The bytes around a text that have a period, if those of the text have it, no further from it than
-/// they are to reach. None where the period is 0, since two words then lead to one place, or where
-/// it is longer than the text, whose bytes then show nothing.
+/// The bytes around a text that continue its period, up to a limit on either side. None if the
+/// period is 0, since two words then point to one place. None too if it is longer than the text,
+/// whose bytes then prove nothing.
 fn periodic_range(
     bytes: &[u8],
     text: TextPlace,
@@ -339,8 +340,7 @@ fn periodic_range(
     Some(PeriodicRange { from, end, period })
 }
 
-/// The offset from which on the bytes in front of a text go on with its period, no further than they
-/// are to reach.
+/// The offset of the first byte before a text that continues its period, up to a limit.
 fn first_in_period(bytes: &[u8], text: TextPlace, period: usize, reach: usize) -> usize
     requires within { text.from + text.len ≤ length bytes.now }
     requires period { period ≤ text.len }
@@ -351,7 +351,7 @@ fn first_in_period(bytes: &[u8], text: TextPlace, period: usize, reach: usize) -
     first_by_steps(bytes, from, least, period, 1)
 }
 
-/// The same in front of an offset, where so many bytes at a time are compared.
+/// The same before an offset, comparing this many bytes at a time.
 fn first_by_steps(bytes: &[u8], start: usize, least: usize, period: usize, step: usize) -> usize
     requires within { start + period ≤ length bytes.now }
     requires some { 0 < step }
@@ -367,8 +367,7 @@ fn first_by_steps(bytes: &[u8], start: usize, least: usize, period: usize, step:
     from
 }
 
-/// The offset up to which the bytes behind a text go on with its period, no further than they are to
-/// reach.
+/// The end of the bytes after a text that continue its period, up to a limit.
 fn end_of_period(bytes: &[u8], text: TextPlace, period: usize, reach: usize) -> usize
     requires within { text.from + text.len ≤ length bytes.now }
     requires period { period ≤ text.len }
@@ -381,7 +380,7 @@ fn end_of_period(bytes: &[u8], text: TextPlace, period: usize, reach: usize) -> 
     end_by_steps(bytes, end, most, period, 1)
 }
 
-/// The same behind an offset, where so many bytes at a time are compared.
+/// The same after an offset, comparing this many bytes at a time.
 fn end_by_steps(bytes: &[u8], start: usize, most: usize, period: usize, step: usize) -> usize
     requires period { period ≤ start }
     requires start { start ≤ length bytes.now }

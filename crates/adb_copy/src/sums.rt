@@ -1,8 +1,8 @@
-//! Sums of a payload's bytes, from which the fingerprint of any text in it is had in a few steps.
-//! In a sum each byte counts by a power of a factor. The factors are taken from the payload's
-//! digest, so that who makes a payload does not know them before it is made.
-//! No document has a rule for this: the README of this crate says it, in the paragraph on
-//! fingerprints. That two texts of one fingerprint are equal is tested where it is used.
+//! Sums of a payload's bytes, from which the fingerprint of any text in it takes a few steps. In a
+//! sum each byte counts by a power of a factor. The factors come from the payload's digest, so the
+//! maker of a payload cannot choose its bytes for them. The README of this crate describes the
+//! method, in the paragraph on fingerprints; no document has a rule for it. Whether two texts of
+//! one fingerprint are equal is tested if it is used.
 
 ghost use Rattle.std.specs.Prelude.{◌≤◌, ◌+◌, length};
 
@@ -10,15 +10,15 @@ use crate::overlaps::TextPlace;
 use sha2::{Digest, Sha256};
 use std::alloc::{AllocError, Global};
 
-/// The prime that all sums are taken by. The product of two numbers below it has 62 bits, so that
-/// no step passes 64.
+/// The modulus of all sums, a prime. The product of two numbers below it has 62 bits, so no step
+/// exceeds 64.
 const PRIME: u64 = (1 << 31) - 1;
 
-/// How many bytes stand between two sums that are kept. Any number is right: with a greater one
-/// less memory is taken, and more steps lead to a fingerprint.
+/// How many bytes separate two stored sums. Any number is correct: with a greater one less memory
+/// is used, and a fingerprint takes more steps.
 const BLOCK: usize = 32;
 
-/// Two numbers below the prime, with which the same is done.
+/// Two numbers below the prime, with the same operations on each.
 #[derive(Clone, Copy)]
 struct Pair {
     /// The number by the first factor.
@@ -52,8 +52,8 @@ impl Pair {
         }
     }
 
-    /// The sums with one byte more: each is taken times its factor, and the byte is added. A byte
-    /// counts one more than it is, so that zeros in front tell.
+    /// The sums with one byte more: each is multiplied by its factor, and the byte plus one is
+    /// added. So zeros in front count too.
     fn times_with(self, factor: Pair, byte: u8) -> Pair {
         let more = byte as u64 + 1;
         Pair {
@@ -126,8 +126,8 @@ impl Sums {
     {
         let front = self.sum_before(payload, text.from)?;
         let whole = self.sum_before(payload, text.from + text.len)?;
-        // What the bytes in front count in the whole is taken off. Taken by the prime, one less than
-        // the prime is minus one.
+        // Subtract the share of the bytes in front. Modulo the prime, the prime less one is minus
+        // one.
         let opposite = Pair::of(PRIME - 1).times(front);
         let power = self.factor.to_power(text.len);
         Some(whole.plus(opposite.times(power)).number())
@@ -146,7 +146,7 @@ impl Sums {
     }
 }
 
-/// Two factors, from the digest of a payload: its bytes in turn, taken by the prime.
+/// Two factors, from the digest of a payload: its bytes in turn, modulo the prime.
 fn factor_of(payload: &[u8]) -> Pair {
     let digest = Sha256::digest(payload);
     let mut factor = Pair::of(0);

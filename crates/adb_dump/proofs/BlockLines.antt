@@ -49,7 +49,7 @@ pub objects_lines : (p : List ℕ) (which : Which) (w : ℕ) (ws : List ℕ) →
 unfolding block_lines shape_of
 objects_lines p which w ws e = ap (λ (v : Plain). array_lines (block_lines (shape_of (Obj which))) (entries_in v)) (sym e) ∙ ap (array_lines (block_lines (shape_of (Obj which)))) (entries_arr (values_at p (Obj which) ws))
 
--- the Nulls that stand last have no lines
+-- the Nulls that are last have no lines
 
 pub no_lines : (fs : Fields) → fields_lines fs none ≡ []
 unfolding fields_lines

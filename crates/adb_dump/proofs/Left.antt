@@ -94,7 +94,7 @@ fields_done p fields words i le = ap (fields_lines (shapes_of (drop i fields))) 
 pub fields_over : (p : List ℕ) (fields : List Field) (words : List ℕ) (i : ℕ) → length fields ≤ i → fields_left p fields words i ≡ []
 fields_over p fields words i le = ap (fields_lines (shapes_of (drop i fields))) (fields_past p fields words i le) ∙ lines_of_none (drop i fields)
 
--- the lines of a field, where it is Null and where it is not
+-- the lines of a field, if it is Null and if it is not
 fields_first : (f : Field) (others : List Field) (v : Plain) (vs : Plains) → fields_lines (shapes_of (f ∷ others)) (more v vs) ≡ unless_absent v (named_lines (shape_of f.kind) (field_name_text f.name) v) ++ fields_lines (shapes_of others) vs
 unfolding fields_lines
 fields_first f others v vs = refl

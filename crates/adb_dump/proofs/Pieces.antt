@@ -102,7 +102,7 @@ drop_margin (suc k) d rest =
     let one : suc k + d ≡ suc (k + d) = omega arith in
     rw (two, one) (drop_margin k d rest)
 
--- the last levels of a front, and what stands behind them
+-- the last levels of a front, and what follows them
 pub front_end : (front : List ℕ) (levels : ℕ) → levels ≤ 8 → front ≡ margin 8 ++ drop 16 front → drop (16 - 2 * levels) front ≡ margin levels ++ drop 16 front
 front_end front levels le spaces =
     let from : 16 - 2 * levels ≡ 2 * (8 - levels) = omega (arith, le) in

@@ -1,11 +1,11 @@
--- Where lines stand: behind one another, deeper, and behind a dash or a name.
+-- Where lines stand: after one another, deeper, and after a dash or a name.
 use Rattle.std.proofs.Common.{◌≡◌, ℕ, zero, suc, Bool, true, false, List, [], ◌∷◌, ◌++◌, refl, sym, ap, ◌∙◌, append_assoc}
 use Rattle.std.specs.Prelude.{codes}
 use Rattle.std.proofs.lemmas.List.Concat.{flat_map-cons}
 use Rattle.adb_dump.specs.Dump.{Line, indent, with_dash, named_block, named_line, text_of}
 use Rattle.adb_dump.specs.Margin.{margin, lead, lines_at}
 
--- all lines but the first stand at the margin
+-- all lines but the first are at the margin
 laid_first : (d : ℕ) (b : Bool) (x : Line) (xs ys : List Line) → lines_at d false (xs ++ ys) ≡ lines_at d false xs ++ lines_at d false ys → lines_at d b ((x ∷ xs) ++ ys) ≡ lines_at d b (x ∷ xs) ++ lines_at d false ys
 laid_first d b x xs ys h =
     ap (λ (t : List ℕ). lead d b ++ (x ++ (codes "\n" ++ t))) h
@@ -27,7 +27,7 @@ laid-indent d [] = refl
 laid-indent d (l ∷ ls) =
     margin-more d (l ++ (codes "\n" ++ lines_at d false (indent ls))) ∙ ap (λ (t : List ℕ). codes "  " ++ (margin d ++ (l ++ (codes "\n" ++ t)))) (laid-indent d ls)
 
--- what is behind a dash stands one deeper
+-- what is after a dash stands one deeper
 pub laid_dashed : (d : ℕ) (b : Bool) (l : Line) (ls rest : List Line) → lines_at d b (with_dash (l ∷ ls) ++ rest) ≡ (lead d b ++ codes "- ") ++ (lines_at (suc d) true (l ∷ ls) ++ lines_at d false rest)
 laid_dashed d b l ls rest =
     ap (λ (t : List ℕ). lead d b ++ (codes "- " ++ (l ++ (codes "\n" ++ t)))) (laid-append d (indent ls) rest ∙ ap (λ (t : List ℕ). t ++ lines_at d false rest) (laid-indent d ls))
@@ -36,13 +36,13 @@ laid_dashed d b l ls rest =
 regroup : (a name sep rest : List ℕ) → a ++ ((name ++ sep) ++ rest) ≡ ((a ++ name) ++ sep) ++ rest
 regroup a name sep rest = sym (ap (λ (t : List ℕ). t ++ rest) (append_assoc a name sep) ∙ append_assoc a (name ++ sep) rest)
 
--- a value of one line stands behind the name
+-- a value of one line follows the name
 pub laid_on_line : (d : ℕ) (b : Bool) (name l : Line) → lines_at d b (named_line name l) ≡ (((lead d b ++ name) ++ codes ":") ++ codes " ") ++ lines_at d true (l ∷ [])
 laid_on_line d b name l =
     ap (λ (t : List ℕ). lead d b ++ t) (append_assoc name (codes ": " ++ l) (codes "\n")) ∙ sym (append_assoc (lead d b) name (codes ": " ++ (l ++ codes "\n")))
     ∙ sym (append_assoc ((lead d b ++ name) ++ codes ":") (codes " ") (l ++ codes "\n") ∙ append_assoc (lead d b ++ name) (codes ":") (codes " " ++ (l ++ codes "\n")))
 
--- others stand below it
+-- others are below it
 pub laid_below : (d : ℕ) (b : Bool) (name : Line) (ls : List Line) → lines_at d b (named_block name ls) ≡ (((lead d b ++ name) ++ codes ":") ++ codes "\n") ++ lines_at (suc d) false ls
 laid_below d b name ls =
     ap (λ (t : List ℕ). lead d b ++ ((name ++ codes ":") ++ (codes "\n" ++ t))) (laid-indent d ls)

@@ -15,7 +15,7 @@ puts_told holds old new xs ys e put before h = told holds new (before ++ xs) (be
 pub puts_none : {O : Type 0} (holds : O → List ℕ → Type 0) (out : O) → Puts holds out out []
 puts_none holds out before h = told holds out before (before ++ []) (sym (append-nil before)) h
 
--- one piece behind another
+-- one piece after another
 pub puts_on : {O : Type 0} (holds : O → List ℕ → Type 0) (old mid new : O) (xs ys : List ℕ) → Puts holds old mid xs → Puts holds mid new ys → Puts holds old new (xs ++ ys)
 puts_on holds old mid new xs ys p q before h = told holds new ((before ++ xs) ++ ys) (before ++ (xs ++ ys)) (append_assoc before xs ys) (q (before ++ xs) (p before h))
 

@@ -30,7 +30,7 @@ dashed_laid d b ls rest h =
     let e : d + 1 ≡ suc d = omega arith in
     rw (e, h.is) (laid_dashed d b h.first h.others rest)
 
--- the lines of the next entry, and of those behind it
+-- the lines of the next entry, and of those after it
 pub entry_turn : (d : ℕ) (b : Bool) (p : List ℕ) (k : Kind) (words : List ℕ) (i : ℕ) → i < length words → are_all_sound p k (drop i words) ≡ true
     → lines_at d b (entries_left p k words i) ≡ ((lead d b ++ codes "- ") ++ lines_at (d + 1) true (or_null (value_at p k (get_or words i 0)) (block_lines (shape_of k) (value_at p k (get_or words i 0))))) ++ lines_at d false (entries_left p k words (i + 1))
 entry_turn d b p k words i lt h =
@@ -120,7 +120,7 @@ field_below k d b name v h =
 behind_named : (d : ℕ) (b : Bool) (xs ys : List Line) → HasLine xs → lines_at d b (xs ++ ys) ≡ lines_at d b xs ++ lines_at d false ys
 behind_named d b xs ys h = rw h.is (laid_behind d b h.first h.others ys)
 
--- the lines of the next field, and of those behind it
+-- the lines of the next field, and of those after it
 pub field_turn : (d : ℕ) (b : Bool) (p : List ℕ) (fields : List Field) (words : List ℕ) (i word : ℕ) (f : Field) → i < length fields → i < length words → word ≡ get_or words i 0 → fields_sound p (drop i fields) (drop i words) ≡ true → is_null (value_at p (get_or fields i f).kind word) ≡ false
     → lines_at d b (fields_left p fields words i)
     ≡ lines_at d b (named_lines (shape_of (get_or fields i f).kind) (field_name_text (get_or fields i f).name) (value_at p (get_or fields i f).kind word)) ++ lines_at d false (fields_left p fields words (i + 1))
@@ -141,7 +141,7 @@ null_put d b v ls e = ap (λ (x : List Line). lines_at d b x) (unless_absent-tru
 pub some_put : (d : ℕ) (b : Bool) (v : Plain) (ls : List Line) → is_null v ≡ false → lines_at d b (unless_absent v ls) ≡ lines_at d b ls
 some_put d b v ls e = ap (λ (x : List Line). lines_at d b x) (unless_absent-false v ls e)
 
--- the line of a text behind its name
+-- the line of a text after its name
 pub text_put : (d : ℕ) (b : Bool) (name : Line) (p : List ℕ) (w : ℕ) (bytes : List ℕ) → bytes ≡ text_in (value_at p Text w) → is_null (value_at p Text w) ≡ false
     → ((lead d b ++ name) ++ codes ": ") ++ lines_at d true (text_form bytes ∷ []) ≡ lines_at d b (unless_absent (value_at p Text w) (named_lines (shape_of Text) name (value_at p Text w)))
 text_put d b name p w bytes e some =

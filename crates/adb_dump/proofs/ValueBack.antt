@@ -220,7 +220,7 @@ entry_from s (blob x) h = let b = h (λ e. cc) in record { first = b.first; othe
 entry_from s (arr us) h = let b = h (λ e. cc) in record { first = b.first; others = b.others; lines = b.lines; back = rw b.not_null (ap (block_read s) (sym b.lines) ∙ b.back) }
 entry_from s (obj us) h = let b = h (λ e. cc) in record { first = b.first; others = b.others; lines = b.lines; back = rw b.not_null (ap (block_read s) (sym b.lines) ∙ b.back) }
 
--- a value's lines, named, and the lines of the other fields behind them
+-- a value's lines, named, and the lines of the other fields after them
 record NamedBack (s : Shape) (name : List ℕ) (v : Plain) (g : List Line → LinesRead Plains) (ls : List Line) : Type 0 where
   first : Line
   after : List Line

@@ -1,6 +1,5 @@
--- The text of a plain value: its lines, by its shape.
--- The rules stand in `docs/formats.md`, "Dump text"; what a plain value and a shape are, in
--- "Values" there.
+-- The text of a plain value: its lines, by its shape. The rules are in `docs/formats.md`, "Dump text";
+-- plain values and shapes are defined in "Values" there.
 use Rattle.std.specs.Prelude.{ℕ, Bool, false, ◌&&◌, not, List, [], ◌∷◌, ◌++◌, map, codes, bytes_eq, Option, Some, None, nat_le, ◌==◌, if◌then◌else◌}
 use Rattle.std.specs.Fmt.{decimal}
 use Rattle.std.specs.Int.{w32, to_be_bytes}
@@ -34,15 +33,15 @@ ends_with_byte c [] = false
 ends_with_byte c (d ∷ []) = c == d
 ends_with_byte c (d ∷ e ∷ ds) = ends_with_byte c (e ∷ ds)
 
--- whether a text stands as it is: each byte is printable, no space is first or last, no quote is
--- first, and it is not `null`
+-- whether a text may be written as it is: each byte is printable, no space is first or last, no quote
+-- is first, and it is not `null`
 abbrev pub is_bare : List ℕ → Bool
 is_bare b =
     list_all is_printable b && not (begins_with_byte 0x20 b) && not (ends_with_byte 0x20 b)
     && not (begins_with_byte 0x22 b) && not (bytes_eq b (codes "null"))
 
--- how a byte of a text stands between quotes: an escape for a line end, a backslash and a quote,
--- any other printable byte as it is, and the rest in hexadecimal digits
+-- the form of a byte of a text between quotes: an escape for a line end, a backslash and a quote, any
+-- other printable byte as it is, and the rest in hexadecimal digits
 abbrev pub escape_of : ℕ → List ℕ
 escape_of c =
     if c == 0x0a then codes "\\n"
@@ -51,51 +50,52 @@ escape_of c =
     else if is_printable c then c ∷ []
     else codes "\\x" ++ encode_lower (c ∷ [])
 
--- a text between quotes, each byte escaped where that is needed
+-- a text between quotes, each byte escaped if that is needed
 abbrev pub quoted_text : List ℕ → Line
 quoted_text b = codes "\"" ++ flat_map escape_of b ++ codes "\""
 
--- a text as it stands on its line: as it is where it can, else between quotes
+-- a text in its line: as it is if it may be, else between quotes
 abbrev pub text_form : List ℕ → Line
 text_form b = if is_bare b then b else quoted_text b
 
--- the line of an integer, in decimal; `null` where the value is none
+-- the line of an integer, in decimal; `null` if there is no value
 abbrev pub int_line : Plain → Line
 int_line (int n) = decimal n
 int_line v = codes "null"
 
--- the line of a text; `null` where the value is none
+-- the line of a text; `null` if there is no value
 abbrev pub text_line : Plain → Line
 text_line (blob b) = text_form b
 text_line v = codes "null"
 
--- the line of a hash, two digits for each byte; `null` where the value is none
+-- the line of a hash, two digits for each byte; `null` if there is no value
 abbrev pub hash_line : Plain → Line
 hash_line (blob b) = encode_lower b
 hash_line v = codes "null"
 
 -- ---- lines of lists
 
--- lines one level deeper: two spaces stand in front of each
+-- lines one level deeper: two spaces are in front of each
 abbrev pub indent : List Line → List Line
 indent ls = map (λ (l : Line). codes "  " ++ l) ls
 
--- the lines of an entry of an array: the first behind a dash, the others as deep as the first
+-- the lines of an entry of an array: the first after a dash, the others as deep as the first
 abbrev pub with_dash : List Line → List Line
 with_dash [] = []
 with_dash (l ∷ ls) = (codes "- " ++ l) ∷ indent ls
 
--- the lines of an entry of an array: a Null has the line `null`, so that it keeps its place
+-- the lines of an entry of an array: Null has the line `null`, so that the positions of entries are
+-- unchanged
 abbrev pub or_null : Plain → List Line → List Line
 or_null null ls = codes "null" ∷ []
 or_null v ls = ls
 
--- the lines of an array: each entry behind a dash
+-- the lines of an array: each entry after a dash
 abbrev pub array_lines : (Plain → List Line) → Plains → List Line
 array_lines f none = []
 array_lines f (more v vs) = with_dash (or_null v (f v)) ++ array_lines f vs
 
--- the line of a field whose value has one line: the value behind the field's name
+-- the line of a field whose value has one line: the value after the field's name
 abbrev pub named_line : List ℕ → Line → List Line
 named_line name l = (name ++ (codes ": " ++ l)) ∷ []
 
@@ -104,7 +104,7 @@ named_line name l = (name ++ (codes ": " ++ l)) ∷ []
 abbrev pub named_block : List ℕ → List Line → List Line
 named_block name ls = (name ++ codes ":") ∷ indent ls
 
--- the lines of a field; where its value is Null it has none
+-- the lines of a field; none if its value is Null
 abbrev pub unless_absent : Plain → List Line → List Line
 unless_absent null ls = []
 unless_absent v ls = ls
@@ -145,8 +145,8 @@ schema_line None = []
 abbrev pub value_lines : Which → Plain → List Line
 value_lines which v = block_lines (shape_of (Obj which)) v
 
--- the lines of a whole dump: that of the schema, and those of the root; a table that is no root has
--- an empty first line
+-- the lines of a whole dump: that of the schema, and those of the root; a table that is no root has an
+-- empty first line
 abbrev pub dump_lines : Which → Plain → List Line
 dump_lines which v = schema_line (schema_word which) ∷ value_lines which v
 

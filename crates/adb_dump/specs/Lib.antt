@@ -1,8 +1,8 @@
--- The definitions of this crate, whose rules stand in `docs/formats.md`, "Dump text".
+-- The definitions of this crate, whose rules are in `docs/formats.md`, "Dump text".
 
--- what the contract of `apk` says
+-- cited by the contract of `apk`
 pub mod Dump
--- what only inner contracts and proofs use
+-- used by inner contracts and proofs only
 pub mod Values
 pub mod ReadBack
 pub mod Words

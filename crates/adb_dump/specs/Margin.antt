@@ -1,6 +1,6 @@
--- Where lines stand in the text.
--- The rule stands in `docs/formats.md`, "Dump text": a line is indented by two spaces for each
--- level. Serves the contracts of `src/line.rt` and `src/block.rt`, which write from front to end.
+-- The places of lines in the text. The rule is in `docs/formats.md`, "Dump text": a line is indented by
+-- two spaces for each level. Serves the contracts of `src/line.rt` and `src/block.rt`, which write from
+-- front to end.
 use Rattle.std.specs.Prelude.{ℕ, zero, suc, Bool, true, false, List, [], ◌∷◌, ◌++◌, codes}
 use Rattle.adb_dump.specs.Dump.{Line}
 
@@ -9,7 +9,7 @@ abbrev pub margin : ℕ → List ℕ
 margin zero = []
 margin (suc depth) = codes "  " ++ margin depth
 
--- what is still to be written in front of the next line: nothing where the line has begun
+-- the missing front of the next line: nothing if the line has begun
 abbrev pub lead : ℕ → Bool → List ℕ
 lead depth true = []
 lead depth false = margin depth
@@ -19,7 +19,7 @@ abbrev pub lines_at : ℕ → Bool → List Line → List ℕ
 lines_at depth begun [] = []
 lines_at depth begun (l ∷ ls) = lead depth begun ++ (l ++ (codes "\n" ++ lines_at depth false ls))
 
--- a depth below which all lines stand. Tables are nested a few levels deep (`docs/formats.md`,
--- "Schemas"), so any such number will do; it keeps the depth of a line within 32 bits
+-- a depth that all lines are below. Tables are nested a few levels deep (`docs/formats.md`, "Schemas"),
+-- so any such number serves; it keeps the depth of a line within 32 bits
 abbrev pub DEPTH_LIMIT : ℕ
 DEPTH_LIMIT = 100

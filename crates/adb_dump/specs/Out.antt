@@ -1,6 +1,5 @@
--- What an out holds of the bytes that are put into it, and lengths of texts that are kept.
--- No rule of a document: serves the contracts of `src/text_out.rt`, by which one function writes a
--- text and counts it.
+-- The bytes of an output, and remembered lengths of texts. No rule of a document: serves the contracts
+-- of `src/text_out.rt`, by which one function both writes a text and counts it.
 use Rattle.std.specs.Prelude.{◌≡◌, ℕ, List, ◌++◌, length, Some}
 use Rattle.std.specs.BTreeMap.{BTreeMap, get}
 use Rattle.std.specs.Ordering.{nat_cmp}
@@ -8,22 +7,21 @@ use Rattle.adb_view.specs.Values.{text_in, value_at}
 use Rattle.adb_view.specs.declared.tables.Kind.TheVariants.{Text}
 use Rattle.adb_dump.specs.Dump.{text_form}
 
--- a call puts bytes into an out: behind any bytes that the out may have held before, it holds these
--- too
+-- a call appends bytes to an output: whatever bytes it had before, it has these after them
 abbrev pub Puts : {O : Type 0} → (O → List ℕ → Type 0) → O → O → List ℕ → Type 0
 Puts holds old new bytes = (before : List ℕ) → holds old before → holds new (before ++ bytes)
 
--- a call puts bytes into an out, whatever payload the texts are of
+-- a call appends bytes to an output, whatever payload the texts are of
 abbrev pub PutsForAny : {O : Type 0} → (List ℕ → O → List ℕ → Type 0) → O → O → List ℕ → Type 0
 PutsForAny holds old new bytes = (payload : List ℕ) → Puts (holds payload) old new bytes
 
--- each length that is kept by a word is how long the text of the word is in a line
+-- each length that is remembered for a word is that of the word's text in a line
 abbrev pub AreLineLengths : List ℕ → BTreeMap ℕ ℕ → Type 0
 AreLineLengths payload lens = (word len : ℕ) → get nat_cmp lens word ≡ Some len
     → len ≡ length (text_form (text_in (value_at payload Text word)))
 
--- lengths that were right for a payload before a call are right after it, if the payload has this
--- text for the word
+-- lengths that were right for a payload before a call are right after it, if the payload has this text
+-- for the word
 abbrev pub StayLineLengths : BTreeMap ℕ ℕ → BTreeMap ℕ ℕ → ℕ → List ℕ → Type 0
 StayLineLengths old new word text = (payload : List ℕ)
     → text ≡ text_in (value_at payload Text word)

@@ -1,8 +1,7 @@
--- The value of the lines of a dump, or the number of the first line that cannot stand there,
--- counted from 0.
--- The rule stands in `docs/formats.md`, "Dump text": no other normal value has the same text. No
--- command reads a text back: serves the laws `lines_of_values_are_read_back`,
--- `only_lines_of_values_are_read` and `texts_are_split_into_their_lines`.
+-- The value of the lines of a dump, or the number of the first line that is not allowed, counted from
+-- 0. The rule is in `docs/formats.md`, "Dump text": no other normal value has the same text. No command
+-- reads a text back: serves the laws `lines_of_values_are_read_back`, `only_lines_of_values_are_read`
+-- and `texts_are_split_into_their_lines`.
 use Rattle.std.specs.Prelude.{ℕ, zero, suc, ◌+◌, ◌-◌, ◌*◌, ◌^◌, List, [], ◌∷◌, ◌++◌, length, drop, codes, bytes_eq, Option, Some, None, option_map, option_and_then, Result, Ok, Err, nat_lt, ◌==◌, if◌then◌else◌}
 use Rattle.std.specs.Str.Parse.{digits_value}
 use Rattle.base_core.specs.Lists.{and_then}
@@ -12,58 +11,57 @@ use Rattle.adb_view.specs.declared.tables.Which.{Which}
 use Rattle.adb_view.specs.declared.tables.Kind.TheVariants.{Obj}
 use Rattle.adb_dump.specs.Dump.{Line, begins_with_byte, int_line, text_line, hash_line}
 
--- what lines are read as, or the number of the first line that cannot stand there
+-- the result of reading lines, or the number of the first line that is not allowed
 abbrev pub LinesRead : Type 0 → Type 0
 LinesRead A = Result A ℕ
 
--- what was read behind so many lines: the number of a bad line counts them too
+-- the result of reading after this many lines: the number of a bad line counts them too
 abbrev pub after_lines : {A B : Type 0} → ℕ → (A → B) → LinesRead A → LinesRead B
 after_lines n f (Ok x) = Ok (f x)
 after_lines n f (Err k) = Err (n + k)
 
--- what stands behind a prefix of a line, if the line begins with that
+-- the rest of a line after a prefix, if the line begins with that
 abbrev pub strip_prefix : List ℕ → List ℕ → Option (List ℕ)
 strip_prefix [] l = Some l
 strip_prefix (p ∷ ps) [] = None
 strip_prefix (p ∷ ps) (c ∷ cs) = if p == c then strip_prefix ps cs else None
 
--- a block and the lines behind it, with one line more in front of the block
+-- a block and the lines after it, with one line more in front of the block
 abbrev pub with_line : Line → List Line × List Line → List Line × List Line
 with_line l r = (l ∷ r.0, r.1)
 
--- a block and the lines behind it, with one line more in front: an indented line (`inner` is what
--- stands behind its spaces) belongs to the block; another one ends it, and stands first behind it
+-- a block and the lines after it, with one line more in front. An indented line (`inner` is its text
+-- after the spaces) belongs to the block; another one ends it, and is the first after it
 abbrev pub stop_or_add : Line → List Line → Option Line → List Line × List Line
     → List Line × List Line
 stop_or_add l ls None r = ([], l ∷ ls)
 stop_or_add l ls (Some inner) r = with_line inner r
 
--- the indented lines in front, without their two spaces, which are a block; and the lines behind
--- them
+-- the indented lines in front, without their two spaces, which are a block; and the lines after them
 abbrev pub split_block : List Line → List Line × List Line
 split_block [] = ([], [])
 split_block (l ∷ ls) = stop_or_add l ls (strip_prefix (codes "  ") l) (split_block ls)
 
 -- ---- a value on one line
 
--- the number that a lower-case hexadecimal digit stands for
+-- the number that a lower-case hexadecimal digit represents
 abbrev pub hex_value : ℕ → ℕ
 hex_value c = if nat_lt c 0x3a then c - 0x30 else c - 0x57
 
--- the bytes of hexadecimal digits, two for each; a digit that is left over gives none
+-- the bytes of hexadecimal digits, two for each; a single digit at the end is dropped
 abbrev pub unhex : List ℕ → List ℕ
 unhex [] = []
 unhex (h ∷ []) = []
 unhex (h ∷ l ∷ cs) = (hex_value h * 16 + hex_value l) ∷ unhex cs
 
--- a byte by its two digits behind `\x`, and what the rest of the text gives (`f`)
+-- a byte by its two digits after `\x`, and the bytes of the rest of the text (`f`)
 abbrev pub hex_escape_read : (List ℕ → Option (List ℕ)) → List ℕ → Option (List ℕ)
 hex_escape_read f [] = None
 hex_escape_read f (h ∷ []) = None
 hex_escape_read f (h ∷ l ∷ cs) = option_map (λ b. (hex_value h * 16 + hex_value l) ∷ b) (f cs)
 
--- the byte of an escape, from behind its backslash on (`n`, a backslash, a quote, or `x` and two
--- digits), and what the rest of the text gives (`f`)
+-- the byte of an escape, from after its backslash on (`n`, a backslash, a quote, or `x` and two
+-- digits), and the bytes of the rest of the text (`f`)
 abbrev pub escape_read : (List ℕ → Option (List ℕ)) → List ℕ → Option (List ℕ)
 escape_read f [] = None
 escape_read f (d ∷ cs) =
@@ -73,8 +71,8 @@ escape_read f (d ∷ cs) =
     else if d == 0x78 then hex_escape_read f cs
     else None
 
--- the bytes of a text from behind its first quote on, up to a quote that ends the line. The number
--- `n` bounds the turns; the length of the text is enough
+-- the bytes of a text from after its first quote on, up to a quote that ends the line. The number `n`
+-- bounds the recursion; the length of the text is enough
 abbrev pub quoted_read : ℕ → List ℕ → Option (List ℕ)
 quoted_read zero cs = None
 quoted_read (suc n) [] = None
@@ -83,17 +81,16 @@ quoted_read (suc n) (c ∷ cs) =
     else if c == 0x5c then escape_read (quoted_read n) cs
     else option_map (λ b. c ∷ b) (quoted_read n cs)
 
--- the value of a text; an empty one has none, since no line stands for it
+-- the value of a text; an empty one has none, since no line represents it
 abbrev pub blob_read : List ℕ → Option Plain
 blob_read [] = None
 blob_read (c ∷ cs) = Some (blob (c ∷ cs))
 
--- the value of a number below 2^64 in decimal digits; whether anything else stands on the line is
--- found by *if_form*
+-- the value of a number below 2^64 in decimal digits; *if_form* tests that the line has nothing else
 abbrev pub int_read : Line → Option Plain
 int_read l = if nat_lt (digits_value 10 l) (2 ^ 64) then Some (int (digits_value 10 l)) else None
 
--- the value of a text, which stands between quotes or as it is
+-- the value of a text, between quotes or as it is
 abbrev pub text_read : Line → Option Plain
 text_read l =
     if begins_with_byte 0x22 l then option_and_then blob_read (quoted_read (length l) (drop 1 l))
@@ -103,12 +100,12 @@ text_read l =
 abbrev pub hash_read : Line → Option Plain
 hash_read l = blob_read (unhex l)
 
--- the value of a line, if the line is the one form of the value: a bad line where it is not
+-- the value of a line, if the line is the one form of the value; else the line is bad
 abbrev pub if_form : (Plain → Line) → Line → Option Plain → LinesRead Plain
 if_form form l None = Err 0
 if_form form l (Some v) = if bytes_eq (form v) l then Ok v else Err 0
 
--- a value that has one line: a second line, counted from 0 as line 1, cannot stand there
+-- a value that has one line; a second line, which counting from 0 is line 1, is bad
 abbrev pub only_line : (Line → LinesRead Plain) → List Line → LinesRead Plain
 only_line f [] = Err 0
 only_line f (l ∷ []) = f l
@@ -116,13 +113,13 @@ only_line f (l ∷ m ∷ ls) = and_then (f l) (λ v. Err 1)
 
 -- ---- lists
 
--- an entry of an array by its lines, of which the first (`l`) has lost its dash; a `null` stands by
--- itself
+-- an entry of an array by its lines, of which the first (`l`) is without its dash; `null` is the only
+-- line of its entry
 abbrev pub entry_read : (List Line → LinesRead Plain) → Line → List Line → LinesRead Plain
 entry_read f l ls =
     if bytes_eq l (codes "null") then only_line (λ x. Ok null) (l ∷ ls) else f (l ∷ ls)
 
--- an entry of an array and the entries behind it; a line without a dash begins no entry
+-- an entry of an array and the entries after it; a line without a dash begins no entry
 abbrev pub after_dash : (List Line → LinesRead Plain) → (List Line → LinesRead Plains)
     → List Line × List Line → Option Line → LinesRead Plains
 after_dash f g r None = Err 0
@@ -147,28 +144,27 @@ abbrev pub obj_read : Plains → LinesRead Plain
 obj_read none = Err 0
 obj_read (more v vs) = Ok (obj (more v vs))
 
--- a field whose value stands behind `name:` on its line, and then the other fields
+-- a field whose value follows `name:` on its line, and then the other fields
 abbrev pub field_on_line : (Line → LinesRead Plain) → (List Line → LinesRead Plains) → List Line
     → Option Line → LinesRead Plains
 field_on_line f g ls None = Err 0
 field_on_line f g ls (Some l) = and_then (f l) (λ v. after_lines 1 (more v) (g ls))
 
--- a field whose value stands below its name, behind which nothing stands on the line, and then the
--- other fields
+-- a field whose value is below its name, which is alone on its line, and then the other fields
 abbrev pub field_below : (List Line → LinesRead Plain) → (List Line → LinesRead Plains)
     → List Line × List Line → Line → LinesRead Plains
 field_below f g r [] =
     and_then (after_lines 1 (λ v. v) (f r.0)) (λ v. after_lines (1 + length r.0) (more v) (g r.1))
 field_below f g r (c ∷ cs) = Err 0
 
--- the fields from a line on: where the line has no name of this field, those behind it (`other`),
--- else this one (`this`, of what is behind `name:`)
+-- the fields from a line on: if the line does not have the name of this field, those after it
+-- (`other`), else this one (`this`, of the text after `name:`)
 abbrev pub if_named : LinesRead Plains → (Line → LinesRead Plains) → Option Line → LinesRead Plains
 if_named other this None = other
 if_named other this (Some rest) = this rest
 
 unfoldable mutual
-  -- the value of a shape that has just these lines
+  -- the value of a shape with exactly these lines
   pub block_read : Shape → List Line → LinesRead Plain
   block_read number ls = only_line (λ l. if_form int_line l (int_read l)) ls
   block_read text ls = only_line (λ l. if_form text_line l (text_read l)) ls
@@ -176,7 +172,7 @@ unfoldable mutual
   block_read (array s) ls = and_then (entries_read (block_read s) (length ls) ls) arr_read
   block_read (object schema fs) ls = and_then (fields_read fs ls) obj_read
 
-  -- the value of a field, from behind `name:` on (`l`), and then the other fields (`g`)
+  -- the value of a field, from after `name:` on (`l`), and then the other fields (`g`)
   pub named_read : Shape → (List Line → LinesRead Plains) → List Line → Line → LinesRead Plains
   named_read number g ls l = field_on_line (λ l. if_form int_line l (int_read l)) g ls
       (strip_prefix (codes " ") l)
@@ -189,7 +185,7 @@ unfoldable mutual
   named_read (object schema fs) g ls l = field_below (λ ls. and_then (fields_read fs ls) obj_read) g
       (split_block ls) l
 
-  -- the fields of an object in order; a field whose name does not come next is Null
+  -- the fields of an object in order; a field whose name is not next is Null
   pub fields_read : Fields → List Line → LinesRead Plains
   fields_read no_fields [] = Ok none
   fields_read no_fields (l ∷ ls) = Err 0
@@ -198,20 +194,20 @@ unfoldable mutual
       (after_lines 0 (more null) (fields_read fs (l ∷ ls))) (named_read s (fields_read fs) ls)
       (strip_prefix (name ++ codes ":") l)
 
--- the value of a table by the lines of a text behind its first; Null has none
+-- the value of a table by the lines of a text after its first; Null has none
 abbrev pub value_read : Which → List Line → LinesRead Plain
 value_read which [] = Ok null
 value_read which (l ∷ ls) = block_read (shape_of (Obj which)) (l ∷ ls)
 
--- ---- the lines of a text, where the last one has its line end
+-- ---- the lines of a text, in which the last one has its line end
 
--- the lines of a text with a byte put in front of the first, if there is a first line
+-- the lines of a text with a byte in front of the first, if there is a first line
 abbrev pub add_char : ℕ → Option (List Line) → Option (List Line)
 add_char c None = None
 add_char c (Some []) = None
 add_char c (Some (l ∷ ls)) = Some ((c ∷ l) ∷ ls)
 
--- the lines of a text; None where its last line has no line end
+-- the lines of a text; None if its last line has no line end
 abbrev pub split_lines : List ℕ → Option (List Line)
 split_lines [] = Some []
 split_lines (c ∷ cs) =

@@ -1,6 +1,5 @@
--- The plain values that a dump text can stand for.
--- The rule stands in `docs/formats.md`, "Values": when a value is normal, and which shape it has.
--- Serves the laws of `src/laws.rt`.
+-- The plain values that a dump text can represent. The rule is in `docs/formats.md`, "Values": normal
+-- values and their shapes. Serves the laws of `src/laws.rt`.
 use Rattle.std.specs.Prelude.{◌<◌}
 use Rattle.std.specs.List.{AllByRecursion}
 use Rattle.adb_view.specs.Plain.{Plain, null, int, blob, arr, obj, Plains, none, more, IsNormal}

@@ -1,6 +1,5 @@
--- What the code asks of words: whether they have plain values, and whether these are Null.
--- The rules stand in `docs/formats.md`, "Values". Serves the contracts of `src/words.rt` and
--- `src/block.rt`.
+-- The tests of words in the code: whether they have plain values, and whether these are Null. The rules
+-- are in `docs/formats.md`, "Values". Serves the contracts of `src/words.rt` and `src/block.rt`.
 use Rattle.std.specs.Prelude.{ℕ, Bool, true, false, ◌&&◌, List, is_some, unwrap_or}
 use Rattle.adb_view.specs.Plain.{Plain, null, Plains, none, more, plains_of}
 use Rattle.adb_view.specs.Schema.{shapes_of}
@@ -13,7 +12,7 @@ abbrev pub is_null : Plain → Bool
 is_null null = true
 is_null v = false
 
--- whether each of some values is Null: an object that has these is Null itself
+-- whether each of some values is Null: then an object of these is Null itself
 abbrev pub are_null : Plains → Bool
 are_null none = true
 are_null (more v vs) = is_null v && are_null vs
@@ -26,7 +25,7 @@ fields_sound p fields words = is_some (plains_of p (shapes_of fields) words)
 unfoldable pub fields_at : List ℕ → List Field → List ℕ → Plains
 fields_at p fields words = unwrap_or (plains_of p (shapes_of fields) words) none
 
--- whether a value of the kind stands behind the name of its field, and not below it
+-- whether a value of the kind is on the line of its field's name, and not below it
 abbrev pub has_one_line : Kind → Bool
 has_one_line Int = true
 has_one_line Text = true

@@ -1,7 +1,7 @@
-//! The text of a container: the lines of its values, written from the words of its payload.
-//! The rules stand in `docs/formats.md`, "Dump text", the table of values and their lines; which
-//! fields an object has, in what order, in "Schemas". How often a text is written, and with how
-//! much memory, is said by the README of this crate.
+//! The text of a container: the lines of its values, written from the words of its payload. The
+//! rules are in `docs/formats.md`, "Dump text", the table of values and their lines; the fields of
+//! an object and their order are in "Schemas". The README of this crate says how often a text is
+//! written, and with how much memory.
 
 ghost use Rattle.std.specs.Prelude.{◌≡◌, ◌++◌, true, codes, is_some, length, IfOk, OnOk, ◌<◌, ◌≤◌, ◌+◌, false};
 ghost use Rattle.adb_view.specs.ShapedPayload.{adb_of, shaped_value, table_of};
@@ -30,10 +30,10 @@ use adb_view::{Adb, Arr, Val, entry_word};
 use base_core::Text;
 use std::alloc::{AllocError, Global};
 
-/// The text of a payload that was walked as a package, an index, an installed database or an
-/// intent: a line for its schema, and then the fields of its root that are not Null. A text of at
-/// most four times the payload's bytes is written at once; of a longer one the bytes are counted
-/// first, and memory is taken once and for all of them.
+/// The text of a payload that was walked as a package, an index, an installed database or a journal
+/// entry: a line for its schema, and then the fields of its root that are not Null. A text of at
+/// most four times the payload's bytes is written at once. The bytes of a longer one are counted
+/// first, and its memory is allocated once.
 pub fn dump(alloc: Global, shaped: &Shaped<'_>) -> Result<Text, AllocError>
     requires { is_some (schema_word (table_of shaped.now)) ≡ true }
     ensures { IfOk result
@@ -45,13 +45,13 @@ pub fn dump(alloc: Global, shaped: &Shaped<'_>) -> Result<Text, AllocError>
     }
 }
 
-/// How many times as many bytes as its payload a text may have that is not counted first. Any
-/// number is right: with a greater one more memory is asked for, with a lesser one more texts are
-/// written twice.
+/// The longest text that is written without counting it first, in multiples of its payload's bytes.
+/// Any number is correct: with a greater one more memory is allocated, with a smaller one more
+/// texts are written twice.
 const MOST_TIMES: usize = 4;
 
-/// The text of a payload, where there is memory for `MOST_TIMES` as many bytes as the payload has,
-/// and the text has no more.
+/// The text of a payload, if it has at most `MOST_TIMES` as many bytes as the payload, and there is
+/// memory for that.
 fn short_dump(alloc: Global, shaped: &Shaped<'_>) -> Result<Text, AllocError>
     requires { is_some (schema_word (table_of shaped.now)) ≡ true }
     ensures { IfOk result
@@ -73,7 +73,7 @@ fn counted_dump(alloc: Global, shaped: &Shaped<'_>) -> Result<Text, AllocError>
     let mut out = Vec::with_capacity(alloc, len)?;
     write_dump(&mut out, shaped)?;
     let is_exact = out.len() == len;
-    // Memory was taken for just so many bytes as are put: both come from `write_dump`.
+    // The allocated memory is exactly filled: `write_dump` both counts and writes.
     prove!(is_exact);
     Ok(Text::from_vec(out))
 }
@@ -107,7 +107,7 @@ fn write_dump<O: BlobOut>(out: &mut O, shaped: &Shaped<'_>) -> Result<(), AllocE
     Ok(())
 }
 
-/// Puts the first line of a text, with the schema of its root.
+/// Writes the first line of a text, with the schema of its root.
 fn write_schema<O: Out>(out: &mut O, which: Which) -> Result<(), AllocError>
     requires { is_some (schema_word which) ≡ true }
     ensures { OnOk result (PutsForAny O.holds out.old out.new
@@ -125,7 +125,7 @@ fn write_schema<O: Out>(out: &mut O, which: Which) -> Result<(), AllocError>
     }
 }
 
-/// Puts the lines of the value of a word, which is not Null.
+/// Writes the lines of the value of a word that is not Null.
 #[cycle(block)]
 #[tactic(auto, using(adb_view::proofs::WalkSteps::table_rank, crate::proofs::BlockLines::int_lines, crate::proofs::BlockLines::text_lines, crate::proofs::BlockLines::hash_lines, crate::proofs::BlockLines::texts_lines, crate::proofs::BlockLines::objects_lines, crate::proofs::BlockLines::object_lines))]
 #[inline(always)]
@@ -138,7 +138,7 @@ fn write_block<O: BlobOut>(
 ) -> Result<(), AllocError>
     requires sound { is_sound (payload_of adb) kind word ≡ true }
     requires some { is_null (value_at (payload_of adb) kind word) ≡ false }
-    // No value lies so deep that its lines pass the greatest depth.
+    // No value is so deep that its lines exceed the greatest depth.
     requires deep { start.depth + rank kind ≤ DEPTH_LIMIT }
     ensures { OnOk result (Puts (O.holds (payload_of adb.entry)) out.old out.new
         (lines_at start.depth start.begun
@@ -161,7 +161,7 @@ fn write_block<O: BlobOut>(
     }
 }
 
-/// Puts the entries of an array, each behind a dash.
+/// Puts the entries of an array, each after a dash.
 #[cycle(block)]
 #[tactic(auto, using(crate::proofs::Turns::entry_here, crate::proofs::Turns::entries_later, crate::proofs::Turns::entry_turn, crate::proofs::Turns::entries_end))]
 fn write_entries<O: BlobOut>(
@@ -187,8 +187,8 @@ fn write_entries<O: BlobOut>(
     Ok(())
 }
 
-/// Puts the lines of an entry of an array, the first of which its dash has begun; an entry that is
-/// Null has the line `null`.
+/// Writes the lines of an entry of an array, after its dash; an entry that is Null has the line
+/// `null`.
 #[cycle(block)]
 #[tactic(auto, using(crate::proofs::Turns::null_entry, crate::proofs::Turns::some_entry))]
 fn write_entry<O: BlobOut>(
@@ -214,8 +214,8 @@ fn write_entry<O: BlobOut>(
     write_block(out, adb, kind, word, LineStart { depth, begun: true })
 }
 
-/// Puts the lines of an entry that is an object. Whether the object is Null is known once its
-/// fields are put: then none was put, and the line is `null`.
+/// Writes the lines of an entry that is an object. Whether the object is Null is known only after
+/// its fields: if none was written, the line is `null`.
 #[cycle(block)]
 fn write_object_entry<O: BlobOut>(
     out: &mut O,
@@ -240,8 +240,8 @@ fn write_object_entry<O: BlobOut>(
     Ok(())
 }
 
-/// Puts the fields of an object that are not Null, and answers whether all of them are. Words past
-/// the object's fields are not looked at.
+/// Writes the fields of an object that are not Null, and returns whether all of them are. Words
+/// past the object's fields are ignored.
 #[cycle(block)]
 #[tactic(auto, using(adb_view::proofs::WalkSteps::field_rank, crate::proofs::Left::field_here, crate::proofs::Left::fields_later, crate::proofs::Turns::field_turn, crate::proofs::Turns::null_turn, crate::proofs::Turns::words_end, crate::proofs::Turns::fields_end))]
 pub(crate) fn write_fields<O: BlobOut>(
@@ -278,7 +278,7 @@ pub(crate) fn write_fields<O: BlobOut>(
     Ok(all_null)
 }
 
-/// Puts the lines of a field, and answers whether its value is Null: then it has no lines.
+/// Writes the lines of a field, and returns whether its value is Null: then it has no lines.
 #[cycle(block)]
 fn write_field<O: BlobOut>(
     out: &mut O,
@@ -307,8 +307,8 @@ fn write_field<O: BlobOut>(
     Ok(false)
 }
 
-/// Puts the line of a field that holds a text, and answers whether its value is Null: then it has
-/// no line. Most fields hold texts, so the text is looked up once.
+/// Writes the line of a field with a text, and returns whether its value is Null: then it has no
+/// line. Most fields are texts, so the text is read only once.
 #[inline(always)]
 fn write_text_field<O: BlobOut>(
     out: &mut O,
@@ -336,7 +336,7 @@ fn write_text_field<O: BlobOut>(
     Ok(false)
 }
 
-/// Puts the lines of a field whose value is not Null: behind its name, or below it.
+/// Writes the lines of a field whose value is not Null: after its name, or below it.
 #[cycle(block)]
 #[tactic(auto, using(crate::proofs::Turns::field_behind, crate::proofs::Turns::field_below))]
 #[inline(always)]
@@ -374,7 +374,7 @@ fn write_named<O: BlobOut>(
     }
 }
 
-/// Whether a value of the kind stands behind the name of its field, and not below it.
+/// Whether a value of the kind is on the line of its field's name, and not below it.
 fn has_one_line(kind: Kind) -> bool
     ensures { result ≡ has_one_line kind }
 {

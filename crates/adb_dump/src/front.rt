@@ -1,9 +1,9 @@
-//! What stands in front of a value on its line, behind the spaces of eight levels. A line at a
-//! depth of at most eight begins with the end of it that has its own spaces, and is begun by one
-//! put; of a deeper line the spaces are put first, level by level.
-//! The rule stands in `docs/formats.md`, "Dump text": two spaces for each level, `name: ` before a
-//! value, `- ` before an entry; the names are those of "Schemas". That eight levels stand in each
-//! front saves time alone. In the clauses 8 is `FRONT_LEVELS`.
+//! The front of a line, before its value, and after the spaces of eight levels. A line of depth
+//! eight or less begins with a suffix of a front, which has its own spaces, and is written by one
+//! call. For a deeper line the spaces are written first, level by level. The rule is in
+//! `docs/formats.md`, "Dump text": two spaces for each level, `name: ` before a value, `- ` before
+//! an entry; the names are those of "Schemas". The eight levels in each front only save time. In
+//! the clauses 8 is `FRONT_LEVELS`.
 
 ghost use Rattle.std.specs.Prelude.{◌≡◌, ◌++◌, codes};
 ghost use Rattle.adb_dump.specs.Margin.{margin};
@@ -11,14 +11,14 @@ ghost use Rattle.adb_view.specs.Schema.{field_name_text};
 
 use adb_schema::FieldName;
 
-/// How many levels of two spaces stand in each front. Any number is right: it decides which lines
-/// are begun by one put.
+/// How many levels of two spaces each front has. Any number is correct: it decides which lines are
+/// begun by one call.
 pub(crate) const FRONT_LEVELS: u32 = 8;
 
 /// How many spaces these are: two for each level.
 pub(crate) const FRONT_LEN: usize = 16;
 
-/// The front of a line that begins with nothing but its spaces.
+/// The front of a line that begins with its spaces only.
 pub(crate) fn blank_front() -> &'static [u8]
     ensures { result.now ≡ margin 8 }
 {
@@ -32,7 +32,7 @@ pub(crate) fn dash_front() -> &'static [u8]
     b"                - "
 }
 
-/// The front of a field whose value stands on its line: the field's name, a colon and a space.
+/// The front of a field whose value is on its line: the field's name, a colon and a space.
 pub(crate) fn name_front(name: FieldName) -> &'static [u8]
     ensures { result.now ≡ margin 8 ++ field_name_text name ++ codes ": " }
 {

@@ -1,7 +1,6 @@
-//! What follows from the definitions, for every value, each as the contract of a function that does
-//! nothing.
-//! The rule stands in `docs/formats.md`, "Dump text": "A container's value has one text, and no
-//! other normal value of the same schema has that text." When a value is normal, says "Values"
+//! Theorems about the definitions, for every value, each proved as the contract of an empty
+//! function. The rule is in `docs/formats.md`, "Dump text": "A container's value has one text, and
+//! no other normal value of the same schema has that text." Normal values are defined in "Values"
 //! there.
 ghost use Rattle.std.specs.Prelude.{◌≡◌, ◌<◌, ℕ, All, List, IfSome, Ok, Some};
 ghost use Rattle.adb_view.specs.Plain.{Plain, IsNormal, plain_of};
@@ -33,8 +32,8 @@ pub fn only_lines_of_values_are_read()
         → (value_lines which v ≡ ls) × IsValueOf which v }
 {}
 
-/// The text of a normal value is split into just its lines, and the lines that a text is split into
-/// make up that text.
+/// The text of a normal value is split into exactly its lines, and the lines that a text is split
+/// into make up that text.
 pub fn texts_are_split_into_their_lines()
     ensures split { (which : Which) (v : Plain) → IsNormal v
         → split_lines (dump_text which v) ≡ Some (dump_lines which v) }
@@ -42,7 +41,7 @@ pub fn texts_are_split_into_their_lines()
         → text_of ls ≡ text }
 {}
 
-/// Each plain value that is found in bytes, as an object of a table, is a normal value of that
+/// Each plain value that is read from bytes, as an object of a table, is a normal value of that
 /// table and of bytes. So two payloads that are walked as one table and have the same text have the
 /// same value.
 pub fn values_found_in_bytes_are_of_their_table()

@@ -1,21 +1,24 @@
 //! The text of a container's values, for a person to read and for a program to read back.
 //!
-//! A walked payload goes in and its text comes out: `#%SCHEMA: ` and the schema in eight
+//! From a walked payload the crate writes its text: `#%SCHEMA: ` and the schema in eight
 //! hexadecimal digits, and then the fields of the root that are not Null, in the order of their
-//! table (apk-v3(5)). `name: ` stands before an integer in decimal digits, a hash in hexadecimal
-//! digits, or a text; an object and an array stand below `name:`, two spaces deeper, each entry of
-//! an array behind `- `, and a Null entry as `- null`. A text stands as it is where that is plain,
-//! and else between quotes with the escapes `\n`, `\\`, `\"` and `\x`. So the text tells the value,
-//! and no other.
+//! table (apk-v3(5)).
 //!
-//! The values are read where they stand, and the text is written from front to end, into memory for
-//! four times the payload's bytes. Where that does not suffice it is written once into a count of
-//! its bytes, for which each long text is looked at once, and once into memory for so many. The
-//! contracts cite `Dump` (the lines of a value, and the text), `Values` (what a text can
-//! stand for) and `ReadBack` (the value of lines) of `specs/`; `Words`, `Margin` and `Out` are what
-//! the code in between speaks of.
-//! The rules stand in `docs/formats.md`, "Dump text"; what a plain value is, and when it is Null,
-//! in "Values" there.
+//! - `name: ` precedes an integer in decimal digits, a hash in hexadecimal digits, or a text.
+//! - An object and an array are below `name:`, two spaces deeper. Each entry of an array is after
+//!   `- `, and a Null entry is `- null`.
+//! - A text is written as it is if that is plain, and else between quotes with the escapes `\n`,
+//!   `\\`, `\"` and `\x`.
+//!
+//! So a text is that of exactly one value.
+//!
+//! The values are read in place, and the text is written from front to end, into memory for four
+//! times the payload's bytes. If that does not suffice it is written twice: first its bytes are
+//! counted, for which each long text is read once, and then it is written into memory of that size.
+//! The contracts cite `Dump` (the lines of a value, and the text), `Values` (the values that a text
+//! can represent) and `ReadBack` (the value of lines) of `specs/`; `Words`, `Margin` and `Out`
+//! serve the inner contracts. The rules are in `docs/formats.md`, "Dump text"; plain values, and
+//! when one is Null, are defined in "Values" there.
 #![tactic(auto)]
 
 mod block;

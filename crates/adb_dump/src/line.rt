@@ -1,6 +1,6 @@
-//! Lines: what stands in front of them, names of fields, and values on one line.
-//! The rules stand in `docs/formats.md`, "Dump text": the table, and the paragraph on texts that
-//! stand as they are or between quotes.
+//! Lines: their fronts, names of fields, and values on one line. The rules are in
+//! `docs/formats.md`, "Dump text": the table, and the paragraph on texts as they are or between
+//! quotes.
 
 ghost use Rattle.std.specs.Prelude.{◌≡◌, ◌+◌, ◌≤◌, [], ◌∷◌, ◌++◌, OnOk, codes, drop, length};
 ghost use Rattle.std.specs.Fmt.{decimal};
@@ -21,8 +21,8 @@ use adb_view::{Adb, Val};
 use itoa::Buffer;
 use std::alloc::AllocError;
 
-/// How many bytes a SHA-256 has: most of what is written in hexadecimal digits. So many are put at
-/// once, and others byte by byte.
+/// The length of a SHA-256, the most frequent length in hexadecimal digits. Bytes of this length
+/// are written at once, and others byte by byte.
 const HASH_LEN: usize = 32;
 
 /// Puts the line of an integer, in decimal digits.
@@ -40,7 +40,7 @@ pub(crate) fn write_number_line<O: Out>(
     Ok(())
 }
 
-/// Puts the line of a text, which is that of the word.
+/// Writes the line of a text, which is that of the word.
 #[inline(always)]
 pub(crate) fn write_text_line<O: BlobOut>(
     out: &mut O,
@@ -86,7 +86,7 @@ fn write_number<O: Out>(out: &mut O, number: u64) -> Result<(), AllocError>
 pub(crate) fn write_hex<O: Out>(out: &mut O, bytes: &[u8]) -> Result<(), AllocError>
     ensures { OnOk result (PutsForAny O.holds out.old out.new (encode_lower bytes.now)) }
 {
-    // Most hashes have this length, and are put at once.
+    // Most hashes have this length, and are written at once.
     if bytes.len() == HASH_LEN {
         return out.put(&hash_digits(bytes));
     }
@@ -116,7 +116,7 @@ fn hex_digits(byte: u8) -> [u8; 2]
     digits
 }
 
-/// Puts a text as it is, or between quotes where it cannot stand as it is.
+/// Writes a text as it is if it is bare, else between quotes.
 #[inline(always)]
 pub(crate) fn write_text<O: Out>(out: &mut O, text: &[u8]) -> Result<(), AllocError>
     ensures { OnOk result (PutsForAny O.holds out.old out.new (text_form text.now)) }
@@ -142,7 +142,7 @@ fn write_quoted<O: Out>(out: &mut O, text: &[u8]) -> Result<(), AllocError>
     Ok(())
 }
 
-/// Puts a byte of a text that stands between quotes: as it is, or its escape.
+/// Writes a byte of a text between quotes: as it is, or its escape.
 fn write_escaped<O: Out>(out: &mut O, byte: u8) -> Result<(), AllocError>
     ensures { OnOk result (PutsForAny O.holds out.old out.new (escape_of byte)) }
 {
@@ -159,8 +159,8 @@ fn write_escaped<O: Out>(out: &mut O, byte: u8) -> Result<(), AllocError>
     }
 }
 
-/// Whether a text stands as it is: every byte is printable, no space is first or last, no quote is
-/// first, and the text is not `null`.
+/// Whether a text may be written as it is: every byte is printable, no space is first or last, no
+/// quote is first, and the text is not `null`.
 pub fn is_bare(text: &[u8]) -> bool
     ensures { result ≡ is_bare text.now }
 {
@@ -201,12 +201,12 @@ fn ends_with_byte(byte: u8, text: &[u8]) -> bool
     }
 }
 
-/// How many bytes of a long text are tested at once. The tests of so many bytes, or of half or a
-/// quarter of so many, become a few steps for all of them.
+/// How many bytes of a long text are tested at once. The compiler tests a constant number of bytes
+/// (this one, a half or a quarter of it) in a few steps.
 const WINDOW_LEN: usize = 16;
 
-/// Whether every byte of a text is printable. Bytes that stand in two windows are tested twice,
-/// which takes less time than to test one by one those that no whole window is left for.
+/// Whether every byte of a text is printable. Bytes in two windows are tested twice, which is
+/// faster than testing a rest shorter than a window byte by byte.
 fn is_printable(text: &[u8]) -> bool
     ensures { result ≡ list_all is_printable text.now }
 {
@@ -223,8 +223,8 @@ fn is_printable(text: &[u8]) -> bool
     is_window_printable(text)
 }
 
-/// Whether every byte of a text is printable that has at least the bytes of a window: window by
-/// window, the last of which ends where the text does.
+/// Whether every byte of a text is printable that is at least as long as a window. It is tested
+/// window by window, and the last one ends with the text.
 fn is_long_printable(text: &[u8]) -> bool
     // As many as `WINDOW_LEN`.
     requires { 16 ≤ length text.now }
@@ -241,7 +241,7 @@ fn is_long_printable(text: &[u8]) -> bool
     is_window_printable(&text[last..last + WINDOW_LEN])
 }
 
-/// Whether every byte of a text is printable whose first and last `len` bytes are all of it.
+/// Whether every byte of a text is printable that consists of its first and last `len` bytes.
 #[inline(always)]
 fn are_ends_printable(text: &[u8], len: usize) -> bool
     requires within { len ≤ length text.now }
@@ -252,8 +252,8 @@ fn are_ends_printable(text: &[u8], len: usize) -> bool
     is_window_printable(&text[..len]) & is_window_printable(&text[last..last + len])
 }
 
-/// Whether every byte of a window is printable. There is no way out in between, so that the
-/// compiler can test all bytes at once where it knows how many they are.
+/// Whether every byte of a window is printable. It never returns early, so the compiler can test
+/// all bytes at once if it knows their number.
 #[inline(always)]
 #[tactic(auto, using(crate::proofs::Pieces::printable_next, crate::proofs::Pieces::printable_over))]
 fn is_window_printable(window: &[u8]) -> bool
@@ -273,12 +273,12 @@ fn is_printable_byte(byte: u8) -> bool
     byte >= 0x20 && byte <= 0x7e
 }
 
-/// Where the next line stands.
+/// The start of the next line.
 #[derive(Clone, Copy)]
 pub(crate) struct LineStart {
-    /// How deep the line stands, in levels of two spaces.
+    /// The depth of the line, in levels of two spaces.
     pub(crate) depth: u32,
-    /// Whether what stands in front of the line is written already.
+    /// Whether the front of the line is already written.
     pub(crate) begun: bool,
 }
 
@@ -291,8 +291,8 @@ impl LineStart {
     }
 }
 
-/// Puts what is still to stand in front of the next line, and then what a front has behind its
-/// eight levels of spaces: both at once, unless the line stands deeper.
+/// Writes the missing spaces of the next line, and then the part of a front after its eight levels
+/// of spaces: both at once, unless the line is deeper.
 #[inline(always)]
 fn write_front<O: Out>(out: &mut O, start: LineStart, front: &[u8]) -> Result<(), AllocError>
     // Eight levels (`FRONT_LEVELS`) are sixteen spaces (`FRONT_LEN`).
@@ -311,7 +311,7 @@ fn write_front<O: Out>(out: &mut O, start: LineStart, front: &[u8]) -> Result<()
     Ok(())
 }
 
-/// Puts two spaces for each level, one level behind another.
+/// Puts two spaces for each level, one level after another.
 #[cold]
 #[inline(never)]
 fn write_levels<O: Out>(out: &mut O, levels: u32) -> Result<(), AllocError>
@@ -323,7 +323,7 @@ fn write_levels<O: Out>(out: &mut O, levels: u32) -> Result<(), AllocError>
     Ok(())
 }
 
-/// Puts what is still to stand in front of an entry of an array, and its dash and a space.
+/// Writes the missing spaces before an entry of an array, and its dash and a space.
 #[inline(always)]
 pub(crate) fn write_dash<O: Out>(out: &mut O, depth: u32, begun: bool) -> Result<(), AllocError>
     ensures { OnOk result (PutsForAny O.holds out.old out.new (lead depth begun ++ codes "- ")) }
@@ -331,8 +331,8 @@ pub(crate) fn write_dash<O: Out>(out: &mut O, depth: u32, begun: bool) -> Result
     write_front(out, LineStart { depth, begun }, dash_front())
 }
 
-/// Puts what is still to stand in front of a field, its name, a colon and a space: its value
-/// follows on the line.
+/// Writes the missing spaces before a field, its name, a colon and a space: its value follows on
+/// the line.
 #[inline(always)]
 pub(crate) fn write_name<O: Out>(
     out: &mut O,
@@ -345,8 +345,8 @@ pub(crate) fn write_name<O: Out>(
     write_front(out, start, name_front(name))
 }
 
-/// Puts what is still to stand in front of a field, its name, a colon and a line end: its value
-/// follows below.
+/// Writes the missing spaces before a field, its name, a colon and a line end: its value follows
+/// below.
 pub(crate) fn write_name_line<O: Out>(
     out: &mut O,
     start: LineStart,
@@ -361,8 +361,7 @@ pub(crate) fn write_name_line<O: Out>(
     Ok(())
 }
 
-/// Puts what is still to stand in front of the next line: its spaces, or nothing where the line has
-/// begun.
+/// Writes the missing front of the next line: its spaces, or nothing if the line has begun.
 fn write_lead<O: Out>(out: &mut O, start: LineStart) -> Result<(), AllocError>
     ensures { OnOk result (PutsForAny O.holds out.old out.new (lead start.depth start.begun)) }
 {

@@ -1,7 +1,6 @@
-//! What the text is put into: its bytes, or only a count of them.
-//! No document has a rule for this: the README of this crate says when a text is counted first, and
-//! the contracts are those of `Out` and `BlobOut`. How a text or a hash stands in its line, says
-//! `docs/formats.md`, "Dump text".
+//! The outputs of a text: its bytes, or only their count. The README of this crate says when a text
+//! is counted first; no document has a rule for it. The contracts are those of `Out` and `BlobOut`.
+//! The form of a text or a hash in its line is defined in `docs/formats.md`, "Dump text".
 
 ghost use Rattle.std.specs.Prelude.{◌≡◌, ℕ, ◌+◌, ◌-◌, List, [], ◌∷◌, IfOk, OnOk, length};
 ghost use Rattle.std.specs.Vec.{vec_capacity};
@@ -19,52 +18,52 @@ use adb_view::{Adb, Val};
 use std::alloc::{AllocError, Global};
 use std::collections::BTreeMap;
 
-/// How many bytes a text has at most whose length in a line is counted at each place, so that no
-/// memory is taken for it. Any number is right; a greater one takes more time, a lesser one more
-/// memory.
+/// The longest text whose length in a line is counted wherever it occurs, so that it takes no
+/// memory. Any number is correct; with a greater one counting takes more time, with a smaller one
+/// more memory.
 const SHORT: usize = 64;
 
-/// What bytes are put into, one piece behind another.
+/// An output, to which bytes are appended.
 pub(crate) trait Out {
     ghost use Rattle.std.specs.Prelude.{ℕ, List};
 
-    /// Whether just these bytes may have been put in, where texts are those of the payload.
+    /// Whether exactly these bytes were written, if texts are those of the payload.
     ghost holds: { List ℕ → Self → List ℕ → Type 0 };
 
-    /// Puts bytes behind those that were put in before.
+    /// Appends bytes.
     fn put(&mut self, bytes: &[u8]) -> Result<(), AllocError>
         ensures { OnOk result (PutsForAny holds self.old self.new bytes.now) };
 
-    /// Puts a byte behind those that were put in before.
+    /// Appends a byte.
     fn put_byte(&mut self, byte: u8) -> Result<(), AllocError>
         ensures { OnOk result (PutsForAny holds self.old self.new (byte ∷ [])) };
 }
 
-/// What the blobs of a payload are put into, as they stand in lines.
+/// An output for the blobs of a payload, in their form in lines.
 pub(crate) trait BlobOut: Out {
-    /// Puts the text of a word as it stands in a line.
+    /// Appends the text of a word in its form in a line.
     fn put_text(&mut self, adb: Adb<'_>, word: Val, text: &[u8]) -> Result<(), AllocError>
         requires { text.now ≡ text_in (value_at (payload_of adb) Kinds.Text word) }
         ensures { OnOk result (Puts (Self.holds (payload_of adb.entry)) self.old self.new
             (text_form text.now)) };
 
-    /// Puts a hash as it stands in a line, in hexadecimal digits.
+    /// Puts a hash as it is in a line, in hexadecimal digits.
     fn put_hash(&mut self, hash: &[u8]) -> Result<(), AllocError>
         ensures { OnOk result (PutsForAny Self.holds self.old self.new (encode_lower hash.now)) };
 }
 
-/// The bytes themselves, in memory that grows as it is needed, or was taken for all of them.
+/// The bytes themselves, in memory that grows on demand, or was allocated for all of them.
 impl Out for Vec<u8> {
     ghost use Rattle.std.specs.Prelude.{◌≡◌};
 
     ghost holds = { λ _ out bytes. out.items ≡ bytes };
 
-    /// Puts bytes; memory grows where there is no room for them.
+    /// Appends bytes; memory grows if there is no room for them.
     fn put(&mut self, bytes: &[u8]) -> Result<(), AllocError> {
         self.extend_from_slice(bytes)
     }
 
-    // Puts a byte; memory grows where there is no room for it.
+    // Appends a byte; memory grows if there is no room for it.
     fn put_byte(&mut self, byte: u8) -> Result<(), AllocError> {
         self.push(byte)?;
         Ok(())
@@ -83,15 +82,15 @@ impl BlobOut for Vec<u8> {
     }
 }
 
-/// The bytes themselves, as long as there is room: no more memory is taken than at the start.
+/// The bytes themselves, in a fixed amount of memory: it never grows.
 #[derive(Drop)]
 pub(crate) struct Room {
-    /// The bytes that were put in.
+    /// The bytes that were written.
     pub(crate) bytes: Vec<u8>,
 }
 
 impl Room {
-    /// An out without bytes, with room for so many, and memory for them.
+    /// An output without bytes, with memory for this many.
     pub(crate) fn new(alloc: Global, bytes: usize) -> Result<Room, AllocError>
         ensures { IfOk result (λ room. room.bytes.items ≡ []) }
     {
@@ -100,7 +99,7 @@ impl Room {
         })
     }
 
-    /// How many bytes more may come.
+    /// How many more bytes fit.
     #[inline(always)]
     fn left(&self) -> usize
         ensures { result ≡ vec_capacity self.now.bytes - length self.now.bytes.items }
@@ -114,7 +113,7 @@ impl Out for Room {
 
     ghost holds = { λ _ out bytes. out.bytes.items ≡ bytes };
 
-    /// Puts bytes, and fails where there is no room for them, as for want of memory.
+    /// Appends bytes, and fails as out of memory if there is no room for them.
     #[inline(always)]
     fn put(&mut self, bytes: &[u8]) -> Result<(), AllocError> {
         if bytes.len() > self.left() {
@@ -123,7 +122,7 @@ impl Out for Room {
         self.bytes.extend_from_slice(bytes)
     }
 
-    /// Puts a byte, and fails where there is no room for it, as for want of memory.
+    /// Appends a byte, and fails as out of memory if there is no room for it.
     #[inline(always)]
     fn put_byte(&mut self, byte: u8) -> Result<(), AllocError> {
         if self.left() == 0 {
@@ -147,16 +146,15 @@ impl BlobOut for Room {
     }
 }
 
-/// How many bytes were put in, and nothing else of them.
+/// The number of bytes that were written, without the bytes.
 #[derive(Drop)]
 pub(crate) struct Length {
-    /// The count; where it would pass what a machine can count, the call fails as for want of
-    /// memory.
+    /// The count; if it would overflow, the call fails as out of memory.
     pub(crate) bytes: usize,
 }
 
 impl Length {
-    /// Counts so many bytes more.
+    /// Counts this many more bytes.
     fn add(&mut self, bytes: usize) -> Result<(), AllocError>
         ensures { OnOk result (self.new.bytes ≡ self.old.bytes + bytes) }
     {
@@ -181,19 +179,19 @@ impl Out for Length {
     }
 }
 
-/// How many bytes are counted before memory for so many is tried: 1 GiB. Any number is right; it
-/// bounds how long a text is counted that no memory can hold.
+/// How many bytes are counted before an allocation of that size is tried: 1 GiB. Any number is
+/// correct; it bounds how long a text is counted that no memory can hold.
 const MUCH: usize = 1 << 30;
 
-/// How many bytes were put in, and how long the long texts are in lines, by their words. Many
-/// places may share a text, so a long one is counted once.
+/// The number of bytes that were written, and the lengths of the long texts in lines, by their
+/// words. Many places may share a text, so a long one is counted once.
 #[derive(Drop)]
 pub(crate) struct Count {
-    /// How many bytes were put in.
+    /// The number of bytes that were written.
     pub(crate) len: Length,
-    /// How long a text is in its line, by its word.
+    /// The length of a text in its line, by its word.
     lens: BTreeMap<u32, usize>,
-    /// What memory comes from.
+    /// The allocator.
     alloc: Global,
     /// Up to how many bytes no memory is tried.
     room: usize,
@@ -215,8 +213,8 @@ impl Count {
         }
     }
 
-    /// Counts so many bytes more. Where much was counted, memory for it is tried and given back:
-    /// without it the count need not go on. It is then tried again at twice as many.
+    /// Counts this many more bytes. After a certain count an allocation of that size is tried and
+    /// freed: if it fails, the count need not continue. It is tried again at twice the count.
     fn add(&mut self, bytes: usize) -> Result<(), AllocError>
         ensures len { OnOk result (self.new.len.bytes ≡ self.old.len.bytes + bytes) }
         ensures lens { self.new.lens ≡ self.old.lens }
@@ -229,13 +227,13 @@ impl Count {
         Ok(())
     }
 
-    /// How long the text of a word is in a line. The length is kept, for each place that has the
+    /// The length of a word's text in a line. The length is remembered, for each place with the
     /// word.
     fn line_len(&mut self, word: Val, text: &[u8]) -> Result<usize, AllocError>
         ensures len { IfOk result (λ len. (payload : List ℕ)
             → text.now ≡ text_in (value_at payload Kinds.Text word)
             → AreLineLengths payload self.old.lens → len ≡ length (text_form text.now)) }
-        // The other lengths that are kept are right too, if they were.
+        // The other remembered lengths are right too, if they were.
         ensures kept { StayLineLengths self.old.lens self.new.lens word text.now }
         ensures put { self.new.len ≡ self.old.len }
     {
@@ -247,7 +245,7 @@ impl Count {
         Ok(len)
     }
 
-    /// The length that is kept for the text of a word, if one is.
+    /// The remembered length of a word's text, if there is one.
     fn kept_len(&self, word: Val) -> Option<usize>
         ensures { result ≡ get nat_cmp self.now.lens word }
     {
@@ -298,7 +296,7 @@ impl BlobOut for Count {
 
     // Counts the digits of a hash.
     fn put_hash(&mut self, hash: &[u8]) -> Result<(), AllocError> {
-        // Two digits for each byte: their number cannot overflow if it is counted in two steps.
+        // Two digits for each byte: their number cannot overflow if it is added in two steps.
         self.add(hash.len())?;
         self.add(hash.len())?;
         Ok(())

@@ -1,6 +1,6 @@
-//! Which words mean Null, and the words of an object.
-//! The rules stand in `docs/formats.md`, "Values": NULL is Null under each shape, and so are an
-//! empty blob or array and an object without any value. A stored 0 is not Null ("Dump text").
+//! Which words are Null, and the words of an object. The rules are in `docs/formats.md`, "Values":
+//! NULL is Null for each shape, and so are an empty blob or array and an object without any value.
+//! A stored 0 is not Null ("Dump text").
 
 ghost use Rattle.std.specs.Prelude.{◌≡◌, ◌<◌, ◌^◌, true, length, slice_index, ◌==◌, if◌then◌else◌};
 ghost use Rattle.adb_view.specs.Adb.{payload_of};
@@ -27,13 +27,13 @@ pub(crate) fn field_words<'a>(adb: Adb<'a>, which: Which, word: Val) -> Arr<'a>
 {
     match adb.find_entries(word) {
         Some(entries) => entries,
-        // A word that is sound leads to a run, or is NULL.
+        // A sound word points to a run, or is NULL.
         None => unreachable!(),
     }
 }
 
-/// Whether a word means Null under its shape: NULL itself, or something without a byte, an entry or
-/// a value.
+/// Whether a word is Null for its shape: NULL itself, or a blob, array or object without a byte, an
+/// entry or a value.
 #[cycle(null)]
 #[tactic(auto, using(adb_view::proofs::WalkSteps::table_rank, crate::proofs::Nulls::text_null, crate::proofs::Nulls::hash_null, crate::proofs::Nulls::arr_null, crate::proofs::Nulls::obj_null))]
 #[inline(always)]
@@ -51,7 +51,7 @@ pub(crate) fn is_null(adb: Adb<'_>, kind: Kind, word: Val) -> bool
     }
 }
 
-/// Whether each word of an object that has a field means Null.
+/// Whether each word of an object that has a field is Null.
 #[cycle(null)]
 #[tactic(auto, using(adb_view::proofs::WalkSteps::field_rank, crate::proofs::Left::field_here, crate::proofs::Left::fields_later, crate::proofs::Left::null_next, crate::proofs::Left::null_stop, crate::proofs::Left::null_done, crate::proofs::Left::null_over))]
 fn are_null(adb: Adb<'_>, fields: &[Field], words: Arr<'_>) -> bool
@@ -71,7 +71,7 @@ fn are_null(adb: Adb<'_>, fields: &[Field], words: Arr<'_>) -> bool
     true
 }
 
-/// Whether a word means Null where an integer is asked for: only NULL does.
+/// Whether a word is Null as an integer: only NULL is.
 #[tactic(auto, using(crate::proofs::Nulls::null_test, crate::proofs::Nulls::int_is_null))]
 fn is_null_int(adb: Adb<'_>, word: Val) -> bool
     requires { is_sound (payload_of adb) Kinds.Int word ≡ true }

@@ -73,7 +73,7 @@ alone names = sym (earlier-none (twice names))
 pub alone_several : (lists : List (List (List ℕ))) → twice_in_one lists ≡ twice_in_one (lists ++ [])
 alone_several lists = ap twice_in_one (sym (append-nil lists))
 
--- ---- names behind names
+-- ---- names after names
 
 pub numbered-append : (n : ℕ) (xs ys : List (List ℕ)) → numbered_from n (xs ++ ys) ≡ numbered_from n xs ++ numbered_from (n + length xs) ys
 numbered-append n [] ys = (let e : n ≡ n + 0 = omega arith in ap (λ k. numbered_from k ys) e)
@@ -86,7 +86,7 @@ texts_behind a b one two m e l h =
     let f : m + 1 ≡ 1 + length a = omega arith in
     h ∙ ((λ i. e i ++ numbered_from (f i) b) ∙ sym (numbered-append 1 a b))
 
--- ---- kind behind kind
+-- ---- kind after kind
 
 pub one_package : (pkg : Plain) → option_or (repeated_at (field_number Tables.Dir DIR_NAME) (twice (map name_of (folders_in pkg)))) (repeated_at (field_number Tables.File FILE_NAME) (twice_in_one (map (λ folder. map name_of (files_in folder)) (folders_in pkg)))) ≡ inside_fault (pkg ∷ [])
 one_package pkg = λ i. option_or (repeated_at (field_number Tables.Dir DIR_NAME) (alone (map name_of (folders_in pkg)) i)) (repeated_at (field_number Tables.File FILE_NAME) (alone_several (map (λ folder. map name_of (files_in folder)) (folders_in pkg)) i))

@@ -42,7 +42,7 @@ no_names f [] (suc i) m h = refl
 no_names f (v ∷ vs) zero m h = absurd (omega arith)
 no_names f (v ∷ vs) (suc i) m h = no_names f vs i m (omega arith)
 
--- behind m names, the next one
+-- after m names, the next one
 pub one_more : (f : Plain → List ℕ) (values : List Plain) (i m k : ℕ) (x : List ℕ) (done next all : List NameWithPosition) → i < length values → x ≡ f (get_or values i null) → next ≡ done ++ (named_at x (m + 1) ∷ []) → k ≡ m + 1 → done ++ numbered_from (m + 1) (map f (drop i values)) ≡ all → next ++ numbered_from (k + 1) (map f (drop (i + 1) values)) ≡ all
 one_more f values i m k x done next all h e n l so =
     let left : List NameWithPosition = numbered_from (m + 1 + 1) (map f (drop (i + 1) values)) in
@@ -51,7 +51,7 @@ one_more f values i m k x done next all h e n l so =
     ∙ (ap (λ y. done ++ (named_at y (m + 1) ∷ left)) e
     ∙ (ap (λ rest. done ++ rest) (sym (more_names f values i (m + 1) h)) ∙ so)))
 
--- and none behind the last
+-- and none after the last
 pub no_more : (f : Plain → List ℕ) (values : List Plain) (i m : ℕ) (done all : List NameWithPosition) → length values ≤ i → done ++ numbered_from m (map f (drop i values)) ≡ all → done ≡ all
 no_more f values i m done all h so = sym (append-nil done) ∙ (ap (λ rest. done ++ rest) (sym (no_names f values i m h)) ∙ so)
 
@@ -73,7 +73,7 @@ pub all_at-append : (n : ℕ) (xs ys : List (List ℕ)) → all_at n (xs ++ ys) 
 all_at-append n [] ys = refl
 all_at-append n (x ∷ xs) ys = ap (λ rest. named_at x n ∷ rest) (all_at-append n xs ys)
 
--- the piece of the value at a place, and those behind
+-- the piece of the value at a place, and those after
 pub pieces : {X : Type 0} (piece : Plain → List X) (values : List Plain) (i : ℕ) → i < length values → flat_map piece (drop i values) ≡ piece (get_or values i null) ++ flat_map piece (drop (i + 1) values)
 pieces piece [] i h = absurd (omega arith)
 pieces piece (v ∷ vs) zero h = refl

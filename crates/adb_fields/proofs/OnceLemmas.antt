@@ -1,4 +1,4 @@
--- No pair is reported exactly where each name stands once.
+-- No pair is reported exactly if each name stands once.
 use Rattle.std.proofs.Common.{◌≡◌, ℕ, ◌+◌, ◌<◌, ◌≤◌, ◌⊎◌, inl, inr, Bool, true, false, cond, List, [], ◌∷◌, Option, Some, None, refl, ap, sym, subst, ◌∙◌, arith, ◌↔◌}
 use Rattle.base_core.specs.declared.cause.Cause.{Cause}
 use Rattle.adb_view.specs.Plain.{Plain}
@@ -21,7 +21,7 @@ use Rattle.adb_fields.proofs.FirstPair.{first_pair-first}
 abbrev NoPair : List NameWithPosition → Type 0
 NoPair names = (q : Pair) → ¬ IsPair names q
 
--- a name behind stands at a later position
+-- a name after is at a later position
 pub record StandsAt (name : List ℕ) (n : ℕ) (names : List NameWithPosition) : Type 0 where
   pub one : NameWithPosition
   pub inside : IsIn one names
@@ -145,7 +145,7 @@ pub record IsOfOne (one : NameWithPosition) (n : ℕ) (lists : List (List (List 
   pub inside : IsInOneOf one.name lists
   pub later : n ≤ one.position
 
--- of the first list, or of one behind it
+-- of the first list, or of one after it
 pub record IsHere (one : NameWithPosition) (n : ℕ) (names : List (List ℕ)) : Type 0 where
   pub inside : IsIn one.name names
   pub at : one.position ≡ n

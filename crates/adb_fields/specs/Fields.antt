@@ -1,5 +1,5 @@
--- Words that stand for a field or for an entry. The rule stands in `docs/formats.md`, "Values": for
--- an object, the values of its first fields; past the last entry is NULL.
+-- The words of fields and of entries. The rule is in `docs/formats.md`, "Values": an object has the
+-- values of its first fields; past the last entry is NULL.
 use Rattle.std.specs.Prelude.{◌≡◌, ℕ, true, Bool, List, is_some, slice_index_or, unwrap_or, Some}
 use Rattle.adb_view.specs.Plain.{Plain, Plains, none, arr_value, each_plain, plain_of}
 use Rattle.adb_view.specs.Schema.{shape_of}
@@ -8,23 +8,21 @@ use Rattle.adb_view.specs.declared.tables.Which.{Which}
 use Rattle.adb_view.specs.declared.tables.Kind.{Kind}
 use Rattle.adb_view.specs.declared.tables.Kind.TheVariants.{Obj}
 
--- `word` is the field with index i of the object `w`, an object of the table `which` in the payload
--- `p`: whatever the field's kind, the word is sound under it, and its value is the field of the
--- object's value
+-- `word` is the field with index i of the object `w` of the table `which` in the payload `p`: for each
+-- kind of the field, the word is sound, and its value is the field of the object's value
 abbrev pub IsFieldOf : List ℕ → Which → ℕ → ℕ → ℕ → Type 0
 IsFieldOf p which w i word = (k : Kind) → kind_at which i ≡ Some k → (is_sound p k word ≡ true)
     × (value_at p k word ≡ entry_in (value_at p (Obj which) w) i)
 
--- each of these words is the field of the object with its index, and behind the last word the
--- fields are Null
+-- each of these words is the object's field with its index, and after the last word the fields are Null
 abbrev pub AreFieldsOf : List ℕ → Which → ℕ → List ℕ → Type 0
 AreFieldsOf p which object words = (i : ℕ) → IsFieldOf p which object i (slice_index_or words i 0)
 
--- whether each of an array's words has a plain value under the kind
+-- whether each of an array's words has a plain value of the kind
 unfoldable pub are_all_sound : List ℕ → Kind → List ℕ → Bool
 are_all_sound p k words = is_some (each_plain (plain_of p (shape_of k)) words)
 
--- the plain values that an array's words have under the kind; none where one of them has no value
+-- the plain values of an array's words by the kind; none if one of them has no value
 unfoldable pub values_at : List ℕ → Kind → List ℕ → Plains
 values_at p k words = unwrap_or (each_plain (plain_of p (shape_of k)) words) none
 

@@ -1,12 +1,12 @@
--- Which pair of positions is the first at which one name stands, in the words of `docs/formats.md`,
--- "Names that stand twice". Serves the laws of `src/pairs.rt`.
+-- Which pair of positions of one name is the first, in the words of `docs/formats.md`, "Names that
+-- stand twice". Serves the laws of `src/pairs.rt`.
 use Rattle.std.specs.Prelude.{◌≡◌, ℕ, ◌<◌, ◌≤◌, ◌⊎◌, List, [], ◌∷◌, Option, Some, None}
 pub use Rattle.base_core.specs.Lists.{IsIn}
 use Rattle.adb_fields.specs.Pairs.{NameWithPosition}
 use Rattle.adb_fields.specs.Repeated.{numbered_from}
 use Rattle.adb_fields.specs.declared.pairs.Pair.{Pair}
 
--- one name stands at both positions of the pair, the first of which is the smaller
+-- one name is at both positions of the pair, the first of which is the smaller
 pub record IsPair (names : List NameWithPosition) (p : Pair) : Type 0 where
   -- the name at the first position
   pub one : NameWithPosition
@@ -20,16 +20,16 @@ pub record IsPair (names : List NameWithPosition) (p : Pair) : Type 0 where
   pub second : p.second ≡ other.position
   pub rises : p.first < p.second
 
--- a pair of a kind is the first: none has a smaller second position, and of those with the same
--- second position none a smaller first one
+-- a pair of a kind is the first: none has a smaller second position, and none with the same second
+-- position has a smaller first one
 pub record IsFirst (IsOne : Pair → Type 0) (p : Pair) : Type 0 where
   pub is_one : IsOne p
   -- no pair has a smaller second position
   pub second : (q : Pair) → IsOne q → p.second ≤ q.second
-  -- of those with the same second position none has a smaller first one
+  -- none with the same second position has a smaller first one
   pub first : (q : Pair) → IsOne q → q.second ≡ p.second → p.first ≤ q.first
 
--- of all pairs of a kind this is the first, or there is none
+-- this is the first of all pairs of a kind, or None if there is none
 abbrev pub IsFirstOf : (Pair → Type 0) → Option Pair → Type 0
 IsFirstOf IsOne None = (q : Pair) → ¬ IsOne q
 IsFirstOf IsOne (Some p) = IsFirst IsOne p

@@ -1,5 +1,5 @@
--- The pairs that are kept of lists that many places may share. Serves the contract of
--- `KnownLists::twice`; what is looked for stands in `docs/formats.md`, "Names that stand twice".
+-- The remembered results for lists that many places may share. Serves the contract of
+-- `KnownLists::twice`; the rule is in `docs/formats.md`, "Names that stand twice".
 use Rattle.std.specs.Prelude.{◌≡◌, ℕ, List, map, Option, Some}
 use Rattle.std.specs.BTreeMap.{BTreeMap, get}
 use Rattle.std.specs.Ordering.{nat_cmp}
@@ -9,12 +9,12 @@ use Rattle.adb_view.specs.declared.tables.Kind.TheVariants.{ObjArr}
 use Rattle.adb_fields.specs.Repeated.{list_of, name_of, twice}
 use Rattle.adb_fields.specs.declared.pairs.Pair.{Pair}
 
--- the first pair of positions at which a name stands in the list of objects that a word means
+-- the first pair of positions of one name in the list of objects of a word
 abbrev pub twice_at : List ℕ → Which → ℕ → Option Pair
 twice_at payload which word = twice (map name_of
     (list_of (entries_in (value_at payload (ObjArr which) word))))
 
--- each pair that is kept under a word is that of the word's list
+-- each result that is remembered for a word is that of the word's list
 abbrev pub ArePairsOf : List ℕ → Which → BTreeMap ℕ (Option Pair) → Type 0
 ArePairsOf payload which pairs = (word : ℕ) → (pair : Option Pair)
     → get nat_cmp pairs word ≡ Some pair → pair ≡ twice_at payload which word

@@ -1,12 +1,12 @@
--- The definitions of `adb_fields`. The head of each file says where its rule stands.
+-- The definitions of `adb_fields`. The head of each file names the section with its rule.
 
--- what the contract of `apk` says
+-- cited by the contract of `apk`
 pub mod Paths
 pub mod Pairs
 pub mod Repeated
 -- the order of paths
 pub mod JoinedPath
--- what only inner contracts and proofs use
+-- used by inner contracts and proofs only
 pub mod FirstPair
 pub mod Once
 pub mod Fields

@@ -1,10 +1,9 @@
--- Of which payload lists are kept, and of which table's objects. Serves the contract of
--- `KnownLists`.
+-- The payload and the table of the remembered lists. Serves the contract of `KnownLists`.
 use Rattle.std.specs.Prelude.{◌≡◌}
 use Rattle.adb_view.specs.declared.adb.Adb.{Adb}
 use Rattle.adb_view.specs.declared.tables.Which.{Which}
 use Rattle.adb_fields.specs.declared.known_lists.KnownLists.{KnownLists}
 
--- the lists that are kept are those of objects of this table in this payload
+-- the remembered lists are those of objects of this table in this payload
 abbrev pub AreListsOf : Adb → Which → KnownLists → Type 0
 AreListsOf adb which lists = (lists.adb ≡ adb) × (lists.which ≡ which)

@@ -1,5 +1,5 @@
 -- The names that the program compares, and their order. Serves the contracts of `src/pairs.rt` and
--- `src/name_lists.rt`; the rule stands in `docs/formats.md`, "Names that stand twice".
+-- `src/name_lists.rt`; the rule is in `docs/formats.md`, "Names that stand twice".
 use Rattle.std.specs.Prelude.{ℕ, List, [], ◌∷◌, Option}
 use Rattle.adb_fields.specs.Repeated.{list_of}
 use Rattle.adb_fields.specs.JoinedPath.{joined_path}
@@ -14,8 +14,8 @@ use Rattle.adb_fields.specs.Fields.{array_at}
 use Rattle.adb_view.specs.declared.tables.Kind.{Kind}
 use Rattle.adb_fields.specs.declared.pairs.PathWithPosition.{PathWithPosition}
 
--- the name that an entry of the program's list stands for, with its position: where there is a
--- folder, a path
+-- the name that an entry of the program's list represents, with its position: if there is a folder, a
+-- path
 abbrev pub named_by : PathWithPosition → NameWithPosition
 named_by e = record { name = joined_path e.path; position = e.position }
 
@@ -23,19 +23,18 @@ named_by e = record { name = joined_path e.path; position = e.position }
 abbrev pub named_cmp : NameWithPosition → NameWithPosition → Ordering
 named_cmp x y = ordering_then (slice_cmp nat_cmp x.name y.name) (nat_cmp x.position y.position)
 
--- the pairs of positions that a name and the names behind it make, each with the next one; None
--- where two names differ. *earliest* takes of them the pair that is reported
+-- the pairs of positions of a name and the next one, and so on while the names are equal; None between
+-- two names that differ. *earliest* returns the pair that is reported
 abbrev pub neighbours_from : NameWithPosition → List NameWithPosition → List (Option Pair)
 neighbours_from x [] = []
 neighbours_from x (y ∷ ys) = pair_of x y ∷ neighbours_from y ys
 
--- the pairs of positions that each name of a list makes with the next one; None where the two names
--- differ
+-- the pairs of positions that each name of a list makes with the next one; None if the two names differ
 abbrev pub neighbours : List NameWithPosition → List (Option Pair)
 neighbours [] = []
 neighbours (x ∷ xs) = neighbours_from x xs
 
--- a name with the position at which it stands
+-- a name with its position
 abbrev pub named_at : List ℕ → ℕ → NameWithPosition
 named_at name position = record { name = name; position = position }
 

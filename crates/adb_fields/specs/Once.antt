@@ -1,5 +1,5 @@
--- What it is that no name stands twice in a container. Which names these are stands in the table of
--- `docs/formats.md`, "Names that stand twice".
+-- When no name occurs twice in a container. The names are in the table of `docs/formats.md`, "Names
+-- that stand twice".
 use Rattle.std.specs.Prelude.{◌⊎◌, ℕ, List, [], ◌∷◌, ◌++◌, map}
 use Rattle.std.specs.List.{flat_map}
 use Rattle.adb_view.specs.Plain.{Plain}
@@ -10,44 +10,44 @@ use Rattle.adb_view.specs.declared.tables.Which.TheVariants.{Package, Idb, Inten
 use Rattle.adb_fields.specs.FirstPair.{IsIn}
 use Rattle.adb_fields.specs.Repeated.{entries_at, files_in, folders_in, name_of, package_name, paths_in}
 
--- no name stands twice in the list
+-- no name occurs twice in the list
 abbrev pub AreDistinctNames : List (List ℕ) → Type 0
 AreDistinctNames [] = Unit {0}
 AreDistinctNames (name ∷ names) = (¬ IsIn name names) × AreDistinctNames names
 
--- no name stands twice in one of these lists
+-- no name occurs twice in one of these lists
 abbrev pub AllDistinct : List (List (List ℕ)) → Type 0
 AllDistinct [] = Unit {0}
 AllDistinct (names ∷ lists) = AreDistinctNames names × AllDistinct lists
 
--- a name stands in one of the lists
+-- a name is in one of the lists
 abbrev pub IsInOneOf : List ℕ → List (List (List ℕ)) → Type 0
 IsInOneOf name [] = ⊥
 IsInOneOf name (names ∷ lists) = IsIn name names ⊎ IsInOneOf name lists
 
--- no name stands in two of the lists
+-- no name is in two of the lists
 abbrev pub AreApart : List (List (List ℕ)) → Type 0
 AreApart [] = Unit {0}
 AreApart (names ∷ lists) = ((name : List ℕ) → IsIn name names → ¬ IsInOneOf name lists)
     × AreApart lists
 
--- no package lists a folder twice, and none of its folders a file
+-- no package lists a folder twice, and no folder lists a file twice
 pub record StandOnceInside (packages : List Plain) : Type 0 where
-  -- each folder stands once in its package
+  -- each package lists a folder once
   pub folders : AllDistinct (map (λ pkg. map name_of (folders_in pkg)) packages)
-  -- each file stands once in its folder
+  -- each folder lists a file once
   pub files : AllDistinct
       (flat_map (λ pkg. map (λ folder. map name_of (files_in folder)) (folders_in pkg)) packages)
 
 -- no two packages have one name, and no two list one path
 pub record StandOnceBetween (packages : List Plain) : Type 0 where
-  -- each package stands once
+  -- each package occurs once
   pub packages_once : AreDistinctNames (map package_name packages)
-  -- no path stands in two packages
+  -- no path is in two packages
   pub paths_once : AreApart (map paths_in packages)
 
--- no name stands twice in a container, by the table of its root, that may stand once alone; of
--- other tables nothing is asked
+-- no name that must not repeat occurs twice in a container, by the table of its root; other tables
+-- demand nothing
 abbrev pub NamesStandOnce : Which → Plain → Type 0
 NamesStandOnce Package v = StandOnceInside (v ∷ [])
 NamesStandOnce Idb v = StandOnceInside (entries_at IDB_PACKAGES v)

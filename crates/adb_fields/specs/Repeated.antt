@@ -1,5 +1,5 @@
--- Names that stand twice in a container, kind by kind. The rule stands in the table of
--- `docs/formats.md`, "Names that stand twice".
+-- Repeated names in a container, kind by kind. The rule is in the table of `docs/formats.md`, "Names
+-- that stand twice".
 use Rattle.std.specs.Prelude.{ℕ, ◌+◌, ◌*◌, List, [], ◌∷◌, ◌++◌, map, Option, None, option_map}
 use Rattle.std.specs.Option.{option_or}
 use Rattle.std.specs.List.{flat_map}
@@ -17,16 +17,16 @@ use Rattle.adb_view.specs.declared.tables.Which.TheVariants.{File, Dir, Package,
 
 -- ---- lists of names
 
--- names at positions in a row, the first of them at position n
+-- names at consecutive positions, the first of them at position n
 abbrev pub numbered_from : ℕ → List (List ℕ) → List NameWithPosition
 numbered_from n [] = []
 numbered_from n (name ∷ names) = record { name = name; position = n } ∷ numbered_from (n + 1) names
 
--- the pair that is reported of the names of a list; None where each stands once
+-- the pair that is reported of the names of a list; None if each occurs once
 abbrev pub twice : List (List ℕ) → Option Pair
 twice names = first_pair (numbered_from 1 names)
 
--- the pair that is reported of several lists, in one of which a name stands twice
+-- the pair that is reported of several lists, if a name occurs twice in one of them
 abbrev pub twice_in_one : List (List (List ℕ)) → Option Pair
 twice_in_one lists = earliest (map twice lists)
 
@@ -39,7 +39,7 @@ abbrev pub by_list_from : ℕ → List (List (List ℕ)) → List NameWithPositi
 by_list_from n [] = []
 by_list_from n (names ∷ lists) = all_at n names ++ by_list_from (n + 1) lists
 
--- the pair of lists that is reported, since one name stands in both
+-- the pair of lists that is reported, since one name is in both
 abbrev pub in_two : List (List (List ℕ)) → Option Pair
 in_two lists = first_pair (by_list_from 1 lists)
 
@@ -93,7 +93,7 @@ abbrev pub file_twice : List Plain → Option Pair
 file_twice packages = twice_in_one
     (flat_map (λ pkg. map (λ folder. map name_of (files_in folder)) (folders_in pkg)) packages)
 
--- the pair of positions at which packages of one name stand in a database
+-- the pair of positions of two packages of one name in a database
 abbrev pub package_twice : List Plain → Option Pair
 package_twice packages = twice (map package_name packages)
 
@@ -108,29 +108,29 @@ name_twice intent = twice
 
 -- ---- the fault of a container
 
--- the number by which a field is reported: 100 times its table's, and its own, which is its index
--- and one, since fields count from 1
+-- the number by which a field is reported: 100 times its table's, plus its own, which is its index plus
+-- one, since fields count from 1
 abbrev pub field_number : Which → ℕ → ℕ
 field_number which index = 100 * schema_number which + (index + 1)
 
--- the cause of a pair that stands, with the number of the field whose texts stand once
+-- the cause of a pair, if there is one, with the number of the field whose texts must not repeat
 abbrev pub repeated_at : ℕ → Option Pair → Option Cause
 repeated_at number pair = option_map (λ p. Repeated number p.first p.second) pair
 
--- what is reported of names inside of one package: a folder, or else a file of a folder
+-- the cause for names within one package: a folder, or else a file of a folder
 abbrev pub inside_fault : List Plain → Option Cause
 inside_fault packages =
     option_or (repeated_at (field_number Dir DIR_NAME) (folder_twice packages))
     (repeated_at (field_number File FILE_NAME) (file_twice packages))
 
--- what is reported of names in two packages: the name of a package, or else a path
+-- the cause for names in two packages: the name of a package, or else a path
 abbrev pub between_fault : List Plain → Option Cause
 between_fault packages =
     option_or (repeated_at (field_number Idb IDB_PACKAGES) (package_twice packages))
     (repeated_at (field_number File FILE_NAME) (path_in_two packages))
 
--- what is reported of a container with this table at its root: the first kind of names of which one
--- stands twice
+-- the cause for a container with this table at its root: that of the first kind of names of which one
+-- repeats
 unfoldable pub repeated_fault : Which → Plain → Option Cause
 repeated_fault Package v = inside_fault (v ∷ [])
 repeated_fault Idb v = option_or (inside_fault (entries_at IDB_PACKAGES v))

@@ -1,6 +1,6 @@
-//! Paths of files whose parts are not joined, and their order. What the path of a file is stands in
-//! `docs/formats.md`, "Schemas" ("The path of a file"). Serves the search for one path in two
-//! packages ("Names that stand twice"), as `FilePath::compare` in the README of this crate.
+//! Paths of files whose two parts are not joined, and their order. The path of a file is defined in
+//! `docs/formats.md`, "Schemas" ("The path of a file"). Serves the search for a path that two
+//! packages have ("Names that stand twice"), as `FilePath::compare` in the README of this crate.
 
 ghost use Rattle.std.specs.Prelude.{◌≡◌, ◌<◌, ◌≤◌, ◌+◌, ◌^◌, length, take, drop, slice_get, IfSome};
 ghost use Rattle.std.specs.Cmp.Lexicographic.{slice_cmp};
@@ -9,8 +9,8 @@ ghost use Rattle.adb_fields.specs.JoinedPath.{joined_path};
 
 use std::cmp::Ordering;
 
-/// The path of a file: its name behind its folder's and a slash. The root folder has the empty
-/// name. The two parts stay where they are, so that a path takes no memory.
+/// The path of a file: its folder's name, a slash, and its own name. The root folder has the empty
+/// name. The two parts stay separate, so a path allocates no memory.
 #[derive(Clone, Copy)]
 pub struct FilePath<'a> {
     /// The path of the folder; empty for the root folder.
@@ -36,8 +36,8 @@ impl FilePath<'_> {
         compared_from(self, other, len)
     }
 
-    /// The byte of the path with this index, if there is one; a slash stands between folder and
-    /// name, unless the folder is the root.
+    /// The byte of the path with this index, if there is one. A slash separates folder and name,
+    /// unless the folder is the root.
     fn byte(&self, i: usize) -> Option<u8>
         ensures byte { result ≡ slice_get (joined_path self.now) i }
         ensures small { IfSome result (λ _. i + 1 < 2 ^ 64) }
@@ -66,7 +66,7 @@ fn compared_fronts(one: &[u8], other: &[u8], len: usize) -> Ordering
     front.cmp(&&other[..len])
 }
 
-/// The order of what is left of two paths from this index on.
+/// The order of the rests of two paths from this index on.
 fn compared_from(one: &FilePath<'_>, other: &FilePath<'_>, from: usize) -> Ordering
     ensures { result
         ≡ slice_cmp nat_cmp (drop from (joined_path one.now)) (drop from (joined_path other.now)) }

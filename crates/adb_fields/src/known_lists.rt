@@ -1,7 +1,7 @@
-//! The lists of a payload that were looked through for a name that stands twice. Many places may
-//! share a list, so what a long one has is kept. Serves `repeated_names`, which so looks through a
-//! list once (README of this crate, first paragraph); what is looked for stands in
-//! `docs/formats.md`, "Names that stand twice".
+//! The lists of a payload that were already searched for a repeated name. Many places may share a
+//! list, so the result for a long one is remembered, and each list is searched once (README of this
+//! crate, first paragraph). Serves `repeated_names`; the rule is in `docs/formats.md`, "Names that
+//! stand twice".
 
 ghost use Rattle.std.specs.Prelude.{◌≡◌, true, Some, map, IfOk, IfSome};
 ghost use Rattle.adb_view.specs.Adb.{payload_of};
@@ -20,19 +20,19 @@ use adb_view::{Adb, Arr, Val, Which};
 use std::alloc::{AllocError, Global};
 use std::collections::BTreeMap;
 
-/// How many entries a list has at most whose pair is not kept: it is looked through at each place
-/// where it stands, which takes no memory that stays. Any number gives the same answers.
+/// The most entries of a list whose result is not remembered. Such a list is searched again
+/// wherever it occurs, which keeps no memory. The number does not change the results.
 const LONGEST_SHORT_LIST: usize = 16;
 
 /// A payload, a table whose objects have names, and for each long list of such objects that was
-/// looked through the first pair of its names, by the list's word.
+/// searched, by the list's word, the first pair of its names.
 #[derive(Drop)]
 pub(crate) struct KnownLists<'a> {
-    /// The payload in which the lists stand.
+    /// The payload that contains the lists.
     adb: Adb<'a>,
     /// The table of their objects.
     which: Which,
-    /// By the word of a list: its pair, or that no name stands twice in it.
+    /// By the word of a list: its first pair, or None if no name occurs twice in it.
     pairs: BTreeMap<u32, Option<Pair>>,
     ghost named: { kind_at which NAME_INDEX ≡ Some Kinds.Text },
     ghost exact: { ArePairsOf (payload_of adb) which pairs },
@@ -41,8 +41,8 @@ pub(crate) struct KnownLists<'a> {
 impl<'a> KnownLists<'a> {
     ghost use Rattle.adb_fields.specs.ListsOf.{AreListsOf};
 
-    /// The lists of a payload before any was looked through. The first field of the table has to be
-    /// a text: the name.
+    /// The lists of a payload before any was searched. The first field of the table must be a text,
+    /// which is the name.
     pub(crate) fn new(alloc: Global, adb: Adb<'a>, which: Which) -> KnownLists<'a>
         requires { kind_at which NAME_INDEX ≡ Some Kinds.Text }
         ensures { AreListsOf adb.entry which result }
@@ -54,8 +54,8 @@ impl<'a> KnownLists<'a> {
         }
     }
 
-    /// The pair of positions at which two objects of a list have one name. Only a long list takes
-    /// memory, once.
+    /// The pair of positions at which two objects of a list have one name. Only a long list
+    /// allocates memory, once.
     pub(crate) fn twice(&mut self, alloc: Global, list: Val) -> Result<Option<Pair>, AllocError>
         requires { is_sound (payload_of self.old.adb) (Kinds.ObjArr self.old.which) list ≡ true }
         ensures value { IfOk result (λ pair. pair
@@ -74,8 +74,8 @@ impl<'a> KnownLists<'a> {
         Ok(pair)
     }
 
-    /// The pair that is kept of a list, if the list was looked through before (the inner None: it
-    /// has none).
+    /// The remembered result of a list, if it was searched before; the inner None says that it has
+    /// no pair.
     fn kept_pair(&self, list: Val) -> Option<Option<Pair>>
         ensures { IfSome result (λ pair. pair
             ≡ twice_at (payload_of self.now.adb) self.now.which list) }

@@ -1,13 +1,17 @@
-//! What stands in the fields of a walked payload: reads of words and fields, which cannot fail,
-//! arrays as lists of views, and names that stand twice.
+//! Reads of the fields of a walked payload, which cannot fail, arrays as lists of views, and the
+//! search for repeated names.
 //!
-//! A word that has a plain value under a kind is *sound*, and each read says which plain value it
-//! gives. `repeated_names` answers which name of a package, a database or an intent stands twice.
-//! The contracts cite `Fields` (the words of fields and arrays), `ListValue`, `Pairs` (of the names
-//! that stand twice, which two positions are reported), `Repeated` (the names of a container, kind
-//! by kind), `Paths` and `JoinedPath`.
+//! A word is *sound* if it has a plain value of its kind, and each read returns a part of that
+//! value. `repeated_names` returns a name that occurs twice in a package, a database or a journal
+//! entry. The contracts cite these modules of `specs/`:
 //!
-//! The rules stand in `docs/formats.md`, "Values" (what a word, a field and an entry mean),
+//! - `Fields`: the words of fields and arrays;
+//! - `ListValue`: the value of a list of views;
+//! - `Pairs`: which two positions of a repeated name are reported;
+//! - `Repeated`: the names of a container, kind by kind;
+//! - `Paths` and `JoinedPath`: the paths of files.
+//!
+//! The rules are in `docs/formats.md`, "Values" (the meaning of a word, a field and an entry),
 //! "Schemas" and "Names that stand twice".
 #![tactic(auto)]
 

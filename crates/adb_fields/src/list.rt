@@ -1,5 +1,5 @@
-//! Arrays as lists of views, which cannot fail. What an entry means stands in `docs/formats.md`,
-//! "Values".
+//! Arrays as lists of views, whose reads cannot fail. The meaning of an entry is defined in
+//! `docs/formats.md`, "Values".
 
 ghost use Rattle.std.specs.Prelude.{◌≡◌, ◌<◌, ◌≤◌, ◌-◌, ◌^◌, ◌==◌, true};
 ghost use Rattle.adb_view.specs.Adb.{payload_of};
@@ -14,18 +14,18 @@ use crate::reads::text_word;
 use adb_view::{Adb, Arr, Val, entry_word};
 use std::marker::PhantomData;
 
-/// What shows words of one kind: a view, or a text.
+/// What reads words of one kind: a view, or a text.
 pub trait Kinded {
     /// The kind of the words.
     ghost kind: { Kind };
 }
 
-/// A view of a sound word: what shows a part of its plain value without a fault.
+/// A view of a sound word. It reads a part of the word's plain value without a fault.
 pub trait View<'a>: Kinded {
     /// The plain value that the view shows.
     ghost shows: { Self → Plain };
 
-    /// The view of a word that is sound under the kind.
+    /// The view of a word that is sound for the kind.
     fn of(adb: Adb<'a>, word: Val) -> Self
         requires { is_sound (payload_of adb) Self.kind word ≡ true }
         ensures { shows result ≡ value_at (payload_of adb.entry) Self.kind word };
@@ -85,7 +85,7 @@ impl<'a, V: Kinded> Clone for List<'a, V> {
 
     ghost is_infallible = { λ _. Unit {0} };
 
-    // The same list once more; it takes no memory.
+    // The same list; it allocates no memory.
     fn clone(&self) -> Result<Self, std::alloc::AllocError> {
         Ok(*self)
     }
@@ -98,7 +98,7 @@ impl<'a> Kinded for &'a [u8] {
 impl<'a> View<'a> for &'a [u8] {
     ghost shows = { λ text. blob_value text.now };
 
-    // The text that a word means.
+    // The text of the word.
     #[tactic(auto, using(crate::proofs::FieldReads::text_shown))]
     fn of(adb: Adb<'a>, word: Val) -> &'a [u8] {
         text_word(adb, word)

@@ -1,6 +1,6 @@
-//! The lists of names in which one may stand twice, each name with its position: names of folders,
-//! of files and of packages, paths, and the texts of an intent. Which lists these are stands in the
-//! table of `docs/formats.md`, "Names that stand twice".
+//! The lists of names that must not repeat, each name with its position: names of folders, of files
+//! and of packages, paths, and the texts of a journal entry. The lists are in the table of
+//! `docs/formats.md`, "Names that stand twice".
 
 ghost use Rattle.std.specs.Prelude.{◌≡◌, ◌+◌, ◌<◌, ◌^◌, ◌++◌, ◌∷◌, [], true, Some, map, length, IfOk};
 ghost use Rattle.std.specs.Vec.{vec_len};
@@ -26,7 +26,7 @@ use std::alloc::{AllocError, Global};
 /// The index of the name in a folder and in a file: in both it is the first field.
 const NAME_INDEX: usize = DIR_NAME;
 
-/// Adds a name behind the others, at the next position.
+/// Adds a name after the others, at the next position.
 fn add<'a>(names: &mut Vec<PathWithPosition<'a>>, name: &'a [u8]) -> Result<(), AllocError>
     requires { vec_len names.old + 1 < 2 ^ 32 }
     ensures added { IfOk result (λ _. map named_by names.new.items ≡ map named_by names.old.items
@@ -39,7 +39,7 @@ fn add<'a>(names: &mut Vec<PathWithPosition<'a>>, name: &'a [u8]) -> Result<(), 
     Ok(())
 }
 
-/// The names of folders or files: of objects whose first field is a text, their name.
+/// The names of folders or files: the first fields of these objects, which are texts.
 #[tactic(auto, using(crate::proofs::FieldReads::entry_sound))]
 pub(crate) fn object_names<'a>(
     alloc: Global,
@@ -96,7 +96,7 @@ fn package_name<'a>(adb: Adb<'a>, pkg: Val) -> &'a [u8]
     text_field(adb, Which::PkgInfo, info, INFO_NAME)
 }
 
-/// Adds the texts of an array behind the names, at the positions that follow.
+/// Adds the texts of an array after the names, at the positions that follow.
 #[tactic(auto, using(crate::proofs::FieldReads::entry_sound))]
 pub(crate) fn add_texts<'a>(
     names: &mut Vec<PathWithPosition<'a>>,

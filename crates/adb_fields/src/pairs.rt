@@ -1,4 +1,4 @@
-//! Which two positions are reported of the names of a list that stand twice. The rule stands in
+//! Which two positions of the repeated names in a list are reported. The rule is in
 //! `docs/formats.md`, "Names that stand twice", below the table ("the pair with the smallest second
 //! position").
 
@@ -15,7 +15,7 @@ ghost use Rattle.adb_fields.specs.FirstPair.{IsPairInOne};
 use crate::file_path::FilePath;
 use std::cmp::Ordering;
 
-/// Two positions at which one name stands. They count from 1.
+/// Two positions of one name. They count from 1.
 #[derive(Clone, Copy)]
 pub(crate) struct Pair {
     /// The smaller one.
@@ -24,19 +24,18 @@ pub(crate) struct Pair {
     pub second: u32,
 }
 
-/// A name and the position at which it stands, which counts from 1. Where there is a folder, the
-/// name is a path.
+/// A name and its position, which counts from 1. With a folder, the name is a path.
 #[derive(Clone, Copy)]
 pub(crate) struct PathWithPosition<'a> {
     /// The name, in the root folder, or the path.
     pub path: FilePath<'a>,
-    /// Where it stands, counted from 1.
+    /// Its position, counted from 1.
     pub position: u32,
 }
 
 impl Pair {
-    /// Whether this pair is reported rather than another: it has the smaller second position, or
-    /// the same and the smaller first one.
+    /// Whether this pair is reported rather than another: its second position is smaller, or equal
+    /// and its first position is smaller.
     fn is_before(&self, other: &Pair) -> bool
         ensures { result ≡ is_before self.now other.now }
     {
@@ -47,7 +46,7 @@ impl Pair {
     }
 }
 
-/// The one of two pairs that is reported; None where there is neither.
+/// The one of two pairs that is reported; None if there is neither.
 pub(crate) fn earlier(one: Option<Pair>, other: Option<Pair>) -> Option<Pair>
     ensures { result ≡ earlier one other }
 {
@@ -58,9 +57,8 @@ pub(crate) fn earlier(one: Option<Pair>, other: Option<Pair>) -> Option<Pair>
     }
 }
 
-/// Of all pairs of positions at which one name stands, the first: the one with the smallest second
-/// position, and of several such the one with the smallest first position. It leaves the names
-/// sorted.
+/// The first pair of positions of one name: the pair with the smallest second position, and among
+/// those the one with the smallest first position. It leaves the names sorted.
 pub(crate) fn first_pair(entries: &mut [PathWithPosition<'_>]) -> Option<Pair>
     ensures { result ≡ first_pair (map named_by entries.old) }
 {
@@ -104,7 +102,7 @@ fn compared(one: &PathWithPosition<'_>, other: &PathWithPosition<'_>) -> Orderin
     names.then(one.position.cmp(&other.position))
 }
 
-/// A law: of the names of one list the first pair is reported.
+/// A law: of the repeated names of one list the first pair is reported.
 pub fn the_first_pair_of_a_list_is_reported()
     ensures { (names : List (List ℕ)) → IsFirstOf (IsPair (numbered_from 1 names)) (twice names) }
 {}

@@ -1,10 +1,9 @@
-//! Reads of sound words, and of the fields of sound objects: they cannot fail. Fields count from 0,
-//! and a field that is missing is Null. What a word, a field and an entry mean stands in
-//! `docs/formats.md`, "Values"; which field has which index is table by table in "Schemas", where
-//! fields count from 1. By name the indices stand in `FieldIndexes` of `adb_view`. In the clauses
-//! `sound` says that a word has a plain value under its kind, or its table, and `kind` which kind
-//! of value the field holds. `unreachable!` stands where a reader would refuse a word, since it
-//! refuses no sound one.
+//! Reads of sound words, and of the fields of sound objects, which cannot fail. Fields count from
+//! 0, and a missing field is Null. The meaning of a word, a field and an entry is defined in
+//! `docs/formats.md`, "Values". The fields of each table are in "Schemas", where they count from 1;
+//! `FieldIndexes` of `adb_view` names their indexes. In the clauses `sound` says that a word has a
+//! plain value of its kind or table, and `kind` says the kind of the field. The arms in which a
+//! reader would refuse a word are `unreachable!`, since it refuses no sound one.
 
 ghost use Rattle.std.specs.Prelude.{◌≡◌, ◌<◌, true, Some, length, slice_index, slice_index_or};
 ghost use Rattle.adb_view.specs.Adb.{payload_of};
@@ -39,8 +38,8 @@ pub fn word_or_null(words: Arr<'_>, i: usize) -> Val
     }
 }
 
-/// The word of the field with this index in a sound object; NULL where the object ends before it.
-/// Of an index behind the table's last field nothing is said.
+/// The word of the field with this index in a sound object; NULL if the object ends before it. The
+/// index must be that of a field of the table, or nothing is promised.
 pub fn field_word(adb: Adb<'_>, which: Which, object: Val, i: usize) -> Val
     requires { is_sound (payload_of adb) (Kinds.Obj which) object ≡ true }
     ensures { IsFieldOf (payload_of adb.entry) which object i result }
@@ -48,7 +47,7 @@ pub fn field_word(adb: Adb<'_>, which: Which, object: Val, i: usize) -> Val
     word_or_null(object_words(adb, which, object), i)
 }
 
-/// The integer that a sound word means.
+/// The integer of a sound word.
 #[tactic(auto, using(crate::proofs::FieldReads::int_read_of, crate::proofs::FieldReads::int_reads, crate::proofs::FieldReads::read_ok))]
 pub fn int_word(adb: Adb<'_>, word: Val) -> u64
     requires { is_sound (payload_of adb) Kinds.Int word ≡ true }
@@ -60,7 +59,7 @@ pub fn int_word(adb: Adb<'_>, word: Val) -> u64
     }
 }
 
-/// The bytes that a sound word means as a text.
+/// The bytes of a sound word that is a text.
 #[tactic(auto, using(crate::proofs::FieldReads::text_read_of, crate::proofs::FieldReads::text_reads, crate::proofs::FieldReads::read_ok))]
 pub fn text_word<'a>(adb: Adb<'a>, word: Val) -> &'a [u8]
     requires { is_sound (payload_of adb) Kinds.Text word ≡ true }
@@ -72,7 +71,7 @@ pub fn text_word<'a>(adb: Adb<'a>, word: Val) -> &'a [u8]
     }
 }
 
-/// The bytes that a sound word means as a hash.
+/// The bytes of a sound word that is a hash.
 #[tactic(auto, using(crate::proofs::FieldReads::hash_read_of, crate::proofs::FieldReads::hash_reads, crate::proofs::FieldReads::read_ok))]
 pub fn hash_word<'a>(adb: Adb<'a>, word: Val) -> &'a [u8]
     requires { is_sound (payload_of adb) Kinds.Hash word ≡ true }
@@ -113,7 +112,7 @@ pub fn objects_word<'a>(adb: Adb<'a>, which: Which, word: Val) -> Arr<'a>
     }
 }
 
-/// The integer that a field of an object is; 0 where the field is Null.
+/// The integer in a field of an object; 0 if the field is Null.
 pub fn int_field(adb: Adb<'_>, which: Which, object: Val, i: usize) -> u64
     requires sound { is_sound (payload_of adb) (Kinds.Obj which) object ≡ true }
     requires kind { kind_at which i ≡ Some Kinds.Int }
@@ -123,7 +122,7 @@ pub fn int_field(adb: Adb<'_>, which: Which, object: Val, i: usize) -> u64
     int_word(adb, field_word(adb, which, object, i))
 }
 
-/// The bytes of a field of an object that is a text; none where the field is Null.
+/// The bytes of a text in a field of an object; none if the field is Null.
 pub fn text_field<'a>(adb: Adb<'a>, which: Which, object: Val, i: usize) -> &'a [u8]
     requires sound { is_sound (payload_of adb) (Kinds.Obj which) object ≡ true }
     requires kind { kind_at which i ≡ Some Kinds.Text }
@@ -133,7 +132,7 @@ pub fn text_field<'a>(adb: Adb<'a>, which: Which, object: Val, i: usize) -> &'a 
     text_word(adb, field_word(adb, which, object, i))
 }
 
-/// The bytes of a field of an object that is a hash; none where the field is Null.
+/// The bytes of a hash in a field of an object; none if the field is Null.
 pub fn hash_field<'a>(adb: Adb<'a>, which: Which, object: Val, i: usize) -> &'a [u8]
     requires sound { is_sound (payload_of adb) (Kinds.Obj which) object ≡ true }
     requires kind { kind_at which i ≡ Some Kinds.Hash }

@@ -1,5 +1,5 @@
-//! Names that stand twice in a walked container. The rule stands in `docs/formats.md`, "Names that
-//! stand twice".
+//! Repeated names in a walked container. The rule is in `docs/formats.md`, "Names that stand
+//! twice".
 
 ghost use Rattle.std.specs.Prelude.{◌↔◌, None, ◌≡◌, ◌+◌, ◌<◌, ◌^◌, [], ◌∷◌, true, Some, map, IfOk};
 ghost use Rattle.std.specs.Option.{option_or};
@@ -29,10 +29,10 @@ use adb_view::{Adb, Arr, Shaped, Val, Which, entry_word, values_of_few_visits_ha
 use base_core::Cause;
 use std::alloc::{AllocError, Global};
 
-/// The numbers of the fields whose texts stand once: 100 times the number of the table plus that of
-/// the field in it, which counts from 1.
+/// The numbers of the fields whose texts must not repeat: 100 times the number of the table, plus
+/// that of the field in it, which counts from 1.
 mod field_numbers {
-    // Field 1 of table 4, also for a path that stands in two packages.
+    // Field 1 of table 4, also for a path that is in two packages.
     pub(super) const FILE_NAME: u16 = 401;
 
     // Field 1 of table 5.
@@ -45,18 +45,23 @@ mod field_numbers {
     pub(super) const INTENT_WRITES: u16 = 1002;
 }
 
-/// Looks for a name that stands twice in a walked container, and answers the cause `Repeated`, or
-/// None exactly where there is none. The kinds are looked at in this order: in a package and in a
-/// database two folders of a package, over all packages, and two files of a folder; in a database
-/// also two packages, and one path in two packages, at the positions of the packages; in an intent
-/// two names, of the removals followed by the writes. Of the first kind that stands, the pair with
-/// the smallest second position is reported, and of those the one with the smallest first.
+/// Searches a walked container for a repeated name. It returns the cause `Repeated`, or None if and
+/// only if no name repeats. The kinds are searched in this order:
+///
+/// - in a package and in a database, a folder that a package lists twice, over all packages;
+/// - then a file that a folder lists twice;
+/// - in a database also a name of two packages;
+/// - then a path in two packages, at the positions of the packages;
+/// - in a journal entry a name that occurs twice in its removals followed by its writes.
+///
+/// The first kind with a repeated name is reported, by the pair with the smallest second position,
+/// and among those the one with the smallest first position.
 #[tactic(auto, unfolding(crate::specs::Repeated::repeated_fault))]
 pub fn repeated_names(alloc: Global, shaped: &Shaped<'_>) -> Result<Option<Cause>, AllocError>
     ensures { IfOk result (λ cause. cause
         ≡ repeated_fault (table_of shaped.now) (shaped_value shaped.now)) }
 {
-    // A law that the proof needs; it computes nothing.
+    // A law that the proof needs; it has no effect at run time.
     values_of_few_visits_have_no_fault();
     let adb = shaped.adb();
     let root = adb.root();
@@ -71,7 +76,7 @@ pub fn repeated_names(alloc: Global, shaped: &Shaped<'_>) -> Result<Option<Cause
     }
 }
 
-/// The cause that is reported of a pair, with the number of the field whose texts stand once.
+/// The cause for a pair, with the number of the field whose texts must not repeat.
 fn repeated_at(number: u16, pair: Option<Pair>) -> Option<Cause>
     ensures { result ≡ repeated_at number pair }
 {
@@ -85,7 +90,7 @@ fn repeated_at(number: u16, pair: Option<Pair>) -> Option<Cause>
     }
 }
 
-/// The cause that is reported of names that stand twice in a package.
+/// The cause for repeated names in a package.
 fn in_package(alloc: Global, adb: Adb<'_>, pkg: Val) -> Result<Option<Cause>, AllocError>
     requires { is_sound (payload_of adb) (Kinds.Obj Tables.Package) pkg ≡ true }
     ensures { IfOk result (λ cause. cause
@@ -105,8 +110,7 @@ fn in_package(alloc: Global, adb: Adb<'_>, pkg: Val) -> Result<Option<Cause>, Al
     }
 }
 
-/// The cause that is reported of names that stand twice in one of a database's packages, or in two
-/// of them.
+/// The cause for repeated names in one of a database's packages, or in two of them.
 fn in_database(alloc: Global, adb: Adb<'_>, packages: Arr<'_>) -> Result<Option<Cause>, AllocError>
     requires { are_all_sound (payload_of adb) (Kinds.Obj Tables.Package) (array_entries packages)
         ≡ true }
@@ -123,7 +127,7 @@ fn in_database(alloc: Global, adb: Adb<'_>, packages: Arr<'_>) -> Result<Option<
     }
 }
 
-/// The cause that is reported of names that stand twice within one of the packages.
+/// The cause for repeated names within one of the packages.
 fn inside_packages(
     alloc: Global,
     adb: Adb<'_>,
@@ -141,7 +145,7 @@ fn inside_packages(
     }
 }
 
-/// The cause that is reported of two packages of one name, or of one path in two packages.
+/// The cause for two packages of one name, or for one path in two packages.
 fn between_packages(
     alloc: Global,
     adb: Adb<'_>,
@@ -163,8 +167,8 @@ fn between_packages(
     }
 }
 
-/// The cause that is reported of names that stand twice in an intent: its removals followed by its
-/// writes, which the tests of the shape keep below 2^32.
+/// The cause for repeated names in a journal entry: its removals followed by its writes, of which
+/// the tests of the shape allow fewer than 2^32.
 fn in_intent(alloc: Global, adb: Adb<'_>, intent: Val) -> Result<Option<Cause>, AllocError>
     requires sound { is_sound (payload_of adb) (Kinds.Obj Tables.Intent) intent ≡ true }
     requires few { count_of (entries_in
@@ -260,7 +264,7 @@ fn folder_twice(alloc: Global, adb: Adb<'_>, packages: Arr<'_>) -> Result<Option
     Ok(first)
 }
 
-/// The first pair of positions at which a folder of one of the packages lists one file.
+/// The first pair of positions at which a folder of one of the packages lists the same file.
 #[tactic(auto, using(crate::proofs::FieldReads::entry_sound))]
 fn file_twice(alloc: Global, adb: Adb<'_>, packages: Arr<'_>) -> Result<Option<Pair>, AllocError>
     requires { are_all_sound (payload_of adb) (Kinds.Obj Tables.Package) (array_entries packages)
@@ -278,7 +282,7 @@ fn file_twice(alloc: Global, adb: Adb<'_>, packages: Arr<'_>) -> Result<Option<P
     Ok(first)
 }
 
-/// A law: no repeated name is reported of a value exactly where each stands once.
+/// A law: no repeated name is reported if and only if each name occurs once.
 pub fn no_name_is_repeated_where_each_stands_once()
     ensures { (which : Which) (value : Plain) → (repeated_fault which value ≡ None)
         ↔ NamesStandOnce which value }

@@ -35,7 +35,7 @@ is_at_or_below-by (t ∷ top) [] = refl
 is_at_or_below-by (t ∷ top) (b ∷ rest) =
     rw (eqb-sym t b) (or_and (eqb b t) (bytes_eq rest top) (starts_with nat_eq rest (top ++ codes "/")) ∙ ap (λ x. eqb b t && x) (is_at_or_below-by top rest))
 
--- ---- behind what both begin with
+-- ---- after what both begin with
 
 same_and : (b : ℕ) (x : Bool) → (eqb b b && x) ≡ x
 same_and b x = rw (eq-eqb b b refl) refl
@@ -89,7 +89,7 @@ goes_below-front (t ∷ top) (b ∷ folder) more h =
 pub folder_apart : (top folder more : List ℕ) → ((rest : List ℕ) → top ≡ folder ++ rest → ⊥) → is_at_or_below top (folder ++ more) ≡ is_at_or_below top folder
 folder_apart top folder more h = is_at_or_below-by top (folder ++ more) ∙ goes_below-front top folder more h ∙ sym (is_at_or_below-by top folder)
 
--- behind a slash
+-- after a slash
 pub below_slash : (first : ℕ) (rest name : List ℕ) → is_at_or_below (first ∷ rest) (47 ∷ name) ≡ ((first == 47) && is_at_or_below rest name)
 below_slash first rest name =
     is_at_or_below-by (first ∷ rest) (47 ∷ name) ∙ ap (λ x. x && goes_below rest name) (eqb-sym 47 first) ∙ ap (λ x. (first == 47) && x) (sym (is_at_or_below-by rest name))
@@ -99,7 +99,7 @@ pub file_path : (folder name : List ℕ) → false ≡ (length folder == 0) → 
 file_path [] name e = absurd cc
 file_path (b ∷ folder) name e = refl
 
--- the first byte behind the name
+-- the first byte after the name
 pub goes_below-first : (rest : List ℕ) → false ≡ (length rest == 0) → goes_below [] rest ≡ (get_or rest 0 0 == 47)
 goes_below-first [] e = absurd cc
 goes_below-first (b ∷ rest) e = refl

@@ -1,4 +1,4 @@
--- No text is bad exactly where each keeps the rule of its field.
+-- No text is bad exactly if each keeps the rule of its field.
 use Rattle.std.proofs.Common.{◌≡◌, ℕ, zero, suc, ◌+◌, Bool, true, false, ◌&&◌, List, ◌++◌, Option, Some, None, refl, sym, ap, ◌∙◌, ◌↔◌, ◌<◌, arith}
 use Rattle.std.specs.Prelude.{if◌then◌else◌}
 use Rattle.std.specs.Option.{option_or}

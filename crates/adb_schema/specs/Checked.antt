@@ -1,4 +1,4 @@
--- What a checked payload shows. Serves the contracts of `Checked`; the tests stand in
+-- The contents of a checked payload. Serves the contracts of `Checked`; the tests are in
 -- `docs/formats.md`, "Tests of a container".
 use Rattle.adb_view.specs.Plain.{Plain}
 use Rattle.adb_view.specs.ShapedPayload.{table_of, shaped_value}

@@ -1,5 +1,5 @@
--- The dependency that an entry of a list of dependencies is. What a dependency is stands in
--- `docs/formats.md`, "Dependencies"; its fields in "Schemas", table 1.
+-- The dependency of an entry in a list of dependencies. Dependencies are defined in `docs/formats.md`,
+-- "Dependencies"; their fields in "Schemas", table 1.
 use Rattle.std.specs.Prelude.{Option}
 use Rattle.adb_view.specs.Plain.{Plain}
 use Rattle.adb_view.specs.FieldIndexes.{DEP_MATCH, DEP_NAME, DEP_VERSION}
@@ -7,8 +7,8 @@ use Rattle.adb_view.specs.Values.{entry_in, int_in, text_in}
 use Rattle.dep_core.specs.Dependency.{Dependency}
 use Rattle.dep_core.specs.ValueReading.{dependency_of_value}
 
--- the dependency of a value of table 1, by its name, its version and its match number; None where
--- these are none, which no tested container has
+-- the dependency of a value of table 1, by its name, its version and its match number; None if these
+-- denote none, which never happens in a tested container
 abbrev pub dependency_in : Plain → Option Dependency
 dependency_in value =
     dependency_of_value (text_in (entry_in value DEP_NAME)) (text_in (entry_in value DEP_VERSION))

@@ -1,6 +1,6 @@
--- What it is that a text or number is the first that breaks its rule. Serves the law
--- `the_first_bad_text_is_reported`; the rule stands in `docs/formats.md`, "The texts" ("The first
--- that breaks its rule").
+-- When a text or number is the first that breaks its rule. Serves the law
+-- `the_first_bad_text_is_reported`; the rule is in `docs/formats.md`, "The texts" ("The first that
+-- breaks its rule").
 use Rattle.std.specs.Prelude.{◌≡◌, ℕ, ◌<◌, true, false, List, slice_get, Option, Some, None}
 use Rattle.std.specs.List.{list_all}
 use Rattle.base_core.specs.declared.cause.Cause.{Cause}
@@ -9,18 +9,18 @@ use Rattle.adb_schema.specs.Texts.{Leaf, keeps_rule, number_of_leaf}
 
 -- a number or a text (a leaf) breaks the rule of its field, and none before it does
 pub record IsFirstBad (all : List Leaf) (c : Cause) : Type 0 where
-  -- how many leaves stand before it
+  -- how many leaves precede it
   pub i : ℕ
   -- the leaf that breaks its rule
   pub leaf : Leaf
   pub at : slice_get all i ≡ Some leaf
   pub broken : keeps_rule leaf ≡ false
   pub cause : c ≡ BadText (number_of_leaf leaf)
-  -- each leaf before it keeps its own
+  -- each leaf before it obeys its rule
   pub before : (j : ℕ) → (other : Leaf) → j < i → slice_get all j ≡ Some other → keeps_rule other
       ≡ true
 
--- the cause is that of the first leaf that breaks its rule; without a cause each leaf keeps its own
+-- the cause is that of the first leaf that breaks its rule; without a cause each leaf obeys its rule
 abbrev pub IsFirstBadOf : List Leaf → Option Cause → Type 0
 IsFirstBadOf all None = list_all keeps_rule all ≡ true
 IsFirstBadOf all (Some c) = IsFirstBad all c

@@ -1,12 +1,12 @@
--- The definitions of `adb_schema`. The head of each file says where its rule stands.
+-- The definitions of `adb_schema`. The head of each file names the section with its rule.
 
--- what the contract of `apk` says
+-- cited by the contract of `apk`
 pub mod Soundness
 pub mod Reserved
 pub mod Rules
 pub mod Texts
 pub mod Dependencies
--- what only inner contracts and proofs use
+-- used by inner contracts and proofs only
 pub mod SoundContainers
 pub mod ReadFaults
 pub mod Checked

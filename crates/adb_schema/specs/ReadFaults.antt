@@ -1,5 +1,5 @@
--- What the steps of reading a container answer. Serves the contracts of `src/read.rt`; the order of
--- the tests stands in `docs/formats.md`, "Tests of a container".
+-- The results of the steps of reading a container. Serves the contracts of `src/read.rt`; the order of
+-- the tests is in `docs/formats.md`, "Tests of a container".
 use Rattle.std.specs.Prelude.{◌≡◌, ℕ, List, Option, Some, None}
 use Rattle.base_core.specs.declared.cause.Cause.{Cause}
 use Rattle.adb_block.specs.Reading.{Reading, done, fault, more}
@@ -8,21 +8,21 @@ use Rattle.adb_schema.specs.Soundness.{payload_fault}
 use Rattle.adb_schema.specs.declared.read.ReadFault.{ReadFault}
 use Rattle.adb_schema.specs.declared.read.ReadFault.TheVariants.{Bad, Memory}
 
--- a read refuses with the cause that is to be reported, or for want of memory
+-- a read fails with the cause of the definition, or because memory ran out
 abbrev pub IsReadFault : ReadFault → Option Cause → Type 0
 IsReadFault (Bad cause) reported = reported ≡ Some cause
 IsReadFault Memory reported = Unit {0}
 
 -- the first block of a reading has this payload, which passes its tests, and `later` is the reading
--- behind it
+-- after it
 abbrev pub IsBehindFirst : Which → List ℕ → Reading → Reading → Type 0
 IsBehindFirst which payload done later = ⊥
 IsBehindFirst which payload (fault c) later = ⊥
 IsBehindFirst which payload (more b at r) later = (payload ≡ b.payload)
     × (payload_fault which b.payload ≡ None) × (r ≡ later)
 
--- why the first block of a reading is refused: by its framing, or by its payload; None where it is
--- not
+-- why the first block of a reading is refused: by its framing, or by its payload; None if it is
+-- accepted
 abbrev pub first_block_fault : Which → Reading → Option Cause
 first_block_fault which done = None
 first_block_fault which (fault c) = Some c

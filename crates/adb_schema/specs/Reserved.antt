@@ -1,6 +1,5 @@
--- The reserved names: names below a root under which no database lists a file, so that no change
--- removes one as a package's file. The rule stands in `docs/formats.md`, "The texts", below the
--- table.
+-- The reserved names: names below a root that no database may list as files, so that no change removes
+-- one as a package's file. The rule is in `docs/formats.md`, "The texts", below the table.
 use Rattle.std.specs.Prelude.{ℕ, Bool, ◌||◌, List, [], ◌∷◌, ◌++◌, codes, nat_eq}
 use Rattle.std.specs.Str.{bytes_eq}
 use Rattle.std.specs.List.{list_any, starts_with}
@@ -9,11 +8,11 @@ use Rattle.std.specs.List.{list_any, starts_with}
 abbrev pub is_at_or_below : List ℕ → List ℕ → Bool
 is_at_or_below top path = bytes_eq path top || starts_with nat_eq path (top ++ codes "/")
 
--- whether a path is one of these names, or lies below one
+-- whether a path is one of these names, or below one
 abbrev pub is_below_any : List (List ℕ) → List ℕ → Bool
 is_below_any tops path = list_any (λ top. is_at_or_below top path) tops
 
--- the names where a change keeps itself: its intent, and the folder where new files wait
+-- the names of the journal and of the staging area
 abbrev pub intent_and_stage_names : List (List ℕ)
 intent_and_stage_names = codes "lib/apk/intent" ∷ codes "lib/apk/stage" ∷ []
 
@@ -22,8 +21,7 @@ abbrev pub reserved_names : List (List ℕ)
 reserved_names = codes "etc/apk/world" ∷ codes "lib/apk/intent" ∷ codes "lib/apk/stage" ∷
     codes "lib/apk/db" ∷ []
 
--- whether a path is the intent's name or that of the folder where new files wait, or lies below one
--- of them
+-- whether a path is the name of the journal or of the staging area, or below one of them
 abbrev pub is_intent_or_stage_name : List ℕ → Bool
 is_intent_or_stage_name path = is_below_any intent_and_stage_names path
 

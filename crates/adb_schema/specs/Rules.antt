@@ -1,5 +1,5 @@
--- What single texts of a container have to be (apk-v3(5), apk-package(5)). The rules stand in the
--- table of `docs/formats.md`, "The texts".
+-- The rules for single texts of a container (apk-v3(5), apk-package(5)). The rules are in the table of
+-- `docs/formats.md`, "The texts".
 use Rattle.std.specs.Prelude.{ℕ, ◌==◌, nat_lt, nat_le, Bool, true, false, not, ◌&&◌, ◌||◌, List, [], ◌∷◌, length, codes}
 use Rattle.std.specs.Str.{bytes_eq, is_utf8}
 use Rattle.std.specs.List.{list_any}
@@ -9,16 +9,16 @@ use Rattle.adb_fields.specs.Paths.{path_of}
 
 -- ---- lengths of digests in bytes: SHA-1 has 20, SHA-256 32, SHA-512 64
 
--- whether so many bytes are a SHA-1, a SHA-256 or a SHA-512
+-- whether this is the length of a SHA-1, a SHA-256 or a SHA-512 in bytes
 abbrev pub is_digest_length : ℕ → Bool
 is_digest_length len = (len == 20) || (len == 32) || (len == 64)
 
--- whether so many bytes are a digest, or none
+-- whether this is the length of a digest in bytes, or 0
 abbrev pub is_digest_length_or_none : ℕ → Bool
 is_digest_length_or_none len = (len == 0) || is_digest_length len
 
--- whether so many bytes are what an index has of a package as its id: the SHA-256 of the package's
--- payload, or the first 20 bytes of it
+-- whether this is the length in bytes of a package's id in an index: the SHA-256 of the package's
+-- payload, or its first 20 bytes
 abbrev pub is_id_length : ℕ → Bool
 is_id_length len = (len == 20) || (len == 32)
 
@@ -38,15 +38,14 @@ is_one_part name = is_name name && not (list_any (λ b. b == 47) name)
 abbrev pub is_file_name : List ℕ → List ℕ → Bool
 is_file_name folder name = is_one_part name && nat_le (length (path_of folder name)) 1024
 
--- whether a change may remove or write the path: a name that is neither the intent's nor that of
--- the stage, nor below one of them
+-- whether a change may remove or write the path: a name that is not in the journal or the staging area
 abbrev pub is_change_name : List ℕ → Bool
 is_change_name path = is_name path && not (is_intent_or_stage_name path)
 
 -- ---- other texts
 
--- whether bytes are a link's target: 0 and 160, which are the type 0xa000 of a symbolic link with
--- the low byte first, and a UTF-8 text that is not empty
+-- whether bytes are a link's target: 0 and 160, which are the type 0xa000 of a symbolic link with the
+-- low byte first, and a UTF-8 text that is not empty
 abbrev pub is_link : List ℕ → Bool
 is_link [] = false
 is_link (low ∷ []) = false
@@ -57,7 +56,8 @@ abbrev pub is_target : List ℕ → Bool
 is_target [] = true
 is_target (b ∷ rest) = is_link (b ∷ rest)
 
--- whether bytes say how an index names its packages' files: empty, or the one pattern that is known
+-- whether bytes are a pattern by which an index names its packages' files: empty, or the only known
+-- pattern
 abbrev pub is_name_pattern : List ℕ → Bool
 is_name_pattern [] = true
 is_name_pattern (b ∷ rest) = bytes_eq (b ∷ rest) (codes "${name}-${version}.apk")

@@ -1,7 +1,6 @@
--- What the value of a sound container is: it has the shape of its table, each text and number keeps
--- the rule of its field, and no name stands twice. Serves the law
--- `sound_containers_hold_sound_values`; the rules stand in `docs/formats.md`, "The shape", "The
--- texts" and "Names that stand twice".
+-- The value of a sound container: it has the shape of its table, each text and number obeys the rule of
+-- its field, and no name repeats. Serves the law `sound_containers_hold_sound_values`; the rules are in
+-- `docs/formats.md`, "The shape", "The texts" and "Names that stand twice".
 use Rattle.std.specs.Prelude.{◌≡◌, ℕ, List, None}
 use Rattle.adb_view.specs.Plain.{Plain}
 use Rattle.adb_view.specs.Shaped.{HasShape}
@@ -12,14 +11,14 @@ use Rattle.adb_fields.specs.Once.{NamesStandOnce}
 use Rattle.adb_schema.specs.SoundValues.{KeepsRules}
 use Rattle.adb_schema.specs.Soundness.{first_fault}
 
--- the value is one that a sound container with this table at its root holds: by its shape, its
--- rules, and its names
+-- the value may be that of a sound container with this table at its root: by its shape, its rules, and
+-- its names
 pub record IsSoundValue (which : Which) (v : Plain) : Type 0 where
   -- it has the shape of the table
   pub shape : HasShape (shape_of (Obj which)) v
-  -- each text and number keeps the rule of its field
+  -- each text and number obeys the rule of its field
   pub rules : KeepsRules which v
-  -- no name stands twice
+  -- no name repeats
   pub once : NamesStandOnce which v
 
 -- a file passes every test as a container with this table at its root

@@ -1,6 +1,6 @@
--- What the value of a sound container is, table by table: each text and number keeps the rule of
--- its field. The rules stand in the table of `docs/formats.md`, "The texts"; the fields in
--- "Schemas". The numbers above the fields of records are those of that table.
+-- The value of a sound container, table by table: each text and number obeys the rule of its field. The
+-- rules are in the table of `docs/formats.md`, "The texts"; the fields in "Schemas". The numbers above
+-- the fields of records are those of that table.
 use Rattle.std.specs.Prelude.{◌≡◌, ℕ, true, if◌then◌else◌, List, [], length}
 use Rattle.version_core.specs.Order.{is_version}
 use Rattle.dep_core.specs.Dependency.{is_dep_name, is_package_name}
@@ -15,8 +15,7 @@ use Rattle.adb_fields.specs.Paths.{path_of}
 use Rattle.adb_schema.specs.Rules.{is_change_name, is_digest_length, is_digest_length_or_none, is_file_name, is_folder_name, is_name_pattern, is_target}
 use Rattle.adb_schema.specs.Texts.{is_package_hash, is_with_contents, may_list, needs_hash}
 
--- a dependency as tested containers have it: a name, a version or none, and a match number with an
--- operator
+-- a dependency in a tested container: a name, a version or none, and a match number with an operator
 pub record IsSoundDependency (v : Plain) : Type 0 where
   -- 101
   pub name : is_dep_name (text_in (entry_in v DEP_NAME)) ≡ true
@@ -25,8 +24,8 @@ pub record IsSoundDependency (v : Plain) : Type 0 where
   -- 103
   pub matching : is_matching (int_in (entry_in v DEP_MATCH)) ≡ true
 
--- the information of a package keeps its rules, in a container with this table at its root: in an
--- index it has its hash
+-- the information of a package obeys its rules, in a container with this table at its root: in an index
+-- it has its hash
 pub record IsInformation (root : Which) (v : Plain) : Type 0 where
   -- 301
   pub name : is_package_name (text_in (entry_in v INFO_NAME)) ≡ true
@@ -41,8 +40,8 @@ pub record IsInformation (root : Which) (v : Plain) : Type 0 where
   pub install_if : Each IsSoundDependency (entries_in (entry_in v INFO_INSTALL_IF))
   pub recommends : Each IsSoundDependency (entries_in (entry_in v INFO_RECOMMENDS))
 
--- a file of the folder with this name keeps its rules; where it has contents, it has their hash,
--- but in a database it may lack it
+-- a file of the folder with this name obeys its rules; if it has contents, it has their hash, which may
+-- be missing in a database
 pub record IsFileOf (root : Which) (folder : List ℕ) (v : Plain) : Type 0 where
   -- 401
   pub name : is_file_name folder (text_in (entry_in v FILE_NAME)) ≡ true
@@ -55,20 +54,20 @@ pub record IsFileOf (root : Which) (folder : List ℕ) (v : Plain) : Type 0 wher
   -- 406
   pub target : is_target (text_in (entry_in v FILE_TARGET)) ≡ true
 
--- a folder keeps its rules: its name is a path or empty, and each of its files keeps its own
+-- a folder obeys its rules: its name is a path or empty, and each of its files obeys its own
 pub record IsFolder (root : Which) (v : Plain) : Type 0 where
   -- 501
   pub name : is_folder_name (text_in (entry_in v DIR_NAME)) ≡ true
   pub files : Each (IsFileOf root (text_in (entry_in v DIR_NAME)))
       (entries_in (entry_in v DIR_FILES))
 
--- a package keeps its rules: its information and its folders do
+-- a package obeys its rules: its information and its folders do
 pub record IsPackage (root : Which) (v : Plain) : Type 0 where
   pub info : IsInformation root (entry_in v PACKAGE_INFO)
   pub folders : Each (IsFolder root) (entries_in (entry_in v PACKAGE_PATHS))
 
--- an index keeps its rules: the information of each of its packages does, and so does its pattern
--- of file names
+-- an index obeys its rules: the information of each of its packages does, and so does its pattern of
+-- file names
 pub record IsIndex (v : Plain) : Type 0 where
   -- 802: the rules of table 3
   pub packages : Each (IsInformation Index) (entries_in (entry_in v INDEX_PACKAGES))
@@ -79,14 +78,14 @@ pub record IsIndex (v : Plain) : Type 0 where
 abbrev pub IsChangeName : Plain → Type 0
 IsChangeName v = is_change_name (text_in v) ≡ true
 
--- an intent keeps its rules: a change may remove or write each of its names
+-- a journal entry obeys its rules: a change may remove or write each of its names
 pub record IsIntent (v : Plain) : Type 0 where
   -- 1001
   pub removals : Each IsChangeName (entries_in (entry_in v INTENT_REMOVALS))
   -- 1002
   pub writes : Each IsChangeName (entries_in (entry_in v INTENT_WRITES))
 
--- the value of a payload with this table at its root keeps the rules of its fields
+-- the value of a payload with this table at its root obeys the rules of its fields
 abbrev pub KeepsRules : Which → Plain → Type 0
 KeepsRules Dep v = IsSoundDependency v
 KeepsRules Acl v = Unit {0}

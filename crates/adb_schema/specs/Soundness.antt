@@ -1,6 +1,6 @@
--- The first failed test of a whole container, in the order of the tests. The order stands in
--- `docs/formats.md`, "Tests of a container"; what is tested behind the first block, in "The other
--- blocks" ("Outside of a package no block may hold contents").
+-- The first failed test of a whole container, in the order of the tests. The order is in
+-- `docs/formats.md`, "Tests of a container"; the tests after the first block in "The other blocks"
+-- ("Outside of a package no block may hold contents").
 use Rattle.std.specs.Prelude.{ℕ, List, [], take, drop, length, Bool, false, nat_lt, ◌==◌, if◌then◌else◌, Option, Some, None, Result, Ok, Err}
 use Rattle.std.specs.Option.{option_or}
 use Rattle.std.specs.Int.{w32, from_le_bytes}
@@ -38,7 +38,7 @@ schema_word which = None
 abbrev pub root_value : Which → List ℕ → Plain
 root_value which payload = value_at payload (Obj which) (root_of payload)
 
--- the first fault of a payload: of its head, its shape, its texts, or a name that stands twice
+-- the first fault of a payload: of its head, its shape, its texts, or a repeated name
 abbrev pub payload_fault : Which → List ℕ → Option Cause
 payload_fault which payload =
     option_or (head_fault payload)
@@ -46,7 +46,7 @@ payload_fault which payload =
     (option_or (text_fault which (root_value which payload))
     (repeated_fault which (root_value which payload))))
 
--- ---- what stands behind it
+-- ---- the blocks after it
 
 -- the two numbers that contents begin with: the positions of the folder and of the file in it,
 -- which count from 1
@@ -56,78 +56,77 @@ file_pair payload = (
   from_le_bytes w32 (take 4 (drop 4 payload)),
 )
 
--- the cause of contents that stand where none are due: they are too short for their two numbers (8
--- bytes), or they are those of a file where 0.0, which is none, was expected
+-- the cause for contents that are not allowed: they are too short for their two numbers (8 bytes), or
+-- they are those of a file although 0.0, which is no file, was expected
 abbrev pub undue_contents : List ℕ → ℕ → Cause
 undue_contents payload at = if nat_lt (length payload) 8 then Truncated at
     else DataOrder (0, 0) (file_pair payload)
 
--- why a block may not stand behind the first in a container without files: contents may not, others
--- may
+-- why a block is not allowed after the first in a container without files; only contents are not
 abbrev pub block_fault : BlockKind → List ℕ → ℕ → Option Cause
 block_fault Contents payload at = Some (undue_contents payload at)
 block_fault kind payload at = None
 
--- the first fault of the blocks behind the first: of their framing, or contents
+-- the first fault of the blocks after the first: of their framing, or contents
 unfoldable pub further_fault : Reading → Option Cause
 further_fault done = None
 further_fault (fault c) = Some c
 further_fault (more b at r) = option_or (block_fault b.kind b.payload at) (further_fault r)
 
--- the first fault of the blocks behind the first; of a package they are tested by `pkg_core`,
--- against the files that it lists
+-- the first fault of the blocks after the first. For a package `pkg_core` tests them against its list
+-- of files
 abbrev pub rest_fault : Which → Reading → Option Cause
 rest_fault Package r = None
 rest_fault which r = further_fault r
 
 -- ---- all tests in order
 
--- whether a file's schema is the one of the table, if the table has one
+-- whether a file's schema is that of the table, if the table has one
 abbrev pub is_schema_wanted : Option ℕ → ℕ → Bool
 is_schema_wanted (Some word) schema = word == schema
 is_schema_wanted None schema = false
 
--- the fault of a file whose schema is not the one of the table; None where it is
+-- the fault of a file whose schema is not that of the table, or None
 abbrev pub schema_fault : Which → ℕ → Option Cause
 schema_fault which schema = if is_schema_wanted (schema_word which) schema then None
     else Some (WrongSchema schema)
 
--- the first fault of a reading: of the first block, or, by its value, of what stands behind it
+-- the first fault of a reading: of the first block, or, by its value, of the blocks after it
 abbrev pub blocks_fault : (Plain → Reading → Option Cause) → Which → Reading → Option Cause
 blocks_fault rest which done = None
 blocks_fault rest which (fault c) = Some c
 blocks_fault rest which (more b at r) = option_or (payload_fault which b.payload)
     (rest (root_value which b.payload) r)
 
--- the first fault of a file by what its header says: of the header, of the schema, or of the blocks
+-- the first fault of a file by its header: of the header, of the schema, or of the blocks
 abbrev pub file_fault : (Plain → Reading → Option Cause) → Which → List ℕ → Result ℕ Cause
     → Option Cause
 file_fault rest which file (Err c) = Some c
 file_fault rest which file (Ok schema) = option_or (schema_fault which schema)
     (blocks_fault rest which (reading_of (start_of schema file)))
 
--- the first fault of a file, where `rest` tests what stands behind the first block
+-- the first fault of a file, if `rest` tests the blocks after the first
 abbrev pub fault_with : (Plain → Reading → Option Cause) → Which → List ℕ → Option Cause
 fault_with rest which file = file_fault rest which file (header_of file)
 
--- the first failed test of a file that is to be a container of this table; of a package, but for
--- the contents behind its first block
+-- the first failed test of a file as a container of this table; for a package, without the contents
+-- after its first block
 unfoldable pub first_fault : Which → List ℕ → Option Cause
 first_fault which file = fault_with (λ v r. rest_fault which r) which file
 
 -- ---- what is read
 
--- the payload of the first block of a reading; empty where there is no block
+-- the payload of the first block of a reading; empty if there is no block
 abbrev pub first_payload : Reading → List ℕ
 first_payload done = []
 first_payload (fault c) = []
 first_payload (more b at r) = b.payload
 
--- the payload of the first block behind a header that was read; empty where the header has a fault
+-- the payload of the first block after a header; empty if the header has a fault
 abbrev pub payload_behind : List ℕ → Result ℕ Cause → List ℕ
 payload_behind file (Ok schema) = first_payload (reading_of (start_of schema file))
 payload_behind file (Err c) = []
 
--- the payload of the first block of a file; empty where it has none
+-- the payload of the first block of a file; empty if it has none
 unfoldable pub payload_in : List ℕ → List ℕ
 payload_in file = payload_behind file (header_of file)

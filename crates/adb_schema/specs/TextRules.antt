@@ -1,5 +1,5 @@
--- The rules that look at each byte of a text, apart from what stands around it, and the texts that
--- are known to keep one. The rules stand in the table of `docs/formats.md`, "The texts".
+-- The rules that read only the bytes of a text, and the texts that are known to obey one. The rules are
+-- in the table of `docs/formats.md`, "The texts".
 use Rattle.std.specs.Prelude.{◌≡◌, ℕ, Bool, true, List}
 use Rattle.base_core.specs.Name.{is_name}
 use Rattle.version_core.specs.Order.{is_version}
@@ -11,7 +11,7 @@ use Rattle.adb_schema.specs.Rules.{is_folder_name, is_one_part, is_target}
 use Rattle.adb_schema.specs.declared.judged.TextRule.{TextRule}
 use Rattle.adb_schema.specs.declared.judged.TextRule.TheVariants.{DependencyName, PackageName, Version, VersionOrEmpty, Name, FolderName, OnePart, Target}
 
--- whether a text keeps a rule that looks at nothing around the text
+-- whether a text obeys a rule that reads only its bytes
 abbrev pub keeps_text_rule : TextRule → List ℕ → Bool
 keeps_text_rule DependencyName bytes = is_dep_name bytes
 keeps_text_rule PackageName bytes = is_package_name bytes
@@ -22,10 +22,10 @@ keeps_text_rule FolderName bytes = is_folder_name bytes
 keeps_text_rule OnePart bytes = is_one_part bytes
 keeps_text_rule Target bytes = is_target bytes
 
--- the text that a word means in a payload; empty for NULL
+-- the text of a word in a payload; empty for NULL
 abbrev pub text_at : List ℕ → ℕ → List ℕ
 text_at payload word = text_in (value_at payload Text word)
 
--- the text of a word of the payload keeps a rule (a pair of the rule and the word)
+-- the text of a word of the payload obeys a rule (a pair of the rule and the word)
 abbrev pub KeepsTextRule : List ℕ → TextRule × ℕ → Type 0
 KeepsTextRule payload text = keeps_text_rule text.0 (text_at payload text.1) ≡ true

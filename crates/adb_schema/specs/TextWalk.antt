@@ -1,5 +1,5 @@
--- What the text walk answers on its way, and what it passes over. Serves the contracts of
--- `src/text_walk.rt`; the rule stands in `docs/formats.md`, "The texts".
+-- The results of the text walk on its way, and what it skips. Serves the contracts of
+-- `src/text_walk.rt`; the rule is in `docs/formats.md`, "The texts".
 use Rattle.std.specs.Prelude.{◌≡◌, ℕ, ◌-◌, ◌<◌, true, List, slice_index, Option, Some, None}
 use Rattle.base_core.specs.declared.cause.Cause.{Cause}
 use Rattle.base_core.specs.declared.cause.Cause.TheVariants.{BadText}
@@ -18,12 +18,12 @@ pub record IsSameAsBefore (words : List ℕ) (i : ℕ) : Type 0 where
   pub behind : 0 < i
   pub same : slice_index words i ≡ slice_index words (i - 1)
 
--- no text breaks the rule of the field with this number, whatever stands around it
+-- no text breaks the rule of the field with this number, whatever its surroundings
 abbrev pub TakesEachText : ℕ → Type 0
 TakesEachText field_number = (around : Surroundings) (text : List ℕ)
     → text_rule field_number around text ≡ true
 
--- no value of the kind breaks a rule as the field with this number, whatever stands around it
+-- no value of the kind breaks a rule as the field with this number, whatever its surroundings
 abbrev pub TakesEachValue : Kind → ℕ → Type 0
 TakesEachValue kind field_number = (around : Surroundings) (v : Plain)
     → first_bad (leaves (shape_of kind) field_number around v) ≡ None

@@ -1,7 +1,7 @@
--- The rules of the texts and numbers of a container, each under the number of its field, and the
--- first that is broken. The number of a field is 100 times that of its table plus its own in the
--- table. The rules stand in the table of `docs/formats.md`, "The texts"; their order is that of the
--- visits ("The shape").
+-- The rules of the texts and numbers of a container, each under the number of its field, and the first
+-- that is broken. The number of a field is 100 times that of its table plus its own in the table. The
+-- rules are in the table of `docs/formats.md`, "The texts"; their order is that of the visits ("The
+-- shape").
 use Rattle.std.specs.Prelude.{ℕ, ◌+◌, ◌*◌, ◌==◌, nat_lt, Bool, true, false, not, ◌&&◌, if◌then◌else◌, List, [], ◌∷◌, ◌++◌, length, Option, Some, None}
 use Rattle.version_core.specs.Order.{is_version}
 use Rattle.dep_core.specs.Dependency.{is_dep_name, is_package_name}
@@ -20,8 +20,8 @@ use Rattle.adb_view.specs.declared.tables.Which.{Which}
 use Rattle.adb_view.specs.declared.tables.Which.TheVariants.{Dep, PkgInfo, File, Dir, Index, Idb, Intent}
 use Rattle.adb_view.specs.declared.tables.Kind.TheVariants.{Obj}
 
--- what stands around a value, as far as a rule looks at it: the table of the container's root, the
--- name of the folder, and whether the file has contents
+-- the surroundings of a value that some rule depends on: the table of the container's root, the name of
+-- the folder, and whether the file has contents
 pub record Surroundings : Type 0 where
   -- the table of the container's root
   pub root : Which
@@ -32,14 +32,14 @@ pub record Surroundings : Type 0 where
 
 -- ---- rules that look around
 
--- whether a package's hash may have so many bytes, in a container with this table at its root: in
--- an index each package has its hash
+-- whether a package's hash may have this length in bytes, in a container with this table at its root:
+-- in an index each package has its hash
 abbrev pub is_package_hash : Which → ℕ → Bool
 is_package_hash Index len = is_id_length len
 is_package_hash root len = is_digest_length_or_none len
 
--- whether a container with this table at its root may list a file under the path: a database none
--- under a reserved name, since no change may remove one as a package's file
+-- whether a container with this table at its root may list a file under the path. A database may list
+-- none under a reserved name, since no change may remove one as a package's file
 abbrev pub may_list : Which → List ℕ → Bool
 may_list Idb path = not (is_reserved path)
 may_list root path = true
@@ -49,27 +49,25 @@ abbrev pub is_listed_file : Surroundings → List ℕ → Bool
 is_listed_file around name = is_file_name around.folder name
     && may_list around.root (path_of around.folder name)
 
--- whether a file needs a hash: one with contents does, but in a database, which may have been taken
--- over from text
+-- whether a file needs a hash: one with contents does, except in a database, which may be imported from
+-- a text database
 abbrev pub needs_hash : Which → Bool → Bool
 needs_hash Idb has_contents = false
 needs_hash root has_contents = has_contents
 
--- whether a file's hash may have so many bytes: as many as a digest, and none where no hash is
--- needed
+-- whether a file's hash may have this length in bytes: that of a digest, or 0 if no hash is needed
 abbrev pub is_file_hash : Surroundings → ℕ → Bool
 is_file_hash around len = if needs_hash around.root around.has_contents then is_digest_length len
     else is_digest_length_or_none len
 
 -- ---- the rule of each field
 
--- whether a number keeps the rule of the field with the number `place`; only the match number of a
+-- whether a number obeys the rule of the field with the number `place`; only the match number of a
 -- dependency has one
 abbrev pub number_rule : ℕ → ℕ → Bool
 number_rule place n = if place == field_number Dep DEP_MATCH then is_matching n else true
 
--- whether a text keeps the rule of the field with the number `place`; a field that is not named here
--- has none
+-- whether a text obeys the rule of the field with the number `place`; the other fields have no rule
 unfoldable pub text_rule : ℕ → Surroundings → List ℕ → Bool
 text_rule place around bytes =
     if place == field_number Dep DEP_NAME then is_dep_name bytes
@@ -86,14 +84,14 @@ text_rule place around bytes =
     else if place == field_number Intent INTENT_WRITES then is_change_name bytes
     else true
 
--- ---- what the walk comes to, in order
+-- ---- the leaves of the walk, in order
 
--- a number or a text that the walk comes to, with the number of its field; a Null is 0 or empty
+-- a number or a text in the walk, with the number of its field; a Null is 0 or empty
 pub data Leaf : Type 0 where
   number_leaf : ℕ → ℕ → Leaf
   text_leaf : ℕ → Surroundings → List ℕ → Leaf
 
--- whether a number or a text keeps the rule of its field
+-- whether a number or a text obeys the rule of its field
 abbrev pub keeps_rule : Leaf → Bool
 keeps_rule (number_leaf field_number n) = number_rule field_number n
 keeps_rule (text_leaf field_number around bytes) = text_rule field_number around bytes
@@ -108,8 +106,7 @@ abbrev pub is_with_contents : Plain → Bool
 is_with_contents file = (length (text_in (entry_in file FILE_TARGET)) == 0)
     && nat_lt 0 (int_in (entry_in file FILE_SIZE))
 
--- what stands around the fields of an object, whose table has this number, by what stands around
--- the object
+-- the surroundings of an object's fields, by the number of its table and the surroundings of the object
 abbrev pub inside_of : ℕ → Surroundings → Plain → Surroundings
 inside_of schema around v = record {
   root = around.root;
@@ -122,8 +119,8 @@ abbrev pub each_leaf : (Plain → List Leaf) → Plains → List Leaf
 each_leaf f none = []
 each_leaf f (more v vs) = f v ++ each_leaf f vs
 
--- the numbers and texts that a value of a shape has as a field, depth first; of an object those of
--- each field of its table, of which one that is missing is Null
+-- the numbers and texts of a value of a shape as a field, depth first. Of an object they are those of
+-- each field of its table; a missing field is Null
 unfoldable mutual
   pub leaves : Shape → ℕ → Surroundings → Plain → List Leaf
   leaves number field_number around v = number_leaf field_number (int_in v) ∷ []
@@ -141,7 +138,7 @@ unfoldable mutual
   field_leaves (field name s fs) field_number around (more v vs) = leaves s field_number around v
       ++ field_leaves fs (field_number + 1) around vs
 
--- what stands around the root: no folder and no file
+-- the surroundings of the root: no folder and no file
 abbrev pub at_root : Which → Surroundings
 at_root which = record { root = which; folder = []; has_contents = false }
 
@@ -151,8 +148,8 @@ leaves_of which v = leaves (shape_of (Obj which)) 0 (at_root which) v
 
 -- ---- the first fault
 
--- the cause of the first number or text that breaks its rule, told by the number of its field; None
--- where each keeps its own
+-- the cause of the first number or text that breaks its rule, with the number of its field; None if
+-- each obeys its own
 abbrev pub first_bad : List Leaf → Option Cause
 first_bad [] = None
 first_bad (leaf ∷ others) = if keeps_rule leaf then first_bad others

@@ -1,6 +1,6 @@
-//! A checked payload, and the four views of its root. The tests stand in `docs/formats.md`, "The
+//! A checked payload, and the four views of its root. The tests are in `docs/formats.md`, "The
 //! texts"; the fields of the roots in "Schemas", tables 7 to 10. In the clauses of `Checked::new`
-//! `bad` says which cause a refusal has, and `sound` that no text is bad.
+//! `bad` says which cause is returned, and `sound` that no text is bad.
 
 ghost use Rattle.std.specs.Prelude.{◌≡◌, ◌<◌, true, is_none, None, IfErr, IfOk};
 ghost use Rattle.adb_view.specs.Adb.{payload_of};
@@ -22,7 +22,7 @@ use adb_view::field_indexes::{
 use adb_view::{Adb, Shaped, Val, Which, entry_word};
 use std::alloc::Global;
 
-/// A payload of the shape of a table, each of whose texts keeps the rule of its field.
+/// A payload of the shape of a table in which each text obeys the rule of its field.
 #[derive(Clone, Copy)]
 pub struct Checked<'a> {
     shaped: Shaped<'a>,
@@ -36,13 +36,13 @@ impl<'a> Checked<'a> {
     ghost use Rattle.adb_schema.specs.ReadFaults.{IsReadFault};
     ghost use Rattle.adb_schema.specs.Views.{package_value, index_value, idb_value, intent_value};
 
-    /// Tests each text and number of a walked payload against the rule of its field. It takes
-    /// memory for long texts alone, which are judged once.
+    /// Tests each text and number of a walked payload by the rule of its field. Only long texts
+    /// need memory; each is judged once.
     ///
     /// # Errors
     ///
     /// `Bad` with the cause `BadText` and the number of the first field that breaks its rule, depth
-    /// first and field by field, where a missing field counts as Null; or `Memory`.
+    /// first and field by field. A missing field counts as Null. Or `Memory`.
     pub fn new(alloc: Global, shaped: Shaped<'a>) -> Result<Checked<'a>, ReadFault>
         ensures bad { IfErr result (λ fault.
             IsReadFault fault (text_fault (table_of shaped.entry) (shaped_value shaped.entry))) }
@@ -65,7 +65,7 @@ impl<'a> Checked<'a> {
         self.shaped
     }
 
-    /// Each text and number of a checked payload keeps the rule of its field: a name is a
+    /// Each text and number of a checked payload obeys the rule of its field: a name is a
     /// package's, a version a version.
     pub fn values_keep_their_rules(&self)
         ensures { KeepsRules (which_of self.now) (checked_value self.now) }
@@ -73,7 +73,7 @@ impl<'a> Checked<'a> {
         no_text_is_bad_where_each_keeps_its_rule();
     }
 
-    /// The package that the payload holds.
+    /// The package in the payload.
     pub fn package(&self) -> PackageView<'a>
         requires { which_of self.now ≡ Tables.Package }
         ensures { package_value result ≡ checked_value self.now }
@@ -82,7 +82,7 @@ impl<'a> Checked<'a> {
         PackageView::of(adb, adb.root())
     }
 
-    /// The index that the payload holds.
+    /// The index in the payload.
     pub fn index(&self) -> IndexView<'a>
         requires { which_of self.now ≡ Tables.Index }
         ensures { index_value result ≡ checked_value self.now }
@@ -91,7 +91,7 @@ impl<'a> Checked<'a> {
         IndexView::of(adb, adb.root())
     }
 
-    /// The installed database that the payload holds.
+    /// The installed database in the payload.
     pub fn idb(&self) -> IdbView<'a>
         requires { which_of self.now ≡ Tables.Idb }
         ensures { idb_value result ≡ checked_value self.now }
@@ -100,7 +100,7 @@ impl<'a> Checked<'a> {
         IdbView::of(adb, adb.root())
     }
 
-    /// The intent that the payload holds.
+    /// The journal entry in the payload.
     pub fn intent(&self) -> IntentView<'a>
         requires { which_of self.now ≡ Tables.Intent }
         ensures { intent_value result ≡ checked_value self.now }
@@ -110,7 +110,7 @@ impl<'a> Checked<'a> {
     }
 }
 
-/// A view of an index of packages (table 8), each of whose texts keeps the rule of its field.
+/// A view of an index of packages (table 8), each of whose texts obeys the rule of its field.
 #[derive(Clone, Copy)]
 pub struct IndexView<'a> {
     adb: Adb<'a>,
@@ -127,7 +127,7 @@ impl<'a> IndexView<'a> {
     ghost use Rattle.adb_schema.specs.Views.{index_value};
     ghost use Rattle.adb_fields.specs.ListValue.{list_value};
 
-    /// The view of a word that is an index whose texts keep their rules.
+    /// The view of a word that is an index whose texts obey their rules.
     pub fn of(adb: Adb<'a>, word: Val) -> IndexView<'a>
         requires sound { is_sound (payload_of adb) (Kinds.Obj Tables.Index) word ≡ true }
         requires texts { is_none (text_fault Tables.Index
@@ -141,7 +141,7 @@ impl<'a> IndexView<'a> {
         }
     }
 
-    /// Each text and number of the index keeps the rule of its field: a name is a package's, a
+    /// Each text and number of the index obeys the rule of its field: a name is a package's, a
     /// version a version.
     pub fn values_keep_their_rules(&self)
         ensures { KeepsRules Tables.Index (index_value self.now) }
@@ -165,7 +165,7 @@ impl<'a> IndexView<'a> {
         Val::of(self.word)
     }
 
-    /// What the index says of itself.
+    /// The description of the index.
     pub fn description(&self) -> &'a [u8]
         ensures { result.now ≡ text_in (entry_in (index_value self.now) INDEX_DESCRIPTION) }
     {
@@ -263,7 +263,7 @@ impl<'a> IdbView<'a> {
     }
 }
 
-/// A view of an intent (table 10): what a change is about to remove and to write.
+/// A view of a journal entry (table 10), which names what a change will remove and write.
 #[derive(Clone, Copy)]
 pub struct IntentView<'a> {
     adb: Adb<'a>,
@@ -278,7 +278,7 @@ impl<'a> Kinded for IntentView<'a> {
 impl<'a> View<'a> for IntentView<'a> {
     ghost shows = { λ view. value_at (payload_of view.adb) (Kinds.Obj Tables.Intent) view.word };
 
-    // The view of a word that is sound as an intent.
+    // The view of a word that is sound as a journal entry.
     fn of(adb: Adb<'a>, word: Val) -> IntentView<'a> {
         IntentView { adb, word }
     }

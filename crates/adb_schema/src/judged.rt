@@ -1,7 +1,6 @@
-//! The rules that look at each byte of a text, and the long texts of a payload that were found to
-//! keep one. Many places may share a text, so a long one is judged once. Which rules there are
-//! stands in the table of `docs/formats.md`, "The texts"; that each long text is judged once is
-//! what the README of this crate says of `Judged::keeps`.
+//! The rules that read each byte of a text, and the long texts of a payload that are known to obey
+//! one. Many places may share a text, so a long one is judged once (`Judged::keeps` in the README
+//! of this crate). The rules are in the table of `docs/formats.md`, "The texts".
 
 ghost use Rattle.std.specs.Prelude.{◌≡◌, All, IfOk};
 ghost use Rattle.std.specs.Bool.{OnTrue};
@@ -18,12 +17,11 @@ use std::alloc::{AllocError, Global};
 use std::collections::BTreeSet;
 use version_core::OverlappingVersions;
 
-/// How many bytes a text has at most that is not kept: it is judged at each place where it stands,
-/// which takes no memory. Any number gives the same answers.
+/// The most bytes of a text whose verdict is not remembered. Such a text is judged wherever it
+/// occurs, which allocates no memory. The number does not change the results.
 const LONGEST_SHORT_TEXT: usize = 64;
 
-/// A rule that looks at each byte of a text, and at nothing around the text; each is named for what
-/// the text has to be.
+/// A rule that reads only the bytes of a text; each is named for what the text must be.
 #[derive(Clone, Copy, Debug, PartialEq, Eq, PartialOrd, Ord)]
 pub enum TextRule {
     /// A dependency's name (field 101).
@@ -45,7 +43,7 @@ pub enum TextRule {
 }
 
 impl TextRule {
-    /// Whether a text keeps this rule.
+    /// Whether a text obeys this rule.
     fn is_kept_by(self, text: &[u8]) -> bool
         ensures { result ≡ keeps_text_rule self text.now }
     {
@@ -62,12 +60,12 @@ impl TextRule {
     }
 }
 
-/// A payload, and the words of its long texts that were found to keep a rule, each with the rule.
+/// A payload, and the words of its long texts that are known to obey a rule, each with the rule.
 #[derive(Drop)]
 pub struct Judged<'a> {
     /// The opened payload.
     adb: Adb<'a>,
-    /// Each rule with the words of the long texts that keep it.
+    /// Each rule with the words of the long texts that obey it.
     good: BTreeSet<(TextRule, u32)>,
     /// The bytes of the payload, with the leaps over versions in it.
     versions: OverlappingVersions<'a>,
@@ -76,7 +74,7 @@ pub struct Judged<'a> {
 }
 
 impl<'a> Judged<'a> {
-    /// A payload of whose texts nothing is known yet.
+    /// A payload, before any text was judged.
     pub fn new(alloc: Global, adb: Adb<'a>) -> Judged<'a>
         ensures { result.adb ≡ adb.entry }
     {
@@ -94,9 +92,8 @@ impl<'a> Judged<'a> {
         self.adb
     }
 
-    /// Whether the text of a word keeps a rule. Only long texts take memory, each once for each
-    /// rule that it keeps. The payload stays the same, so that what is known of its words stays
-    /// true.
+    /// Whether the text of a word obeys a rule. Only long texts need memory, each once for each
+    /// rule that it obeys. The payload is unchanged, so the verdicts on its words stay true.
     pub fn keeps(&mut self, rule: TextRule, word: Val, text: &[u8]) -> Result<bool, AllocError>
         requires { text.now ≡ text_at (payload_of self.old.adb) word }
         ensures value { IfOk result (λ kept. kept ≡ keeps_text_rule rule text.now) }
@@ -115,15 +112,15 @@ impl<'a> Judged<'a> {
         Ok(true)
     }
 
-    /// Whether the text of a word is known to keep a rule.
+    /// Whether the text of a word is known to obey a rule.
     fn is_good(&self, rule: TextRule, word: Val) -> bool
         ensures { OnTrue result (KeepsTextRule (payload_of self.now.adb) (rule, word)) }
     {
         self.good.contains(&(rule, word.word()))
     }
 
-    /// Whether a long text, which is the text of a word, keeps a rule, judged here. A version has
-    /// no limit of length, and many may overlap.
+    /// Whether a long text, which is the text of a word, obeys a rule. It is judged here. A version
+    /// has no limit of length, and many may overlap.
     fn long_text_keeps(
         &mut self,
         rule: TextRule,

@@ -1,18 +1,21 @@
-//! The containers (apk-v3(5)): reading and testing a whole one, views of what was tested, and the
-//! rules that single texts and numbers keep (apk-package(5)).
+//! The containers (apk-v3(5)): the reader of whole containers, views of what was tested, and the
+//! rules for single texts and numbers (apk-package(5)).
 //!
-//! `shape` makes a `Shaped` of a payload, `Checked::new` a `Checked` of that, and its four views
-//! lend from the payload, one method a field, which cannot fail. `check_texts` tests each text and
-//! number of a walked payload against the rule of its field. `repeated` looks for names that stand
-//! twice, and `read_adb` reads a file through all of them. `is_reserved` and its like say under
-//! which names below a root no database lists a file.
+//! `shape` makes a `Shaped` of a payload, and `Checked::new` makes a `Checked` of that. Its four
+//! views borrow from the payload; they have one method per field, which cannot fail. `check_texts`
+//! tests each text and number of a walked payload by the rule of its field. `repeated` finds
+//! repeated names. `read_adb` reads a file and makes all of these tests. `is_reserved` and its like
+//! decide which names below a root no database may list as files.
 //!
-//! The contracts cite `Soundness` (the first failed test of a file), `Views` (the plain value that a
-//! view shows), `Checked`, `Rules` and `Reserved` (what a text has to be) and `Texts` (the rule of
-//! each field, and the first that is broken) of `specs/`, and the definitions of `adb_view` and
-//! `adb_fields` below.
+//! The contracts cite these modules of `specs/`, and definitions of `adb_view` and `adb_fields`:
 //!
-//! The rules stand in `docs/formats.md`, "Tests of a container" and "The texts", and the fields in
+//! - `Soundness`: the first failed test of a file;
+//! - `Views`: the plain value of a view;
+//! - `Checked`: the contents of a checked payload;
+//! - `Rules` and `Reserved`: what a text must be;
+//! - `Texts`: the rule of each field, and the first that is broken.
+//!
+//! The rules are in `docs/formats.md`, "Tests of a container" and "The texts", and the fields in
 //! "Schemas".
 #![tactic(auto)]
 

@@ -1,5 +1,5 @@
-//! Views of a package: its folders, its files, their rights, and its scripts. The fields stand in
-//! `docs/formats.md`, "Schemas", tables 2 and 4 to 7.
+//! Views of a package: its folders, its files, their owners and modes, and its scripts. The fields
+//! are in `docs/formats.md`, "Schemas", tables 2 and 4 to 7.
 
 ghost use Rattle.std.specs.Prelude.{◌≡◌, true};
 ghost use Rattle.adb_view.specs.Adb.{payload_of};
@@ -20,7 +20,7 @@ use adb_view::field_indexes::{
 };
 use adb_view::{Adb, Val, Which};
 
-/// A view of an access list (table 2): whose a file or a folder is, and its mode.
+/// A view of an access list (table 2): the owner, group and mode of a file or a folder.
 #[derive(Clone, Copy)]
 pub struct AclView<'a> {
     adb: Adb<'a>,
@@ -54,21 +54,21 @@ impl<'a> AclView<'a> {
         int_field(self.adb, Which::Acl, self.word, ACL_MODE)
     }
 
-    /// The name, or the number as a text, of the user whose the file or folder is.
+    /// The user who owns the file or folder: a name, or a number as a text.
     pub fn user(&self) -> &'a [u8]
         ensures { result.now ≡ text_in (entry_in (acl_value self.now) ACL_USER) }
     {
         text_field(self.adb, Which::Acl, self.word, ACL_USER)
     }
 
-    /// The name, or the number as a text, of the group whose the file or folder is.
+    /// The group that owns the file or folder: a name, or a number as a text.
     pub fn group(&self) -> &'a [u8]
         ensures { result.now ≡ text_in (entry_in (acl_value self.now) ACL_GROUP) }
     {
         text_field(self.adb, Which::Acl, self.word, ACL_GROUP)
     }
 
-    /// The extended attributes; they are kept, and no command acts on them.
+    /// The extended attributes. They are stored, and no command uses them.
     pub fn xattrs(&self) -> List<'a, &'a [u8]>
         ensures { list_value result ≡ entry_in (acl_value self.now) ACL_XATTRS }
     {
@@ -112,7 +112,7 @@ impl<'a> FileInfo<'a> {
         text_field(self.adb, Which::File, self.word, FILE_NAME)
     }
 
-    /// The access list of the file: whose it is, and its mode.
+    /// The access list of the file: its owner, group and mode.
     pub fn acl(&self) -> AclView<'a>
         ensures { acl_value result ≡ entry_in (file_value self.now) FILE_ACL }
     {
@@ -136,15 +136,15 @@ impl<'a> FileInfo<'a> {
         int_field(self.adb, Which::File, self.word, FILE_MTIME)
     }
 
-    /// The digest of the file's bytes: SHA-1, SHA-256 or SHA-512 by its length; empty where none is
-    /// known.
+    /// The digest of the file's bytes: SHA-1, SHA-256 or SHA-512, by its length; empty if it is
+    /// unknown.
     pub fn hashes(&self) -> &'a [u8]
         ensures { result.now ≡ text_in (entry_in (file_value self.now) FILE_HASHES) }
     {
         hash_field(self.adb, Which::File, self.word, FILE_HASHES)
     }
 
-    /// A link's target, behind the two bytes `00 a0`; empty for a regular file (`docs/formats.md`,
+    /// A link's target, after the two bytes `00 a0`; empty for a regular file (`docs/formats.md`,
     /// "The texts", 406).
     pub fn target(&self) -> &'a [u8]
         ensures { result.now ≡ text_in (entry_in (file_value self.now) FILE_TARGET) }
@@ -152,7 +152,7 @@ impl<'a> FileInfo<'a> {
         text_field(self.adb, Which::File, self.word, FILE_TARGET)
     }
 
-    /// A field that is kept free.
+    /// A reserved field.
     pub fn unused(&self) -> u64
         ensures { result ≡ int_in (entry_in (file_value self.now) FILE_UNUSED) }
     {
@@ -194,7 +194,7 @@ impl<'a> DirInfo<'a> {
         text_field(self.adb, Which::Dir, self.word, DIR_NAME)
     }
 
-    /// The access list of the folder: whose it is, and its mode.
+    /// The access list of the folder: its owner, group and mode.
     pub fn acl(&self) -> AclView<'a>
         ensures { acl_value result ≡ entry_in (dir_value self.now) DIR_ACL }
     {
@@ -213,8 +213,8 @@ impl<'a> DirInfo<'a> {
     }
 }
 
-/// A view of a package's scripts (table 6). Each is the text of a script, empty where there is
-/// none; `docs/commands.md`, "`add` and `del`", says which would run in a change.
+/// A view of a package's scripts (table 6). Each is the text of a script, empty if there is none.
+/// `docs/commands.md`, "`add` and `del`", defines which scripts of a change would run.
 #[derive(Clone, Copy)]
 pub struct ScriptsView<'a> {
     adb: Adb<'a>,
@@ -240,7 +240,7 @@ impl<'a> ScriptsView<'a> {
     ghost use Rattle.adb_view.specs.Values.{entry_in, text_in};
     ghost use Rattle.adb_schema.specs.Views.{scripts_value};
 
-    /// Runs where a watched folder has changed.
+    /// Runs if a watched folder has changed.
     pub fn trigger(&self) -> &'a [u8]
         ensures { result.now ≡ text_in (entry_in (scripts_value self.now) SCRIPTS_TRIGGER) }
     {
@@ -317,7 +317,7 @@ impl<'a> PackageView<'a> {
     ghost use Rattle.adb_schema.specs.Views.{info_value, package_value, scripts_value};
     ghost use Rattle.adb_fields.specs.ListValue.{list_value};
 
-    /// The view of a word that is sound as a package, which is read from this payload.
+    /// The view of a word that is sound as a package, read from this payload.
     pub(crate) fn at(adb: Adb<'a>, word: Val) -> PackageView<'a>
         requires { is_sound (payload_of adb) (Kinds.Obj Tables.Package) word ≡ true }
         ensures value { package_value result
@@ -377,7 +377,7 @@ impl<'a> PackageView<'a> {
         )
     }
 
-    /// The patterns of the folders for which its trigger is due.
+    /// The patterns of the folders whose changes run its trigger.
     pub fn triggers(&self) -> List<'a, &'a [u8]>
         ensures { list_value result ≡ entry_in (package_value self.now) PACKAGE_TRIGGERS }
     {
@@ -387,7 +387,7 @@ impl<'a> PackageView<'a> {
         )
     }
 
-    /// Its priority in replacing: of two packages that list one path and each name the other in
+    /// Its priority in replacing. If two packages list one path and each names the other in
     /// `replaces`, the one with the greater priority owns the path.
     pub fn replaces_priority(&self) -> u64
         ensures { result ≡ int_in (entry_in (package_value self.now) PACKAGE_REPLACES_PRIORITY) }

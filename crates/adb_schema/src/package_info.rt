@@ -1,4 +1,4 @@
-//! Views of a package's information and of dependencies. The fields stand in `docs/formats.md`,
+//! Views of a package's information and of dependencies. The fields are in `docs/formats.md`,
 //! "Schemas", tables 1 and 3.
 
 ghost use Rattle.std.specs.Prelude.{◌≡◌, true};
@@ -45,14 +45,14 @@ impl<'a> DepView<'a> {
     ghost use Rattle.adb_view.specs.Values.{entry_in, int_in, text_in};
     ghost use Rattle.adb_schema.specs.Views.{dependency_value};
 
-    /// The name that is asked for.
+    /// The name of the dependency.
     pub fn name(&self) -> &'a [u8]
         ensures { result.now ≡ text_in (entry_in (dependency_value self.now) DEP_NAME) }
     {
         text_field(self.adb, Which::Dep, self.word, DEP_NAME)
     }
 
-    /// The version that the dependency names; empty for none.
+    /// The version of the dependency; empty for none.
     pub fn version(&self) -> &'a [u8]
         ensures { result.now ≡ text_in (entry_in (dependency_value self.now) DEP_VERSION) }
     {
@@ -128,15 +128,15 @@ impl<'a> PkgInfo<'a> {
         text_field(self.adb, Which::PkgInfo, Val::of(self.word), INFO_VERSION)
     }
 
-    /// A digest: in an index the package's id or the first 20 bytes of it; empty where none is
-    /// known.
+    /// A digest. In an index it is the package's id or the first 20 bytes of it; empty if it is
+    /// unknown.
     pub fn hashes(&self) -> &'a [u8]
         ensures { result.now ≡ text_in (entry_in (info_value self.now) INFO_HASHES) }
     {
         hash_field(self.adb, Which::PkgInfo, Val::of(self.word), INFO_HASHES)
     }
 
-    /// What the package is, in a line.
+    /// A description of the package in one line.
     pub fn description(&self) -> &'a [u8]
         ensures { result.now ≡ text_in (entry_in (info_value self.now) INFO_DESCRIPTION) }
     {
@@ -231,7 +231,7 @@ impl<'a> PkgInfo<'a> {
         int_field(self.adb, Which::PkgInfo, Val::of(self.word), INFO_FILE_SIZE)
     }
 
-    /// How much the package is preferred among providers of one name.
+    /// How strongly the package is preferred among the providers of a name.
     pub fn provider_priority(&self) -> u64
         ensures { result ≡ int_in (entry_in (info_value self.now) INFO_PROVIDER_PRIORITY) }
     {
@@ -243,7 +243,7 @@ impl<'a> PkgInfo<'a> {
         )
     }
 
-    /// What the package needs, and, as conflicts, what it excludes.
+    /// The dependencies of the package, and its conflicts.
     pub fn depends(&self) -> List<'a, DepView<'a>>
         ensures { list_value result ≡ entry_in (info_value self.now) INFO_DEPENDS }
     {
@@ -257,7 +257,7 @@ impl<'a> PkgInfo<'a> {
         List::of(self.adb, entries)
     }
 
-    /// What the package provides besides its own name.
+    /// The names and versions that the package provides besides its own.
     pub fn provides(&self) -> List<'a, DepView<'a>>
         ensures { list_value result ≡ entry_in (info_value self.now) INFO_PROVIDES }
     {
@@ -271,7 +271,7 @@ impl<'a> PkgInfo<'a> {
         List::of(self.adb, entries)
     }
 
-    /// The packages whose files this one may take over.
+    /// The packages whose files this one may replace.
     pub fn replaces(&self) -> List<'a, DepView<'a>>
         ensures { list_value result ≡ entry_in (info_value self.now) INFO_REPLACES }
     {
@@ -285,7 +285,7 @@ impl<'a> PkgInfo<'a> {
         List::of(self.adb, entries)
     }
 
-    /// Where all of these are met, the package is installed by itself.
+    /// The package is installed automatically if all of these are met.
     pub fn install_if(&self) -> List<'a, DepView<'a>>
         ensures { list_value result ≡ entry_in (info_value self.now) INFO_INSTALL_IF }
     {
@@ -299,7 +299,7 @@ impl<'a> PkgInfo<'a> {
         List::of(self.adb, entries)
     }
 
-    /// What the package goes well with; no command acts on it.
+    /// The packages that are recommended with this one; no command uses them.
     pub fn recommends(&self) -> List<'a, DepView<'a>>
         ensures { list_value result ≡ entry_in (info_value self.now) INFO_RECOMMENDS }
     {
@@ -320,7 +320,7 @@ impl<'a> PkgInfo<'a> {
         int_field(self.adb, Which::PkgInfo, Val::of(self.word), INFO_LAYER)
     }
 
-    /// The tags of the package, as the one who made it gave them.
+    /// The tags that the maker of the package gave it.
     pub fn tags(&self) -> List<'a, &'a [u8]>
         ensures { list_value result ≡ entry_in (info_value self.now) INFO_TAGS }
     {
@@ -330,7 +330,7 @@ impl<'a> PkgInfo<'a> {
         )
     }
 
-    /// A field that is kept free.
+    /// A reserved field.
     pub fn unused(&self) -> u64
         ensures { result ≡ int_in (entry_in (info_value self.now) INFO_UNUSED) }
     {

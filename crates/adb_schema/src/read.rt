@@ -1,8 +1,7 @@
-//! The reading of a whole container, and names that stand twice in it. The order of the tests
-//! stands in `docs/formats.md`, "Tests of a container"; what is tested behind the first block, in
-//! "The other blocks"; the words of the four schemas, in "Schemas". In the clauses `bad` says which
-//! cause a refusal has, `sound` that no test failed, and `table`, `payload` and `value` what was
-//! read.
+//! The reader of a whole container, and the search for repeated names in it. The order of the tests
+//! is in `docs/formats.md`, "Tests of a container"; the tests after the first block in "The other
+//! blocks"; the schema words in "Schemas". In the clauses `bad` says which cause is returned,
+//! `sound` that no test failed, and `table`, `payload` and `value` what was read.
 
 ghost use Rattle.std.specs.Prelude.{ℕ, List, All, ◌<◌, ◌≡◌, ◌≤◌, None, Some, length, codes, IfOk, IfErr};
 ghost use Rattle.std.specs.Result.{result_err};
@@ -51,7 +50,7 @@ pub enum ReadFault {
     /// The first test that failed.
     #[error("bad container")]
     Bad(Cause),
-    /// There was no memory.
+    /// Out of memory.
     #[error("out of memory")]
     Memory,
 }
@@ -74,7 +73,7 @@ impl From<AllocError> for ReadFault {
 
     ghost from_gives = { λ _ fault. fault ≡ Memory };
 
-    // Want of memory as the fault of a read.
+    // Out of memory, as the fault of a read.
     fn from(_: AllocError) -> ReadFault {
         ReadFault::Memory
     }
@@ -93,12 +92,17 @@ pub fn schema_word(which: Which) -> Option<u32>
     }
 }
 
-/// Looks for a name that stands twice in a checked container, and answers the cause `Repeated`, or
-/// None exactly where there is none. The kinds are looked at in this order: in a package and in a
-/// database two folders of a package, over all packages, and two files of a folder; in a database
-/// also two packages, and one path in two packages, at the positions of the packages; in an intent
-/// two names, of the removals followed by the writes. Of the first kind that stands, the pair with
-/// the smallest second position is reported, and of those the one with the smallest first.
+/// Searches a checked container for a repeated name. It returns the cause `Repeated`, or None if
+/// and only if no name repeats. The kinds are searched in this order:
+///
+/// - in a package and in a database, a folder that a package lists twice, over all packages;
+/// - then a file that a folder lists twice;
+/// - in a database also a name of two packages;
+/// - then a path in two packages, at the positions of the packages;
+/// - in a journal entry a name that occurs twice in its removals followed by its writes.
+///
+/// The first kind with a repeated name is reported, by the pair with the smallest second position,
+/// and among those the one with the smallest first position.
 pub fn repeated(alloc: Global, checked: &Checked<'_>) -> Result<Option<Cause>, AllocError>
     ensures { IfOk result (λ cause. cause
         ≡ repeated_fault (which_of checked.now) (checked_value checked.now)) }
@@ -106,15 +110,15 @@ pub fn repeated(alloc: Global, checked: &Checked<'_>) -> Result<Option<Cause>, A
     repeated_names(alloc, &checked.shaped())
 }
 
-/// Reads a container (apk-v3(5)) with this table at its root, and tests it in this order: the
-/// file's header, its schema, the first block's framing, its head, its shape, its texts, and names
-/// that stand twice; then, but for a package, the framing of the further blocks, and that none of
-/// them holds contents.
+/// Reads a container (apk-v3(5)) with this table at its root. The tests are, in this order: the
+/// file's header, its schema, the first block's framing, its head, its shape, its texts, and
+/// repeated names. Then, except for a package, the framing of the further blocks, and that none of
+/// them has contents.
 ///
 /// # Errors
 ///
-/// `Bad` with the cause of the first test that fails, or `Memory`. Every schema is wrong for a
-/// table that is no root.
+/// `Bad` with the cause of the first failed test, or `Memory`. Each schema is wrong for a table
+/// that is no root.
 #[tactic(auto, unfolding(crate::specs::Soundness::first_fault, crate::specs::Soundness::payload_in))]
 pub fn read_adb<'a>(alloc: Global, bytes: &'a [u8], which: Which) -> Result<Checked<'a>, ReadFault>
     ensures bad { IfErr result (λ fault. IsReadFault fault (first_fault which bytes.entry.now)) }
@@ -145,7 +149,7 @@ fn is_schema_wanted(which: Which, schema: u32) -> bool
     }
 }
 
-/// Reads the first block, which is there unless its framing is refused, and tests its payload.
+/// Reads the first block, which exists unless its framing is refused, and tests its payload.
 fn read_first<'a>(
     alloc: Global,
     blocks: &mut Blocks<'a>,
@@ -165,8 +169,7 @@ fn read_first<'a>(
     }
 }
 
-/// Tests the payload of the first block: its head, its shape, its texts, and names that stand
-/// twice.
+/// Tests the payload of the first block: its head, its shape, its texts, and repeated names.
 fn check_payload<'a>(
     alloc: Global,
     payload: &'a [u8],
@@ -188,8 +191,8 @@ fn check_payload<'a>(
     }
 }
 
-/// Tests the blocks behind the first; those of a package `pkg_core` tests, against the files that
-/// it lists.
+/// Tests the blocks after the first; those of a package `pkg_core` tests, against the files that it
+/// lists.
 fn check_rest(blocks: &mut Blocks<'_>, which: Which) -> Result<(), Cause>
     ensures { result_err result ≡ rest_fault which (reading_of blocks.old) }
 {
@@ -199,7 +202,7 @@ fn check_rest(blocks: &mut Blocks<'_>, which: Which) -> Result<(), Cause>
     }
 }
 
-/// Tests the blocks behind the first of a container without files, where no contents are due.
+/// Tests the blocks after the first of a container without files, if it needs no contents.
 #[tactic(auto, unfolding(crate::specs::Soundness::further_fault))]
 fn check_further(blocks: &mut Blocks<'_>) -> Result<(), Cause>
     ensures { result_err result ≡ further_fault (reading_of blocks.old) }
@@ -214,7 +217,7 @@ fn check_further(blocks: &mut Blocks<'_>) -> Result<(), Cause>
     }
 }
 
-/// Why a block may not stand behind the first, if it may not.
+/// Why a block is not allowed after the first, if it is not.
 fn block_fault(block: &Block<'_>) -> Option<Cause>
     ensures { result ≡ block_fault block.now.kind block.now.payload.now block.now.at }
 {
@@ -224,8 +227,9 @@ fn block_fault(block: &Block<'_>) -> Option<Cause>
     }
 }
 
-/// The cause of contents that stand where none are due: too short for the two numbers that they
-/// begin with (8 bytes), or those of a file where 0.0, which is none, was expected.
+/// The cause for contents that are not allowed. Either they are too short for the two numbers at
+/// their front (8 bytes), or they are reported as those of a file although 0.0, which is no file,
+/// was expected.
 fn undue_contents(payload: &[u8], at: u64) -> Cause
     ensures { result ≡ undue_contents payload.now at }
 {
@@ -238,8 +242,8 @@ fn undue_contents(payload: &[u8], at: u64) -> Cause
     }
 }
 
-/// The two numbers that contents begin with (apk-v3(5)): the positions of the folder and of the
-/// file in it that they belong to, which count from 1.
+/// The two numbers at the front of contents (apk-v3(5)): the positions of the folder and of its
+/// file, which count from 1.
 pub fn file_pair(payload: &[u8]) -> (u32, u32)
     requires { 8 ≤ length payload.now }
     ensures { result ≡ file_pair payload.now }
@@ -258,9 +262,9 @@ pub fn schema_words_are_as_listed()
     ensures intent { to_le_bytes w32 INTENT_WORD ≡ codes "intt" }
 {}
 
-/// A law, what a file that passes every test holds: a value that has the shape of its table, in
-/// which each text and number keeps the rule of its field and no name stands twice; of bytes, it is
-/// normal. Its body calls the laws that its proof needs.
+/// A law: a file that passes every test contains a value with the shape of its table, in which each
+/// text and number obeys the rule of its field and no name repeats. If it is read from bytes, it is
+/// normal. The body calls the laws that the proof needs.
 pub fn sound_containers_hold_sound_values()
     ensures value { (which : Which) (file : List ℕ)
         → IsSound which file → IsSoundValue which (root_value which (payload_in file)) }

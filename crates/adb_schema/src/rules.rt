@@ -1,6 +1,6 @@
-//! What single texts of a container have to be (apk-v3(5), apk-package(5)), and the names below a
-//! root under which no database lists a file. The rules stand in `docs/formats.md`, "The texts":
-//! its table, and the paragraph on reserved names below it.
+//! The rules for single texts of a container (apk-v3(5), apk-package(5)), and the names below a
+//! root that no database may list as files. The rules are in `docs/formats.md`, "The texts": its
+//! table, and the paragraph on reserved names below it.
 
 ghost use Rattle.std.specs.Prelude.{◌≡◌, ◌==◌, nat_le, length, ◌∷◌};
 ghost use Rattle.std.specs.Str.{is_utf8};
@@ -21,25 +21,25 @@ const MOST: usize = 1024;
 /// The first two bytes of the text of a link: the type of a symbolic link, 0xa000, little-endian.
 const LINK: [u8; 2] = [0x00, 0xa0];
 
-/// How an index names its packages' files: the one pattern that is known (803).
+/// How an index names its packages' files: the only known pattern (803).
 const NAME_PATTERN: &[u8] = b"${name}-${version}.apk";
 
-/// Whether so many bytes are a SHA-1, a SHA-256 or a SHA-512.
+/// Whether this is the length of a SHA-1, a SHA-256 or a SHA-512 in bytes.
 pub(crate) fn is_digest_length(len: usize) -> bool
     ensures { result ≡ is_digest_length len }
 {
     len == 20 || len == 32 || len == 64
 }
 
-/// Whether so many bytes are none or a digest.
+/// Whether this is the length of a digest in bytes, or 0.
 pub(crate) fn is_digest_length_or_none(len: usize) -> bool
     ensures { result ≡ is_digest_length_or_none len }
 {
     len == 0 || is_digest_length(len)
 }
 
-/// Whether so many bytes are what an index says of a package: a SHA-256, or the first 20 bytes of
-/// one.
+/// Whether this is the length in bytes of a package's id in an index: a SHA-256, or its first 20
+/// bytes.
 pub(crate) fn is_id_length(len: usize) -> bool
     ensures { result ≡ is_id_length len }
 {
@@ -56,7 +56,7 @@ pub(crate) fn is_version(text: &[u8]) -> bool
     }
 }
 
-/// Whether the bytes are none or a version.
+/// Whether the bytes are empty or a version.
 pub(crate) fn is_version_or_empty(text: &[u8]) -> bool
     ensures { result ≡ is_version_or_empty text.now }
 {
@@ -115,7 +115,7 @@ pub(crate) fn is_target(bytes: &[u8]) -> bool
     bytes.is_empty() || is_link(bytes)
 }
 
-/// Whether bytes are the mark of a link and behind it a text, which is not empty.
+/// Whether bytes are the mark of a link and after it a text, which is not empty.
 fn is_link(bytes: &[u8]) -> bool
     ensures { result ≡ is_link bytes.now }
 {
@@ -142,8 +142,8 @@ pub(crate) fn is_name_pattern(pattern: &[u8]) -> bool
     pattern.is_empty() || pattern == NAME_PATTERN
 }
 
-/// Whether a path is one where a change keeps itself, prepared or published: `lib/apk/intent`,
-/// `lib/apk/stage`, or a name below one of them.
+/// Whether a path is part of the journal or of the staging area: `lib/apk/intent`, `lib/apk/stage`,
+/// or a name below one of them.
 pub fn is_intent_or_stage_name(path: &[u8]) -> bool
     ensures { result ≡ is_intent_or_stage_name path.now }
 {
@@ -181,7 +181,7 @@ fn is_at_or_below(top: &[u8], path: &[u8]) -> bool
     }
 }
 
-/// Whether the path of this file of this folder is a name, or one below it; the two parts are not
+/// Whether the path of this file of this folder is a name, or below it; the two parts are not
 /// joined.
 fn is_file_at_or_below(top: &[u8], folder: &[u8], name: &[u8]) -> bool
     ensures { result ≡ is_at_or_below top.now (path_of folder.now name.now) }
@@ -195,8 +195,7 @@ fn is_file_at_or_below(top: &[u8], folder: &[u8], name: &[u8]) -> bool
     }
 }
 
-/// Whether a slash and a name are at or below `top`, which is what is left of a name behind a
-/// folder.
+/// Whether a slash and a name are at or below `top`, which is the rest of a name after a folder.
 fn is_at_or_below_slash(top: &[u8], name: &[u8]) -> bool
     ensures { result ≡ is_at_or_below top.now (47 ∷ name.now) }
 {

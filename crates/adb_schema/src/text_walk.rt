@@ -1,6 +1,6 @@
-//! The text walk: each number and text of a walked payload, against the rule of its field. The
-//! order and the rules stand in `docs/formats.md`, "The texts". Each call that is lent a `Judged`
-//! leaves its payload the same (clause `payload`), so that what is known of its words stays true.
+//! The text walk: each number and text of a walked payload is tested by the rule of its field. The
+//! order and the rules are in `docs/formats.md`, "The texts". Each call that borrows a `Judged`
+//! leaves its payload unchanged (clause `payload`), so the verdicts on its words stay true.
 
 ghost use Rattle.std.specs.Prelude.{ℕ, List, ◌↔◌, None, ◌≡◌, ◌==◌, ◌*◌, true, false, length, ◌+◌, ◌<◌, ◌≤◌, ◌^◌, IfOk, [], ◌∷◌};
 ghost use Rattle.std.specs.Bool.{OnTrue};
@@ -78,7 +78,7 @@ mod field_numbers {
     pub(crate) const INTENT_WRITES: u16 = 1002;
 }
 
-/// What stands around a value, as far as a rule looks at it.
+/// The surroundings of a value that some rule depends on.
 #[derive(Clone, Copy)]
 pub(crate) struct Surroundings<'a> {
     /// The table of the container's root.
@@ -90,7 +90,7 @@ pub(crate) struct Surroundings<'a> {
 }
 
 impl<'a> Surroundings<'a> {
-    /// What stands around the root of a container: no folder and no file.
+    /// The surroundings of the root of a container: no folder and no file.
     pub(crate) fn at_root(root: Which) -> Surroundings<'a>
         ensures { surroundings_of result ≡ at_root root }
     {
@@ -101,7 +101,7 @@ impl<'a> Surroundings<'a> {
         }
     }
 
-    /// What stands around the fields of an object, by what stands around the object.
+    /// The surroundings of an object's fields, from those of the object.
     pub(crate) fn inside(&self, adb: Adb<'a>, which: Which, object: Val) -> Surroundings<'a>
         requires { is_sound (payload_of adb) (Kinds.Obj which) object ≡ true }
         ensures { surroundings_of result
@@ -131,8 +131,8 @@ impl<'a> Surroundings<'a> {
         fits_in(self.folder, name) && self.may_list(name)
     }
 
-    /// Whether the container may list a file of this name in the folder: a database none under a
-    /// reserved name.
+    /// Whether the container may list a file of this name in the folder: a database may list none
+    /// under a reserved name.
     fn may_list(&self, name: &[u8]) -> bool
         ensures { result ≡ may_list self.now.root (path_of self.now.folder.now name.now) }
     {
@@ -142,7 +142,7 @@ impl<'a> Surroundings<'a> {
         }
     }
 
-    /// Whether a package's hash may have so many bytes.
+    /// Whether a package's hash may have this length in bytes.
     fn takes_package_hash(&self, len: usize) -> bool
         ensures { result ≡ is_package_hash (surroundings_of self.now).root len }
     {
@@ -152,7 +152,7 @@ impl<'a> Surroundings<'a> {
         }
     }
 
-    /// Whether the file's hash may have so many bytes.
+    /// Whether the file's hash may have this length in bytes.
     fn takes_file_hash(&self, len: usize) -> bool
         ensures { result ≡ is_file_hash (surroundings_of self.now) len }
     {
@@ -174,8 +174,8 @@ fn has_contents(adb: Adb<'_>, file: Val) -> bool
     target.is_empty() && int_field(adb, Which::File, file, FILE_SIZE) > 0
 }
 
-/// Whether a number keeps the rule of the field with this number; only the match of a dependency
-/// has one.
+/// Whether a number obeys the rule of the field with this number; only the match number of a
+/// dependency has one.
 pub(crate) fn keeps_number_rule(field_number: u16, n: u64) -> bool
     ensures { result ≡ number_rule field_number n }
 {
@@ -185,8 +185,8 @@ pub(crate) fn keeps_number_rule(field_number: u16, n: u64) -> bool
     }
 }
 
-/// Whether the text of a word keeps the rule of the field with this number; a field that is not
-/// named here has none.
+/// Whether the text of a word obeys the rule of the field with this number; the other fields have
+/// no rule.
 #[tactic(auto, unfolding(crate::specs::Texts::text_rule))]
 fn keeps_rule_of_field(
     judged: &mut Judged<'_>,
@@ -218,7 +218,7 @@ fn keeps_rule_of_field(
     }
 }
 
-/// Whether the text of a word is a name that a file of the folder may have.
+/// Whether the text of a word is an allowed name for a file of the folder.
 fn keeps_file_name(
     judged: &mut Judged<'_>,
     around: &Surroundings<'_>,
@@ -236,8 +236,8 @@ fn keeps_file_name(
     Ok(around.takes_file_name(text))
 }
 
-/// Whether the text of a word is what a change may remove or write: a path, but none that the
-/// change itself is kept in.
+/// Whether a change may remove or write the text of a word: a path, but none of the journal or of
+/// the staging area.
 fn keeps_change_name(judged: &mut Judged<'_>, word: Val, text: &[u8]) -> Result<bool, AllocError>
     requires { text.now ≡ text_at (payload_of judged.old.adb) word }
     ensures value { IfOk result (λ kept. kept ≡ is_change_name text.now) }
@@ -249,10 +249,10 @@ fn keeps_change_name(judged: &mut Judged<'_>, word: Val, text: &[u8]) -> Result<
     Ok(!is_intent_or_stage_name(text))
 }
 
-/// Tests each text and number of a walked payload against the rule of its field, and answers the
-/// cause `BadText` with the number of the first field that breaks its rule, depth first and field
-/// by field, or None exactly where each keeps its own; a missing field counts as Null. A text of
-/// more than 64 bytes is judged once, however many places share it.
+/// Tests each text and number of a walked payload by the rule of its field. It returns the cause
+/// `BadText` with the number of the first field that breaks its rule, depth first and field by
+/// field, or None if and only if each obeys its own. A missing field counts as Null. A text of more
+/// than 64 bytes is judged once, however many places share it.
 pub fn check_texts(alloc: Global, shaped: Shaped<'_>) -> Result<Option<Cause>, AllocError>
     ensures { IfOk result (λ cause. cause
         ≡ text_fault (table_of shaped.entry) (shaped_value shaped.entry)) }
@@ -267,8 +267,8 @@ pub fn check_texts(alloc: Global, shaped: Shaped<'_>) -> Result<Option<Cause>, A
     }
 }
 
-/// Checks a value, and what lies below it, and answers the number of the first field that breaks
-/// its rule. (A cause has 150 bytes, too many to be handed from value to value.)
+/// Checks a value and the values below it, and returns the number of the first field that breaks
+/// its rule. (A cause has 150 bytes, too many to pass from value to value.)
 #[cycle(check)]
 fn check_value<'a>(
     adb: Adb<'a>,
@@ -304,7 +304,7 @@ fn check_value<'a>(
     }
 }
 
-/// Checks the entries of an array, of equal ones that follow each other the first.
+/// Checks the entries of an array; of adjacent equal ones only the first.
 #[cycle(check)]
 fn check_entries<'a>(
     adb: Adb<'a>,
@@ -344,8 +344,7 @@ fn is_same_as_before(entries: Arr<'_>, i: usize) -> bool
     entry_word(entries, i - 1).word() == entry_word(entries, i).word()
 }
 
-/// Checks the fields of an object, each of those of its table that has a rule or fields with one
-/// below it.
+/// Checks the fields of an object that have a rule, or have a field with a rule below them.
 #[cycle(check)]
 fn check_fields<'a>(
     adb: Adb<'a>,
@@ -377,8 +376,8 @@ fn check_fields<'a>(
     Ok(None)
 }
 
-/// Whether a value of this kind may break a rule as this field: there is one for the field, or for
-/// a field below it.
+/// Whether a value of this kind in this field may break a rule: the field, or a field below it, has
+/// one.
 fn has_rule(kind: Kind, field_number: u16) -> bool
     ensures { result ≡ false → TakesEachValue kind field_number }
 {
@@ -426,7 +425,7 @@ fn has_text_rule(field_number: u16) -> bool
     )
 }
 
-/// Checks a number, and answers the number of its field if it breaks the rule.
+/// Checks a number, and returns the number of its field if it breaks the rule.
 fn check_number(field_number: u16, n: u64) -> Option<u16>
     ensures { bad_text_at result ≡ first_bad (number_leaf field_number n ∷ []) }
 {
@@ -437,7 +436,7 @@ fn check_number(field_number: u16, n: u64) -> Option<u16>
     }
 }
 
-/// Checks the text of a word, and answers the number of its field if it breaks the rule.
+/// Checks the text of a word, and returns the number of its field if it breaks the rule.
 fn check_text(
     judged: &mut Judged<'_>,
     field_number: u16,
@@ -457,21 +456,21 @@ fn check_text(
     }
 }
 
-/// The cause that the text walk reports is that of the first text or number that breaks the rule of
-/// its field, depth first and field by field; none is reported exactly where each keeps its rule.
+/// The cause from the text walk is that of the first text or number that breaks the rule of its
+/// field, depth first and field by field. There is none if and only if each obeys its rule.
 pub fn the_first_bad_text_is_reported()
     ensures { (which : Which) (value : Plain)
         → IsFirstBadOf (leaves_of which value) (text_fault which value) }
 {}
 
-/// A law: no text or number of a value is bad exactly where each keeps the rule of its field, table
-/// by table.
+/// A law: no text or number of a value is bad if and only if each obeys the rule of its field,
+/// table by table.
 pub fn no_text_is_bad_where_each_keeps_its_rule()
     ensures { (which : Which) (value : Plain) → (text_fault which value ≡ None)
         ↔ KeepsRules which value }
 {}
 
-/// A law: each entry of a list keeps the rule that all entries of the list keep, kind by kind of
+/// A law: each entry of a list obeys the rule that all entries of the list obey, for each kind of
 /// entries. Entries count from 0; `root` is the table of the container, and `folder` the name of
 /// the file's folder.
 pub fn entries_keep_the_rule_of_their_list()

@@ -83,7 +83,7 @@ blocks_good (e ∷ es) (c ∷ cs) r p small all =
     subst (λ (q : Reading). contents_fault (e ∷ es) q ≡ None) (sym first.is)
     (ap (λ (o : Option Cause). fault_in (unless_fault o (with_next (contents_payload c) (λ left. files_by_blocks left first.later) (e ∷ es)))) good ∙ blocks_good es cs first.later first.others small.2 all.1)
 
--- and they may stand behind the value
+-- and they may follow the value
 more_contents : (cs : List Contents) → AreShort cs → MayStand (Some Kinds.Contents) (map contents_piece cs)
 more_contents [] short = tt
 more_contents (c ∷ cs) short = (record { order = refl; long = omega arith }, omega (arith, short.0), more_contents cs short.1)

@@ -1,6 +1,6 @@
--- A container that is made of a value, and of a package the contents of its files behind it. The
--- rules stand in `docs/formats.md`, "The other blocks" (contents) and "Canonical layout" ("In a
--- container each block is padded").
+-- A container that is made from a value and, for a package, from the contents of its files. The rules
+-- are in `docs/formats.md`, "The other blocks" (contents) and "Canonical layout" ("In a container each
+-- block is padded").
 use Rattle.std.specs.Prelude.{ℕ, List, ◌∷◌, ◌++◌, map}
 use Rattle.std.specs.Int.{w32, to_le_bytes}
 use Rattle.adb_block.specs.Piece.{Piece}
@@ -12,21 +12,20 @@ use Rattle.adb_write.specs.File.{adb_piece}
 use Rattle.pkg_core.specs.Contents.{Contents}
 use Rattle.pkg_core.specs.Whole.{Packed}
 
--- the payload of a block of contents: the positions of the folder and of the file in it, four bytes
--- each, and the file's bytes
+-- the payload of a block of contents: the positions of the folder and of its file, four bytes each, and
+-- the file's bytes
 abbrev pub contents_payload : Contents → List ℕ
 contents_payload c = to_le_bytes w32 c.folder ++ (to_le_bytes w32 c.file ++ c.bytes)
 
--- the block in which the contents of one file stand
+-- the block with the contents of one file
 abbrev pub contents_piece : Contents → Piece
 contents_piece c = record { kind = Kinds.Contents; payload = contents_payload c }
 
--- the container of a schema and a value: the value's payload, and behind it a block for each
--- contents
+-- the container of a schema and a value: the value's payload, and after it a block for each contents
 abbrev pub container_of : ℕ → Plain → List Contents → List ℕ
 container_of schema v contents =
     container schema (adb_piece (canonical v) ∷ map contents_piece contents)
 
--- a package as its container holds it: its value, and the contents of its files
+-- a package in its container: its value, and the contents of its files
 abbrev pub package_by : Plain → List Contents → Packed
 package_by v contents = record { value = v; contents = contents }

@@ -1,5 +1,5 @@
--- How many bytes the contents of files are. Serves the law `contents_stand_in_their_container`;
--- what contents are stands in `docs/formats.md`, "The other blocks".
+-- The number of bytes of the contents of files. Serves the law `contents_stand_in_their_container`;
+-- contents are defined in `docs/formats.md`, "The other blocks".
 use Rattle.std.specs.Prelude.{ℕ, ◌+◌, List, [], ◌∷◌, length}
 use Rattle.pkg_core.specs.Contents.{Contents}
 

@@ -1,7 +1,7 @@
--- The definitions of `adb_sound`. The head of each file says where its rule stands.
+-- The definitions of `adb_sound`. The head of each file names the section with its rule.
 
--- what the contract of `apk` says
+-- cited by the contract of `apk`
 pub mod Container
--- what only inner contracts and proofs use
+-- used by inner contracts and proofs only
 pub mod Root
 pub mod Contents

@@ -1,4 +1,4 @@
--- What may stand at the root of a container. The rules stand in `docs/formats.md`, "Tests of a
+-- The values that may be at the root of a container. The rules are in `docs/formats.md`, "Tests of a
 -- container", and the limits in "Canonical layout" ("A payload has at most").
 use Rattle.std.specs.Prelude.{◌≡◌, ◌≤◌, None}
 use Rattle.adb_view.specs.Plain.{Plain, IsNormal}
@@ -11,8 +11,8 @@ use Rattle.adb_view.specs.declared.tables.Kind.TheVariants.{Obj}
 use Rattle.adb_write.specs.Size.{size_of, value_count}
 use Rattle.adb_write.specs.Canonical.{MOST_BYTES, MOST_VALUES}
 
--- a value that may stand at the root of a container with this table: of its shape, within the
--- limits, each text and number keeps the rule of its field, and no name stands twice
+-- a value that may be at the root of a container with this table: it has the table's shape and is
+-- within the limits, each text and number obeys the rule of its field, and no name repeats
 pub record IsRootOf (which : Which) (v : Plain) : Type 0 where
   -- integers below 2^64, no empty blob or list, no Null at an object's end
   pub normal : IsNormal v
@@ -22,7 +22,7 @@ pub record IsRootOf (which : Which) (v : Plain) : Type 0 where
   pub fits : size_of v ≤ MOST_BYTES
   -- its values are within their limit
   pub few : value_count v ≤ MOST_VALUES
-  -- each text and number keeps its rule
+  -- each text and number obeys its rule
   pub texts : text_fault which v ≡ None
-  -- no name stands twice
+  -- no name repeats
   pub once : repeated_fault which v ≡ None

@@ -1,12 +1,12 @@
-//! What may stand in a container so that no test of it fails (apk-v3(5)): laws for all that makes
+//! What a container may contain so that no test of it fails (apk-v3(5)): laws for all makers of
 //! containers.
 //!
-//! They cite `Root` (a value that may stand at the root of a container) and `Container` (a
-//! container that is made of a value and of contents) of `specs/`.
+//! They cite `Root` (a value that may be at the root of a container) and `Container` (a container
+//! made from a value and from contents) of `specs/`.
 //!
-//! The rules stand in `docs/formats.md`, "Tests of a container", and of contents in "The other
+//! The rules are in `docs/formats.md`, "Tests of a container", and for contents in "The other
 //! blocks"; how a container is written, in "Canonical layout". The body of a law calls the laws
-//! that its proof needs; nothing happens when it runs.
+//! that its proof needs, and has no effect at run time.
 #![tactic(auto)]
 
 ghost use Rattle.adb_block.specs.Written.{block_bytes};
@@ -30,8 +30,8 @@ use adb_block::{what_is_spelled_is_read, what_is_written_is_spelled};
 use adb_view::values_of_few_visits_have_no_fault;
 use adb_write::{a_canonical_payload_is_read_back, a_canonical_payload_is_visited_once};
 
-/// A law: the container of a value that may stand at its root is sound, where no contents are due:
-/// an index, a database or an intent.
+/// A law: the container of a value that may be at its root is sound, if it needs no contents: an
+/// index, a database or a journal entry.
 pub fn a_container_of_a_good_value_is_sound()
     ensures { (which : Which) (schema : ℕ) (v : Plain)
         → schema_word which ≡ Some schema → which ≢ Tables.Package → IsRootOf which v
@@ -44,8 +44,8 @@ pub fn a_container_of_a_good_value_is_sound()
     values_of_few_visits_have_no_fault();
 }
 
-/// A law: a package of a value that may stand at its root, with the contents of each of its files
-/// in order and no others, is sound where it has fewer than 2^64 bytes.
+/// A law: a package of a value that may be at its root, with the contents of each of its files in
+/// order and no others, is sound if it has fewer than 2^64 bytes.
 pub fn a_package_of_a_good_value_and_its_contents_is_sound()
     ensures { (v : Plain) (contents : List Contents)
         → IsRootOf Tables.Package v → AreContentsOf (expected_contents v) contents
@@ -59,8 +59,8 @@ pub fn a_package_of_a_good_value_and_its_contents_is_sound()
     values_of_few_visits_have_no_fault();
 }
 
-/// A law: the contents of files stand whole in their blocks, and in a container with these, so they
-/// are no longer than it.
+/// A law: the contents of files are complete in their blocks, and these in the container. So
+/// contents are no longer than the container.
 pub fn contents_stand_in_their_container()
     ensures blocks { (contents : List Contents)
         → contents_size contents ≤ length (flat_map block_bytes (map contents_piece contents)) }
@@ -68,8 +68,8 @@ pub fn contents_stand_in_their_container()
         → length (container_of schema v contents) < 2 ^ 64 → contents_size contents < 2 ^ 64 }
 {}
 
-/// A law: what a container is made of is read back from it: its value, and of a package the
-/// contents of its files, one after the other.
+/// A law: a container is read back as what it was made from: its value, and for a package the
+/// contents of its files in order.
 pub fn what_a_container_is_made_of_is_read_back()
     ensures value { (which : Which) (schema : ℕ) (v : Plain)
         → schema_word which ≡ Some schema → IsRootOf which v

@@ -22,8 +22,8 @@ pub closed_as : {T E : Type 0} (value : Plains → Plain) (v : Plain) (vs : Plai
 closed_as value v vs before old new (Ok x) name h is = h vs before is ∙ ap (λ (u : Plain). draft_with u before) (sym name)
 closed_as value v vs before old new (Err e) name h is = h
 
--- ---- a loop over a list, whose values are these: those that are left, behind the draft so far, come
--- to the whole
+-- ---- a loop over a list, whose values are these: those that are left, after the draft so far, come to
+-- the whole
 
 pub drop_at : {A : Type 0} (xs : List A) (i : ℕ) (x : A) → slice_get xs i ≡ Some x → drop i xs ≡ x ∷ drop (i + 1) xs
 drop_at {A = A} [] i x at = absurd cc

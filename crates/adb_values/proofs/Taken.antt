@@ -15,7 +15,7 @@ takes v old new words more_words starts word wrote is =
 pub takes_null : (w : Writing) (words more_words starts : List ℕ) → more_words ≡ words ++ 0 ∷ [] → draft_by w more_words starts ≡ draft_with null (draft_by w words starts)
 takes_null w words more_words starts is = takes null w w words more_words starts 0 (record { is = sym (calls_null w) }) is
 
--- a draft that takes values has their words behind its own
+-- a draft that takes values has their words after its own
 pub takes_all : (vs : Plains) (w : Writing) (words starts : List ℕ) → draft_with_all vs (draft_by w words starts) ≡ draft_by (calls_all vs w).1 (words ++ (calls_all vs w).0) starts
 unfolding draft_with
 takes_all none w words starts =

@@ -1,18 +1,18 @@
--- A draft as contracts see it, and what each call makes of it: one value more, or an open list. The
--- rule stands in `docs/formats.md`, "Canonical layout" ("Values are written depth first"); how the
--- calls chain, in the README of this crate.
+-- A draft as contracts see it, and the effect of each call: one value more, or an open list. The rule
+-- is in `docs/formats.md`, "Canonical layout" ("Values are written depth first"); how calls chain is
+-- described in the README of this crate.
 use Rattle.std.specs.Prelude.{ℕ, List, [], ◌∷◌, ◌++◌, length}
 use Rattle.adb_view.specs.Plain.{Plain, Plains, none, more}
 use Rattle.adb_write.specs.Writing.{Writing, empty_writing, calls}
 
--- a draft: what its writer wrote, the words of the values that are in no closed list, and for each
--- open list how many of them stand before it. Only the definitions below look into it
+-- a draft: the state of its writer, the words of the values that are in no closed list, and for each
+-- open list how many of them precede it. Only the definitions below use its fields
 pub record DraftState : Type 0 where
-  -- what its writer wrote
+  -- the state of its writer
   pub writing : Writing
   -- the words of the values that are in no closed list
   pub words : List ℕ
-  -- how many words stand before each open list, the one that was opened last standing last
+  -- how many words precede each open list, in the order in which they were opened
   pub starts : List ℕ
 
 -- the draft of a writer that has written this, with these words and these beginnings of open lists
@@ -33,6 +33,6 @@ abbrev pub draft_with_all : Plains → DraftState → DraftState
 draft_with_all none d = d
 draft_with_all (more v vs) d = draft_with_all vs (draft_with v d)
 
--- a draft with one list more that is open, and takes the values that come
+-- a draft with one more open list, to which the following values are added
 unfoldable pub draft_with_open_list : DraftState → DraftState
 draft_with_open_list d = draft_by d.writing d.words (d.starts ++ length d.words ∷ [])

@@ -1,4 +1,4 @@
--- What stands last in a draft. Serves the contracts inside of `src/draft.rt`.
+-- The last values of a draft. Serves the inner contracts of `src/draft.rt`.
 use Rattle.std.specs.Prelude.{ℕ, ◌-◌, List, length, min, Option, Some, None, slice_get}
 use Rattle.adb_values.specs.Drafts.{DraftState}
 
@@ -6,21 +6,21 @@ use Rattle.adb_values.specs.Drafts.{DraftState}
 abbrev pub last_of : List ℕ → Option ℕ
 last_of xs = slice_get xs (length xs - 1)
 
--- where the list that was opened last begins among `len` words, no further than their end; at 0
--- where no list is open
+-- where the list that was opened last begins among `len` words, at most at their end; at 0 if no list
+-- is open
 abbrev pub start_within : Option ℕ → ℕ → ℕ
 start_within None len = 0
 start_within (Some start) len = min start len
 
--- how many words stand before the list that was opened last: none where no list is open
+-- how many words precede the list that was opened last: none if no list is open
 abbrev pub last_start : DraftState → ℕ
 last_start d = start_within (last_of d.starts) (length d.words)
 
--- a word, or NULL (0) where there is none
+-- a word, or NULL (0) if there is none
 abbrev pub word_or_null : Option ℕ → ℕ
 word_or_null None = 0
 word_or_null (Some word) = word
 
--- the last of some words, or NULL where there are none
+-- the last of some words, or NULL if there are none
 abbrev pub last_word : List ℕ → ℕ
 last_word words = word_or_null (last_of words)

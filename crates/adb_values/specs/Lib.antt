@@ -1,8 +1,8 @@
--- The definitions of `adb_values`. The head of each file says where its rule stands.
+-- The definitions of `adb_values`. The head of each file names the section with its rule.
 
--- what the contracts of this crate's calls say, in the order in which it is best read
+-- cited by the contracts of this crate's calls, in reading order
 pub mod Drafts
 pub mod Words
 pub mod Written
--- what only inner contracts and proofs use
+-- used by inner contracts and proofs only
 pub mod LastList

@@ -1,12 +1,12 @@
--- The words of the blobs that a draft has. The rule stands in `docs/formats.md`, "Canonical layout"
--- ("Equal values are stored once").
+-- The words of the blobs that a draft has. The rule is in `docs/formats.md`, "Canonical layout" ("Equal
+-- values are stored once").
 use Rattle.std.specs.Prelude.{ℕ, List}
 use Rattle.adb_write.specs.Again.{HasWholeItems, IsWordOfBlob}
 use Rattle.adb_values.specs.Drafts.{DraftState}
 
--- in this draft a blob of these bytes has this word: written once more, it has the same one
+-- in this draft a blob of these bytes has this word; written again, it has the same one
 pub record HasBlob (d : DraftState) (bytes : List ℕ) (word : ℕ) : Type 0 where
-  -- the writer answers this word for it again
+  -- the writer returns this word for it again
   pub is : IsWordOfBlob d.writing bytes word
-  -- each written item stands in its bytes, so that the blob is found again later
+  -- the payload contains all of each written item, so that the blob can be found later
   pub whole : HasWholeItems d.writing

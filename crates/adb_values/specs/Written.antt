@@ -1,12 +1,12 @@
--- What a writer of values answers. Its limits stand in `docs/formats.md`, "Canonical layout" ("A
--- payload has at most").
+-- The result of a writer of values. Its limits are in `docs/formats.md`, "Canonical layout" ("A payload
+-- has at most").
 use Rattle.std.specs.Prelude.{◌≡◌, ℕ, List, Result, Ok, Err}
 use Rattle.adb_write.specs.Canonical.{PayloadCounts}
 use Rattle.adb_write.specs.declared.writer.WriteFault.{WriteFault}
 use Rattle.adb_write.specs.declared.writer.WriteFault.TheVariants.{TooLarge, Memory}
 
--- a writer of values ends as the definition says: with what was wanted, or with the counts at which
--- it overflows; where memory was wanting nothing is said
+-- a writer of values ends as the definition says: with the payload, or with the counts at which it
+-- overflows; running out of memory is always allowed
 abbrev pub IsWrittenAs :
     {A : Type 0} → (A → List ℕ) → Result A WriteFault → Result (List ℕ) PayloadCounts → Type 0
 IsWrittenAs view (Ok x) wanted = wanted ≡ Ok (view x)

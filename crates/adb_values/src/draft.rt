@@ -1,7 +1,7 @@
-//! A payload under construction. What is written stands in `docs/formats.md`, "Canonical layout"
-//! ("Values are written depth first"); where a limit is passed, below "A payload has at most". How
-//! the calls chain is told in the README of this crate. In the clauses `ok` says what the draft has
-//! taken, and `err` that a refused call leaves it as it was.
+//! A payload under construction. The layout is in `docs/formats.md`, "Canonical layout" ("Values
+//! are written depth first"); the limits below "A payload has at most". How calls chain is
+//! described in the README of this crate. In the clauses `ok` says what the draft contains after a
+//! call, and `err` that a call that fails leaves it unchanged.
 
 ghost use Rattle.std.specs.Prelude.{◌≡◌, ℕ, ◌<◌, ◌≤◌, List, ◌∷◌, ◌++◌, [], length, take, true, false, IfOk, OnErr, OnOk, vec_capacity, vec_len};
 ghost use Rattle.adb_view.specs.Plain.{Plain, Plains, arr_value, blob_value, int, null, obj_value};
@@ -17,15 +17,15 @@ use adb_write::{WriteFault, Writer};
 use std::alloc::{AllocError, Global};
 use std::marker::Model;
 
-/// Plain values under construction: those that were given, and lists of them that are still open.
-/// A call that is refused memory leaves the draft as it was.
+/// Plain values under construction: those that were added, and lists of them that are still open. A
+/// call that runs out of memory leaves the draft unchanged.
 #[derive(Drop)]
 pub struct Draft {
-    /// What writes the values.
+    /// The writer of the values.
     writer: Writer,
     /// The words of the values that are in no closed list.
     words: Vec<Val>,
-    /// How many of them stand before each open list.
+    /// How many of them precede each open list.
     starts: Vec<usize>,
 }
 
@@ -81,7 +81,7 @@ impl Draft {
         Ok(())
     }
 
-    /// Adds a blob, as `blob` does, and answers its word, by which it is added again.
+    /// Adds a blob, as `blob` does, and returns its word, by which it can be added again.
     pub fn blob_word(&mut self, bytes: &[u8]) -> Result<Val, AllocError>
         ensures ok { OnOk result (self.new ≡ draft_with (blob_value bytes.now) self.old) }
         ensures err { OnErr result (self.new ≡ self.old) }
@@ -93,7 +93,7 @@ impl Draft {
         Ok(word)
     }
 
-    /// Adds a blob again by its word, without a look at its bytes.
+    /// Adds a blob again by its word, without reading its bytes.
     pub fn blob_again(&mut self, word: Val) -> Result<(), AllocError>
         ensures ok { OnOk result ((bytes : List ℕ) → HasBlob self.old bytes word
             → self.new ≡ draft_with (blob_value bytes) self.old) }
@@ -104,7 +104,7 @@ impl Draft {
         Ok(())
     }
 
-    /// Opens a list, which takes the values that come until it is closed.
+    /// Opens a list, to which the following values are added until it is closed.
     pub fn open_list(&mut self) -> Result<(), AllocError>
         ensures ok { OnOk result (self.new ≡ draft_with_open_list self.old) }
         ensures err { OnErr result (self.new ≡ self.old) }
@@ -129,9 +129,9 @@ impl Draft {
         Ok(())
     }
 
-    /// Closes the list that was opened last: an object with the values that came since, one for
-    /// each field from the first on. Nulls that stand last are dropped, and an object without a
-    /// value is Null.
+    /// Closes the list that was opened last: an object of the values that were added since, one for
+    /// each field from the first on. Nulls at the end are dropped, and an object without a value is
+    /// Null.
     pub fn close_object(&mut self) -> Result<(), AllocError>
         ensures ok { OnOk result ((vs : Plains) (before : DraftState)
             → self.old ≡ draft_with_all vs (draft_with_open_list before)
@@ -146,7 +146,7 @@ impl Draft {
         Ok(())
     }
 
-    /// How many words stand before the list that was opened last; 0 where no list is open.
+    /// How many words precede the list that was opened last; 0 if no list is open.
     fn last_start(&self) -> usize
         ensures is { result ≡ last_start self.now }
         ensures within { result ≤ length self.now.words }
@@ -158,8 +158,8 @@ impl Draft {
         }
     }
 
-    /// The payload whose root is the only value of the draft, or the counts just behind the first
-    /// value at which one passes its limit.
+    /// The payload whose root is the only value of the draft, or the counts just after the first
+    /// value that passes a limit.
     pub fn finish(self) -> Result<Vec<u8>, WriteFault>
         ensures written { (v : Plain) → self ≡ draft_with v empty_draft
             → IsWrittenAs (λ payload. payload.items) result (written_of v) }
@@ -172,7 +172,7 @@ impl Draft {
     }
 }
 
-/// This word, or NULL where the writer passed a limit, as its calls answer then.
+/// This word, or NULL if the writer passed a limit, as its calls return then.
 fn word_unless_over(writer: &Writer, word: Val) -> Val
     ensures within { is_over writer.now ≡ false → result ≡ word }
     ensures over { is_over writer.now ≡ true → result ≡ 0 }
@@ -183,8 +183,7 @@ fn word_unless_over(writer: &Writer, word: Val) -> Val
     word
 }
 
-/// Puts one word, that of a closed list, in the place of those from `start` on, the words of its
-/// values.
+/// Replaces the words from `start` on, those of a list's values, by the word of the closed list.
 fn replace_from(words: &mut Vec<Val>, start: usize, word: Val)
     requires room { vec_len words.old < vec_capacity words.old }
     ensures { words.new.items ≡ take start words.old.items ++ word ∷ [] }
@@ -195,7 +194,7 @@ fn replace_from(words: &mut Vec<Val>, start: usize, word: Val)
     }
 }
 
-/// The last of some words, that of the root, or NULL where there is none.
+/// The last of some words, that of the root, or NULL if there is none.
 fn last_word(words: &[Val]) -> Val
     ensures { result ≡ last_word words.now }
 {

@@ -67,7 +67,7 @@ int_of-fits p w n h e =
       ]
     ]
 
--- ---- lists without the Nulls that stand last
+-- ---- lists without the Nulls that are last
 
 keep_normal : (v : Plain) (vs : Plains) → IsNormal v → AreNormal vs → AreNormal (keep v vs)
 unfolding IsNormal
@@ -95,7 +95,8 @@ pub trimmed-trimmed : (vs : Plains) → without_last_nulls (without_last_nulls v
 trimmed-trimmed none = refl
 trimmed-trimmed (more v vs) = keep_trimmed v (without_last_nulls vs) (trimmed-trimmed vs)
 
--- a list that stays as it is without the Nulls that stand last: its rest does, and its last value is not Null
+-- a list that stays as it is without the Nulls that are last: its rest does, and its last value is not
+-- Null
 pub trimmed-more : (v : Plain) (vs : Plains) → without_last_nulls (more v vs) ≡ more v vs → (without_last_nulls vs ≡ vs) × ((vs ≡ none) → v ≢ null)
 trimmed-more v vs e = go v (without_last_nulls vs) refl e
   where

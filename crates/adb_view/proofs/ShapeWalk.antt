@@ -21,7 +21,7 @@ use Rattle.adb_view.specs.FirstFault.{IsFirstFault}
 use Rattle.std.specs.List.{list_all}
 use Rattle.base_core.specs.declared.cause.Cause.{Cause}
 
--- a plain value is found where each visit is sound: `value_is_found_where_visits_are_sound` says both
+-- a plain value is found if each visit is sound: `value_is_found_where_visits_are_sound` says both
 abbrev pub WordsFound : Type 0
 WordsFound = (p : List ℕ) (s : Shape) (w : ℕ) → is_some (plain_of p s w) ≡ list_all (is_sound_visit p) (visits p s w)
 
@@ -32,7 +32,7 @@ chosen : {A : Type 0} (b : Bool) (x y z : A) → cond b x y ≡ z → ((b ≡ tr
 chosen true x y z e = inl (refl, e)
 chosen false x y z e = inr (refl, e)
 
--- going over a list of visits, behind n others
+-- going over a list of visits, after n others
 abbrev pub counted : List ℕ → ℕ → List Visit → Result ℕ Cause
 counted p n [] = Ok n
 counted p n (v ∷ vs) = and_then (walk_visit p n v.shape v.word) (λ m. counted p m vs)
@@ -135,7 +135,7 @@ shape_fault-first p s w c e =
     let r = first_is p 1 (visits p s w) c e in
     record { i = r.i; v = r.v; at = r.at; fault = r.fault; before = r.before }
 
--- where no visit has a fault, each was counted
+-- if no visit has a fault, each was counted
 ok_unless-some : (n m : ℕ) (o : Option Cause) → ok_unless n o ≡ Ok m → (o ≡ None) × (n ≡ m)
 ok_unless-some n m None e = (refl, cc)
 ok_unless-some n m (Some c) e = absurd cc

@@ -1,4 +1,4 @@
--- What stands in a value that was made of its entries or of its bytes.
+-- What is in a value that was made of its entries or of its bytes.
 use Rattle.std.proofs.Common.{◌≡◌, ℕ, zero, suc, List, [], ◌∷◌, refl, ◌∙◌}
 use Rattle.adb_view.specs.Plain.{Plain, null, int, blob, arr, obj, Plains, none, more, blob_value, arr_value, obj_of, obj_value, keep, without_last_nulls}
 use Rattle.adb_view.specs.Values.{nth, entries_in, entry_in, text_in}
@@ -15,7 +15,7 @@ pub entries_obj : (vs : Plains) → entries_in (obj_of vs) ≡ vs
 entries_obj none = refl
 entries_obj (more v vs) = refl
 
--- ---- without the Nulls that stand last
+-- ---- without the Nulls that are last
 
 nth_keep : (v : Plain) (vs : Plains) (i : ℕ) → nth (keep v vs) i ≡ nth (more v vs) i
 nth_keep null none zero = refl

@@ -9,7 +9,7 @@ use Rattle.adb_view.specs.Plain.{Plain, null, int, blob, arr, obj, none, more, S
 use Rattle.adb_view.specs.Visits.{visits, is_sound_visit}
 use Rattle.base_core.specs.declared.cause.Cause.TheVariants.{Outside, WrongKind, Truncated, CompatVersion}
 
--- the fields of a package that stand in the payloads below, and those of an intent
+-- the fields of a package that are in the payloads below, and those of an intent
 abbrev package_shape : Shape
 package_shape = object 7 (field (codes "info") (object 3 (field (codes "name") text (field (codes "version") text no_fields))) (field (codes "paths") (array text) no_fields))
 
@@ -89,7 +89,7 @@ nulls_within-object : plain_of nulls_within intent_shape 0xe0000008 ≡ Some nul
 unfolding plain_of run_of blob_of int_of words
 nulls_within-object = refl
 
--- an empty text between NULLs and an integer: entries past the fields are not looked at
+-- an empty text between NULLs and an integer: entries past the fields are not read
 abbrev empty_text : List ℕ
 empty_text = 0 ∷ 0 ∷ 0 ∷ 0 ∷ 12 ∷ 0 ∷ 0 ∷ 224 ∷ 0 ∷ 0 ∷ 0 ∷ 0 ∷ 4 ∷ 0 ∷ 0 ∷ 0 ∷ 8 ∷ 0 ∷ 0 ∷ 128 ∷ 0 ∷ 0 ∷ 0 ∷ 0 ∷ 12 ∷ 0 ∷ 0 ∷ 16 ∷ []
 

@@ -1,4 +1,4 @@
--- What an opened payload shows. Serves the contracts of this crate; the rules stand in
+-- The contents of an opened payload. Serves the contracts of this crate; the rules are in
 -- `docs/formats.md`, "Values".
 use Rattle.std.specs.Prelude.{ℕ, List}
 use Rattle.adb_view.specs.declared.adb.Adb.{Adb}

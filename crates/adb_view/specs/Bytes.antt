@@ -1,14 +1,14 @@
--- Ranges and numbers of a byte list. The rule stands in `docs/formats.md`, "Values": an offset
--- counts bytes from the payload's start, and a range that leaves the payload is none.
+-- Ranges and numbers of a byte list. The rule is in `docs/formats.md`, "Values": an offset counts bytes
+-- from the payload's start, and there is no range that leaves the payload.
 use Rattle.std.specs.Prelude.{ℕ, zero, suc, ◌+◌, List, [], ◌∷◌, length, take, drop, Option, Some, None, option_map, nat_le, if◌then◌else◌}
 use Rattle.std.specs.Int.{Width, w32, byte_len, from_le_bytes}
 
--- the `len` bytes that begin at `at`; None where they pass the end
+-- the `len` bytes that begin at `at`; None if they pass the end
 abbrev pub range_at : List ℕ → ℕ → ℕ → Option (List ℕ)
 range_at bytes at len = if nat_le (at + len) (length bytes) then Some (take len (drop at bytes))
     else None
 
--- the little-endian number of this width that stands at `at`; None where it passes the end
+-- the little-endian number of this width that is at `at`; None if it passes the end
 abbrev pub number_at : Width → List ℕ → ℕ → Option ℕ
 number_at w bytes at = option_map (from_le_bytes w) (range_at bytes at (byte_len w))
 

@@ -1,7 +1,6 @@
--- Where fields stand in an object of their table: how many fields stand before them, so that the
--- first has index 0. The number in brackets is the one by which causes and `docs/formats.md`,
--- "Schemas", name the field; there fields count from 1. The tables themselves are in Schema. The
--- program has the same list in its module `field_indexes`.
+-- The indexes of fields in an object of their table, counted from 0. The number in brackets is the one
+-- by which causes and `docs/formats.md`, "Schemas", name the field; there fields count from 1. The
+-- tables themselves are in Schema. The program has the same list in its module `field_indexes`.
 use Rattle.std.specs.Prelude.{ℕ}
 
 -- ---- a dependency

@@ -1,12 +1,12 @@
--- What it is that a fault is the first of the walk. Serves the law
--- `the_first_faulty_visit_is_reported`; the rule stands in `docs/formats.md`, "The shape".
+-- When a fault is the first of the walk. Serves the law `the_first_faulty_visit_is_reported`; the rule
+-- is in `docs/formats.md`, "The shape".
 use Rattle.std.specs.Prelude.{◌≡◌, ℕ, ◌+◌, ◌<◌, List, slice_get, Some, None}
 use Rattle.adb_view.specs.Visits.{Visit}
 use Rattle.adb_view.specs.Walk.{visit_fault}
 use Rattle.base_core.specs.declared.cause.Cause.{Cause}
 
--- the visit with the index i (its number, counted from 1, is one more) has this fault, and none
--- before it has any
+-- the visit with the index i (one less than its number, which counts from 1) has this fault, and no
+-- visit before it has one
 pub record IsFirstFault (p : List ℕ) (vs : List Visit) (c : Cause) : Type 0 where
   -- the index of the visit
   pub i : ℕ

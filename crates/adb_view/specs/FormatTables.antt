@@ -1,6 +1,6 @@
--- The tables as the formats list them: the number, and each field's name and kind, from number 1
--- on. The list stands in `docs/formats.md`, "Schemas"; the law `tables_are_as_listed` says that the
--- program has it so.
+-- The tables as the formats list them: the number, and each field's name and kind, from number 1 on.
+-- The list is in `docs/formats.md`, "Schemas"; the law `tables_are_as_listed` proves that the program
+-- has the same.
 use Rattle.std.specs.Prelude.{ℕ, List, [], ◌∷◌, codes, map}
 use Rattle.adb_view.specs.Schema.{table, schema_number, field_name_text}
 use Rattle.adb_view.specs.declared.tables.Which.{Which}

@@ -1,13 +1,12 @@
--- The eight bytes before the values: the compatibility version, three bytes that nobody looks at,
--- and the root's word. The rule stands in `docs/formats.md`, "Values" ("An ADB payload begins with
--- eight bytes").
+-- The eight bytes before the values: the compatibility version, three ignored bytes, and the root's
+-- word. The rule is in `docs/formats.md`, "Values" ("An ADB payload begins with eight bytes").
 use Rattle.std.specs.Prelude.{ℕ, List, length, take, drop, slice_index, Option, Some, None, nat_lt, ◌==◌, if◌then◌else◌}
 use Rattle.std.specs.Int.{w32, from_le_bytes}
 use Rattle.base_core.specs.declared.cause.Cause.{Cause}
 use Rattle.base_core.specs.declared.cause.Cause.TheVariants.{Truncated, CompatVersion}
 
--- the first fault of a payload's head: that it has fewer than 8 bytes, or another version than 0;
--- None where it has none
+-- the first fault of a payload's head: fewer than 8 bytes, or another version than 0; None if it is
+-- good
 abbrev pub head_fault : List ℕ → Option Cause
 head_fault payload =
     if nat_lt (length payload) 8 then Some (Truncated 0)

@@ -1,5 +1,5 @@
--- Values with no values below them. Serves the walk in `src/walk.rt`; which values stand in which
--- field, and that NULL is one of each kind, stands in `docs/formats.md`, "The shape".
+-- Leaves: values without values below them. Serves the walk in `src/walk.rt`; the kind of each field,
+-- and that NULL is allowed for each kind, is defined in `docs/formats.md`, "The shape".
 use Rattle.std.specs.Prelude.{ℕ, ◌+◌, Bool, ◌==◌, if◌then◌else◌, List, [], ◌∷◌, is_some}
 use Rattle.std.specs.Result.{result_ok}
 use Rattle.adb_view.specs.Readers.{int_of, blob_of}
@@ -7,8 +7,8 @@ use Rattle.adb_view.specs.declared.tables.Field.{Field}
 use Rattle.adb_view.specs.declared.tables.Kind.{Kind}
 use Rattle.adb_view.specs.declared.tables.Kind.TheVariants.{Int, Text, Hash, Obj, TextArr, ObjArr}
 
--- whether nothing stands below a word, and it is read as the kind asks: an integer, a text or a
--- hash, or NULL, which each kind may be
+-- whether a word can be read as the kind demands and has no words below it: an integer, a text or a
+-- hash, or NULL, which each kind allows
 abbrev pub is_sound_leaf : List ℕ → Kind → ℕ → Bool
 is_sound_leaf p Int w = is_some (result_ok (int_of p w))
 is_sound_leaf p Text w = is_some (result_ok (blob_of p w))
@@ -17,7 +17,8 @@ is_sound_leaf p (Obj which) w = w == 0
 is_sound_leaf p TextArr w = w == 0
 is_sound_leaf p (ObjArr which) w = w == 0
 
--- how many of an object's words are such, from the first on, each as its field asks
+-- how many of an object's words, from the first on, are leaves that can be read, each as its field
+-- demands
 abbrev pub leading_leaves : List ℕ → List Field → List ℕ → ℕ
 leading_leaves p [] ws = 0
 leading_leaves p (f ∷ fs) [] = 0

@@ -1,6 +1,6 @@
--- The definitions of `adb_view`. The head of each file says where its rule stands.
+-- The definitions of `adb_view`. The head of each file names the section with its rule.
 
--- what the contract of `apk` says
+-- cited by the contract of `apk`
 pub mod Bytes
 pub mod Readers
 pub mod Head
@@ -10,7 +10,7 @@ pub mod Schema
 pub mod FieldIndexes
 pub mod Values
 pub mod Walk
--- what only inner contracts and proofs use
+-- used by inner contracts and proofs only
 pub mod Adb
 pub mod Gives
 pub mod Entries

@@ -1,5 +1,5 @@
--- Plain values, the shapes that tables of fields give them, and the plain value of a word. The
--- rules stand in `docs/formats.md`, "Values" ("A table of fields gives each word a shape").
+-- Plain values, the shapes by which tables of fields read them, and the plain value of a word. The
+-- rules are in `docs/formats.md`, "Values" ("A table of fields gives each word a shape").
 use Rattle.std.specs.Prelude.{◌≡◌, ◌≢◌, ℕ, suc, ◌<◌, ◌^◌, List, [], ◌∷◌, Option, Some, None, option_map, option_and_then, Result, Ok, Err, ◌==◌, if◌then◌else◌}
 use Rattle.adb_view.specs.Readers.{int_of, blob_of, run_of, ARRAY, OBJECT}
 use Rattle.adb_view.specs.Head.{root_of}
@@ -19,7 +19,7 @@ mutual
     none : Plains
     more : Plain → Plains → Plains
 
--- what a field may hold: a number, a text, a hash, an array of a shape, or an object, which has the
+-- the shape of a field: a number, a text, a hash, an array of a shape, or an object, which has the
 -- number of its table, and a name and a shape for each field
 mutual
   pub data Shape : Type 0 where
@@ -41,17 +41,17 @@ abbrev pub blob_value : List ℕ → Plain
 blob_value [] = null
 blob_value (b ∷ bs) = blob (b ∷ bs)
 
--- the values of an array as a plain value; none are Null
+-- the values of an array as a plain value; without values it is Null
 abbrev pub arr_value : Plains → Plain
 arr_value none = null
 arr_value (more v vs) = arr (more v vs)
 
--- the values of an object as a plain value; none are Null
+-- the values of an object as a plain value; without values it is Null
 abbrev pub obj_of : Plains → Plain
 obj_of none = null
 obj_of (more v vs) = obj (more v vs)
 
--- the values of an object with one more in front, but a Null that would stand last is dropped
+-- the values of an object with one more in front, which is dropped if it is Null and would be last
 abbrev pub keep : Plain → Plains → Plains
 keep null none = none
 keep null (more v vs) = more null (more v vs)
@@ -60,7 +60,7 @@ keep (blob b) vs = more (blob b) vs
 keep (arr us) vs = more (arr us) vs
 keep (obj us) vs = more (obj us) vs
 
--- the values of an object without the Nulls that stand last
+-- the values of an object without the Nulls at its end
 abbrev pub without_last_nulls : Plains → Plains
 without_last_nulls none = none
 without_last_nulls (more v vs) = keep v (without_last_nulls vs)
@@ -81,26 +81,26 @@ text_plains (t ∷ ts) = more (blob_value t) (text_plains ts)
 
 -- ---- the plain value of a word under a shape
 
--- the plain value of a word: Null where the word is NULL, whatever its shape, else `v`
+-- the plain value of a word: Null if the word is NULL, whatever its shape, else `v`
 abbrev pub unless_null : ℕ → Option Plain → Option Plain
 unless_null word v = if word == 0 then Some null else v
 
--- what `f` makes of a reader's answer; None where it refused the word with a cause
+-- the result of `f` for a reader's value; None if the reader refused the word with a cause
 abbrev pub from_answer : {A B : Type 0} → (A → Option B) → Result A Cause → Option B
 from_answer f (Ok x) = f x
 from_answer f (Err c) = None
 
--- a value with others behind it; None where one of them was not found
+-- a value with others after it; None if one of them was not found
 abbrev pub then_more : Option Plain → Option Plains → Option Plains
 then_more v vs = option_and_then (λ v. option_map (more v) vs) v
 
--- the value of each word in order; None where one of the words has none
+-- the value of each word in order; None if one of the words has none
 abbrev pub each_plain : (ℕ → Option Plain) → List ℕ → Option Plains
 each_plain f [] = Some none
 each_plain f (w ∷ ws) = then_more (f w) (each_plain f ws)
 
--- the plain value that the word `w` has in the payload `p` under a shape, by the reader of the shape;
--- None where one of the words below it cannot be read
+-- the plain value of the word `w` in the payload `p` by a shape; None if it or a word below it cannot
+-- be read
 unfoldable mutual
   pub plain_of : List ℕ → Shape → ℕ → Option Plain
   plain_of p number w = unless_null w (from_answer (λ n. Some (int n)) (int_of p w))
@@ -111,8 +111,7 @@ unfoldable mutual
   plain_of p (object schema fs) w = unless_null w
       (from_answer (λ ws. option_map obj_value (plains_of p fs ws)) (run_of OBJECT p w))
 
-  -- the plain values of an object's entries by its fields; entries past the fields are not looked
-  -- at
+  -- the plain values of an object's entries by its fields; entries past the fields are ignored
   pub plains_of : List ℕ → Fields → List ℕ → Option Plains
   plains_of p no_fields ws = Some none
   plains_of p (field name s fs) [] = Some none
@@ -124,8 +123,8 @@ value_of p s = plain_of p s (root_of p)
 
 -- ---- normal values
 
--- a value is normal: integers below 2 ^ 64, no empty blob or list, and no Null that stands last in an
--- object
+-- a value is normal: its integers are below 2 ^ 64, no blob or list is empty, and no object ends in
+-- Null
 unfoldable mutual
   pub IsNormal : Plain → Type 0
   IsNormal null = Unit {0}

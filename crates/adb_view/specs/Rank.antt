@@ -1,13 +1,13 @@
--- How deep values of a kind nest: a number that falls from a kind to those below it. Serves the
--- proof that the walk ends.
+-- How deep values of a kind nest: a number that is less for the kinds below it. Serves the proof that
+-- the walk ends.
 use Rattle.std.specs.Prelude.{ℕ, ◌+◌, ◌*◌, max, List, [], ◌∷◌}
 use Rattle.adb_view.specs.Schema.{schema_number}
 use Rattle.adb_view.specs.declared.tables.Kind.{Kind}
 use Rattle.adb_view.specs.declared.tables.Kind.TheVariants.{Int, Text, Hash, Obj, TextArr, ObjArr}
 use Rattle.adb_view.specs.declared.tables.Field.{Field}
 
--- how deep values of a kind nest: the number falls from each kind to the kinds of its fields and
--- entries, since a table names only tables of lower numbers
+-- how deep values of a kind nest. The number is less for the kinds of its fields and entries, since a
+-- table names only tables of lower numbers
 abbrev pub rank : Kind → ℕ
 rank Int = 0
 rank Text = 0
@@ -16,7 +16,7 @@ rank TextArr = 2
 rank (Obj w) = 4 * schema_number w
 rank (ObjArr w) = 4 * schema_number w + 2
 
--- the greatest rank of the kinds of some fields; 0 where there are none
+-- the greatest rank of the kinds of some fields; 0 if there are none
 abbrev pub rank_of_all : List Field → ℕ
 rank_of_all [] = 0
 rank_of_all (f ∷ fs) = max (rank f.kind) (rank_of_all fs)

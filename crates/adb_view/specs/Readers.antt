@@ -1,4 +1,4 @@
--- What a word means in a payload, for each of the four readers. The rules stand in the table of
+-- The meaning of a word in a payload, for each of the four readers. The rules are in the table of
 -- `docs/formats.md`, "Values", and in the two paragraphs below it.
 use Rattle.std.specs.Prelude.{ℕ, zero, suc, ◌+◌, ◌*◌, ◌/◌, ◌%◌, ◌^◌, List, [], Option, Some, None, option_map, option_and_then, Result, Ok, Err, ◌==◌, if◌then◌else◌}
 use Rattle.std.specs.Int.{Width, w8, w16, w32, w64, byte_len}
@@ -14,13 +14,13 @@ kind_of word = word / 2 ^ 28
 abbrev pub low_of : ℕ → ℕ
 low_of word = word % 2 ^ 28
 
--- what a word's range holds, or the cause that it points outside
+-- the contents of a word's range, or the cause that it points outside
 abbrev pub inside : {A : Type 0} → ℕ → Option A → Result A Cause
 inside word (Some x) = Ok x
 inside word None = Err (Outside word)
 
--- the integer that a word is: in the word, or in 4 or 8 bytes at the offset; NULL is 0. The numbers
--- of kinds here and below are those of the document's table
+-- the integer of a word: in the word, or in 4 or 8 bytes at the offset; NULL is 0. The numbers of kinds
+-- here and below are those of the document's table
 unfoldable pub int_of : List ℕ → ℕ → Result ℕ Cause
 int_of payload word =
     if word == 0 then Ok 0
@@ -29,12 +29,13 @@ int_of payload word =
     else if kind_of word == 3 then inside word (number_at w64 payload (low_of word))
     else Err (WrongKind word)
 
--- the bytes of a blob that stands at an offset: a length of this width, and behind it so many bytes
+-- the bytes of a blob at an offset: a length of this width, and then as many bytes
 abbrev pub counted_at : Width → List ℕ → ℕ → Option (List ℕ)
 counted_at w payload at = option_and_then (λ len. range_at payload (at + byte_len w) len)
     (number_at w payload at)
 
--- the bytes that a word is, with their length in 1, 2 or 4 bytes before them; NULL is no bytes
+-- the bytes of a word that is a blob, with their length in 1, 2 or 4 bytes before them; NULL is no
+-- bytes
 unfoldable pub blob_of : List ℕ → ℕ → Result (List ℕ) Cause
 blob_of payload word =
     if word == 0 then Ok []
@@ -43,27 +44,27 @@ blob_of payload word =
     else if kind_of word == 10 then inside word (counted_at w32 payload (low_of word))
     else Err (WrongKind word)
 
--- the entries of a run at an offset whose first word is this number; it counts itself too, so a run
--- with 0 there is none
+-- the entries of a run at an offset whose first word is this number. The number counts that word too,
+-- so 0 is no run
 abbrev pub counted_words : List ℕ → ℕ → ℕ → Option (List ℕ)
 counted_words payload at zero = None
 counted_words payload at (suc n) = option_map (words n) (range_at payload (at + 4) (4 * n))
 
--- the entries of the run at an offset: how many words it has stands first
+-- the entries of the run at an offset, whose first word counts its words
 abbrev pub run_at : List ℕ → ℕ → Option (List ℕ)
 run_at payload at = option_and_then (counted_words payload at) (number_at w32 payload at)
 
--- the entries of the run that a word of this kind leads to (an array or an object); NULL has none
+-- the entries of the run to which a word of this kind points (an array or an object); NULL has none
 unfoldable pub run_of : ℕ → List ℕ → ℕ → Result (List ℕ) Cause
 run_of kind payload word =
     if word == 0 then Ok []
     else if kind_of word == kind then inside word (run_at payload (low_of word))
     else Err (WrongKind word)
 
--- the kind of a word that leads to an array
+-- the kind of a word that points to an array
 abbrev pub ARRAY : ℕ
 ARRAY = 13
 
--- the kind of a word that leads to an object
+-- the kind of a word that points to an object
 abbrev pub OBJECT : ℕ
 OBJECT = 14

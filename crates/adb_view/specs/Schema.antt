@@ -1,5 +1,5 @@
--- The ten tables, as the program's constants have them, and the shapes that they give. The rules
--- stand in `docs/formats.md`, "Schemas" (the tables) and "Values" (what a shape is).
+-- The ten tables, as the program's constants have them, and their shapes. The rules are in
+-- `docs/formats.md`, "Schemas" (the tables) and "Values" (the shapes).
 use Rattle.std.specs.Prelude.{ℕ, zero, suc, List, [], ◌∷◌, codes}
 use Rattle.adb_view.specs.Plain.{Shape, number, text, hash, array, object, Fields, no_fields, field}
 use Rattle.adb_view.specs.declared.tables.Which.{Which}
@@ -88,14 +88,13 @@ field_name_text FieldName.PkgnameSpec = codes "pkgname-spec"
 field_name_text FieldName.Removals = codes "removals"
 field_name_text FieldName.Writes = codes "writes"
 
--- the fields of a table as a shape has them: each by its name, and the shape that `f` gives its
--- kind
+-- the fields of a table in a shape: each with its name, and the shape that `f` gives its kind
 abbrev pub fields_with : (Kind → Shape) → List Field → Fields
 fields_with f [] = no_fields
 fields_with f (r ∷ rs) = field (field_name_text r.name) (f r.kind) (fields_with f rs)
 
--- the shape of a kind in which objects are unrolled so many levels deep. A table names only tables
--- of lower numbers, so that some depth unrolls each of them whole
+-- the shape of a kind, with objects unrolled to this depth. A table names only tables of lower numbers,
+-- so some depth unrolls all of them
 abbrev pub shape_to_depth : ℕ → Kind → Shape
 shape_to_depth depth Int = number
 shape_to_depth depth Text = text

@@ -1,5 +1,5 @@
--- What a walked payload shows. Serves the contracts of `Shaped`; the rule stands in
--- `docs/formats.md`, "The shape".
+-- The contents of a walked payload. Serves the contracts of `Shaped`; the rule is in `docs/formats.md`,
+-- "The shape".
 use Rattle.adb_view.specs.Plain.{Plain}
 use Rattle.adb_view.specs.Head.{root_of}
 use Rattle.adb_view.specs.Adb.{payload_of}

@@ -1,6 +1,6 @@
--- The shape of each kind, by those of the kinds below it: unrolling goes deep enough that none is
--- cut off. Serves the law `tables_are_unrolled_whole` and the proofs; the tables stand in
--- `docs/formats.md`, "Schemas".
+-- The shape of each kind, by those of the kinds below it: unrolling is deep enough that none is cut
+-- off. Serves the law `tables_are_unrolled_whole` and the proofs; the tables are in `docs/formats.md`,
+-- "Schemas".
 use Rattle.std.proofs.Common.{◌≡◌, refl}
 use Rattle.adb_view.specs.Plain.{number, text, hash, array, object}
 use Rattle.adb_view.specs.Schema.{table, schema_number, shape_of, shapes_of}
@@ -42,7 +42,7 @@ pub text_shape : shape_of Text ≡ text
 unfolding shape_of
 text_shape = refl
 
--- the shape of a hash: a blob as a text is, but printed in hexadecimal digits
+-- the shape of a hash: a blob like a text, but printed in hexadecimal digits
 pub hash_shape : shape_of Hash ≡ hash
 unfolding shape_of
 hash_shape = refl

@@ -1,5 +1,5 @@
--- What views answer: the plain value of a word that is known to have one, and its fields. The rule
--- stands in `docs/formats.md`, "Values" ("A table of fields gives each word a shape").
+-- The results of views: the plain value of a word that is known to have one, and its fields. The rule
+-- is in `docs/formats.md`, "Values" ("A table of fields gives each word a shape").
 use Rattle.std.specs.Prelude.{ℕ, zero, suc, Bool, List, [], is_some, Option, unwrap_or, option_map, slice_get}
 use Rattle.adb_view.specs.Plain.{Plain, null, int, blob, arr, obj, Plains, none, more, plain_of}
 pub use Rattle.adb_view.specs.Plain.{count_of}
@@ -7,11 +7,11 @@ use Rattle.adb_view.specs.Schema.{table, shape_of}
 use Rattle.adb_view.specs.declared.tables.Which.{Which}
 use Rattle.adb_view.specs.declared.tables.Kind.{Kind}
 
--- whether the word `w` of the payload `p` has a plain value under the kind
+-- whether the word `w` of the payload `p` has a plain value of the kind
 unfoldable pub is_sound : List ℕ → Kind → ℕ → Bool
 is_sound p k w = is_some (plain_of p (shape_of k) w)
 
--- the plain value of the word `w` of the payload `p` under the kind; Null where it has none
+-- the plain value of the word `w` of the payload `p` by the kind; Null if it has none
 unfoldable pub value_at : List ℕ → Kind → ℕ → Plain
 value_at p k w = unwrap_or (plain_of p (shape_of k) w) null
 
@@ -21,8 +21,8 @@ nth none i = null
 nth (more v vs) zero = v
 nth (more v vs) (suc i) = nth vs i
 
--- the entries of an array or of an object; Null, and what is neither, has none, so that each field
--- of it is Null
+-- the entries of an array or of an object. Null and any other value have none, so that each field of
+-- theirs is Null
 abbrev pub entries_in : Plain → Plains
 entries_in null = none
 entries_in (int n) = none
@@ -34,7 +34,7 @@ entries_in (obj vs) = vs
 abbrev pub entry_in : Plain → ℕ → Plain
 entry_in v i = nth (entries_in v) i
 
--- the integer that a value is; 0 of Null, and of what is no integer
+-- the integer of a value; 0 for Null, and for a value that is no integer
 abbrev pub int_in : Plain → ℕ
 int_in null = 0
 int_in (int n) = n
@@ -42,7 +42,7 @@ int_in (blob b) = 0
 int_in (arr vs) = 0
 int_in (obj vs) = 0
 
--- the bytes that a value is; none of Null, and of what is no blob
+-- the bytes of a value; none for Null, and for a value that is no blob
 abbrev pub text_in : Plain → List ℕ
 text_in null = []
 text_in (int n) = []
@@ -50,6 +50,6 @@ text_in (blob b) = b
 text_in (arr vs) = []
 text_in (obj vs) = []
 
--- the kind of the field with this index in a table, if it has so many fields
+-- the kind of the field with this index in a table, if there is such a field
 abbrev pub kind_at : Which → ℕ → Option Kind
 kind_at which i = option_map (λ f. f.kind) (slice_get (table which) i)

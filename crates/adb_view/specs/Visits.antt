@@ -1,4 +1,4 @@
--- The words that a walk over a value visits, and whether each can be read. The rule stands in
+-- The words that a walk over a value visits, and whether each can be read. The rule is in
 -- `docs/formats.md`, "The shape".
 use Rattle.std.specs.Prelude.{ℕ, Bool, is_none, List, [], ◌∷◌, ◌++◌, Option, Result, Ok, Err}
 use Rattle.std.specs.Result.{result_err}
@@ -6,7 +6,7 @@ use Rattle.adb_view.specs.Plain.{Shape, number, text, hash, array, object, Field
 use Rattle.adb_view.specs.Readers.{int_of, blob_of, run_of, ARRAY, OBJECT}
 use Rattle.base_core.specs.declared.cause.Cause.{Cause}
 
--- a visit of a walk: the word that is looked at, and the shape that is asked of it
+-- a visit of a walk: a word, and the shape that is demanded of it
 pub record Visit : Type 0 where
   pub shape : Shape
   pub word : ℕ
@@ -22,7 +22,7 @@ each_visit f [] = []
 each_visit f (w ∷ ws) = f w ++ each_visit f ws
 
 -- the visits of a walk over a word `w` of the payload `p`, depth first: the word, then its entries in
--- order; of an object those that have a field
+-- order; of an object only the entries that have a field
 unfoldable mutual
   pub visits : List ℕ → Shape → ℕ → List Visit
   visits p number w = record { shape = number; word = w } ∷ []
@@ -39,11 +39,11 @@ unfoldable mutual
   field_visits p (field name s fs) [] = []
   field_visits p (field name s fs) (w ∷ ws) = visits p s w ++ field_visits p fs ws
 
--- how many visits a payload may have, so how many values, each counted wherever it stands
+-- the most visits, so the most values, of a payload; a value is counted each time that it occurs
 abbrev pub MOST_VALUES : ℕ
 MOST_VALUES = 4194304
 
--- why the reader of this shape refuses the word; None where it takes it
+-- why the reader of this shape refuses the word; None if it accepts it
 abbrev pub fault_at : List ℕ → Shape → ℕ → Option Cause
 fault_at p number w = result_err (int_of p w)
 fault_at p text w = result_err (blob_of p w)
@@ -51,6 +51,6 @@ fault_at p hash w = result_err (blob_of p w)
 fault_at p (array s) w = result_err (run_of ARRAY p w)
 fault_at p (object schema fs) w = result_err (run_of OBJECT p w)
 
--- whether the reader of a visit's shape takes its word
+-- whether the reader of a visit's shape accepts its word
 abbrev pub is_sound_visit : List ℕ → Visit → Bool
 is_sound_visit p v = is_none (fault_at p v.shape v.word)

@@ -1,5 +1,5 @@
--- The walk over a payload's values, as its list of visits: the first of them that is faulty. The
--- rule stands in `docs/formats.md`, "The shape".
+-- The walk over a payload's values as a list of visits, and the first of them that is faulty. The rule
+-- is in `docs/formats.md`, "The shape".
 use Rattle.std.specs.Prelude.{ℕ, ◌+◌, List, [], ◌∷◌, Option, Some, None, nat_lt, if◌then◌else◌}
 use Rattle.std.specs.Option.{option_or}
 use Rattle.adb_view.specs.Plain.{Shape}
@@ -17,7 +17,6 @@ abbrev pub first_fault_from : List ℕ → ℕ → List Visit → Option Cause
 first_fault_from p i [] = None
 first_fault_from p i (v ∷ vs) = option_or (visit_fault p i v) (first_fault_from p (i + 1) vs)
 
--- the first fault of the walk over a word and what lies below it, under a shape; None where there
--- is none
+-- the first fault of the walk over a word and the words below it, by a shape; None if there is none
 abbrev pub shape_fault : List ℕ → Shape → ℕ → Option Cause
 shape_fault p s w = first_fault_from p 1 (visits p s w)

@@ -1,5 +1,5 @@
--- The widths of the numbers in a payload. Serves the contracts of `src/words.rt`; which widths
--- there are stands in the table of `docs/formats.md`, "Values".
+-- The widths of the numbers in a payload. Serves the contracts of `src/words.rt`; the widths are in the
+-- table of `docs/formats.md`, "Values".
 use Rattle.std.specs.Int.{w8, w16, w32, w64}
 use Rattle.std.specs.Int as I
 use Rattle.adb_view.specs.declared.words.Width.{Width}

@@ -1,8 +1,8 @@
-//! An opened payload and its four readers, and what follows from the definitions, for every
-//! payload. The rules stand in `docs/formats.md`, "Values": the head below "An ADB payload begins
-//! with eight bytes", the kinds of words in its table, what each reader answers below it. In the
-//! clauses `exact` says which payload is refused and why, `lent` that the bytes are those that were
-//! given, `order` and `within` that a range lies in the payload.
+//! An opened payload, its four readers, and the laws about plain values. The rules are in
+//! `docs/formats.md`, "Values": the head below "An ADB payload begins with eight bytes", the kinds
+//! of words in its table, the result of each reader below it. In the clauses `exact` says which
+//! payload is refused and why, `lent` that the bytes are those of the argument, and `order` and
+//! `within` that a range is in the payload.
 
 ghost use Rattle.std.specs.Prelude.{◌≡◌, ◌≤◌, length, slice_range, IfOk, ◌<◌, ℕ, List, All, IfSome, is_some};
 ghost use Rattle.std.specs.Result.{result_err, result_ok};
@@ -18,7 +18,7 @@ use crate::run::{Arr, Obj};
 use crate::words::{Val, Width, counted_range, kind, number};
 use base_core::Cause;
 
-/// How many bytes stand before the values: the version, what nobody looks at, and the root's word.
+/// How many bytes precede the values: the version, three ignored bytes, and the root's word.
 const HEAD: usize = 8;
 
 /// An ADB payload (apk-v3(5)) whose head has been tested.
@@ -37,8 +37,8 @@ impl<'a> Adb<'a> {
     ///
     /// # Errors
     ///
-    /// `Truncated` at 0 where there are fewer than 8 bytes, else `CompatVersion` where the first is
-    /// not 0.
+    /// `Truncated` at 0 if there are fewer than 8 bytes, else `CompatVersion` if the first is not
+    /// 0.
     pub fn new(payload: &'a [u8]) -> Result<Adb<'a>, Cause>
         ensures exact { result_err result ≡ head_fault payload.now }
         ensures lent { IfOk result (λ adb. payload_of adb ≡ payload.now) }
@@ -71,7 +71,7 @@ impl<'a> Adb<'a> {
     ///
     /// # Errors
     ///
-    /// `WrongKind` where it is no integer, else `Outside` where its bytes leave the payload.
+    /// `WrongKind` if it is no integer, else `Outside` if its bytes leave the payload.
     #[tactic(auto, unfolding(crate::specs::Readers::int_of))]
     pub fn int(&self, v: Val) -> Result<u64, Cause>
         ensures { result ≡ int_of (payload_of self.now) v }
@@ -89,11 +89,11 @@ impl<'a> Adb<'a> {
         found.ok_or(Cause::Outside { word })
     }
 
-    /// The bytes of the blob that the value is, as they stand in the payload; NULL is empty.
+    /// The bytes of the blob that the value is, as they are in the payload; NULL is empty.
     ///
     /// # Errors
     ///
-    /// `WrongKind` where it is no blob, else `Outside` where its bytes leave the payload.
+    /// `WrongKind` if it is no blob, else `Outside` if its bytes leave the payload.
     pub fn blob(&self, v: Val) -> Result<&'a [u8], Cause>
         ensures { Gives (λ bytes. bytes.now) result (blob_of (payload_of self.now) v) }
     {
@@ -101,12 +101,11 @@ impl<'a> Adb<'a> {
         Ok(&self.payload[from..end])
     }
 
-    /// From where to where in the payload the bytes of the blob stand that the value is; those of
-    /// NULL are none.
+    /// The start and the end of a blob's bytes in the payload; NULL has none.
     ///
     /// # Errors
     ///
-    /// `WrongKind` where it is no blob, else `Outside` where its bytes leave the payload.
+    /// `WrongKind` if it is no blob, else `Outside` if its bytes leave the payload.
     #[tactic(auto, unfolding(crate::specs::Readers::blob_of))]
     pub fn blob_range(&self, v: Val) -> Result<(usize, usize), Cause>
         ensures found { Gives (λ found. slice_range (payload_of self.now) found.0 found.1) result
@@ -131,8 +130,8 @@ impl<'a> Adb<'a> {
     ///
     /// # Errors
     ///
-    /// `WrongKind` where it is no array, else `Outside` where its run leaves the payload or counts
-    /// no word.
+    /// `WrongKind` if it is no array, else `Outside` if its run leaves the payload or has the count
+    /// 0.
     pub fn arr(&self, v: Val) -> Result<Arr<'a>, Cause>
         ensures { Gives array_entries result (run_of ARRAY (payload_of self.now) v) }
     {
@@ -143,8 +142,8 @@ impl<'a> Adb<'a> {
     ///
     /// # Errors
     ///
-    /// `WrongKind` where it is no object, else `Outside` where its run leaves the payload or counts
-    /// no word.
+    /// `WrongKind` if it is no object, else `Outside` if its run leaves the payload or has the
+    /// count 0.
     pub fn obj<const N: usize>(&self, v: Val) -> Result<Obj<'a, N>, Cause>
         ensures { Gives object_entries result (run_of OBJECT (payload_of self.now) v) }
     {
@@ -152,8 +151,8 @@ impl<'a> Adb<'a> {
         Ok(Obj::of(entries))
     }
 
-    /// The integer that `int` reads; none where it refuses. A cause has 150 bytes, which a reader
-    /// that may answer one moves at each call.
+    /// The integer that `int` reads; None if that fails. A cause has 150 bytes, and a function that
+    /// may return one moves them at each call.
     #[tactic(auto, unfolding(crate::specs::Readers::int_of))]
     pub fn find_int(&self, v: Val) -> Option<u64>
         ensures { result ≡ result_ok (int_of (payload_of self.now) v) }
@@ -169,7 +168,7 @@ impl<'a> Adb<'a> {
         }
     }
 
-    /// The bytes that `blob` reads; none where it refuses.
+    /// The bytes that `blob` reads; None if that fails.
     #[tactic(auto, unfolding(crate::specs::Readers::blob_of))]
     pub fn find_blob(&self, v: Val) -> Option<&'a [u8]>
         ensures { Finds (λ bytes. bytes.now) result (result_ok (blob_of (payload_of self.now) v)) }
@@ -187,14 +186,14 @@ impl<'a> Adb<'a> {
         Some(&self.payload[from..end])
     }
 
-    /// The array that `arr` reads; none where it refuses.
+    /// The array that `arr` reads; None if that fails.
     pub fn find_arr(&self, v: Val) -> Option<Arr<'a>>
         ensures { Finds array_entries result (result_ok (run_of ARRAY (payload_of self.now) v)) }
     {
         Arr::find(self.payload, kind::ARRAY, v)
     }
 
-    /// The entries of the object that `obj` reads; none where it refuses.
+    /// The entries of the object that `obj` reads; None if that fails.
     pub fn find_entries(&self, v: Val) -> Option<Arr<'a>>
         ensures { Finds array_entries result (result_ok (run_of OBJECT (payload_of self.now) v)) }
     {
@@ -202,8 +201,8 @@ impl<'a> Adb<'a> {
     }
 }
 
-/// A plain value is found exactly where each word that the walk visits is read by the reader of its
-/// shape; so are those of the entries of an object.
+/// A word has a plain value if and only if each word that the walk visits can be read by the reader
+/// of its shape. The same holds for the entries of an object.
 pub fn value_is_found_where_visits_are_sound()
     ensures word { (payload : List ℕ) (shape : Shape) (word : ℕ)
         → is_some (plain_of payload shape word)
@@ -213,15 +212,15 @@ pub fn value_is_found_where_visits_are_sound()
         ≡ list_all (is_sound_visit payload) (field_visits payload fields words) }
 {}
 
-/// Each plain value that is found in bytes is normal: its integers are below 2^64, no blob or list
+/// Each plain value that is read from bytes is normal: its integers are below 2^64, no blob or list
 /// is empty, and no object ends in Null.
 pub fn values_are_normal()
     ensures { (payload : List ℕ) → All (λ b. b < 256) payload
         → (shape : Shape) (word : ℕ) → IfSome (plain_of payload shape word) IsNormal }
 {}
 
-/// Each plain value that is found has the shape under which it was looked for; so have those of the
-/// entries of an object.
+/// Each plain value that is read has the shape by which it was read, and so have those of an
+/// object's entries.
 pub fn values_have_their_shape()
     ensures word { (payload : List ℕ) (shape : Shape) (word : ℕ)
         → IfSome (plain_of payload shape word) (HasShape shape) }

@@ -1,18 +1,27 @@
-//! The values of an ADB payload (apk-v3(5)), read where they stand; the tables of the containers, and
-//! the walk that tests a payload's shape against one.
+//! The values of an ADB payload (apk-v3(5)), read in place. The crate also has the tables of the
+//! containers, and the walk that tests the shape of a payload against a table.
 //!
-//! A payload's bytes and a value's word go in; integers, slices of the payload and views of its
-//! arrays and objects come out. The ten tables are constants. `shape` walks a payload from its root
-//! as an object of a table, and makes a `Shaped` of it. Nothing is copied and no memory is taken.
+//! The readers take a payload's bytes and a value's word. They return integers, slices of the
+//! payload, and views of its arrays and objects. The ten tables are constants. `shape` walks a
+//! payload from its root, as an object of a table, and returns a `Shaped`. Nothing is copied, and
+//! no memory is allocated.
 //!
-//! The contracts cite `Head` (the bytes before the values), `Readers` (what a word means), `Plain`
-//! (plain values and the shapes of fields), `Shaped` (the values that a shape has), `Visits` (the
-//! words below a word), `Schema` (the tables, and the shapes that they give), `FormatTables` (the
-//! same as the formats list them), `Walk` (the first fault of the walk), `Values` (plain values of
-//! words, and their fields) and `ShapedPayload` of `specs/`. Which field has which index stands in
-//! `field_indexes`, and for the contracts in `FieldIndexes`.
+//! The contracts cite these modules of `specs/`:
 //!
-//! The rules stand in `docs/formats.md`, "Values", "Schemas" (the tables) and "The shape" (the walk).
+//! - `Head`: the bytes before the values;
+//! - `Readers`: the meaning of a word;
+//! - `Plain`: plain values and the shapes of fields;
+//! - `Shaped`: the values of a shape;
+//! - `Visits`: the words below a word;
+//! - `Schema`: the tables, and their shapes;
+//! - `FormatTables`: the tables as the formats list them;
+//! - `Walk`: the first fault of the walk;
+//! - `Values`: plain values of words, and their fields;
+//! - `ShapedPayload`: the contents of a walked payload.
+//!
+//! The indexes of fields are in `field_indexes`, and for the contracts in `FieldIndexes`.
+//!
+//! The rules are in `docs/formats.md`, "Values", "Schemas" (the tables) and "The shape" (the walk).
 #![tactic(auto)]
 
 mod adb;

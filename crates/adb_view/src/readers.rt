@@ -1,6 +1,6 @@
-//! The readers of words, as the walk asks them. Each first asks the reader that makes no cause;
-//! only where that finds nothing it asks the one that tells the cause. What a reader answers stands
-//! in `docs/formats.md`, "Values" ("Who asks for an integer, a blob, an array or an object says
+//! The readers of words that the walk calls. Each first calls the reader without a cause; only if
+//! that finds nothing, it calls the one that returns the cause. The result of each is defined in
+//! `docs/formats.md`, "Values" ("Who asks for an integer, a blob, an array or an object says
 //! which").
 
 ghost use Rattle.std.specs.Prelude.{◌≡◌, IfErr, IfOk, Err, Ok};
@@ -17,8 +17,9 @@ use crate::visit_fault::VisitFault;
 use crate::walk::object_entries;
 use crate::words::Val;
 
-/// Whether nothing stands below the word and it can be read: NULL, or an integer, a text or a hash,
-/// as the kind asks. Most words of a payload are such, and none of them needs a call of its own.
+/// Whether the word can be read and has no words below it: NULL, or an integer, a text or a hash,
+/// as the kind demands. Most words of a payload are such leaves, and a leaf needs no call of its
+/// own.
 #[tactic(auto, unfolding(crate::specs::Readers::int_of, crate::specs::Readers::blob_of))]
 #[inline(always)]
 pub(crate) fn is_sound_leaf(adb: Adb<'_>, kind: Kind, word: Val) -> bool
@@ -40,7 +41,7 @@ pub(crate) fn is_sound_leaf(adb: Adb<'_>, kind: Kind, word: Val) -> bool
     }
 }
 
-/// The integer that a word is, or why it is none.
+/// The integer of a word, or why it is none.
 #[tactic(auto, using(crate::proofs::ReaderFaults::int_fault, crate::proofs::ReaderFaults::read_ok))]
 pub(crate) fn read_int(adb: Adb<'_>, word: Val) -> Result<u64, VisitFault>
     ensures ok { IfOk result (λ n. int_of (payload_of adb.entry) word ≡ Ok n) }
@@ -56,7 +57,7 @@ pub(crate) fn read_int(adb: Adb<'_>, word: Val) -> Result<u64, VisitFault>
     }
 }
 
-/// The bytes of the blob that a word is, or why it is none.
+/// The bytes of a word that is a blob, or why it is none.
 #[tactic(auto, using(crate::proofs::ReaderFaults::blob_fault, crate::proofs::ReaderFaults::read_ok))]
 pub(crate) fn read_blob<'a>(adb: Adb<'a>, word: Val) -> Result<&'a [u8], VisitFault>
     ensures ok { IfOk result (λ bytes. blob_of (payload_of adb.entry) word ≡ Ok bytes.now) }
@@ -72,7 +73,7 @@ pub(crate) fn read_blob<'a>(adb: Adb<'a>, word: Val) -> Result<&'a [u8], VisitFa
     }
 }
 
-/// The entries of the array that a word is, or why it is none.
+/// The entries of a word that is an array, or why it is none.
 #[tactic(auto, using(crate::proofs::ReaderFaults::run_fault, crate::proofs::ReaderFaults::read_ok))]
 pub(crate) fn read_array<'a>(adb: Adb<'a>, word: Val) -> Result<Arr<'a>, VisitFault>
     ensures ok { IfOk result (λ words. run_of ARRAY (payload_of adb.entry) word
@@ -89,7 +90,7 @@ pub(crate) fn read_array<'a>(adb: Adb<'a>, word: Val) -> Result<Arr<'a>, VisitFa
     }
 }
 
-/// The entries of the object that a word is, those past its fields too, or why it is none.
+/// The entries of a word that is an object, those past its fields too, or why it is none.
 #[tactic(auto, using(crate::proofs::ReaderFaults::run_fault, crate::proofs::ReaderFaults::read_ok))]
 pub(crate) fn read_object<'a>(adb: Adb<'a>, word: Val) -> Result<Arr<'a>, VisitFault>
     ensures ok { IfOk result (λ words. run_of OBJECT (payload_of adb.entry) word

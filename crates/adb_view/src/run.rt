@@ -1,4 +1,4 @@
-//! Runs of words: the entries of an array, and of an object. The rule stands in `docs/formats.md`,
+//! Runs of words: the entries of an array, and of an object. The rule is in `docs/formats.md`,
 //! "Values" ("The first word of a run").
 
 ghost use Rattle.std.specs.Prelude.{◌≡◌, ◌≤◌, ◌<◌, ◌-◌, ◌*◌, ◌^◌, ◌==◌, length};
@@ -9,7 +9,7 @@ ghost use Rattle.adb_view.specs.Gives.{Finds, Gives};
 use crate::words::{Val, run, word_at};
 use base_core::Cause;
 
-/// The entries of an array, as their words stand in the payload.
+/// The entries of an array, as their words are in the payload.
 #[derive(Clone, Copy)]
 pub struct Arr<'a> {
     /// The words of the entries, four bytes each.
@@ -21,7 +21,7 @@ pub struct Arr<'a> {
 impl<'a> Arr<'a> {
     ghost use Rattle.adb_view.specs.Entries.{array_entries, entry_at};
 
-    /// The entries of the run that a word of this kind leads to; NULL has none.
+    /// The entries of the run to which a word of this kind points; NULL has none.
     #[tactic(auto, unfolding(crate::specs::Readers::run_of, crate::specs::Bytes::words))]
     pub(crate) fn read(payload: &'a [u8], kind: u32, v: Val) -> Result<Arr<'a>, Cause>
         ensures { Gives array_entries result (run_of kind payload.now v) }
@@ -39,7 +39,7 @@ impl<'a> Arr<'a> {
         }
     }
 
-    /// The entries that `read` gives, and None where it refuses the word.
+    /// The entries that `read` returns, or None if it fails.
     #[tactic(auto, unfolding(crate::specs::Readers::run_of, crate::specs::Bytes::words))]
     pub(crate) fn find(payload: &'a [u8], kind: u32, v: Val) -> Option<Arr<'a>>
         ensures { Finds array_entries result (result_ok (run_of kind payload.now v)) }
@@ -91,8 +91,8 @@ pub struct Obj<'a, const N: usize> {
 impl<'a, const N: usize> Obj<'a, N> {
     ghost use Rattle.adb_view.specs.Entries.{array_entries, entry_at, object_entries};
 
-    /// The object whose fields are these entries; of those behind the table's last field no one
-    /// asks.
+    /// The object with these entries as its fields; entries past the table's last field are
+    /// ignored.
     pub(crate) fn of(entries: Arr<'a>) -> Obj<'a, N>
         ensures { object_entries result ≡ array_entries entries.entry }
     {

@@ -1,4 +1,4 @@
-//! A payload whose shape was tested. The rule stands in `docs/formats.md`, "The shape".
+//! A payload whose shape was tested. The rule is in `docs/formats.md`, "The shape".
 
 ghost use Rattle.std.specs.Prelude.{◌≡◌, true, is_none};
 ghost use Rattle.adb_view.specs.Adb.{payload_of};

@@ -1,5 +1,5 @@
-//! The ten tables of the containers: what a field is, the constants, and the fields of each table.
-//! The tables stand in `docs/formats.md`, "Schemas". A new table is a new constant here, its
+//! The ten tables of the containers: fields, the constants, and the fields of each table. The
+//! tables are defined in `docs/formats.md`, "Schemas". A new table needs a constant here, its
 //! variant of `Which`, and its lines in `fields_of` and `number_of`.
 
 ghost use Rattle.std.specs.Prelude.{◌≡◌, ◌≤◌};
@@ -9,7 +9,7 @@ ghost use Rattle.adb_view.specs.FormatTables.{format_table, program_table};
 ghost use Rattle.adb_view.specs.declared.tables.Which.{Which};
 ghost use Rattle.adb_view.specs.declared.tables.Kind.TheVariants as Kinds;
 
-/// One of the ten tables: as which object a word is read.
+/// One of the ten tables, by which a word is read as an object.
 #[derive(Clone, Copy, Debug, PartialEq, Eq)]
 pub enum Which {
     /// Table 1: a dependency.
@@ -30,11 +30,11 @@ pub enum Which {
     Index,
     /// Table 9: an installed database.
     Idb,
-    /// Table 10: what a change is about to remove and to write.
+    /// Table 10: a journal entry, which names what a change will remove and write.
     Intent,
 }
 
-/// Which kind of value a field holds.
+/// The kind of a field's value.
 #[derive(Clone, Copy, Debug, PartialEq, Eq)]
 pub enum Kind {
     /// An integer.
@@ -56,21 +56,21 @@ pub enum Kind {
 pub struct Field {
     /// The name of the field, as dumps print it.
     pub name: FieldName,
-    /// Which kind of value the field holds.
+    /// The kind of the field's value.
     pub kind: Kind,
 }
 
 /// A table of N fields.
 #[derive(Clone, Copy)]
 pub struct Schema<const N: usize> {
-    /// The number of the table. The number of a field, by which causes name it, is 100 times that
-    /// of its table plus its own.
+    /// The number of the table. Causes name a field by a number: 100 times that of its table plus
+    /// its own.
     pub number: u16,
     /// The fields of the table, in the order of their numbers, which count from 1.
     pub fields: [Field; N],
 }
 
-/// The name of a field, spelled as `text` says; fields of several tables may have one name.
+/// The name of a field, spelled by `text`; fields of several tables may share a name.
 #[derive(Clone, Copy, Debug, PartialEq, Eq)]
 pub enum FieldName {
     Name,
@@ -183,7 +183,7 @@ impl FieldName {
     }
 }
 
-/// A field: its name, and what it holds.
+/// A field: its name, and the kind of its value.
 macro_rules! field {
     ($name:ident) => {
         field!($name: Kind::Text)
@@ -213,7 +213,7 @@ const ACL_FIELDS: [Field; 4] = [
     field!(Xattrs: Kind::TextArr),
 ];
 
-/// Table 2: an access list, which says whose a file or a folder is, and its mode.
+/// Table 2: an access list, the owner, group and mode of a file or a folder.
 pub const ACL: Schema<4> = Schema {
     number: 2,
     fields: ACL_FIELDS,
@@ -341,7 +341,7 @@ const INTENT_FIELDS: [Field; 2] = [
     field!(Writes: Kind::TextArr),
 ];
 
-/// Table 10: an intent, which says what a change is about to remove and to write.
+/// Table 10: a journal entry, which names what a change will remove and write.
 pub const INTENT: Schema<2> = Schema {
     number: 10,
     fields: INTENT_FIELDS,
@@ -419,7 +419,7 @@ pub fn tables_are_as_listed()
     ensures { (which : Which) → program_table which ≡ format_table which }
 {}
 
-/// A law: each object has the fields of its table, however deep it stands in another.
+/// A law: each object has the fields of its table, however deep it is nested.
 pub fn tables_are_unrolled_whole()
     ensures { (which : Which) → shape_of (Kinds.Obj which)
         ≡ object (schema_number which) (shapes_of (table which)) }

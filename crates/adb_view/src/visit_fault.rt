@@ -1,25 +1,25 @@
-//! The fault of a visit, as the walk hands it from value to value. Which faults there are, and in
-//! which order they are looked for, stands in `docs/formats.md`, "The shape".
+//! The fault of a visit, as the walk passes it on. The faults and the order of their tests are
+//! defined in `docs/formats.md`, "The shape".
 
 ghost use Rattle.std.specs.Prelude.{◌≡◌, true};
 ghost use Rattle.adb_view.specs.VisitFault.{cause_of_fault, is_reader_fault};
 
 use base_core::Cause;
 
-/// Why a visit is faulty. A cause has 150 bytes, too many to be handed from value to value, so the
-/// walk hands this on, and its caller makes a cause of it.
+/// Why a visit is faulty. A cause has 150 bytes, too many to pass from value to value. So the walk
+/// passes this on, and its caller makes a cause of it.
 #[derive(Clone, Copy)]
 pub(crate) enum VisitFault {
     /// The visit with this number, counted from 1, is one too many.
     TooLarge { count: u32 },
-    /// The word is of another kind than its shape asks for.
+    /// The word is of another kind than its shape demands.
     WrongKind { word: u32 },
-    /// What the word points to leaves the payload.
+    /// The bytes that the word points to leave the payload.
     Outside { word: u32 },
 }
 
 impl VisitFault {
-    /// The fault of a visit whose word a reader refused for this cause.
+    /// The fault of a visit whose word a reader refused with this cause.
     pub(crate) fn of_reader(cause: Cause) -> VisitFault
         requires { is_reader_fault cause ≡ true }
         ensures { cause_of_fault result ≡ cause }

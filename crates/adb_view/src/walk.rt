@@ -1,6 +1,6 @@
 //! The walk over a payload's values that tests their shape: depth first, each visit counted and
-//! then tested. The rule stands in `docs/formats.md`, "The shape". In the clauses `bound` says that
-//! the count of visits stays within its limit.
+//! then tested. The rule is in `docs/formats.md`, "The shape". In the clauses `bound` says that the
+//! count of visits is within its limit.
 
 ghost use Rattle.std.specs.Prelude.{min, drop, ◌<◌, slice_index, ◌≡◌, ◌≤◌, ◌+◌, IfOk, true, is_some, length, is_none, ◌↔◌, ℕ, List, Some, None};
 ghost use Rattle.std.specs.Result.{result_err};
@@ -34,7 +34,7 @@ use crate::visit_fault::VisitFault;
 use crate::words::Val;
 use base_core::Cause;
 
-/// The entries of the object that a word is, those past its table's fields too.
+/// The entries of a word that is an object, those past its table's fields too.
 pub fn object_entries<'a>(adb: Adb<'a>, object: Val) -> Result<Arr<'a>, Cause>
     ensures { Gives array_entries result (run_of OBJECT (payload_of adb.entry) object) }
 {
@@ -51,13 +51,13 @@ pub fn entry_word(entries: Arr<'_>, i: usize) -> Val
     entries.get(i + 1)
 }
 
-/// How many visits the walk of a payload may have (`docs/formats.md`, "The shape"); a word that
-/// stands at two places is visited twice.
+/// The most visits of a payload's walk (`docs/formats.md`, "The shape"); a word that occurs twice
+/// is visited twice.
 const MOST_VALUES: u32 = 4_194_304;
 
 /// Walks a payload's values from its root, as an object of this table: a word, then its entries in
-/// order. Each visit is counted, then its word's kind is tested, then its range. The entries of an
-/// object past its table's fields are not visited.
+/// order. Each visit is counted, then its word's kind is tested, then its range. Entries past the
+/// fields of an object's table are not visited.
 ///
 /// # Errors
 ///
@@ -70,7 +70,7 @@ pub fn shape(adb: Adb<'_>, which: Which) -> Result<Shaped<'_>, Cause>
     ensures walked { IfOk result (λ shaped. adb_of shaped ≡ adb.entry) }
     ensures table { IfOk result (λ shaped. table_of shaped ≡ which) }
 {
-    // A law that the proof needs; it computes nothing.
+    // A law that the proof needs; it has no effect at run time.
     value_is_found_where_visits_are_sound();
     match walk_value(adb, Kind::Obj(which), 0, adb.root()) {
         Ok(_) => Ok(Shaped::of(adb, which)),
@@ -78,8 +78,8 @@ pub fn shape(adb: Adb<'_>, which: Which) -> Result<Shaped<'_>, Cause>
     }
 }
 
-/// Visits a word and what lies below it. `before` is how many visits there were, and the answer how
-/// many there are then.
+/// Visits a word and the words below it. `before` is the number of visits so far, and the result is
+/// the number afterwards.
 #[cycle(walk)]
 #[tactic(auto, using(crate::proofs::WalkSteps::walk_full, crate::proofs::WalkSteps::int_ok, crate::proofs::WalkSteps::int_err, crate::proofs::WalkSteps::text_ok, crate::proofs::WalkSteps::text_err, crate::proofs::WalkSteps::hash_ok, crate::proofs::WalkSteps::hash_err, crate::proofs::WalkSteps::texts_ok, crate::proofs::WalkSteps::texts_err, crate::proofs::WalkSteps::objects_ok, crate::proofs::WalkSteps::objects_err))]
 fn walk_value(adb: Adb<'_>, kind: Kind, before: u32, word: Val) -> Result<u32, VisitFault>
@@ -134,7 +134,7 @@ fn walk_texts(adb: Adb<'_>, before: u32, texts: Arr<'_>) -> Result<u32, VisitFau
     Ok(count)
 }
 
-/// Visits the entries of an array of objects of a table, and what lies below them, and counts as
+/// Visits the entries of an array of objects of a table, and the words below them. It counts as
 /// `walk_value` does.
 #[cycle(walk)]
 fn walk_objects(
@@ -156,7 +156,7 @@ fn walk_objects(
     Ok(count)
 }
 
-/// Visits an object of a table, and what lies below it, and counts as `walk_value` does.
+/// Visits an object of a table, and the words below it. It counts as `walk_value` does.
 #[cycle(walk)]
 #[inline(always)]
 #[tactic(auto, using(crate::proofs::WalkSteps::walk_full, crate::proofs::WalkSteps::object_ok, crate::proofs::WalkSteps::object_err))]
@@ -177,8 +177,8 @@ fn walk_object(adb: Adb<'_>, which: Which, before: u32, word: Val) -> Result<u32
 }
 
 /// Visits the entries of an object that have one of these fields, each by its field's kind, and
-/// counts as `walk_value` does. Entries past the fields are not looked at. Where there is room for
-/// the first of them that have nothing below, these are counted at once.
+/// counts as `walk_value` does. Entries past the fields are ignored. The leaves in front are
+/// counted at once if the limit allows all of them.
 #[cycle(walk)]
 #[inline(always)]
 #[tactic(auto, using(crate::proofs::LeafSteps::leaves_walk, crate::proofs::LeafSteps::leaves_fit, crate::proofs::WalkSteps::fields_end))]
@@ -236,8 +236,8 @@ fn walk_fields_from(
     Ok(count)
 }
 
-/// How many entries of an object have nothing below them and can be read, from the first on, each
-/// as the kind of its field asks.
+/// How many entries at the front of an object are leaves that can be read, each as the kind of its
+/// field demands.
 #[inline(always)]
 #[tactic(auto, using(crate::proofs::LeafSteps::leaves_more, crate::proofs::LeafSteps::leaves_stop, crate::proofs::LeafSteps::leaves_end))]
 fn leading_leaves(adb: Adb<'_>, fields: &[Field], entries: Arr<'_>) -> usize
@@ -253,8 +253,8 @@ fn leading_leaves(adb: Adb<'_>, fields: &[Field], entries: Arr<'_>) -> usize
     most
 }
 
-/// Visits the entries of an object that have one of these fields, whatever the fields, behind so
-/// many visits, and answers how many there were then.
+/// Visits the entries of an object that have one of these fields, for any fields. `before` and the
+/// result count visits as in `walk_value`.
 ///
 /// # Errors
 ///
@@ -277,9 +277,8 @@ pub fn walk_fields(
     }
 }
 
-/// What the walk of an object's entries by any list of fields answers: the fault of the first
-/// faulty visit, or else how many visits there were then, and each of the entries has a plain
-/// value.
+/// The result of the walk of an object's entries by any list of fields is the fault of the first
+/// faulty visit. Without one it is the number of visits, and each of the entries has a plain value.
 pub fn a_walk_of_fields_reports_the_first_faulty_visit()
     ensures fault { (payload : List ℕ) (fields : Fields) (before : ℕ) (words : List ℕ)
         → result_err (fields_walk payload fields before words)
@@ -294,15 +293,15 @@ pub fn a_walk_of_fields_reports_the_first_faulty_visit()
     value_is_found_where_visits_are_sound();
 }
 
-/// What is reported of a payload is the fault of its first faulty visit, depth first, and nothing
-/// else.
+/// The fault that is reported of a payload is that of its first faulty visit, depth first. Without
+/// a faulty visit none is reported.
 pub fn the_first_faulty_visit_is_reported()
     ensures { (payload : List ℕ) (shape : Shape) (word : ℕ) (cause : Cause)
         → (shape_fault payload shape word ≡ Some cause)
         ↔ IsFirstFault payload (visits payload shape word) cause }
 {}
 
-/// Nothing is reported exactly where there is a plain value, and the visits are not too many.
+/// Nothing is reported exactly if there is a plain value, and the visits are not too many.
 pub fn values_of_few_visits_have_no_fault()
     ensures { (payload : List ℕ) (shape : Shape) (word : ℕ)
         → (shape_fault payload shape word ≡ None) ↔ ((is_some (plain_of payload shape word) ≡ true)

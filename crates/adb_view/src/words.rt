@@ -1,5 +1,5 @@
-//! Words of values, and the ranges and numbers of a byte slice that they point to. The kinds stand
-//! in the table of `docs/formats.md`, "Values".
+//! Words of values, and the ranges and numbers of a byte slice that they point to. The kinds are in
+//! the table of `docs/formats.md`, "Values".
 
 ghost use Rattle.std.specs.Prelude.{◌≡◌, ◌↔◌, IsTrue, ◌<◌, ◌≤◌, ◌-◌, ◌*◌, ◌/◌, ◌^◌, length, IfSome, slice_index, slice_range};
 ghost use Rattle.adb_view.specs.Readers.{kind_of, low_of, counted_at, run_at};
@@ -10,8 +10,8 @@ ghost use Rattle.adb_view.specs.Width.{width_of};
 
 use std::marker::Model;
 
-/// The kinds of words, by their top 4 bits, as the document's table has them; the number in a name
-/// is how many bits the value or its length has at the offset.
+/// The kinds of words, by their top 4 bits, as in the document's table. The number in a name is how
+/// many bits the value or its length has at the offset.
 pub(crate) mod kind {
     // An integer in the word itself.
     pub(crate) const INT: u32 = 0x1;
@@ -39,7 +39,7 @@ pub(crate) mod kind {
 }
 
 /// A value's word: its kind in the top 4 bits, and below them a number, or an offset in bytes from
-/// the start of the payload that the word stands in (apk-v3(5)).
+/// the start of the word's payload (apk-v3(5)).
 #[derive(Clone, Copy, Debug, PartialEq, Eq)]
 pub struct Val {
     word: u32,
@@ -56,7 +56,7 @@ impl Model for Val {
 }
 
 impl Val {
-    /// The value that this word names.
+    /// The value of this word.
     pub fn of(word: u32) -> Val
         ensures { result ≡ word }
     {
@@ -102,7 +102,7 @@ pub(crate) enum Width {
 }
 
 impl Width {
-    /// How many bytes a number of this width takes.
+    /// The size of a number of this width in bytes.
     pub(crate) fn bytes(self) -> usize
         ensures { result ≡ byte_len (width_of self) }
     {
@@ -115,14 +115,14 @@ impl Width {
     }
 }
 
-/// The `len` bytes from `at` on, or `None` where they pass the end.
+/// The `len` bytes from `at` on, or `None` if they pass the end.
 pub(crate) fn range(bytes: &[u8], at: usize, len: usize) -> Option<&[u8]>
     ensures { Finds (λ found. found.now) result (range_at bytes.now at len) }
 {
     bytes.get(at..at.checked_add(len)?)
 }
 
-/// The little-endian number at `at`, or `None` where it passes the end.
+/// The little-endian number at `at`, or `None` if it passes the end.
 pub(crate) fn number(bytes: &[u8], at: usize, width: Width) -> Option<u64>
     ensures value { result ≡ number_at (width_of width) bytes.now at }
     ensures fits { IfSome result (λ n. n < 2 ^ (8 * byte_len (width_of width))) }
@@ -136,8 +136,8 @@ pub(crate) fn number(bytes: &[u8], at: usize, width: Width) -> Option<u64>
     })
 }
 
-/// From where to where the bytes of a blob stand whose length, of this width, is at `at`; None
-/// where they pass the end. An offset has 28 bits.
+/// The start and the end of a blob's bytes whose length, of this width, is at `at`; None if they
+/// pass the end. An offset has 28 bits.
 pub(crate) fn counted_range(bytes: &[u8], at: usize, width: Width) -> Option<(usize, usize)>
     requires { at < 2 ^ 28 }
     ensures found { Finds (λ found. slice_range bytes.now found.0 found.1) result
@@ -154,8 +154,8 @@ pub(crate) fn counted_range(bytes: &[u8], at: usize, width: Width) -> Option<(us
     Some((from, end))
 }
 
-/// The entries of the run at `at`: the words behind its first, which says how many words there are,
-/// itself included; None where that is 0, or they pass the end.
+/// The entries of the run at `at`: the words after its first, which counts all of its words, itself
+/// included. None if that count is 0, or the words pass the end.
 pub(crate) fn run(bytes: &[u8], at: usize) -> Option<&[u8]>
     requires { at < 2 ^ 28 }
     ensures found { Finds (λ found. words (length found.now / 4) found.now) result

@@ -23,7 +23,7 @@ abbrev pub IsFramedCell : Cell → Type 0
 IsFramedCell (in_place w) = Unit {0}
 IsFramedCell (apart i) = TellsItsLength i
 
--- two items of one kind that stand at one place are equal
+-- two items of one kind that are at one place are equal
 same_bytes : (i j : Item) (x : List ℕ) → TellsItsLength i → TellsItsLength j → i.kind ≡ j.kind → take (length i.bytes) x ≡ i.bytes → take (length j.bytes) x ≡ j.bytes → i.bytes ≡ j.bytes
 same_bytes i j x f g kind a b =
     let front : take (front_len i.kind) i.bytes ≡ take (front_len j.kind) j.bytes =
@@ -219,7 +219,7 @@ pub put_cell_stays : (c : Cell) (out : Layout) → IsFramedCell c → HasAllItem
 put_cell_stays (in_place word) out f w = record { whole = w; keeps = keeps_itself out }
 put_cell_stays (apart i) out f w = put_item_stays i out f w
 
--- the item is found where it was put
+-- the item is found if it was put
 pub record IsFoundAgain (i : Item) (r : ℕ × Layout) : Type 0 where
   pub item : WrittenItem
   pub is : find (is_equal_item r.1.body i) r.1.items ≡ Some item

@@ -1,4 +1,5 @@
--- In whatever order the calls are made, an answer within the limits stands for the value that it was made of, and goes on standing for it.
+-- In whatever order the calls are made, an answer within the limits represents the value that it was
+-- made of, and goes on standing for it.
 use Rattle.std.proofs.Common.{◌≡◌, ℕ, ◌^◌, ◌<◌, ◌≤◌, Bool, true, false, cond, eqb, ltb, List, [], ◌∷◌, refl, sym, ap, subst, ◌∙◌, lit<}
 use Rattle.std.specs.Prelude.{◌||◌, Some, Ok, Result, Err}
 use Rattle.std.specs.List.{AllByRecursion}
@@ -113,7 +114,7 @@ obj_of_stands (more v vs) (x ∷ xs) w h e =
       holds = λ root. (m.nonzero, x ∷ xs, m.reads root, Grows-HoldAll (layout_of w) (put_run OBJECT (x ∷ xs) (layout_of w)).1 root (more v vs) (x ∷ xs) (put_run-grows OBJECT (x ∷ xs) (layout_of w)) (all_held w s.before (more v vs) (x ∷ xs) h root));
     })
 
--- ---- the Nulls that stand last go with the NULLs that stand last
+-- ---- the Nulls that are last go with the NULLs that are last
 
 null_word : (p : List ℕ) (x : ℕ) → Holds p null x → x ≡ 0
 unfolding Holds

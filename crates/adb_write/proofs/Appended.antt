@@ -17,7 +17,7 @@ use Rattle.adb_write.proofs.StoredWords.{parts_small, parts_stored, parts_key}
 use Rattle.adb_write.proofs.Held.{new_item, stored_with, rising_new, all_lower}
 use Rattle.adb_write.proofs.WriterSteps.{written_at}
 
--- what holds of the bytes and the words behind the call
+-- what holds of the bytes and the words after the call
 pub record Appended (p new : List ℕ) (pages new_pages : List (List ℕ)) (i : Item) : Type 0 where
   pub rising : HaveRisingKeys new (concat new_pages)
   pub stored : AreStored new (concat new_pages)

@@ -7,7 +7,7 @@ use Rattle.std.proofs.lemmas.List.{take_more}
 use Rattle.adb_write.specs.Canonical.{Item, apart, int_item, int_cell, blob_item, blob_cell, run_item, run_bytes, run_cell, keep_word, trimmed_words}
 use Rattle.adb_write.proofs.RoundTrip.{neq-eqb}
 
--- ---- the number in an item's front, and what stands behind it
+-- ---- the number in an item's front, and what follows it
 
 pub int_is : (n : ℕ) → 2 ^ 28 ≤ n → apart (int_item n) ≡ int_cell n
 int_is n a = let t : ltb n (2 ^ 28) ≡ false = le-ltb _ _ a in rw t refl
@@ -49,7 +49,7 @@ blob_bytes b = go (ltb (length b) (2 ^ 8)) (ltb (length b) (2 ^ 16))
 pub run_bytes_are : (ws : List ℕ) (n : ℕ) → n ≡ length ws + 1 → run_bytes ws ≡ take 4 (to_le_bytes w64 n) ++ flat_map (to_le_bytes w32) ws
 run_bytes_are ws n e = let is : n ≡ suc (length ws) = omega arith in rw is refl
 
--- ---- an object's words without the NULLs that stand last
+-- ---- an object's words without the NULLs that are last
 
 keep_last : (w v : ℕ) (ws : List ℕ) → keep_word w (ws ++ v ∷ []) ≡ w ∷ ws ++ v ∷ []
 keep_last w v [] = refl

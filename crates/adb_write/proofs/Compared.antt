@@ -54,7 +54,7 @@ by_none ws = ap (λ n. nat_cmp n 0) (sym (words_len ws)) ∙ none (reverse (low_
     none [] = refl
     none (x ∷ xs) = nat_cmp_total.antisymm (suc (length xs)) 0 ∙ ap ordering_reverse (lower 0 (suc (length xs)) (omega arith))
 
--- the last word, and 0 where there is none
+-- the last word, and 0 if there is none
 pub none_low : (ws : List ℕ) → length ws ≡ 0 → 0 ≡ list_fingerprint (low_words ws)
 none_low [] e = refl
 none_low (w ∷ ws) e = absurd (omega (arith, e))
@@ -90,6 +90,6 @@ last_step ws es i in_words in_entries h =
     let d : length es ≡ i + length (drop i ys) = omega arith in
     rw (c, d) (by_length (drop i xs) (drop i ys) i (elim h [ inl e ↦ inl (omega arith) | inr e ↦ inr (omega arith) ]))
 
--- an element that was read, whatever would stand for one past the end
+-- an element that was read, whatever would represent one past the end
 pub read_at : (xs : List ℕ) (i x y d : ℕ) → x ≡ y → i < length xs → y ≡ get_or xs i d → x ≡ get_or xs i x
 read_at xs i x y d same within is = same ∙ is ∙ get_or_default xs i d x within

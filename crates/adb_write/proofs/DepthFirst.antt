@@ -36,7 +36,7 @@ unfolding calls
 calls_arr none w = sym (call_null w)
 calls_arr (more v vs) w = refl
 
--- the same words, but for NULLs that stand last, and the same writer
+-- the same words, except for NULLs that are last, and the same writer
 pub record Same (us vs : Plains) (w : Writing) : Type 0 where
   pub words : trimmed_words (calls_all us w).0 ≡ trimmed_words (calls_all vs w).0
   pub state : (calls_all us w).1 ≡ (calls_all vs w).1
@@ -88,7 +88,7 @@ writes_more v vs x xs a b c p q = record { is = go p.is q.is ∙ sym (calls_more
         let end : c ≡ (calls_all vs b).1 = ap (λ (r : List ℕ × Writing). r.1) f in
         rw (word, words, end, state) refl
 
--- the words that stand behind the first
+-- the words that stand after the first
 tail_of : (v : Plain) (vs : Plains) (words : List ℕ) (a c : Writing) → WritesValues a (more v vs) words c
     → (words ≡ (calls v a).0 ∷ (calls_all vs (calls v a).1).0) × WritesValues (calls v a).1 vs (calls_all vs (calls v a).1).0 c
 tail_of v vs words a c p =

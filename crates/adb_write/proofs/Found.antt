@@ -1,4 +1,4 @@
--- What is found among the written items stands in the payload.
+-- What is found among the written items is in the payload.
 use Rattle.std.proofs.Common.{◌≡◌, ℕ, ◌+◌, ◌<◌, ◌≤◌, Bool, true, false, cond, eqb, List, [], ◌∷◌, ◌++◌, length, take, drop, Some, None, refl, sym, ap, ◌∙◌, arith, ◌⊎◌, take-append-drop}
 use Rattle.std.specs.Prelude.{find, ◌&&◌}
 use Rattle.std.specs.List.{AllByRecursion}
@@ -18,7 +18,7 @@ find-passes test (x ∷ xs) y e = go (test x) refl (λ f. find-passes test xs y 
     go true i h f = let same : x ≡ y = cc in ap test (sym same) ∙ i
     go false i h f = h f
 
--- where no element passes, none is found
+-- if no element passes, none is found
 pub find-none : {A : Type 0} (test : A → Bool) (xs : List A) → AllByRecursion (λ x. test x ≡ false) xs → find test xs ≡ None
 find-none test [] h = refl
 find-none test (x ∷ xs) h = ap (λ b. cond b (Some x) (find test xs)) h.0 ∙ find-none test xs h.1

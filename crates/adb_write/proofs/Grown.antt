@@ -3,7 +3,7 @@ use Rattle.std.proofs.Common.{◌≡◌, ℕ, ◌+◌, ◌-◌, ◌≤◌, List,
 use Rattle.std.proofs.lemmas.List.{length-append, length-replicate, length-take, length-drop, replicate-append-replicate, take-append-le, drop-append-le, take_at, drop_at}
 use Rattle.adb_write.specs.WriterState.{HasHead}
 
--- eight bytes stand in front
+-- eight bytes are in front
 long : (payload : List ℕ) → take 8 payload ≡ replicate {A = ℕ} 8 0 → 8 ≤ length payload
 long payload h = let l : length (take 8 payload) ≡ 8 = ap length h in omega (arith, length-take 8 payload)
 

@@ -65,7 +65,7 @@ pub has_item : (before : List ℕ) (w : ℕ) (behind : List ℕ) → Has (writte
 has_item [] w behind = has_new (written_item w) (items_of_locators behind)
 has_item (v ∷ before) w behind = has_old (written_item v) (written_item w) (items_of_locators (before ++ w ∷ behind)) (has_item before w behind)
 
--- ---- an item behind all others comes first
+-- ---- an item after all others comes first
 
 top : (x : WrittenItem) (xs : List WrittenItem) → AllByRecursion (λ y. y.offset < x.offset) xs → with_item x xs ≡ x ∷ xs
 top x [] a = refl

@@ -1,4 +1,5 @@
--- Depth first, the writer's calls write what the canonical layout has, or stop with the counts behind the first value past a limit.
+-- Depth first, the writer's calls write what the canonical layout has, or stop with the counts after
+-- the first value past a limit.
 use Rattle.std.proofs.Common.{◌≡◌, ℕ, Bool, true, false, cond, List, [], ◌∷◌, ◌++◌, Some, None, Ok, Err, refl, sym, ap, ◌∙◌, inl, inr, ◌⊎◌}
 use Rattle.std.specs.Prelude.{find}
 use Rattle.adb_view.specs.Plain.{Plain, null, int, blob, arr, obj, Plains, none, more}
@@ -53,7 +54,7 @@ mutual
 pub record Within (out : Layout) : Type 0 where
   pub fine : passes (layout_counts out) ≡ false
 
--- either all is written, or the writer stands behind the first value past a limit
+-- either all is written, or the writer follows the first value past a limit
 abbrev pub Ends : {A : Type 0} → List PayloadCounts → A × Writing → A × Layout → Type 0
 Ends writing_counts r s = ((find passes writing_counts ≡ None) × (r.0 ≡ s.0) × (r.1 ≡ writing_of s.1) × Within s.1) ⊎ ((c : PayloadCounts) × (find passes writing_counts ≡ Some c) × ((r.1.bytes, r.1.values) ≡ c) × (is_over r.1 ≡ true))
 

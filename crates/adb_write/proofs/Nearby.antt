@@ -1,4 +1,4 @@
--- A part of a page around a likely index: what stands before it and behind it.
+-- A part of a page around a likely index: what precedes it and after it.
 use Rattle.std.proofs.Common.{◌≡◌, ℕ, zero, suc, ◌+◌, ◌<◌, ◌≤◌, List, [], ◌∷◌, ◌++◌, length, get_or, take, drop, refl, sym, ap, subst, ◌∙◌, arith, take-append-drop}
 use Rattle.std.specs.List.{HoldsAt}
 use Rattle.std.specs.Ordering.{ordering_then, ordering_reverse}
@@ -23,7 +23,7 @@ pub below_locator : (p content : List ℕ) (f w : ℕ) → f < fingerprint_of_lo
 below_locator p content f w less =
     ap (λ (o : Ordering). ordering_then o (cmp content (content_key_at p (word_of_locator w)))) (lower f (fingerprint_of_locator w) less)
 
--- ---- what stands before a lower key, and behind a higher one
+-- ---- what precedes a lower key, and after a higher one
 
 pub lower_front : (p key page : List ℕ) (i d : ℕ) → HaveRisingKeys p page → i < length page → cmp key (key_at p (get_or page i d)) ≡ Greater → AllCompare Greater p key (take i page)
 lower_front p key [] i d r within above = absurd (omega arith)

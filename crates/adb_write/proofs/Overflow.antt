@@ -1,4 +1,4 @@
--- A value overflows exactly where its size or the number of its values passes a limit.
+-- A value overflows exactly if its size or the number of its values passes a limit.
 use Rattle.std.proofs.Common.{◌≡◌, ℕ, suc, ◌+◌, ◌^◌, ◌≤◌, Bool, true, false, cond, ltb, List, [], ◌∷◌, ◌++◌, length, Option, Some, None, Ok, refl, sym, ap, ◌∙◌, arith, inl, inr, ◌⊎◌, ◌<◌, le_trans}
 use Rattle.std.specs.Prelude.{find, is_some, ◌||◌}
 use Rattle.std.specs.Int.{w8, w16, w32, w64, to_le_bytes}

@@ -52,7 +52,7 @@ above p key (w ∷ page) rest r e =
     is_less Equal is = absurd cc
     is_less Greater is = absurd cc
 
--- where all words are above it, each page begins so
+-- if all words are above it, each page begins so
 all_above : (p key : List ℕ) (pages : List (List ℕ)) → AreFilled pages → AllCompare Less p key (concat pages) → (k : ℕ) → k < length pages → begins_above p key (page_at pages k) ≡ true
 all_above p key [] f a k within = absurd (omega arith)
 all_above p key ([] ∷ pages) f a zero within = absurd (let some = f.0 in omega arith)
@@ -179,7 +179,7 @@ split_upper [] (suc k) = refl
 split_upper (page ∷ pages) zero = refl
 split_upper (page ∷ pages) (suc k) = split_upper pages k
 
--- ---- a list in two at h, seen from a slot before it or behind it
+-- ---- a list in two at h, seen from a slot before it or after it
 
 pub take_take : (i h : ℕ) (xs : List ℕ) → i ≤ h → take i (take h xs) ≡ take i xs
 take_take zero h xs upto = refl
@@ -346,7 +346,7 @@ not_false : (b : Bool) → not b ≡ false → b ≡ true
 not_false true e = refl
 not_false false e = absurd cc
 
--- the pages that do not begin above a key stand in front
+-- the pages that do not begin above a key are in front
 pub parted : {V : Type 0} (f : V → List ℕ) (p key : List ℕ) (vs : List V) → AreFilled (map f vs) → HaveRisingKeys p (concat (map f vs)) → IsPartitionedBy (λ v. not (begins_above p key (f v))) vs
 parted f p key vs filled rising i j d upto within e =
     let a = page_of_map f vs i d (omega arith) in

@@ -98,7 +98,7 @@ pub rising_before : (p : List ℕ) (vs : List ℕ) (w : ℕ) (ws : List ℕ) →
 rising_before p [] w ws r = tt
 rising_before p (v ∷ vs) w ws r = ((all_last (IsBelow p v) vs (w ∷ ws) (rising_head p v (vs ++ w ∷ ws) r)).0, rising_before p vs w ws (rising_rest p v (vs ++ w ∷ ws) r))
 
--- one more word, above those in front of it and below those behind
+-- one more word, above those in front of it and below those after
 pub rising_with : (p : List ℕ) (vs : List ℕ) (w : ℕ) (ws : List ℕ) → HaveRisingKeys p (vs ++ ws) → AllByRecursion (λ v. IsBelow p v w) vs → AllByRecursion (IsBelow p w) ws → HaveRisingKeys p (vs ++ w ∷ ws)
 rising_with p [] w ws r a b = rising_more p w ws b r
 rising_with p (v ∷ vs) w ws r a b =

@@ -42,7 +42,7 @@ intent_written : canonical (obj (more null (more (arr (more (blob (codes "a")) n
 unfolding write
 intent_written = refl
 
--- equal blobs and integers are written once, and an integer of eight bytes stands at a multiple of eight
+-- equal blobs and integers are written once, and an integer of eight bytes is at a multiple of eight
 integers_written : canonical (arr (more (blob (codes "a")) (more (blob (codes "a")) (more (int 0) (more (int (2 ^ 28)) (more (int (2 ^ 32)) (more (int (2 ^ 28)) (more null none))))))))
     ≡ 0 ∷ 0 ∷ 0 ∷ 0 ∷ 24 ∷ 0 ∷ 0 ∷ 208 ∷ 1 ∷ 97 ∷ 0 ∷ 0 ∷ 0 ∷ 0 ∷ 0 ∷ 16 ∷ 0 ∷ 0 ∷ 0 ∷ 0 ∷ 1 ∷ 0 ∷ 0 ∷ 0
     ∷ 8 ∷ 0 ∷ 0 ∷ 0 ∷ 8 ∷ 0 ∷ 0 ∷ 128 ∷ 8 ∷ 0 ∷ 0 ∷ 128 ∷ 0 ∷ 0 ∷ 0 ∷ 16 ∷ 12 ∷ 0 ∷ 0 ∷ 32 ∷ 16 ∷ 0 ∷ 0 ∷ 48 ∷ 12 ∷ 0 ∷ 0 ∷ 32 ∷ 0 ∷ 0 ∷ 0 ∷ 0 ∷ []

@@ -45,11 +45,11 @@ repeat_fits i body items bytes values there fine e found fits =
 
 -- ---- an item that was not written before
 
--- where an item ends that begins behind so many bytes
+-- where an item ends that begins after so many bytes
 abbrev pub end_of : Item → ℕ → ℕ
 end_of i bytes = bytes + gap i.align bytes + length i.bytes
 
--- where it begins, behind the head
+-- if it begins, after the head
 abbrev pub written_at : Item → List ℕ → WrittenItem
 written_at i body = record { kind = i.kind; offset = length body + gap i.align (8 + length body) }
 

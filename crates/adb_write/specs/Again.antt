@@ -1,19 +1,19 @@
--- Items that tell their length, so that an equal one is found again, and the word of a blob that is
--- written again. Serves the contracts of `blob_word` and `blob_again` of `adb_values`; that equal
--- values are stored once stands in `docs/formats.md`, "Canonical layout" ("Equal values are stored
--- once").
+-- Items whose first bytes give their length, so that an equal one can be found, and the word of a blob
+-- that is written again. Serves the contracts of `blob_word` and `blob_again` of `adb_values`; that
+-- equal values are stored once is stated in `docs/formats.md`, "Canonical layout" ("Equal values are
+-- stored once").
 use Rattle.std.specs.Prelude.{◌≡◌, ℕ, ◌+◌, ◌*◌, ◌<◌, ◌≤◌, ◌==◌, true, false, List, length, take, if◌then◌else◌}
 use Rattle.std.specs.List.{AllByRecursion}
 use Rattle.std.specs.Int.{w8, w16, w32, from_le_bytes}
 use Rattle.adb_write.specs.Canonical.{Item, Layout, WrittenItem, is_equal_item}
 use Rattle.adb_write.specs.Writing.{Writing, blob_call, is_over, layout_of}
 
--- how many bytes at the front of an item of this kind tell its length (the kinds 8 and 9 are blobs
+-- how many bytes at the front of an item of this kind give its length (the kinds 8 and 9 are blobs
 -- whose length has 1 or 2 bytes)
 abbrev pub front_len : ℕ → ℕ
 front_len kind = if kind == 8 then 1 else if kind == 9 then 2 else 4
 
--- how many bytes an item of this kind has by its first bytes: an integer of 4 or 8 (kinds 2, 3), a
+-- the length in bytes of an item of this kind by its first bytes: an integer of 4 or 8 (kinds 2, 3), a
 -- blob with its length in 1, 2 or 4 bytes (8, 9, 10), or a run of words of 4
 abbrev pub len_by : ℕ → List ℕ → ℕ
 len_by kind front =
@@ -24,26 +24,26 @@ len_by kind front =
     if kind == 10 then 4 + from_le_bytes w32 front else
     4 * from_le_bytes w32 front
 
--- an item whose kind and first bytes tell how many bytes it has
+-- an item whose kind and first bytes give its length
 pub record TellsItsLength (i : Item) : Type 0 where
   -- it has bytes
   pub some : 0 < length i.bytes
-  -- all the bytes are there that tell its length
+  -- the bytes that give its length are all there
   pub long : front_len i.kind ≤ length i.bytes
-  -- and they tell it
+  -- and its length is the one that they give
   pub len : length i.bytes ≡ len_by i.kind (take (front_len i.kind) i.bytes)
 
--- an item that tells its length stands where a written item is said to stand
+-- an item that gives its length is at the place of the written item
 pub record IsThere (body : List ℕ) (x : WrittenItem) : Type 0 where
   pub what : Item
   pub framed : TellsItsLength what
   pub equal : is_equal_item body what x ≡ true
 
--- each written item of a layout stands in its bytes
+-- each written item of a layout is in its bytes
 pub record HasAllItems (out : Layout) : Type 0 where
   pub all : AllByRecursion (IsThere out.body) out.items
 
--- each written item of a writer stands in its bytes, which are counted with the head of 8
+-- each written item of a writer is in its bytes, which are counted with the head of 8
 pub record IsWholeWriting (w : Writing) : Type 0 where
   pub whole : HasAllItems (layout_of w)
   pub bytes : w.bytes ≡ 8 + length w.body
@@ -52,7 +52,7 @@ pub record IsWholeWriting (w : Writing) : Type 0 where
 abbrev pub HasWholeItems : Writing → Type 0
 HasWholeItems w = is_over w ≡ false → IsWholeWriting w
 
--- unless the writer passed a limit, a call for this blob answers this word and changes nothing
+-- unless the writer passed a limit, a call for this blob returns this word and changes nothing
 abbrev pub IsWordOfBlob : Writing → List ℕ → ℕ → Type 0
 IsWordOfBlob w bytes word =
     is_over w ≡ false → ◌≡◌ {A = ℕ × Writing} (blob_call bytes w) (word, w)

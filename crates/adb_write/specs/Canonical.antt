@@ -1,4 +1,4 @@
--- The canonical layout of a payload: what writing a value adds, value by value. The rules stand in
+-- The canonical layout of a payload: the bytes that each value adds. The rules are in
 -- `docs/formats.md`, "Canonical layout"; the kinds of words, in the table of "Values".
 use Rattle.std.specs.Prelude.{ℕ, suc, ◌+◌, ◌-◌, ◌*◌, ◌%◌, ◌^◌, Bool, ◌&&◌, ◌||◌, List, [], ◌∷◌, ◌++◌, length, take, drop, replicate, Option, Some, None, Result, Ok, Err, nat_lt, ◌==◌, bytes_eq, find, if◌then◌else◌}
 use Rattle.std.specs.List.{flat_map}
@@ -7,23 +7,23 @@ use Rattle.adb_view.specs.Plain.{Plain, null, int, blob, arr, obj, Plains, none,
 use Rattle.adb_view.specs.Readers.{ARRAY, OBJECT}
 pub use Rattle.adb_view.specs.Visits.{MOST_VALUES}
 
--- how many zeros lead from the offset n up to the next multiple of align
+-- how many zeros are between the offset n and the next multiple of align
 abbrev pub gap : ℕ → ℕ → ℕ
 gap align n = (align - n % align) % align
 
--- what one value takes outside its word: the kind of its word, at a multiple of how many bytes it
--- stands, its bytes, and how many entries it has
+-- the bytes of one value outside its word: the kind of its word, its alignment, its bytes, and the
+-- number of its entries
 pub record Item : Type 0 where
-  -- the kind of the words that lead to it
+  -- the kind of the words that point to it
   pub kind : ℕ
-  -- it stands at a multiple of this
+  -- it is at a multiple of this
   pub align : ℕ
   -- its bytes
   pub bytes : List ℕ
   -- how many entries it has, which count as values
   pub entries : ℕ
 
--- a value as it is written: its word alone, or a word that leads to an item
+-- a value as it is written: its word alone, or a word that points to an item
 pub data Cell : Type 0 where
   in_place : ℕ → Cell
   apart : Item → Cell
@@ -36,11 +36,11 @@ int_item n =
     then record { kind = 2; align = 4; bytes = to_le_bytes w32 n; entries = 0 }
     else record { kind = 3; align = 8; bytes = to_le_bytes w64 n; entries = 0 }
 
--- an integer as it is written; below 2^28 it stands in its word, whose kind is 1
+-- an integer as it is written; below 2^28 it is in its word, whose kind is 1
 abbrev pub int_cell : ℕ → Cell
 int_cell n = if nat_lt n (2 ^ 28) then in_place (2 ^ 28 + n) else apart (int_item n)
 
--- the item of a blob: its length, in as few bytes as tell it, and its bytes
+-- the item of a blob: its length, in as few bytes as it needs, and its bytes
 abbrev pub blob_item : List ℕ → Item
 blob_item b =
     if nat_lt (length b) (2 ^ 8)
@@ -67,30 +67,30 @@ abbrev pub run_cell : ℕ → List ℕ → Cell
 run_cell kind [] = in_place 0
 run_cell kind (w ∷ ws) = apart (run_item kind (w ∷ ws))
 
--- words with one more in front, but a NULL that would stand last is dropped
+-- words with one more in front, which is dropped if it is NULL and would be last
 abbrev pub keep_word : ℕ → List ℕ → List ℕ
 keep_word w (v ∷ vs) = w ∷ v ∷ vs
 keep_word w [] = if w == 0 then [] else w ∷ []
 
--- the words of an object without the NULLs that stand last
+-- the words of an object without the NULLs at the end
 abbrev pub trimmed_words : List ℕ → List ℕ
 trimmed_words [] = []
 trimmed_words (w ∷ ws) = keep_word w (trimmed_words ws)
 
--- ---- what was written so far
+-- ---- the layout so far
 
--- an item that was written: the kind of the words that lead to it, and how far behind the payload's
--- head of 8 bytes it stands
+-- an item that was written: the kind of the words that point to it, and its offset from the end of the
+-- payload's head of 8 bytes
 pub record WrittenItem : Type 0 where
-  -- the kind of the words that lead to it
+  -- the kind of the words that point to it
   pub kind : ℕ
   -- its offset, without the head of 8 bytes
   pub offset : ℕ
 
--- what was written so far: the payload behind its head of 8 bytes, its items, the latest first, and
--- the number of values with the root
+-- the layout so far: the payload after its head of 8 bytes, its items, the latest first, and the number
+-- of values with the root
 pub record Layout : Type 0 where
-  -- the payload behind its head
+  -- the payload after its head
   pub body : List ℕ
   -- the items in it, the latest first
   pub items : List WrittenItem
@@ -105,17 +105,17 @@ empty_layout = record { body = []; items = []; values = 1 }
 abbrev pub end_offset : Layout → ℕ
 end_offset out = 8 + length out.body
 
--- whether a written item is equal to this one: it is of its kind, and there stand its bytes
+-- whether a written item is equal to this one: it has the same kind and the same bytes
 abbrev pub is_equal_item : List ℕ → Item → WrittenItem → Bool
 is_equal_item body i there =
     there.kind == i.kind && bytes_eq (take (length i.bytes) (drop there.offset body)) i.bytes
 
--- the word that leads to a written item: its kind, and its offset with the head of 8 bytes
+-- the word that points to a written item: its kind, and its offset with the head of 8 bytes
 abbrev pub word_of_item : WrittenItem → ℕ
 word_of_item there = there.kind * 2 ^ 28 + (8 + there.offset)
 
--- the word of a new item, and the layout with it: the item stands at the next offset that its
--- alignment allows, with zeros before it
+-- the word of a new item, and the layout with it: the item is at the next offset that its alignment
+-- allows, with zeros before it
 abbrev pub put_new : Item → Layout → ℕ × Layout
 put_new i out = (
   i.kind * 2 ^ 28 + (end_offset out + gap i.align (end_offset out)),
@@ -129,18 +129,18 @@ put_new i out = (
   },
 )
 
--- the word of an item, and the layout with it; one that is equal to a written one has that one's
--- word, and only its entries are counted
+-- the word of an item, and the layout with it; one that is equal to a written one has that one's word,
+-- and only its entries are counted
 abbrev pub put_unless : Option WrittenItem → Item → Layout → ℕ × Layout
 put_unless None i out = put_new i out
 put_unless (Some there) i out =
     (word_of_item there, record out { values = out.values + i.entries })
 
--- the word of an item, and the layout with it: it is written unless an equal one is
+-- the word of an item, and the layout with it: it is written unless an equal one was
 abbrev pub put_item : Item → Layout → ℕ × Layout
 put_item i out = put_unless (find (is_equal_item out.body i) out.items) i out
 
--- the word of a value, and the layout with what it takes outside its word
+-- the word of a value, and the layout with its bytes outside the word
 abbrev pub put_cell : Cell → Layout → ℕ × Layout
 put_cell (in_place w) out = (w, out)
 put_cell (apart i) out = put_item i out
@@ -164,8 +164,8 @@ unfoldable mutual
   write_all (more v vs) out =
       ((write v out).0 ∷ (write_all vs (write v out).1).0, (write_all vs (write v out).1).1)
 
--- the payload of a layout with this root: four bytes of 0 for the versions, the root's word, and
--- what was written
+-- the payload of a layout with this root: four bytes of 0 for the versions, the root's word, and the
+-- items
 abbrev pub payload_with_root : ℕ → Layout → List ℕ
 payload_with_root root out = 0 ∷ 0 ∷ 0 ∷ 0 ∷ (to_le_bytes w32 root ++ out.body)
 
@@ -191,7 +191,7 @@ layout_counts out = (end_offset out, out.values)
 abbrev pub passes : PayloadCounts → Bool
 passes c = nat_lt MOST_BYTES c.0 || nat_lt MOST_VALUES c.1
 
--- the two counts just behind each value that is written, in the order of writing
+-- the two counts just after each value that is written, in the order of writing
 unfoldable mutual
   pub trace : Plain → Layout → List PayloadCounts
   trace null out = []
@@ -200,12 +200,12 @@ unfoldable mutual
   trace (arr vs) out = trace_all vs out ++ layout_counts (write (arr vs) out).1 ∷ []
   trace (obj vs) out = trace_all vs out ++ layout_counts (write (obj vs) out).1 ∷ []
 
-  -- the counts behind each of these values and those below them
+  -- the counts after each of these values and those below them
   pub trace_all : Plains → Layout → List PayloadCounts
   trace_all none out = []
   trace_all (more v vs) out = trace v out ++ trace_all vs (write v out).1
 
--- the counts just behind the first value at which one passes its limit; None where none does
+-- the counts just after the first value that passes a limit; None if none does
 abbrev pub overflow_of : Plain → Option PayloadCounts
 overflow_of v = find passes (trace v empty_layout)
 
@@ -214,6 +214,6 @@ abbrev pub or_overflow : List ℕ → Option PayloadCounts → Result (List ℕ)
 or_overflow payload None = Ok payload
 or_overflow payload (Some counts) = Err counts
 
--- what a writer makes of a value: its canonical payload, or the counts at which it overflows
+-- the result of writing a value: its canonical payload, or the counts at which it overflows
 unfoldable pub written_of : Plain → Result (List ℕ) PayloadCounts
 written_of v = or_overflow (canonical v) (overflow_of v)

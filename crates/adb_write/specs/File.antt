@@ -1,11 +1,11 @@
--- The file around a payload. The rule stands in `docs/formats.md`, "Canonical layout" ("In a
--- container each block is padded"), and in "Container".
+-- The file around a payload. The rule is in `docs/formats.md`, "Canonical layout" ("In a container each
+-- block is padded"), and in "Container".
 use Rattle.std.specs.Prelude.{ℕ, List, [], ◌∷◌}
 use Rattle.adb_block.specs.Piece.{Piece}
 use Rattle.adb_block.specs.Written.{container}
 use Rattle.adb_block.specs.declared.block.BlockKind.TheVariants.{Adb}
 
--- the block of a container that holds a payload
+-- the block of a container with a payload
 abbrev pub adb_piece : List ℕ → Piece
 adb_piece payload = record { kind = Adb; payload = payload }
 

@@ -1,5 +1,5 @@
--- An item of the program as the layout has it. Serves the contracts of `src/item.rt`; the layout
--- stands in `docs/formats.md`, "Canonical layout" ("Values are written depth first").
+-- An item of the program as an item of the layout. Serves the contracts of `src/item.rt`; the layout is
+-- in `docs/formats.md`, "Canonical layout" ("Values are written depth first").
 use Rattle.std.specs.Prelude.{ℕ, ◌<◌, ◌^◌, List, []}
 use Rattle.std.specs.List.{flat_map}
 use Rattle.std.specs.Int.{w32, to_le_bytes}
@@ -19,18 +19,18 @@ width_len Two = 2
 width_len Four = 4
 width_len Eight = 8
 
--- the kind of the words that lead to a list: an array or an object
+-- the kind of the words that point to a list: an array or an object
 abbrev pub list_kind : ListKind → ℕ
 list_kind Array = ARRAY
 list_kind Object = OBJECT
 
--- what stands behind the number at the front of an item
+-- what follows the number at the front of an item
 abbrev pub content_bytes : Parts → List ℕ
 content_bytes (Int n) = []
 content_bytes (Blob b) = b.now
 content_bytes (Listed kind ws) = flat_map (to_le_bytes w32) ws.now
 
--- the item of the layout that some parts of the program are
+-- the item of the layout that the program's parts represent
 abbrev pub item_of : Parts → Item
 item_of (Int n) = int_item n
 item_of (Blob b) = blob_item b.now

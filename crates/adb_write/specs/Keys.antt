@@ -1,6 +1,6 @@
--- By what the writer keeps in order what it wrote: a fingerprint of an item, its kind, and what it
--- holds. Serves the contracts of `src/item.rt`, `src/locator.rt` and `src/word_pages.rt`. How
--- locators are kept is told in the README of this crate, second paragraph.
+-- The keys by which the writer keeps its locators in order: a fingerprint of an item, its kind, and its
+-- content. Serves the contracts of `src/item.rt`, `src/locator.rt` and `src/word_pages.rt`. How
+-- locators are stored is described in the README of this crate.
 use Rattle.std.specs.Prelude.{ℕ, ◌+◌, ◌-◌, ◌*◌, ◌/◌, ◌%◌, ◌^◌, List, [], ◌∷◌, length, get_or, map, reverse, Result, Ok, Err, nat_lt, if◌then◌else◌}
 use Rattle.std.specs.Ordering.{nat_cmp}
 use Rattle.std.specs.Cmp.Lexicographic.{slice_cmp}
@@ -16,23 +16,23 @@ use Rattle.adb_write.specs.declared.item.Parts.TheVariants.{Int, Blob, List as L
 abbrev pub low_words : List ℕ → List ℕ
 low_words = map (λ w. w % 2 ^ 32)
 
--- what an item holds, as numbers that are compared in order; a list from its last entry on, where
--- lists mostly differ
+-- the content of an item, as numbers that are compared in order; a list from its last entry on, since
+-- lists mostly differ there
 abbrev pub content_of : Parts → List ℕ
 content_of (Int n) = n ∷ []
 content_of (Blob b) = b.now
 content_of (Listed kind ws) = reverse (low_words ws.now)
 
--- the part of an item's key behind its fingerprint: its kind, and what it holds
+-- the part of an item's key after its fingerprint: its kind, and its content
 abbrev pub content_key_of : Parts → List ℕ
 content_key_of parts = (item_of parts).kind ∷ content_of parts
 
--- what an integer that was read holds; nothing where it could not be read
+-- the content of an integer that was read; nothing if it could not be read
 abbrev pub single_or_empty : Result ℕ Cause → List ℕ
 single_or_empty (Ok n) = n ∷ []
 single_or_empty (Err c) = []
 
--- what the item at a word of this kind holds: an integer (kinds below 8), a blob (below 13), or the
+-- the content of the item at a word of this kind: an integer (kinds below 8), a blob (below 13), or the
 -- entries of a list, the last first
 abbrev pub content_at : ℕ → List ℕ → ℕ → List ℕ
 content_at kind payload word =
@@ -40,27 +40,25 @@ content_at kind payload word =
     else if nat_lt kind 13 then or_empty (blob_of payload word)
     else reverse (or_empty (run_of kind payload word))
 
--- the part of the key of the item at a word that stands behind its fingerprint: its kind, and what
--- it holds
+-- the part of the key after the fingerprint, for the item at a word: its kind, and its content
 abbrev pub content_key_at : List ℕ → ℕ → List ℕ
 content_key_at payload word = kind_of word ∷ content_at (kind_of word) payload word
 
--- ---- the fingerprint of an item: most items are told apart by it, so that no payload is read
+-- ---- the fingerprint of an item: it distinguishes most items, so that the payload is not read
 
--- the number in four bytes from index i on, the least significant first; bytes behind the end count
--- as 0
+-- the number in four bytes from index i on, the least significant first; bytes after the end count as 0
 abbrev pub four_bytes : List ℕ → ℕ → ℕ
 four_bytes bytes i =
     get_or bytes i 0 + get_or bytes (i + 1) 0 * 2 ^ 8
     + get_or bytes (i + 2) 0 * 2 ^ 16 + get_or bytes (i + 3) 0 * 2 ^ 24
 
--- the fingerprint of a blob: of its first four bytes, its last four, and its length; 31 only mixes
--- the two, and another factor would do as well
+-- the fingerprint of a blob: of its first four bytes, its last four, and its length; 31 only mixes the
+-- two, and another factor would serve as well
 unfoldable pub blob_fingerprint : List ℕ → ℕ
 blob_fingerprint b = (four_bytes b 0 + 31 * four_bytes b (length b - 4) + length b) % 2 ^ 32
 
--- the fingerprint of a list: its last word. Entries are written before their list, so that a new
--- list stands near the last one
+-- the fingerprint of a list: its last word. Entries are written before their list, so a new list is
+-- near the last one
 abbrev pub list_fingerprint : List ℕ → ℕ
 list_fingerprint words = get_or words (length words - 1) 0
 
@@ -70,13 +68,13 @@ fingerprint_of (Int n) = n % 2 ^ 32
 fingerprint_of (Blob b) = blob_fingerprint b.now
 fingerprint_of (Listed kind ws) = list_fingerprint (low_words ws.now)
 
--- ---- locators: an item's fingerprint, and the word that leads to it in the 32 bits below
+-- ---- locators: an item's fingerprint, and the word that points to it in the 32 bits below
 
--- the locator of an item by its fingerprint, and the word that leads to it
+-- the locator of an item by its fingerprint, and the word that points to it
 abbrev pub locator_of : ℕ → ℕ → ℕ
 locator_of fingerprint word = fingerprint * 2 ^ 32 + word
 
--- the word that leads to the item of a locator
+-- the word that points to the item of a locator
 abbrev pub word_of_locator : ℕ → ℕ
 word_of_locator locator = locator % 2 ^ 32
 
@@ -84,7 +82,7 @@ word_of_locator locator = locator % 2 ^ 32
 abbrev pub fingerprint_of_locator : ℕ → ℕ
 fingerprint_of_locator locator = locator / 2 ^ 32
 
--- ---- keys, in whose order the locators stand: fingerprint, kind, and what the item holds
+-- ---- keys, which order the locators: fingerprint, kind, and the item's content
 
 -- the key of an item that has this fingerprint
 abbrev pub key_with : ℕ → Parts → List ℕ
@@ -99,7 +97,7 @@ abbrev pub key_at : List ℕ → ℕ → List ℕ
 key_at payload locator =
     fingerprint_of_locator locator ∷ content_key_at payload (word_of_locator locator)
 
--- the locators stand in the order of their keys, no two of which are equal
+-- the locators are in the order of their keys, no two of which are equal
 abbrev pub HaveRisingKeys : List ℕ → List ℕ → Type 0
 HaveRisingKeys payload locators =
     IsStrictlySortedBy (slice_cmp nat_cmp) (map (key_at payload) locators)

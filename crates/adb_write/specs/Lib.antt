@@ -1,9 +1,9 @@
--- The definitions of `adb_write`. The head of each file says where its rule stands.
+-- The definitions of `adb_write`. The head of each file names the section with its rule.
 
--- what the contract of `apk` says
+-- cited by the contract of `apk`
 pub mod Canonical
 pub mod File
--- what only inner contracts and proofs use
+-- used by inner contracts and proofs only
 pub mod Size
 pub mod Writing
 pub mod DepthFirst

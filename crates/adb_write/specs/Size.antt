@@ -1,6 +1,5 @@
--- The size of a value's payload, and the number of its values: the root, and every entry of the
--- lists. What counts as a value stands in `docs/formats.md`, "Canonical layout" ("A payload has at
--- most").
+-- The size of a value's payload, and the number of its values: the root, and every entry of the lists.
+-- What counts as a value is defined in `docs/formats.md`, "Canonical layout" ("A payload has at most").
 use Rattle.std.specs.Prelude.{ℕ, ◌+◌, length}
 use Rattle.adb_view.specs.Plain.{Plain, null, int, blob, arr, obj, Plains, none, more, count_of}
 use Rattle.adb_write.specs.Canonical.{Layout, canonical}
@@ -27,6 +26,6 @@ unfoldable mutual
 abbrev pub value_count : Plain → ℕ
 value_count v = 1 + entries_of v
 
--- a layout that counts n values more, and has nothing more written
+-- a layout whose count of values is n more, with the same items
 abbrev pub with_entries : ℕ → Layout → Layout
 with_entries n out = record out { values = out.values + n }

@@ -1,12 +1,12 @@
--- What a word stands for in a payload or in a writer, whatever the schema. What a word means stands
--- in `docs/formats.md`, "Values"; the laws over these definitions, in the README of this crate.
+-- What a word represents in a payload or in a writer, for any schema. The meaning of a word is defined
+-- in `docs/formats.md`, "Values"; the laws over these definitions are in the README of this crate.
 use Rattle.std.specs.Prelude.{◌≡◌, ◌≢◌, ℕ, ◌<◌, ◌^◌, false, List, [], ◌∷◌, Ok}
 use Rattle.adb_view.specs.Plain.{Plain, null, int, blob, arr, obj, Plains, none, more}
 use Rattle.adb_view.specs.Readers.{int_of, blob_of, run_of, ARRAY, OBJECT}
 use Rattle.adb_write.specs.Canonical.{Layout, payload_with_root}
 use Rattle.adb_write.specs.Writing.{Writing, is_over, layout_of}
 
--- the word `w` leads to this value in the payload `p`
+-- the word `w` points to this value in the payload `p`
 unfoldable mutual
   pub Holds : List ℕ → Plain → ℕ → Type 0
   Holds p null w = w ≡ 0
@@ -15,7 +15,7 @@ unfoldable mutual
   Holds p (arr vs) w = (w ≢ 0) × (ws : List ℕ) × (run_of ARRAY p w ≡ Ok ws) × HoldAll p vs ws
   Holds p (obj vs) w = (w ≢ 0) × (ws : List ℕ) × (run_of OBJECT p w ≡ Ok ws) × HoldAll p vs ws
 
-  -- the words lead to these values, one for one
+  -- the words point to these values, one for one
   pub HoldAll : List ℕ → Plains → List ℕ → Type 0
   HoldAll p none [] = Unit {0}
   HoldAll p none (w ∷ ws) = ⊥
@@ -27,11 +27,11 @@ pub record IsWordOf (out : Layout) (v : Plain) (word : ℕ) : Type 0 where
   pub small : word < 2 ^ 32
   pub holds : (root : ℕ) → Holds (payload_with_root root out) v word
 
--- unless the writer passed a limit, the word stands for this value in what it wrote
+-- unless the writer passed a limit, the word represents this value in its payload
 abbrev pub StandsFor : Writing → Plain → ℕ → Type 0
 StandsFor w v word = is_over w ≡ false → IsWordOf (layout_of w) v word
 
--- in what a writer wrote the words stand for these values, one for one
+-- in a writer's payload the words represent these values, one for one
 abbrev pub AllStandFor : Writing → Plains → List ℕ → Type 0
 AllStandFor w none [] = Unit {0}
 AllStandFor w none (x ∷ xs) = ⊥

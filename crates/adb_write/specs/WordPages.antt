@@ -1,5 +1,5 @@
 -- The locators of a writer, in pages. Serves the contracts of `src/word_pages.rt`. How locators are
--- kept is told in the README of this crate, second paragraph.
+-- stored is described in the README of this crate.
 use Rattle.std.specs.Prelude.{◌≡◌, ℕ, zero, suc, Bool, false, true, ◌≤◌, ◌<◌, List, [], ◌∷◌, ◌++◌, length, get_or, map, take, drop, Result, Ok, Err}
 use Rattle.std.specs.List.{AllByRecursion, HoldsAt, concat}
 use Rattle.std.specs.Ordering.{nat_cmp, is_lt}
@@ -14,24 +14,23 @@ use Rattle.adb_write.specs.declared.word_pages.WordPages.{WordPages}
 abbrev pub pages_of : WordPages → List (List ℕ)
 pages_of words = map (λ page. page.items) words.pages.items
 
--- the locators of all pages that stand before the index in the page at k
+-- the locators of all pages that precede the index in the page at k
 abbrev pub words_before : List (List ℕ) → ℕ → ℕ → List ℕ
 words_before [] k index = []
 words_before (page ∷ pages) zero index = take index page
 words_before (page ∷ pages) (suc k) index = page ++ words_before pages k index
 
--- the locators of all pages that stand at the index in the page at k, or behind it
+-- the locators of all pages that are at the index in the page at k, or after it
 abbrev pub words_behind : List (List ℕ) → ℕ → ℕ → List ℕ
 words_behind [] k index = []
 words_behind (page ∷ pages) zero index = drop index page ++ concat pages
 words_behind (page ∷ pages) (suc k) index = words_behind pages k index
 
--- the locators of the page at k, where pages count from 0; none where there is no such page
+-- the locators of the page at k, counted from 0; none if there is no such page
 abbrev pub page_at : List (List ℕ) → ℕ → List ℕ
 page_at pages k = get_or pages k []
 
--- a place in one of the pages, also behind its last locator; the only one, at 0 and 0, where there
--- are no pages
+-- a place in one of the pages, or after its last locator; without pages only 0 and 0
 abbrev pub IsSlotIn : List (List ℕ) → ℕ → ℕ → Type 0
 IsSlotIn [] k index = (k ≡ 0) × (index ≡ 0)
 IsSlotIn (page ∷ pages) zero index = index ≤ length page
@@ -42,18 +41,18 @@ IsSlotIn (page ∷ next ∷ pages) (suc k) index = IsSlotIn (next ∷ pages) k i
 abbrev pub AreFilled : List (List ℕ) → Type 0
 AreFilled = AllByRecursion (λ page. 0 < length page)
 
--- a slot of the old pages is one of the new ones: it stands between the same locators
+-- a slot of the old pages is one of the new ones: it is between the same locators
 pub record IsSameSlot (old : List (List ℕ)) (slot : Slot) (new : List (List ℕ))
     (there : Slot) : Type 0 where
   pub inside : IsSlotIn new there.page there.index
   pub before : words_before new there.page there.index ≡ words_before old slot.page slot.index
   pub behind : words_behind new there.page there.index ≡ words_behind old slot.page slot.index
 
--- how many locators stay in a page that is split: half of a full one of 512
+-- how many locators remain in a page that is split: half of a full one of 512
 abbrev pub HALF : ℕ
 HALF = 256
 
--- the pages, of which the one at k was split in two
+-- the pages, after the one at k was split in two
 abbrev pub with_split : List (List ℕ) → ℕ → List (List ℕ)
 with_split [] k = []
 with_split (page ∷ pages) zero = take HALF page ∷ drop HALF page ∷ pages
@@ -64,7 +63,7 @@ abbrev pub begins_above : List ℕ → List ℕ → List ℕ → Bool
 begins_above payload key [] = false
 begins_above payload key (word ∷ words) = is_lt (slice_cmp nat_cmp key (key_at payload word))
 
--- an item with this key compares so with the item of each of the locators
+-- an item with this key has this order to the item of each of the locators
 abbrev pub AllCompare : Ordering → List ℕ → List ℕ → List ℕ → Type 0
 AllCompare order payload key =
     AllByRecursion (λ word. slice_cmp nat_cmp key (key_at payload word) ≡ order)
@@ -76,34 +75,33 @@ pub record IsFoundIn (payload : List ℕ) (words : List ℕ) (key : List ℕ) (w
   pub is : words ≡ before ++ word ∷ behind
   pub equal : slice_cmp nat_cmp key (key_at payload word) ≡ Equal
 
--- the slot stands between the locators of lower keys and those of higher ones, so that none has
--- this key
+-- the slot is between the locators of lower keys and those of higher ones, so that none has this key
 pub record IsBetween (payload : List ℕ) (pages : List (List ℕ)) (key : List ℕ)
     (slot : Slot) : Type 0 where
   -- the slot is one of the pages
   pub inside : IsSlotIn pages slot.page slot.index
   -- all before it have lower keys
   pub lower : AllCompare Greater payload key (words_before pages slot.page slot.index)
-  -- all behind it have higher keys
+  -- all after it have higher keys
   pub higher : AllCompare Less payload key (words_behind pages slot.page slot.index)
 
--- the page at k is the one in which a locator with this key would stand
+-- the page at k is the one into which a locator with this key belongs
 pub record IsPageFor (payload : List ℕ) (pages : List (List ℕ)) (key : List ℕ)
     (k : ℕ) : Type 0 where
   pub inside : IsSlotIn pages k 0
   -- all pages before it have lower keys
   pub lower : AllCompare Greater payload key (words_before pages k 0)
-  -- all pages behind it have higher keys
+  -- all pages after it have higher keys
   pub higher : AllCompare Less payload key (words_behind pages (suc k) 0)
 
--- the page at k begins at or before this key, and the next one behind it, if there is a next one
+-- the page at k begins at or before this key, and the next one after it, if there is a next one
 pub record IsPageAt (payload : List ℕ) (pages : List (List ℕ)) (key : List ℕ)
     (k : ℕ) : Type 0 where
   pub inside : k < length pages
   pub here : begins_above payload key (page_at pages k) ≡ false
   pub next : suc k < length pages → begins_above payload key (page_at pages (suc k)) ≡ true
 
--- what a search of one page answers: the index of the locator with this key, or the one between the
+-- the result of a search of one page: the index of the locator with this key, or the one between the
 -- lower keys and the higher ones
 abbrev pub SearchesPage : List ℕ → List ℕ → List ℕ → Result ℕ ℕ → Type 0
 SearchesPage payload page key (Ok index) =
@@ -114,7 +112,7 @@ SearchesPage payload page key (Err index) =
     × AllCompare Greater payload key (take index page)
     × AllCompare Less payload key (drop index page)
 
--- what a search of all pages answers: the locator with this key, or the slot between the lower keys
+-- the result of a search of all pages: the locator with this key, or the slot between the lower keys
 -- and the higher ones
 abbrev pub FindsIn : List ℕ → List (List ℕ) → List ℕ → Result ℕ Slot → Type 0
 FindsIn payload pages key (Ok word) = IsFoundIn payload (concat pages) key word

@@ -1,6 +1,6 @@
--- What a writer keeps: the payload with its head, once anything was written, the locators of its
--- items, and the two counts. Serves the invariant of `Writer` and the contracts of `src/store.rt`.
--- How locators are kept is told in the README of this crate, second paragraph.
+-- The state of a writer: the payload with its head, once anything was written, the locators of its
+-- items, and the two counts. Serves the invariant of `Writer` and the contracts of `src/store.rt`. How
+-- locators are stored is described in the README of this crate.
 use Rattle.std.specs.Prelude.{◌≡◌, ℕ, ◌+◌, ◌-◌, ◌^◌, ◌<◌, ◌≤◌, ◌⊎◌, ◌%◌, suc, false, List, [], ◌∷◌, length, take, drop, replicate, nat_lt, find, option_map, Some, Result, Ok, Err, if◌then◌else◌}
 use Rattle.std.specs.List.{AllByRecursion, concat}
 use Rattle.adb_view.specs.Readers.{kind_of, low_of}
@@ -13,14 +13,14 @@ use Rattle.adb_write.specs.declared.item.ListKind.{ListKind}
 use Rattle.adb_write.specs.declared.writer.WriteFault.{WriteFault}
 use Rattle.adb_write.specs.declared.writer.WriteFault.TheVariants.{TooLarge, Memory}
 
--- a payload under way is empty, or has its head in front: 8 zeros, in which the root's word is put
+-- an unfinished payload is empty, or begins with its head: 8 zeros, into which the root's word is put
 -- last
 abbrev pub HasHead : List ℕ → Type 0
 HasHead payload = (payload ≡ []) ⊎ (take 8 payload ≡ replicate 8 0)
 
--- ---- what a locator of the pages names
+-- ---- the items of locators
 
--- what a locator leads to: an integer, a blob, or the words of a list
+-- the item of a locator: an integer, a blob, or the words of a list
 pub data Stored : Type 0 where
   stored_int : ℕ → Stored
   stored_blob : List ℕ → Stored
@@ -38,19 +38,19 @@ fingerprint_of_stored (stored_int n) = n % 2 ^ 32
 fingerprint_of_stored (stored_blob b) = blob_fingerprint b
 fingerprint_of_stored (stored_list kind ws) = list_fingerprint ws
 
--- the numbers of what is stored have room: an integer in 64 bits, a length and a word in 32
+-- the numbers of what is stored fit: an integer in 64 bits, a length and a word in 32
 abbrev pub IsSmall : Stored → Type 0
 IsSmall (stored_int n) = n < 2 ^ 64
 IsSmall (stored_blob b) = length b < 2 ^ 32
 IsSmall (stored_list kind ws) = AllByRecursion (λ w. w < 2 ^ 32) ws × (suc (length ws) < 2 ^ 32)
 
--- the word leads to this item in the payload, behind the head of 8 bytes
+-- the word points to this item in the payload, after the head of 8 bytes
 pub record IsStoredAt (payload : List ℕ) (what : Stored) (word : ℕ) : Type 0 where
   pub small : IsSmall what
   pub kind : kind_of word ≡ (item_of_stored what).kind
-  -- it stands behind the head
+  -- it follows the head
   pub behind_head : 8 ≤ low_of word
-  -- its bytes stand at the word's offset
+  -- its bytes are at the word's offset
   pub there : take (length (item_of_stored what).bytes) (drop (low_of word) payload)
       ≡ (item_of_stored what).bytes
 
@@ -64,7 +64,7 @@ pub record IsStored (payload : List ℕ) (locator : ℕ) : Type 0 where
 abbrev pub AreStored : List ℕ → List ℕ → Type 0
 AreStored payload locators = AllByRecursion (IsStored payload) locators
 
--- ---- the items as contracts see them: the latest first, which stands behind the others
+-- ---- the items as contracts see them: the latest first, after the others
 
 -- the written item that a locator names
 abbrev pub written_item : ℕ → WrittenItem
@@ -73,7 +73,7 @@ written_item locator = record {
   offset = low_of (word_of_locator locator) - 8;
 }
 
--- items with one more among them, the latest first, which stands behind the others
+-- items with one more among them, the latest first, after the others
 abbrev pub with_item : WrittenItem → List WrittenItem → List WrittenItem
 with_item item [] = item ∷ []
 with_item item (other ∷ others) =
@@ -97,18 +97,18 @@ pub record IsWriterState (payload : List ℕ) (pages : List (List ℕ))
   pub agree : passes (bytes, values) ≡ false → bytes ≡ 8 + length (drop 8 payload)
   -- no page is empty
   pub filled : AreFilled pages
-  -- locators stand in the order of their keys
+  -- locators are in the order of their keys
   pub rising : HaveRisingKeys payload (concat pages)
   -- each locator names an item of the payload
   pub stored : AreStored payload (concat pages)
 
--- the word leads to the written item that is equal to this one
+-- the word points to the written item that is equal to this one
 abbrev pub FindsWord : Item → Writing → ℕ → Type 0
 FindsWord i w word =
     option_map word_of_item (find (is_equal_item w.body i) w.items) ≡ Some word
 
--- how a writer ends, by what its definition says: with a payload, with the counts of a limit, or
--- for want of memory, and that only where nothing was written
+-- how a writer ends, by its definition: with a payload, with the counts of a limit, or out of memory,
+-- and that only if nothing was written
 abbrev pub IsFinished : {A : Type 0} → (A → List ℕ) → Writing → Result A WriteFault
     → Result (List ℕ) PayloadCounts → Type 0
 IsFinished view w (Ok payload) answer = answer ≡ Ok (view payload)

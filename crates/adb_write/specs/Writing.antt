@@ -1,15 +1,14 @@
--- A writer as contracts see it: what it wrote, its two counts, and what each call makes of it. The
--- rules stand in `docs/formats.md`, "Canonical layout"; what is answered past a limit, below "A
--- payload has at most".
+-- A writer as contracts see it: its items, its two counts, and the effect of each call. The rules are
+-- in `docs/formats.md`, "Canonical layout"; the results past a limit, below "A payload has at most".
 use Rattle.std.specs.Prelude.{ℕ, ◌<◌, Bool, List, [], ◌∷◌, length, Result, Ok, Err, if◌then◌else◌}
 use Rattle.adb_view.specs.Plain.{Plain, null, int, blob, arr, obj, Plains, none, more}
 use Rattle.adb_view.specs.Readers.{ARRAY, OBJECT}
 use Rattle.adb_write.specs.Canonical.{WrittenItem, Cell, in_place, apart, int_cell, blob_cell, run_cell, trimmed_words, Layout, put_cell, PayloadCounts, layout_counts, passes, payload_with_root}
 
--- a writer: the payload behind its head of 8 bytes, its items, the latest first, and the two counts
--- of what was written, or, once a value passed a limit, the ones just behind that value
+-- a writer: the payload after its head of 8 bytes, its items, the latest first, and two counts. The
+-- counts are those of the written values, or, past a limit, those just after the value that passed it
 pub record Writing : Type 0 where
-  -- the payload behind its head
+  -- the payload after its head
   pub body : List ℕ
   -- the items in it, the latest first
   pub items : List WrittenItem
@@ -36,29 +35,29 @@ writing_counts w = (w.bytes, w.values)
 abbrev pub is_over : Writing → Bool
 is_over w = passes (writing_counts w)
 
--- what a writer has written, as a layout
+-- the items and the counts of a writer, as a layout
 abbrev pub layout_of : Writing → Layout
 layout_of w = record { body = w.body; items = w.items; values = w.values }
 
--- the writer of a layout, by whose counts no limit is passed yet
+-- the writer of a layout whose counts pass no limit yet
 abbrev pub writing_of : Layout → Writing
 writing_of out = writing_by out.body out.items (layout_counts out).0 (layout_counts out).1
 
--- what a call makes of a writer that makes `r` of its layout: past a limit its value is only
--- counted, and the answer is NULL
+-- the effect of a call that makes `r` of a writer's layout: past a limit its value is only counted, and
+-- the word is NULL
 abbrev pub unless_over : Writing → ℕ × Layout → ℕ × Writing
 unless_over w r =
     if passes (layout_counts r.1)
     then (0, record (writing_of r.1) { body = w.body; items = w.items })
     else (r.0, writing_of r.1)
 
--- what one call answers and makes of a writer: the value's word, or NULL from the first value on that
--- passes a limit. A value that its word holds whole adds nothing
+-- the result and the effect of one call: the value's word, or NULL from the first value on that passes
+-- a limit. A value that its word contains adds nothing
 unfoldable pub call : Cell → Writing → ℕ × Writing
 call (in_place word) w = ((if is_over w then 0 else word), w)
 call (apart i) w = if is_over w then (0, w) else unless_over w (put_cell (apart i) (layout_of w))
 
--- a writer has more bytes at a later moment, for which it wanted memory
+-- a writer has more bytes at a later moment, so it needed memory
 abbrev pub Grows : Writing → Writing → Type 0
 Grows before later = length before.body < length later.body
 
@@ -74,17 +73,16 @@ blob_call b w = call (blob_cell b) w
 abbrev pub arr_call : List ℕ → Writing → ℕ × Writing
 arr_call ws w = call (run_cell ARRAY ws) w
 
--- the call for an object of these words, without the NULLs that stand last
+-- the call for an object of these words, without the NULLs at the end
 abbrev pub obj_call : List ℕ → Writing → ℕ × Writing
 obj_call ws w = call (run_cell OBJECT (trimmed_words ws)) w
 
--- how a writer ends: with the payload with this root, or the counts of one that passed a limit
+-- how a writer ends: with the payload with this root, or with the counts of one that passed a limit
 abbrev pub finish_result : ℕ → Writing → Result (List ℕ) PayloadCounts
 finish_result root w =
     if is_over w then Err (writing_counts w) else Ok (payload_with_root root (layout_of w))
 
--- what the calls for a value that are made depth first answer and make of a writer, each answer
--- being used once
+-- the result and the effect of the calls that write a value depth first, each word being used once
 unfoldable mutual
   pub calls : Plain → Writing → ℕ × Writing
   calls null w = (0, w)
@@ -93,7 +91,7 @@ unfoldable mutual
   calls (arr vs) w = arr_call (calls_all vs w).0 (calls_all vs w).1
   calls (obj vs) w = obj_call (calls_all vs w).0 (calls_all vs w).1
 
-  -- the same for values in order: their words, and the writer then
+  -- the same for values in order: their words, and the writer afterwards
   pub calls_all : Plains → Writing → List ℕ × Writing
   calls_all none w = ([], w)
   calls_all (more v vs) w =

@@ -1,9 +1,10 @@
-//! The first locators of the pages, side by side, by which a page is looked for first.
+//! The first locators of all pages, contiguous in memory, by which the page of an item is found
+//! first.
 //!
-//! What is answered here is a guess, which is tested where it is used.
+//! The result is a guess, which is tested if it is used.
 //!
-//! How locators are kept is told in the README of this crate, second paragraph; `docs/formats.md`,
-//! "Canonical layout" ("Equal values are stored once"), is what they serve.
+//! How locators are stored is described in the README of this crate. They serve the rule in
+//! `docs/formats.md`, "Canonical layout" ("Equal values are stored once").
 
 use crate::locator::fingerprint_of_locator;
 use std::alloc::{AllocError, Global};
@@ -22,7 +23,7 @@ impl FirstLocators {
         }
     }
 
-    /// The page where an item with this fingerprint is looked for first: the last whose first
+    /// The page in which an item with this fingerprint is searched first: the last one whose first
     /// fingerprint is not higher, or the first page.
     pub(crate) fn page_of(&self, fingerprint: u64) -> usize {
         self.locators
@@ -30,8 +31,7 @@ impl FirstLocators {
             .saturating_sub(1)
     }
 
-    /// Lets the first locator of a new page stand between those of the others, at the index of the
-    /// page.
+    /// Inserts the first locator of a new page, at the index of the page.
     pub(crate) fn add(&mut self, page: usize, locators: &[u64]) -> Result<(), AllocError> {
         if let Some(first) = locators.first() {
             if page <= self.locators.len() {
@@ -41,8 +41,7 @@ impl FirstLocators {
         Ok(())
     }
 
-    /// Keeps the first locator of a page right where a new locator has come to stand at an index of
-    /// it.
+    /// Keeps the first locator of a page right after a new locator was inserted at an index of it.
     pub(crate) fn enter(&mut self, page: usize, index: usize, locator: u64) {
         if index == 0 && page < self.locators.len() {
             self.locators[page] = locator;

@@ -1,7 +1,7 @@
-//! What a value takes outside its word, and how it compares with what was written. The layout of an
-//! item stands in `docs/formats.md`, "Canonical layout" ("Values are written depth first"); that
-//! equal ones are stored once, below that. In the clauses `some`, `few` and `small` bound the
-//! number that is answered, and `kept` says that the bytes before the item stay.
+//! The bytes of a value outside its word, and how they compare with those already written. The
+//! layout of an item is in `docs/formats.md`, "Canonical layout" ("Values are written depth
+//! first"); that equal ones are stored once is stated below it. In the clauses `some`, `few` and
+//! `small` bound the returned number, and `kept` says that the bytes before the item are unchanged.
 ghost use Rattle.std.specs.Prelude.{◌≡◌, ◌≤◌, ◌<◌, ◌+◌, ◌-◌, ◌^◌, ◌++◌, get_or, length, replicate, reverse, take, OnOk, OnErr};
 ghost use Rattle.std.specs.List.{flat_map};
 ghost use Rattle.std.specs.Int.{w32, w64, to_le_bytes};
@@ -21,8 +21,8 @@ use base_core::Cause;
 use std::alloc::AllocError;
 use std::cmp::Ordering;
 
-/// The kinds of words that lead to an item, by their top 4 bits, as the table of `docs/formats.md`,
-/// "Values", has them; the number in a name is how many bits the value or its length has.
+/// The kinds of words that point to an item, by their top 4 bits, as in the table of
+/// `docs/formats.md`, "Values". The number in a name is how many bits the value or its length has.
 mod kind {
     // An integer of 4 bytes.
     pub(super) const INT_32: u32 = 0x2;
@@ -56,7 +56,7 @@ pub(crate) enum Width {
 }
 
 impl Width {
-    /// How many bytes a number of this width takes.
+    /// The size of a number of this width in bytes.
     pub(crate) fn len(self) -> usize
         ensures value { result ≡ width_len self }
         ensures some { 0 < result }
@@ -79,7 +79,7 @@ pub(crate) enum ListKind {
 }
 
 impl ListKind {
-    /// The kind of the words that lead to such a list.
+    /// The kind of the words that point to such a list.
     fn number(self) -> u32
         ensures { result ≡ list_kind self }
     {
@@ -90,7 +90,7 @@ impl ListKind {
     }
 }
 
-/// An item before it is written: what a value takes outside its word.
+/// An item before it is written: the bytes of a value outside its word.
 #[derive(Clone, Copy)]
 pub(crate) enum Parts<'a> {
     /// An integer that does not fit in a word.
@@ -102,7 +102,7 @@ pub(crate) enum Parts<'a> {
 }
 
 impl Parts<'_> {
-    /// The kind of the words that lead to the item.
+    /// The kind of the words that point to the item.
     pub(crate) fn kind(&self) -> u32
         ensures value { result ≡ (item_of self.now).kind }
         ensures some { 0 < result }
@@ -118,7 +118,7 @@ impl Parts<'_> {
         }
     }
 
-    /// The width of the number at the front of the item, which stands at a multiple of it.
+    /// The width of the number at the front of the item; the item is at a multiple of it.
     pub(crate) fn width(&self) -> Width
         ensures { width_len result ≡ (item_of self.now).align }
     {
@@ -131,8 +131,8 @@ impl Parts<'_> {
         }
     }
 
-    /// The number at the front of the item: the integer, the length of the blob, or how many words
-    /// the run has, this number counted.
+    /// The number at the front of the item: the integer, the length of the blob, or the number of
+    /// words of the run, itself included.
     #[tactic(auto, using(crate::proofs::Cells::int_bytes, crate::proofs::Cells::blob_bytes, crate::proofs::Cells::run_bytes_are))]
     fn number(&self) -> u64
         ensures { (item_of self.now).bytes
@@ -145,7 +145,7 @@ impl Parts<'_> {
         }
     }
 
-    /// How many bytes the item takes.
+    /// The length of the item in bytes.
     #[tactic(auto, using(crate::proofs::Placed::words_len))]
     pub(crate) fn len(&self) -> u64
         ensures value { result ≡ length (item_of self.now).bytes }
@@ -171,7 +171,7 @@ impl Parts<'_> {
         }
     }
 
-    /// A number below 2^32 by which most items are told apart without a look at the payload.
+    /// A number below 2^32 that distinguishes most items without reading the payload.
     pub(crate) fn fingerprint(&self) -> u64
         ensures value { result ≡ fingerprint_of self.now }
         ensures small { result < 2 ^ 32 }
@@ -183,8 +183,8 @@ impl Parts<'_> {
         }
     }
 
-    /// How the item, which has this fingerprint, compares with the written one that a locator
-    /// names: first by fingerprint, then by kind, then by what it holds.
+    /// The order of the item, which has this fingerprint, and the written item of a locator: first
+    /// by fingerprint, then by kind, then by content.
     pub(crate) fn compare(&self, fingerprint: u64, adb: &Adb<'_>, locator: u64) -> Ordering
         ensures { result ≡ slice_cmp nat_cmp (key_with fingerprint self.now)
             (key_at (payload_of adb.now) locator) }
@@ -195,8 +195,8 @@ impl Parts<'_> {
         }
     }
 
-    /// How the item compares with the written one to which a word leads: first by kind, then by
-    /// what it holds. So equal is what has one kind and one value.
+    /// The order of the item and the written item to which a word points: first by kind, then by
+    /// content. Items are equal if they have the same kind and the same value.
     pub(crate) fn compare_content(&self, adb: &Adb<'_>, word: Val) -> Ordering
         ensures { result ≡ slice_cmp nat_cmp (content_key_of self.now)
             (content_key_at (payload_of adb.now) word) }
@@ -215,8 +215,8 @@ impl Parts<'_> {
         }
     }
 
-    /// Adds zeros up to an offset, and the item there. A refused growth leaves the bytes as they
-    /// were.
+    /// Appends zeros up to an offset, and the item there. If memory runs out, the bytes are
+    /// unchanged.
     pub(crate) fn append(&self, out: &mut Vec<u8>, at: usize) -> Result<(), AllocError>
         requires { length out.old.items ≤ at }
         ensures ok { OnOk result (out.new.items
@@ -232,7 +232,7 @@ impl Parts<'_> {
         done
     }
 
-    /// Adds what `append` adds, but a refused growth leaves what was added before it.
+    /// As `append`, but if memory runs out, what was already appended remains.
     fn try_append(&self, out: &mut Vec<u8>, at: usize) -> Result<(), AllocError>
         requires { length out.old.items ≤ at }
         ensures ok { OnOk result (out.new.items
@@ -274,7 +274,7 @@ fn four_bytes(bytes: &[u8], i: usize) -> u64
 }
 
 /// The fingerprint of a blob: of its first four bytes, its last four, and its length. The factor 31
-/// only mixes them: any fingerprint keeps equal items together.
+/// only mixes them; with any fingerprint equal items are found.
 #[tactic(auto, unfolding(crate::specs::Keys::blob_fingerprint))]
 fn blob_fingerprint(bytes: &[u8]) -> u64
     ensures value { result ≡ blob_fingerprint bytes.now }
@@ -297,7 +297,7 @@ fn list_fingerprint(words: &[Val]) -> u64
     words[last].word() as u64
 }
 
-/// Compares words with the entries of the written list to which a word leads.
+/// Compares words with the entries of the written list to which a word points.
 #[tactic(auto, using(crate::proofs::Compared::by_none))]
 fn compare_list(adb: &Adb<'_>, list: ListKind, words: &[Val], word: Val) -> Ordering
     ensures { result ≡ slice_cmp nat_cmp (reverse (low_words words.now))
@@ -315,7 +315,7 @@ fn entries<'a>(adb: &Adb<'a>, list: ListKind, word: Val) -> Result<Arr<'a>, Caus
 {
     match list {
         ListKind::Array => adb.arr(word),
-        // No field is asked for, only the entries.
+        // Only the entries are read, no field.
         ListKind::Object => Ok(adb.obj::<0>(word)?.entries()),
     }
 }
@@ -340,7 +340,7 @@ fn compare_words(words: &[Val], entries: &Arr<'_>) -> Ordering
     words.len().cmp(&entries.len())
 }
 
-/// Adds words, of four bytes each. A refused growth leaves those that were added before it.
+/// Appends words, of four bytes each. If memory runs out, what was already appended remains.
 fn add_words(out: &mut Vec<u8>, words: &[Val]) -> Result<(), AllocError>
     ensures ok { OnOk result
         (out.new.items ≡ out.old.items ++ flat_map (to_le_bytes w32) words.now) }

@@ -1,5 +1,6 @@
-//! What follows from the definitions, for every value and every writer. The rules stand in
-//! `docs/formats.md`, "Canonical layout"; the README of this crate lists the laws.
+//! Theorems about the definitions, for every value and every writer. Each is proved as the contract
+//! of an empty function. The rules are in `docs/formats.md`, "Canonical layout"; the README of this
+//! crate lists the laws.
 ghost use Rattle.std.specs.Prelude.{◌≡◌, ◌≤◌, ◌<◌, ◌^◌, ◌⊎◌, ℕ, List, [], ◌∷◌, ◌++◌, false, true, length, Some, Ok, is_some};
 ghost use Rattle.adb_view.specs.Plain.{Plain, null, int, Plains, none, more, blob_value, arr_value, obj_value, Shape, IsNormal, plain_of, value_of};
 ghost use Rattle.adb_view.specs.Head.{root_of};
@@ -22,10 +23,10 @@ pub fn a_canonical_payload_is_read_back()
         → value_of (canonical v) shape ≡ Some v }
 {}
 
-/// What a writer does between two moments is to write a value depth first: nothing for Null, the
-/// call of its kind for an integer or a blob, and for a list its values in order, each word being
-/// used once, then the call of the list's kind. An empty blob or list, and an object without a
-/// value, are Null.
+/// Between two moments a writer writes a value depth first: nothing for Null, the call of its kind
+/// for an integer or a blob. For a list it writes its values in order, using each word once, and
+/// then makes the call of the list's kind. An empty blob or list, and an object without a value,
+/// are Null.
 pub fn values_are_written_depth_first()
     ensures null { (w : Writing) → WritesValue w null 0 w }
     ensures int { (n : ℕ) (a : Writing) (x : ℕ) (b : Writing) → (x, b) ≡ int_call n a
@@ -37,7 +38,7 @@ pub fn values_are_written_depth_first()
     ensures obj { (vs : Plains) (xs : List ℕ) (a b : Writing) (x : ℕ) (c : Writing)
         → WritesValues a vs xs b → (x, c) ≡ obj_call xs b → WritesValue a (obj_value vs) x c }
 
-    // Values in order: from the first one on, or one more behind the others.
+    // Values in order: from the first one on, or one more after the others.
     ensures none { (w : Writing) → WritesValues w none [] w }
     ensures more { (v : Plain) (vs : Plains) (x : ℕ) (xs : List ℕ) (a b c : Writing)
         → WritesValue a v x b → WritesValues b vs xs c → WritesValues a (more v vs) (x ∷ xs) c }
@@ -46,14 +47,14 @@ pub fn values_are_written_depth_first()
         → WritesValues a (push vs v) (xs ++ x ∷ []) c }
 {}
 
-/// A writer that wrote one value depth first, and nothing else, ends with its canonical payload, or
-/// with the counts just behind the first value at which one passes its limit.
+/// A writer that wrote one value depth first, and nothing else, ends with its canonical payload.
+/// Past a limit it ends with the counts just after the first value that passed it.
 pub fn a_value_written_depth_first_is_canonical()
     ensures { (v : Plain) (root : ℕ) (w : Writing) → WritesValue empty_writing v root w
         → finish_result root w ≡ written_of v }
 {}
 
-/// In whatever order calls are made, a word that stands for a value goes on standing for it.
+/// A word that represents a value keeps representing it, in whatever order calls are made.
 pub fn a_word_keeps_its_value()
     ensures int { (n : ℕ) (w : Writing) (v : Plain) (word : ℕ)
         → StandsFor w v word → StandsFor (int_call n w).1 v word }
@@ -65,8 +66,8 @@ pub fn a_word_keeps_its_value()
         → StandsFor w v word → StandsFor (obj_call words w).1 v word }
 {}
 
-/// NULL stands for Null, and each answer for the value that was asked for: an integer, a blob, and
-/// an array or object of the values for which its words stand.
+/// NULL represents Null. Each returned word represents the value of the call: an integer, a blob,
+/// or an array or object of the values that its words represent.
 pub fn an_answer_stands_for_its_value()
     ensures null { (w : Writing) → StandsFor w null 0 }
     ensures int { (n : ℕ) (w : Writing) → n < 2 ^ 64
@@ -81,7 +82,7 @@ pub fn an_answer_stands_for_its_value()
         → StandsFor (obj_call words w).1 (obj_value vs) (obj_call words w).0 }
 {}
 
-/// A word is read as the value for which it stands, in what a writer within its limits wrote,
+/// A word is read as the value that it represents, in the payload of a writer within its limits,
 /// whatever the root will be.
 pub fn a_word_is_read_as_its_value()
     ensures { (shape : Shape) (v : Plain) (word : ℕ) (w : Writing)
@@ -89,23 +90,23 @@ pub fn a_word_is_read_as_its_value()
         → (root : ℕ) → plain_of (payload_with_root root (layout_of w)) shape word ≡ Some v }
 {}
 
-/// A finished payload is read back: its value is the one for which the root's word stands.
+/// A finished payload is read back: its value is the one that the root's word represents.
 pub fn a_finished_payload_is_read_back()
     ensures { (shape : Shape) (v : Plain) (root : ℕ) (w : Writing) (payload : List ℕ)
         → finish_result root w ≡ Ok payload → StandsFor w v root → IsNormal v → HasShape shape v
         → value_of payload shape ≡ Some v }
 {}
 
-/// A normal value overflows exactly where its canonical payload has more bytes than a payload may
-/// have, or the value has more values.
+/// A normal value overflows if and only if its canonical payload, or the number of its values,
+/// exceeds the limit of a payload.
 pub fn a_value_overflows_exactly_past_a_limit()
     ensures { (v : Plain) → IsNormal v
         → is_some (overflow_of v) ≡ passes (size_of v, value_count v) }
 {}
 
-/// A normal value is written where its payload has at most 2^28 - 1 bytes, the offsets that a word
-/// can say (apk-v3(5)), and it has at most 2^22 values, as many as a reader takes; and nowhere
-/// else.
+/// A normal value is written if and only if it is within both limits. Its payload has at most 2^28
+/// - 1 bytes, the largest offset of a word (apk-v3(5)). It has at most 2^22 values, as many as a
+/// reader accepts.
 pub fn a_value_is_written_up_to_both_limits()
     ensures written { (v : Plain) → IsNormal v → size_of v < 2 ^ 28 → value_count v ≤ 2 ^ 22
         → written_of v ≡ Ok (canonical v) }
@@ -113,8 +114,8 @@ pub fn a_value_is_written_up_to_both_limits()
         → is_some (overflow_of v) ≡ true }
 {}
 
-/// A value is stored once. Whatever is written before it and since, to write it again answers the
-/// same word, adds no byte and no item, and counts its entries.
+/// A value is stored once. Writing it again, after any other calls, returns the same word, adds no
+/// byte and no item, and counts its entries.
 pub fn a_value_is_stored_once()
     ensures { (before v since : Plain) → IsNormal v
         → let first : ℕ × Layout = write v (write before empty_layout).1
@@ -123,14 +124,14 @@ pub fn a_value_is_stored_once()
         → write v later ≡ (first.0, with_entries (entries_of v) later) }
 {}
 
-/// A walk over a canonical payload visits as many words as the value has values. So what is written
-/// within the limits is never too large to be read.
+/// A walk over a canonical payload visits as many words as the value has values. So a payload
+/// within the limits of the writer is never too large to be read.
 pub fn a_canonical_payload_is_visited_once()
     ensures { (shape : Shape) (v : Plain) → IsNormal v → HasShape shape v → size_of v ≤ MOST_BYTES
         → length (visits (canonical v) shape (root_of (canonical v))) ≡ value_count v }
 {}
 
-/// The file of a payload is spelled by its schema and one block, which holds the payload.
+/// The file of a payload is spelled by its schema and one block with the payload.
 pub fn a_file_is_spelled()
     ensures { (schema : ℕ) (payload : List ℕ) → schema < 2 ^ 32 → 8 ≤ length payload
         → length payload ≤ MOST_BYTES

@@ -1,15 +1,19 @@
 //! Writes the values of an ADB payload (apk-v3(5)), in one canonical layout, and the file around
 //! it.
 //!
-//! Values go in, entries before the lists that hold them; each answer is the value's word, and
-//! `Writer::finish` gives the payload. No byte is written twice but the root's word, and the
-//! payload is handed out where it was written. The contracts cite `Canonical` (the layout of a
-//! value, and where it overflows), `Size` (the bytes of its payload and the number of its values),
-//! `File`, `Writing` (a writer, and what each call makes of it), `DepthFirst` (what it did between
-//! two moments) and `StandsFor` (what a word stands for) of `specs/`; `laws` says what follows from
-//! them, so that nobody needs to look into them.
+//! Each call takes a value, entries before the lists that contain them, and returns the value's
+//! word. `Writer::finish` returns the payload. Only the root's word is written twice, and the
+//! payload is never copied. The contracts cite these modules of `specs/`, and `laws` has theorems
+//! about them:
 //!
-//! The rules stand in `docs/formats.md`, "Canonical layout".
+//! - `Canonical`: the layout of a value, and when it overflows;
+//! - `Size`: the bytes of its payload and the number of its values;
+//! - `File`: the file around a payload;
+//! - `Writing`: a writer, and the effect of each call;
+//! - `DepthFirst`: what a writer did between two moments;
+//! - `StandsFor`: what a word represents.
+//!
+//! The rules are in `docs/formats.md`, "Canonical layout".
 #![tactic(auto)]
 
 mod first_locators;

@@ -1,12 +1,12 @@
-//! Locators: the fingerprint of a written item, and the word that leads to it in the 32 bits below.
-//! How locators are kept is told in the README of this crate, second paragraph.
+//! Locators: the fingerprint of a written item, and the word that points to it in the 32 bits
+//! below. How locators are stored is described in the README of this crate.
 
 ghost use Rattle.std.specs.Prelude.{◌≡◌, ◌<◌, ◌^◌};
 ghost use Rattle.adb_write.specs.Keys.{fingerprint_of_locator, locator_of, word_of_locator};
 
 use adb_view::Val;
 
-/// The locator of an item by its fingerprint, and the word that leads to it.
+/// The locator of an item by its fingerprint, and the word that points to it.
 pub(crate) fn locator_of(fingerprint: u64, word: Val) -> u64
     requires { fingerprint < 2 ^ 32 }
     ensures { result ≡ locator_of fingerprint word }
@@ -14,7 +14,7 @@ pub(crate) fn locator_of(fingerprint: u64, word: Val) -> u64
     fingerprint * (1 << 32) + word.word() as u64
 }
 
-/// The word that leads to the item of a locator.
+/// The word that points to the item of a locator.
 pub(crate) fn word_of_locator(locator: u64) -> Val
     ensures { result ≡ word_of_locator locator }
 {

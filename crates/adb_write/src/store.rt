@@ -1,9 +1,9 @@
-//! The bytes of a payload as they are written, and the locators by which they are found again. How
-//! locators are kept is told in the README of this crate, second paragraph; that equal values are
-//! stored once stands in `docs/formats.md`, "Canonical layout" ("Equal values are stored once"). In
-//! the clauses `filled` says that no page is empty, `rising` that locators stand in the order of
-//! their keys, `stored` that each names an item of the payload, `inside` that a slot is one of
-//! these pages.
+//! The bytes of a payload as they are written, and the locators by which written items are found.
+//! How locators are stored is described in the README of this crate; that equal values are stored
+//! once is stated in `docs/formats.md`, "Canonical layout" ("Equal values are stored once"). In the
+//! clauses `filled` says that no page is empty, and `rising` that locators are in the order of
+//! their keys. `stored` says that each names an item of the payload, and `inside` that a slot is
+//! one of these pages.
 
 ghost use Rattle.std.specs.Prelude.{◌≡◌, ◌≤◌, ◌-◌, [], ◌∷◌, ◌++◌, length, replicate, OnOk, OnErr};
 ghost use Rattle.std.specs.List.{concat};
@@ -18,10 +18,10 @@ use crate::word_pages::{Slot, WordPages};
 use adb_view::{Adb, Val};
 use std::alloc::{AllocError, Global};
 
-/// The bytes of a payload under way, and the locators of its items.
+/// The bytes of an unfinished payload, and the locators of its items.
 #[derive(Drop)]
 pub(crate) struct Store {
-    /// The payload so far: nothing, or the head of 8 zeros and what was written behind it.
+    /// The payload so far: nothing, or the head of 8 zeros and the items after it.
     pub payload: Vec<u8>,
     /// The locators of the items in the payload.
     pub words: WordPages,
@@ -39,8 +39,8 @@ impl Store {
         }
     }
 
-    /// The locator of an item that equals this one, or the slot in the pages where its own would
-    /// stand.
+    /// The locator of an item that equals this one, or the slot of the pages at which its own would
+    /// be inserted.
     pub(crate) fn find(&self, parts: &Parts<'_>) -> Result<u64, Slot>
         requires head { HasHead self.now.payload.items }
         requires filled { AreFilled (pages_of self.now.words) }
@@ -56,8 +56,8 @@ impl Store {
         }
     }
 
-    /// Adds zeros up to an offset, the item there, and at this slot its locator, with this word. A
-    /// refused growth leaves the bytes and the locators as they were.
+    /// Appends zeros up to an offset and the item there, and inserts its locator, with this word,
+    /// at this slot. If memory runs out, the bytes and the locators are unchanged.
     pub(crate) fn append(
         &mut self,
         parts: &Parts<'_>,

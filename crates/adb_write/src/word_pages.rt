@@ -1,17 +1,18 @@
-//! The locators of what was written, in the order of their keys, so that each is found again.
+//! The locators of the written items, in the order of their keys, so that each can be found.
 //!
-//! They stand in pages of at most 512, so that a new one moves few others. A page, and the index in
-//! it, are guessed first, and found by halving where the guess fails.
+//! They are in pages of at most 512, so that a new one moves few others. A page and the index in it
+//! are guessed first, and found by bisection if the guess fails.
 //!
-//! A locator takes eight bytes. A page has room for at most 128 more than it holds, and with the
-//! others it holds at least 256; the lists of pages take at most 64 bytes a page, since a list that
-//! grows doubles. So a page takes at most 8 * 128 + 64 bytes beside its locators, which is 4.25
-//! bytes for each of 256: at most 12.25 bytes a locator, and 1.2 kB where there is one page.
+//! A locator takes eight bytes. A page has room for at most 128 more than it contains, and every
+//! page contains at least 256, unless it is the only one. The lists of pages take at most 64 bytes
+//! a page, since a list that grows doubles. So a page takes at most 8 * 128 + 64 bytes beside its
+//! locators, which is 4.25 bytes for each of 256. That is at most 12.25 bytes a locator, and 1.2 kB
+//! more if there is one page.
 //!
-//! How locators are kept is told in the README of this crate, second paragraph; that equal values
-//! are stored once stands in `docs/formats.md`, "Canonical layout" ("Equal values are stored
-//! once"). In the clauses `filled` says that no page is empty, `rising` that locators stand in the
-//! order of their keys, `stored` that each names an item of the payload, `inside` that a slot is
+//! How locators are stored is described in the README of this crate; that equal values are stored
+//! once is stated in `docs/formats.md`, "Canonical layout" ("Equal values are stored once"). In the
+//! clauses `filled` says that no page is empty, and `rising` that locators are in the order of
+//! their keys. `stored` says that each names an item of the payload, and `inside` that a slot is
 //! one of these pages.
 
 ghost use Rattle.std.specs.Prelude.{◌≡◌, ◌≤◌, ◌<◌, ℕ, List, [], ◌∷◌, ◌++◌, length, take, drop, insert, IfOk, OnOk, OnErr};
@@ -31,21 +32,21 @@ use adb_view::Adb;
 use std::alloc::{AllocError, Global};
 use std::cmp::Ordering;
 
-/// The most locators of a page: with more of them a new locator would move more, with fewer of them
-/// there would be more pages.
+/// The most locators of a page. In larger pages a new locator would move more of them; smaller ones
+/// would be more numerous.
 const FULL: usize = 512;
 
-/// How many locators stay in a page that is split; the others go to a new one.
+/// How many locators remain in a page that is split; the others are moved to a new one.
 const HALF: usize = FULL / 2;
 
-/// How many locators more a page gets room for at a time.
+/// For how many more locators a page that grows allocates room.
 const ROOM: usize = 128;
 
-/// How far from its likely index in a page an item is looked for first. Any number finds the same,
-/// since the guess is tested.
+/// How far around its likely index in a page an item is searched first. The number does not change
+/// the result, since the guess is tested.
 const NEARBY: usize = 12;
 
-/// Where a locator would stand: the index of its page, and its index there.
+/// The slot for a locator: the index of its page, and its index in that page.
 #[derive(Clone, Copy)]
 pub(crate) struct Slot {
     /// The index of the page.
@@ -57,11 +58,11 @@ pub(crate) struct Slot {
 /// Locators in the rising order of their keys, in pages that are not empty.
 #[derive(Drop)]
 pub(crate) struct WordPages {
-    /// What gives memory for pages.
+    /// The allocator of the pages.
     alloc: Global,
     /// The locators of each page.
     pub pages: Vec<Vec<u64>>,
-    /// The first locator of each page once more, side by side.
+    /// A copy of the first locator of each page, contiguous in memory.
     firsts: FirstLocators,
 }
 
@@ -77,8 +78,8 @@ impl WordPages {
         }
     }
 
-    /// The locator of an item like this one, which has this fingerprint, or the slot where its own
-    /// would stand.
+    /// The locator of an item equal to this one, which has this fingerprint, or the slot for its
+    /// own.
     pub(crate) fn find(
         &self,
         adb: &Adb<'_>,
@@ -100,8 +101,8 @@ impl WordPages {
         }
     }
 
-    /// The page in which an item is looked for: the last that does not begin behind the item, or
-    /// the first.
+    /// The page in which an item is looked for: the last that does not begin after the item, or the
+    /// first.
     fn page_of(&self, adb: &Adb<'_>, parts: &Parts<'_>, fingerprint: u64) -> usize
         requires filled { AreFilled (pages_of self.now) }
         requires rising { HaveRisingKeys (payload_of adb.now) (concat (pages_of self.now)) }
@@ -117,8 +118,8 @@ impl WordPages {
             .saturating_sub(1)
     }
 
-    /// Whether a page is the one in which an item is looked for: it does not begin behind the item,
-    /// and the one behind it does, if there is one.
+    /// Whether an item belongs into a page: the page does not begin after the item, and the next
+    /// one, if there is one, does.
     fn is_page_of(&self, page: usize, adb: &Adb<'_>, parts: &Parts<'_>, fingerprint: u64) -> bool
         ensures { OnTrue result (IsPageAt (payload_of adb.now) (pages_of self.now)
             (key_with fingerprint parts.now) page) }
@@ -135,7 +136,7 @@ impl WordPages {
         }
     }
 
-    /// Lets a locator stand at a slot. A refused growth leaves those before as they were.
+    /// Inserts a locator at a slot. If memory runs out, the locators are unchanged.
     pub(crate) fn insert(&mut self, slot: Slot, locator: u64) -> Result<(), AllocError>
         requires filled { AreFilled (pages_of self.old) }
         requires inside { IsSlotIn (pages_of self.old) slot.page slot.index }
@@ -167,7 +168,7 @@ impl WordPages {
         Ok(())
     }
 
-    /// Splits the page of a slot if it is full, and answers where the slot is then.
+    /// Splits the page of a slot if it is full, and returns the new slot.
     fn make_room(&mut self, slot: Slot) -> Result<Slot, AllocError>
         requires filled { AreFilled (pages_of self.old) }
         requires inside { IsSlotIn (pages_of self.old) slot.page slot.index }
@@ -209,7 +210,7 @@ impl WordPages {
     }
 }
 
-/// Lets a locator stand at an index of a page, which grows by little where it has no room.
+/// Inserts a locator at an index of a page, which grows by little if it has no room.
 fn insert_in_page(page: &mut Vec<u64>, index: usize, locator: u64) -> Result<(), AllocError>
     requires { index ≤ length page.old.items }
     ensures ok { OnOk result (page.new.items ≡ insert page.old.items index locator) }
@@ -222,7 +223,7 @@ fn insert_in_page(page: &mut Vec<u64>, index: usize, locator: u64) -> Result<(),
     Ok(())
 }
 
-/// Whether an item stands before the one that a locator names, in the order of keys.
+/// Whether an item precedes the one that a locator names, in the order of keys.
 fn is_before(adb: &Adb<'_>, parts: &Parts<'_>, fingerprint: u64, locator: u64) -> bool
     ensures { result ≡ is_lt (slice_cmp nat_cmp (key_with fingerprint parts.now)
         (key_at (payload_of adb.now) locator)) }
@@ -233,7 +234,7 @@ fn is_before(adb: &Adb<'_>, parts: &Parts<'_>, fingerprint: u64, locator: u64) -
     }
 }
 
-/// Whether a page begins behind an item, in the order of keys.
+/// Whether a page begins after an item, in the order of keys.
 fn begins_behind(page: &[u64], adb: &Adb<'_>, parts: &Parts<'_>, fingerprint: u64) -> bool
     ensures { result ≡ begins_above (payload_of adb.now) (key_with fingerprint parts.now) page.now }
 {
@@ -243,8 +244,8 @@ fn begins_behind(page: &[u64], adb: &Adb<'_>, parts: &Parts<'_>, fingerprint: u6
     }
 }
 
-/// The index in a page of an item like this one, or the one where its own would stand. It is looked
-/// for near its likely index first, so that few bytes of a page are read.
+/// The index in a page of an item equal to this one, or the one at which its own would be inserted.
+/// The search begins near its likely index, so that few bytes of a page are read.
 fn search(page: &[u64], adb: &Adb<'_>, parts: &Parts<'_>, fingerprint: u64) -> Result<usize, usize>
     requires rising { HaveRisingKeys (payload_of adb.now) page.now }
     ensures { SearchesPage (payload_of adb.now) page.now (key_with fingerprint parts.now) result }
@@ -253,16 +254,15 @@ fn search(page: &[u64], adb: &Adb<'_>, parts: &Parts<'_>, fingerprint: u64) -> R
     let from = lower_end(page, fingerprint, likely);
     let to = upper_end(page, fingerprint, likely);
     let near = &page[from..to];
-    // `compare` tells how the item stands to a written one. The search asks how the written one
-    // stands to the item, so each answer is turned round.
+    // `compare` has the order of the item and a written one. The search needs the order of the
+    // written one and the item, so each result is reversed.
     match near.binary_search_by(|it| parts.compare(fingerprint, adb, *it).reverse()) {
         Ok(index) => Ok(from + index),
         Err(index) => Err(from + index),
     }
 }
 
-/// Where an item with this fingerprint would stand if the fingerprints of a page had equal
-/// distances.
+/// The index of an item with this fingerprint if the fingerprints of a page had equal distances.
 fn likely_index(page: &[u64], fingerprint: u64) -> usize
     ensures { result ≤ length page.now }
 {
@@ -277,7 +277,7 @@ fn likely_index(page: &[u64], fingerprint: u64) -> usize
     if fingerprint >= high {
         return page.len();
     }
-    // Where the product does not fit in 64 bits the guess is a bad one, and no more than that.
+    // If the product does not fit in 64 bits, only the guess is a bad one.
     let index = (fingerprint - low).wrapping_mul(page.len() as u64) / (high - low);
     page.len().min(index as usize)
 }
@@ -295,7 +295,7 @@ fn lower_end(page: &[u64], fingerprint: u64, likely: usize) -> usize
     }
 }
 
-/// An index from which on all locators have higher fingerprints, at or behind the likely one.
+/// An index from which on all locators have higher fingerprints, at or after the likely one.
 fn upper_end(page: &[u64], fingerprint: u64, likely: usize) -> usize
     requires { likely ≤ length page.now }
     ensures inside { result ≤ length page.now }

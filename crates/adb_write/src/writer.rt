@@ -1,7 +1,6 @@
-//! The writer of a payload with its limits and its refusals, and the file around a payload. The
-//! rules stand in `docs/formats.md`, "Canonical layout": the layout below "Values are written depth
-//! first", the limits below "A payload has at most", the file below "In a container each block is
-//! padded".
+//! The writer of a payload with its limits and its faults, and the file around a payload. The rules
+//! are in `docs/formats.md`, "Canonical layout": the layout below "Values are written depth first",
+//! the limits below "A payload has at most", the file below "In a container each block is padded".
 
 ghost use Rattle.std.specs.Prelude.{◌≡◌, ◌<◌, ◌≤◌, ◌+◌, ◌^◌, false, IfOk, OnErr, length};
 ghost use Rattle.adb_write.specs.Canonical.{MOST_BYTES, passes, gap, in_place, apart, run_cell, trimmed_words};
@@ -26,12 +25,12 @@ use thiserror::Error;
 #[derive(Clone, Copy, Debug, PartialEq, Eq, Error)]
 pub enum WriteFault {
     /// The payload would be longer than 268,435,455 bytes or have more than 4,194,304 values. The
-    /// counts are those just behind the first value at which one of them passed its limit: the
-    /// payload's bytes, and its values with the root.
+    /// counts are those just after the first value that passed a limit: the payload's bytes, and
+    /// its values with the root.
     #[error("a payload of {bytes} bytes and {values} values is too large")]
     TooLarge { bytes: u64, values: u64 },
 
-    /// A growth of memory was refused.
+    /// Out of memory.
     #[error("out of memory")]
     Memory,
 }
@@ -42,7 +41,7 @@ impl From<AllocError> for WriteFault {
 
     ghost from_gives = { λ _ fault. fault ≡ Memory };
 
-    // Want of memory as the reason for which a writer gave no payload.
+    // Out of memory, as the reason why a writer has no payload.
     fn from(_: AllocError) -> WriteFault {
         WriteFault::Memory
     }
@@ -51,7 +50,7 @@ impl From<AllocError> for WriteFault {
 /// The most bytes of a payload that is written: 2^28 - 1, since offsets have 28 bits.
 const MOST_BYTES: u64 = 268_435_455;
 
-/// The most values of a payload that is written, with its root: as many as a reader takes
+/// The most values of a written payload, its root included: as many as a reader accepts
 /// (`docs/formats.md`, "The shape").
 const MOST_VALUES: u64 = 4_194_304;
 
@@ -73,26 +72,26 @@ impl PayloadCounts {
     }
 }
 
-/// How long a payload's head is: the versions, and the root's word.
+/// The length of a payload's head in bytes: the versions, and the root's word.
 const HEAD: u64 = 8;
 
-/// Writes the values of one payload. A value's entries are written before it, and each call answers
-/// the value's word. A call whose growth of memory is refused leaves the writer as it was; one that
-/// adds no bytes is never refused.
+/// Writes the values of one payload. A value's entries are written before it, and each call returns
+/// the value's word. A call that runs out of memory leaves the writer unchanged; one that adds no
+/// bytes never does.
 ///
-/// A payload has at most 268,435,455 bytes and 4,194,304 values, its root and the entries of its
-/// lists. The first value that brings a count above its limit is counted, but not written, and its
-/// answer is NULL; every later call changes nothing and answers NULL, and `finish` reports the two
-/// counts. Contracts see what was written and the counts: `Writing` of `specs/`.
+/// A payload has at most 268,435,455 bytes and 4,194,304 values, which are its root and the entries
+/// of its lists. The first value that brings a count above its limit is counted, but not written,
+/// and its word is NULL. Every later call changes nothing and returns NULL, and `finish` reports
+/// the two counts. Contracts see the written items and the counts: `Writing` of `specs/`.
 ///
-/// In the clauses `ok` says what the layout makes of a call, `written` the same of values that are
-/// written depth first, `err` that a refused call changes nothing, and `wants` that only a call
-/// that adds bytes is refused.
+/// In the clauses `ok` says what a call does by the layout, and `written` the same for values that
+/// are written depth first. `err` says that a call that fails changes nothing, and `wants` that
+/// only a call that adds bytes can fail.
 #[derive(Drop)]
 pub struct Writer {
-    /// What was written.
+    /// The payload and its items so far.
     store: Store,
-    /// The counts of what was written, or, past a limit, those just behind the value that passed
+    /// The counts of the written values, or, past a limit, those just after the value that passed
     /// it.
     counts: PayloadCounts,
 }
@@ -114,7 +113,7 @@ impl Model for Writer {
 }
 
 impl Writer {
-    /// A writer that wrote nothing.
+    /// A writer that has written nothing.
     pub fn new(alloc: Global) -> Writer
         ensures { result ≡ empty_writing }
     {
@@ -127,7 +126,7 @@ impl Writer {
         }
     }
 
-    /// Whether a limit was passed, so that nothing is written from then on.
+    /// Whether a limit was passed, so that nothing more is written.
     pub fn passes_limit(&self) -> bool
         ensures { result ≡ is_over self.now }
     {
@@ -177,7 +176,7 @@ impl Writer {
     }
 
     /// Writes an object of values of this writer, or NULLs, one for each field from the first on.
-    /// NULLs that stand last are dropped, and an object without a value is NULL.
+    /// NULLs at the end are dropped, and an object without a value is NULL.
     pub fn obj(&mut self, fields: &[Val]) -> Result<Val, AllocError>
         ensures ok { IfOk result (λ word. (word, self.new) ≡ obj_call fields.now self.old) }
         ensures written { IfOk result (λ word. (vs : Plains) (before : Writing)
@@ -189,9 +188,8 @@ impl Writer {
         self.list(ListKind::Object, trimmed(fields))
     }
 
-    /// The payload with this root, a value of this writer or NULL; the counts of a writer that
-    /// passed a limit, exactly where one is above its limit. Want of memory is answered only where
-    /// nothing was written before.
+    /// The payload with this root, which is a value of this writer or NULL. If a limit was passed,
+    /// the error has the counts. The error is `Memory` only if nothing was written before.
     pub fn finish(self, root: Val) -> Result<Vec<u8>, WriteFault>
         ensures { IsFinished (λ payload. payload.items) self result (finish_result root self) }
     {
@@ -225,7 +223,7 @@ impl Writer {
         self.add(&Parts::List(kind, words))
     }
 
-    /// Answers the word of a value that the word holds whole, or NULL once a limit was passed.
+    /// The word of a value that the word itself contains, or NULL after a limit was passed.
     #[tactic(auto, unfolding(crate::specs::Writing::call))]
     fn in_word(&self, word: u32) -> Val
         ensures { (result, self.now) ≡ call (in_place word) self.now }
@@ -236,7 +234,7 @@ impl Writer {
         Val::of(word)
     }
 
-    /// Adds an item, unless an equal one was written, and answers its word, or NULL from the first
+    /// Adds an item, unless an equal one was written, and returns its word, or NULL from the first
     /// value on that passes a limit.
     fn add(&mut self, parts: &Parts<'_>) -> Result<Val, AllocError>
         requires { HasNumbersInRange parts.now }
@@ -253,7 +251,7 @@ impl Writer {
             Ok(locator) => return Ok(self.repeat(parts, word_of_locator(locator))),
             Err(slot) => slot,
         };
-        // The item goes to the next offset that its alignment allows.
+        // The item is put at the next offset that its alignment allows.
         let before = self.counts;
         let at = before.bytes + gap(parts.width().len() as u64, before.bytes);
         let counts = PayloadCounts {
@@ -271,8 +269,8 @@ impl Writer {
         Ok(word)
     }
 
-    /// Counts the entries of an item that equals a written one, and answers that one's word, or
-    /// NULL where they pass the limit.
+    /// Counts the entries of an item that equals a written one, and returns that one's word, or
+    /// NULL if they pass the limit.
     fn repeat(&mut self, parts: &Parts<'_>, word: Val) -> Val
         requires fine { is_over self.old ≡ false }
         requires found { FindsWord (item_of parts.now) self.old word }
@@ -286,7 +284,7 @@ impl Writer {
     }
 }
 
-/// How many zeros lead from the offset `n` up to the next multiple of `align`.
+/// How many zeros are between the offset `n` and the next multiple of `align`.
 fn gap(align: u64, n: u64) -> u64
     requires { 0 < align }
     ensures value { result ≡ gap align n }
@@ -295,7 +293,7 @@ fn gap(align: u64, n: u64) -> u64
     (align - n % align) % align
 }
 
-/// The words of an object's fields without the NULLs that stand last.
+/// The words of an object's fields without the NULLs at the end.
 #[tactic(auto, using(crate::proofs::Cells::trimmed_null, crate::proofs::Cells::trimmed_some))]
 fn trimmed(fields: &[Val]) -> &[Val]
     ensures { result.now ≡ trimmed_words fields.now }
@@ -310,7 +308,7 @@ fn trimmed(fields: &[Val]) -> &[Val]
 /// How long a file's header is: the four bytes `ADB.` and the schema.
 const FILE_HEADER: usize = 8;
 
-/// The container of this schema with one block, which holds the payload, and no signatures
+/// The container of this schema with one block, which contains the payload, and no signatures
 /// (apk-v3(5)). Its padding is zeros.
 pub fn file_of(alloc: Global, schema: u32, payload: &[u8]) -> Result<Vec<u8>, AllocError>
     requires { length payload.now ≤ MOST_BYTES }

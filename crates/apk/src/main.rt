@@ -8,7 +8,7 @@
 mod process;
 
 use apk_front::{Answer, RootAccess, access_for, apk, status};
-use host_files::Lock;
+use host_files::{Lock, write_path};
 use host_tree::HostTree;
 use process::{HostSink, WordsFault, words_of};
 use std::io;
@@ -22,6 +22,10 @@ const NO_MEMORY: u8 = 4;
 /// The status of a run that has too many words, which is told before anything else is done (the
 /// same table).
 const TOO_MANY_WORDS: u8 = 5;
+
+/// The line that a run ends with if the tree failed after a change was committed.
+const UNFINISHED: &[u8] =
+    b"apk: the change is committed: once the cause is gone, the next command finishes it\n";
 
 /// Runs the command line over the folder that the program is in, and ends with the answer's status.
 /// The root is locked as the command asks for.
@@ -44,6 +48,7 @@ fn main(rt: HostRuntime) -> ExitCode {
     if matches!(answer, Answer::TreeFault) {
         let _ = tell_why(&rt, &tree);
     }
+    tree.leave();
     ExitCode::from(status(&answer))
 }
 
@@ -62,7 +67,8 @@ fn lock_for(access: RootAccess) -> Lock {
     }
 }
 
-/// Prints what failed first on the host, and whether the new file may stand already.
+/// Prints what failed first on the host, whether the new file may be there already, and whether a
+/// change is committed, so that the next command goes on with it.
 fn tell_why(rt: &HostRuntime, tree: &HostTree<'_, HostRuntime>) -> io::Result<()> {
     let mut to = rt.stderr();
     if let Some(failure) = tree.failure() {
@@ -70,8 +76,11 @@ fn tell_why(rt: &HostRuntime, tree: &HostTree<'_, HostRuntime>) -> io::Result<()
     }
     if let Some(name) = tree.unsynced_target() {
         to.write_all(b"apk: ")?;
-        to.write_all(name)?;
+        write_path(name, &mut to)?;
         to.write_all(b" may have its new contents already\n")?;
+    }
+    if tree.has_unfinished_change() {
+        to.write_all(UNFINISHED)?;
     }
     Ok(())
 }

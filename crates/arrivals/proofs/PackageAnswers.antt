@@ -25,7 +25,7 @@ use Rattle.package_test.specs.declared.read.PackageRead.TheVariants.{Absent, Bad
 use Rattle.package_test.specs.declared.package.TestedPackage.{TestedPackage}
 use Rattle.arrivals.proofs.NameAnswers.{finds_it}
 
--- what stands under the name of a package's file was read
+-- what is under the name of a package's file was read
 abbrev pub IsFileRead : List TreeState → List ℕ → PackageRead → Type 0
 IsFileRead h path r = (found : Option (List ℕ)) × StandsAt h path found × IsReadOf path found r
 

@@ -1,5 +1,5 @@
 -- The packages after a change as they were read, each the one that the definition finds.
--- The rules stand in `docs/commands.md`, "`add` and `del`", **What is read**, and are said by
+-- The rules are in `docs/commands.md`, "`add` and `del`", **What is read**, and are said by
 -- *members_after* of `change_outcome`; the words *arrivals* and *placed* in `docs/names.md`, "What
 -- a change comes to".
 use Rattle.std.specs.Prelude.{◌≡◌, ◌<◌, ◌≤◌, ℕ, List, [], ◌∷◌, length, Option, Some, None, option_map, slice_get}

@@ -1,4 +1,4 @@
--- The definitions of this crate, whose rules stand in `docs/commands.md`, "`add` and `del`",
+-- The definitions of this crate, whose rules are in `docs/commands.md`, "`add` and `del`",
 -- **What is read** and **What is refused**.
 
 -- what the contracts of this crate's calls say

@@ -1,5 +1,5 @@
 -- What a call answers of one name, by the file that a read finds.
--- The rules stand in `docs/commands.md`, "`add` and `del`", **What is read** and **What is
+-- The rules are in `docs/commands.md`, "`add` and `del`", **What is read** and **What is
 -- refused**, and are said by *name_by_change* of `change_outcome`. Serves the contracts of
 -- `src/package.rt` and `src/arrivals.rt`.
 use Rattle.std.specs.Prelude.{◌≡◌, ℕ, Bool, List, [], ◌∷◌, Option, Some, None, Result, Ok, Err, option_map}
@@ -34,7 +34,7 @@ pub record IsByRead {B : Type 0} (history : List TreeState) (by : Reads → ℕ 
   pub is : (read : Reads) (n : ℕ) → FindsAt history read n found → by read n ≡ wanted
 
 -- an answer stands for what a definition gives by a read, or is the refusal that it gives; a tree
--- that failed and want of memory say nothing
+-- that failed and lack of memory say nothing
 abbrev pub IsAnswerByRead :
     {A B : Type 0} → (A → B → Type 0) → List TreeState
     → (Reads → ℕ → Result B Refusals.Refusal) → Result A Refused → Type 0
@@ -80,7 +80,7 @@ IsNameRead history before None (Some m) = ⊥
 IsNameRead history before (Some r) None = ⊥
 IsNameRead history before (Some r) (Some m) = IsMemberRead history before r m
 
--- a package that stays as it is read, or none where there is none before (`old`)
+-- a package that stays as it is read, or none if there is none before (`old`)
 abbrev pub IsStaying : List Plain → Option Plain → Option MemberRead → Type 0
 IsStaying before old r =
     (history : List TreeState) → IsNameRead history before r (option_map staying_found old)

@@ -7,7 +7,7 @@ use Rattle.change_inputs.specs.declared.root.Refused.{Refused}
 use Rattle.change_inputs.specs.declared.root.Refused.TheVariants as Commands
 use Rattle.report_core.specs.declared.refusal.Refusal.{Refusal}
 
--- what is told is this refusal, or want of memory
+-- what is told is this refusal, or lack of memory
 abbrev pub IsRefusalTold : Refusal → Refused → Type 0
 IsRefusalTold wanted (Commands.Refusal refusal) = refusal ≡ wanted
 IsRefusalTold wanted Commands.Disk = ⊥

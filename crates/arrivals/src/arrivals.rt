@@ -1,5 +1,5 @@
 //! The packages after a change, as they are read, and as members.
-//! The rules stand in `docs/commands.md`, "`add` and `del`": **What is read** ("of each package
+//! The rules are in `docs/commands.md`, "`add` and `del`": **What is read** ("of each package
 //! that comes `NAME-VERSION.apk` beside the index that has it"), and **What is refused**, in byte
 //! order of the names.
 
@@ -93,7 +93,7 @@ impl Arrivals {
 /// # Errors
 ///
 /// For the first package that is refused: `PackageMissing`, `PackageBad`, `PackageDiffers` or
-/// `ScriptNeeded`. `Disk` where the tree failed, or `Memory`.
+/// `ScriptNeeded`. `Disk` if the tree failed, or `Memory`.
 pub fn read_arrivals<T: Tree>(
     alloc: Global,
     tree: &mut T,

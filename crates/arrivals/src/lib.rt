@@ -6,7 +6,7 @@
 //! of one; `members_of_change` makes members of them. The contracts cite `members_after` of crate
 //! `change_outcome`, and `Arrivals` of `specs/`: that a package that was read is the one that the
 //! definition finds.
-//! The rules stand in `docs/commands.md`, "`add` and `del`": **What is read**, and **What is
+//! The rules are in `docs/commands.md`, "`add` and `del`": **What is read**, and **What is
 //! refused** (package by package, in byte order of the names); the words in `docs/names.md`, "What
 //! a change comes to".
 #![tactic(auto)]

@@ -1,5 +1,5 @@
 //! The package of a candidate: its file is read and tested once, and has what its index says of it.
-//! The rules stand in `docs/commands.md`, "`add` and `del`", **What is refused**: the file of a
+//! The rules are in `docs/commands.md`, "`add` and `del`", **What is refused**: the file of a
 //! package that comes is absent, fails a test, or has another id, name or version than its index
 //! says; the tests in `docs/formats.md`, "Tests of a container".
 
@@ -37,7 +37,7 @@ use std::marker::PhantomData;
 ///
 /// # Errors
 ///
-/// `PackageMissing`, `PackageBad`, `PackageDiffers` or `ScriptNeeded`, in this order; `Disk` where
+/// `PackageMissing`, `PackageBad`, `PackageDiffers` or `ScriptNeeded`, in this order; `Disk` if
 /// the tree failed, or `Memory`.
 pub(crate) fn read_coming<T: Tree>(
     alloc: Global,

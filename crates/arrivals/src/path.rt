@@ -1,5 +1,5 @@
 //! Where the file of a package lies.
-//! The rule stands in `docs/commands.md`, "`add` and `del`", **What is read**: `NAME-VERSION.apk`
+//! The rule is in `docs/commands.md`, "`add` and `del`", **What is read**: `NAME-VERSION.apk`
 //! beside the index that has the package; which bytes are a name, in "Words" there.
 ghost use Rattle.change_outcome.specs.PackageFiles.{folder_prefix, if_name, package_file_of, package_path};
 ghost use Rattle.candidate_core.specs.Values.{candidate_value};
@@ -11,7 +11,7 @@ use pool_core::Candidate;
 use std::alloc::{AllocError, Global};
 
 /// The name of a candidate's package file: NAME-VERSION.apk, beside the index of its repository.
-/// None where the candidate is of no repository, or that path is no name.
+/// None if the candidate is of no repository, or that path is no name.
 pub(crate) fn package_file_of(
     alloc: Global,
     repositories: &Repos,

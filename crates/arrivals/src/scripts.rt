@@ -1,5 +1,5 @@
 //! The scripts that a change would run.
-//! The rule stands in `docs/commands.md`, "`add` and `del`", the paragraph behind **What is
+//! The rule is in `docs/commands.md`, "`add` and `del`", the paragraph behind **What is
 //! refused**: which scripts a package has to run that comes, goes, or gets another version.
 ghost use Rattle.adb_schema.specs.Views.{package_value, scripts_value};
 ghost use Rattle.adb_view.specs.FieldIndexes.{PACKAGE_SCRIPTS};

@@ -1,15 +1,15 @@
--- Files by their names, and maps from names. The rules stand in `docs/crash-safety.md`, "A tree at
+-- Files by their names, and maps from names. The rules are in `docs/crash-safety.md`, "A tree at
 -- one moment".
 use Rattle.std.specs.Prelude.{◌≡◌, ℕ, ◌<◌, ◌^◌, true, if◌then◌else◌, List, ◌++◌, ◌∷◌, length, Option, Some, None, IsSome, All}
 use Rattle.std.specs.Str.{bytes_eq}
 use Rattle.std.specs.List.{list_any}
 use Rattle.base_core.specs.Name.{IsName}
 
--- the bytes of the file under each name, or None where the name is absent
+-- the bytes of the file under each name, or None if the name is absent
 abbrev pub Files : Type 0
 Files = List ℕ → Option (List ℕ)
 
--- a map of names: the number of the file that each name leads to, or None where it leads to none
+-- a map of names: the number of the file that each name leads to, or None if it leads to none
 abbrev pub NameMap : Type 0
 NameMap = List ℕ → Option ℕ
 
@@ -33,7 +33,7 @@ no_names q = None
 abbrev pub IsWithin : {X : Type 0} → List (List ℕ) → (List ℕ → Option X) → Type 0
 IsWithin names map = (q : List ℕ) → IsSome (map q) → list_any (bytes_eq q) names ≡ true
 
--- what is present in the map is a name: a path below the root
+-- whatever is present in the map is a name: a path below the root
 abbrev pub AreNames : {X : Type 0} → (List ℕ → Option X) → Type 0
 AreNames map = (q : List ℕ) → IsSome (map q) → IsName q
 
@@ -51,7 +51,7 @@ pub record IsFile (bytes : List ℕ) : Type 0 where
   pub each : All (λ b. b < 256) bytes
   pub few : length bytes < 2 ^ 64
 
--- each file stands under a name, and has bytes that a file may have
+-- each file is under a name, and has bytes that a file may have
 pub record AreNamedFiles (files : Files) : Type 0 where
   pub named : AreNames files
   pub each : (q bytes : List ℕ) → files q ≡ Some bytes → IsFile bytes

@@ -1,6 +1,6 @@
-//! What the crates above share: names, texts and words; the traits of the outside, `Tree` and
-//! `Sink`, with what their calls mean; a read of a whole file and a write of all bytes; lists in
-//! order; and why a container is refused.
+//! What the crates above share: names, texts and words; the traits `Tree` and `Sink` for the
+//! outside world, with the meaning of their calls; a read of a whole file and a write of all bytes;
+//! sorted lists and byte order; and why a container is refused.
 //!
 //! Bytes come in and leave as `Name`, `Text`, `Words` or `Names`. The contracts cite `Lists` (what
 //! is in a list), `Name` (what a name is), `Files` (files by their names), `Tree`, `Calls`, `Crash`
@@ -8,7 +8,7 @@
 //! `Listed` (listings), `Faults` (the counts), `Sink`, `Sorted` and `ByteOrder` (lists in order) of
 //! `specs/`; those that only inner contracts need are `Read` and `Write`.
 //!
-//! The rules stand in `docs/crash-safety.md`, sections "A tree at one moment" to "Misuses, faults
+//! The rules are in `docs/crash-safety.md`, sections "A tree at one moment" to "Misuses, faults
 //! and counts", in `docs/commands.md`, "Words" (what a name is), and in `docs/names.md`, *sorted*
 //! and *byte order*.
 #![tactic(auto)]

@@ -1,7 +1,6 @@
-//! Answers questions to `adb_block`: the blocks of a container, which test fails first, and headers
-//! that are written. The rules stand in `docs/formats.md`, "Container". Its stored run has all
-//! rows; `tests/lines.md` describes their form, and the README of this crate has a row for each
-//! question.
+//! Answers questions about `adb_block`: the blocks of a container, the first failed test, and
+//! written headers. The rules are in `docs/formats.md`, "Container". Its stored run has all rows;
+//! `tests/lines.md` describes their form, and the README of this crate has a row for each question.
 #![tactic(auto)]
 
 use adb_block::{Block, BlockKind, Blocks, Frame, block_head, frame_of, head_len};
@@ -11,10 +10,10 @@ use std::alloc::{AllocError, Global};
 use std::io;
 use std::process::ExitCode;
 
-/// The most blocks that are told of a row's container.
+/// The most blocks of a row's container that are printed.
 const MOST_BLOCKS: usize = 100;
 
-/// What is asked; the README of this crate says what each question answers.
+/// The kinds of questions; the README of this crate has their answers.
 #[derive(Clone, Copy)]
 enum Question {
     /// `blocks BYTES`.
@@ -49,7 +48,7 @@ const KINDS: [(&[u8], BlockKind); 3] = [
 struct FramedBlocks;
 
 impl Subject for FramedBlocks {
-    /// Answers a question by its first word. No question rests on one before it.
+    /// Answers a question by its first word. Questions are independent of each other.
     fn answer(
         &mut self,
         alloc: Global,
@@ -66,8 +65,8 @@ impl Subject for FramedBlocks {
     }
 }
 
-/// Adds the schema of a container, its blocks, and what is answered behind them, which is the same
-/// when it is asked again.
+/// Adds the schema of a container, its blocks, and the result of two calls after them, which must
+/// be the same.
 fn add_blocks(alloc: Global, file: &[u8], answer: &mut Vec<u8>) -> Result<(), AllocError> {
     let mut blocks = match Blocks::new(file) {
         Ok(blocks) => blocks,
@@ -87,7 +86,7 @@ fn add_blocks(alloc: Global, file: &[u8], answer: &mut Vec<u8>) -> Result<(), Al
     Ok(())
 }
 
-/// Adds a block: its kind, where it stands, and its payload.
+/// Adds a block: its kind, its offset, and its payload.
 fn add_block(
     alloc: Global,
     at: Option<u64>,
@@ -112,13 +111,13 @@ fn kind_name(kind: BlockKind) -> &'static [u8] {
     }
 }
 
-/// The fault of an answer that is no block.
+/// The fault of a result that is no block.
 fn fault_of(answer: Result<Option<Block<'_>>, Cause>) -> Option<Cause> {
     answer.err()
 }
 
-/// Adds the answer behind the last block, which comes again when it is asked for once more, and
-/// where the next block would stand.
+/// Adds the result after the last block, which a second call must repeat, and the offset of the
+/// next block.
 fn add_end(
     alloc: Global,
     blocks: &mut Blocks<'_>,
@@ -147,8 +146,8 @@ fn add_cause(alloc: Global, cause: Cause, answer: &mut Vec<u8>) -> Result<(), Al
     add_word(answer, text.as_bytes())
 }
 
-/// Adds the first answer of a file that is cut at each length, and each length at which the answer
-/// is another than at the length before.
+/// Adds the first result for a file that is cut at each length, and each length at which it differs
+/// from the one before.
 fn add_cuts(alloc: Global, file: &[u8], answer: &mut Vec<u8>) -> Result<(), AllocError> {
     let mut last = None;
     for len in 0..=file.len() {
@@ -171,7 +170,7 @@ fn add_fault(alloc: Global, fault: Option<Cause>, answer: &mut Vec<u8>) -> Resul
     }
 }
 
-/// Why a file has no first block; none where it has one.
+/// Why a file has no first block; None if it has one.
 fn first_fault(file: &[u8]) -> Option<Cause> {
     match Blocks::new(file) {
         Ok(mut blocks) => fault_of(blocks.next()),
@@ -179,7 +178,7 @@ fn first_fault(file: &[u8]) -> Option<Cause> {
     }
 }
 
-/// Adds the header that is written of `head KIND LEN`, a block whose payload has so many bytes.
+/// Adds the header of `head KIND LEN`, a block whose payload has this length.
 fn add_head(words: &Words, answer: &mut Vec<u8>) -> Result<(), AllocError> {
     let kind = value_named(&KINDS, word_at(words, 1)).unwrap_or(BlockKind::Adb);
     let len = number_of(word_at(words, 2)).unwrap_or(0);
@@ -188,8 +187,8 @@ fn add_head(words: &Words, answer: &mut Vec<u8>) -> Result<(), AllocError> {
     answer.extend_from_slice(block_head(kind, len).bytes())
 }
 
-/// Adds how a header frames a block at the offset 8: `frame KIND LEFT HEAD`, behind a block of the
-/// kind or behind none, where so many bytes are left.
+/// Adds how a header frames a block at the offset 8: `frame KIND LEFT HEAD`, after a block of the
+/// kind or after none, with LEFT bytes left.
 fn add_frame(alloc: Global, words: &Words, answer: &mut Vec<u8>) -> Result<(), AllocError> {
     let last = value_named(&KINDS, word_at(words, 1));
     let left = number_of(word_at(words, 2)).unwrap_or(0);

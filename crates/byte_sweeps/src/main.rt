@@ -1,7 +1,7 @@
 //! Sweeps over small containers: each byte is set to each value, each word to each other word, and
-//! the file is cut at each length. The answers are counted by their kinds, and a digest over all of
-//! them pins each one. Its stored run has all rows, whose wanted answers `tests/model/verify.py`
-//! works out; `tests/lines.md` describes their form. A container stays from one row to the next.
+//! the file is cut at each length. Results are counted by their kinds, and a digest over all of
+//! them pins each one. Its stored run has all rows, whose expected answers `tests/model/verify.py`
+//! computes; `tests/lines.md` describes their form. A container is kept from one row to the next.
 //! The README of this crate has a row for each question.
 #![tactic(auto)]
 
@@ -18,16 +18,16 @@ use std::io;
 use std::process::ExitCode;
 use tally::Tally;
 
-/// What is asked: a container is given, it is read itself, or changes of it are read.
+/// The kinds of questions: a container is set, it is read itself, or changes of it are read.
 #[derive(Clone, Copy)]
 enum Question {
-    /// A container is given.
+    /// A container is set.
     Container,
     /// It is read itself.
     Itself(Test),
     /// Each file is read that differs from it in one byte.
     Changes(Test),
-    /// Each file is read in which one of its words stands in place of another.
+    /// Each file in which one of its words replaces another is read.
     Words(Test),
     /// Each front of it is read.
     Cuts(Test),
@@ -54,13 +54,13 @@ const QUESTIONS: [(&[u8], Question); 13] = [
 /// The container that rows speak of.
 #[derive(Drop)]
 struct CurrentContainer {
-    /// Its bytes; none before the first `container`.
+    /// Its bytes; empty before the first `container`.
     bytes: Vec<u8>,
 }
 
 impl Subject for CurrentContainer {
-    /// Answers a question by its first word. `container` keeps bytes, of which the questions that
-    /// follow ask.
+    /// Answers a question by its first word. `container` keeps bytes, about which the later
+    /// questions are.
     fn answer(
         &mut self,
         alloc: Global,
@@ -84,8 +84,8 @@ impl Subject for CurrentContainer {
     }
 }
 
-/// Adds what a test says of each file that differs from this one in at most one byte: offset by
-/// offset, value by value.
+/// Adds the result of a test for each file that differs from this one in at most one byte: offset
+/// by offset, value by value.
 fn add_changes(
     alloc: Global,
     test: Test,
@@ -119,9 +119,9 @@ fn read_values_at(
     Ok(())
 }
 
-/// Adds what a test says of each file in which one word is replaced by another of the file: offset
-/// by offset, and for each by the first word to the last. A word is the four bytes at a multiple of
-/// four.
+/// Adds the result of a test for each file in which one word is replaced by another of the file:
+/// offset by offset, and for each by the first word to the last. A word is the four bytes at a
+/// multiple of four.
 fn add_words(
     alloc: Global,
     test: Test,
@@ -156,7 +156,7 @@ fn read_words_at(
     Ok(())
 }
 
-/// Adds what a test says of each front of a file, from the empty one to the whole.
+/// Adds the result of a test for each front of a file, from the empty one to the whole.
 fn add_cuts(
     alloc: Global,
     test: Test,

@@ -1,5 +1,5 @@
-//! What the tests of a container, and its dump, say of a file. The tests stand in
-//! `docs/formats.md`, "Tests of a container", and the text in "Dump text".
+//! The results of the tests of a container, and its dump. The tests are in `docs/formats.md`,
+//! "Tests of a container", and the text in "Dump text".
 
 ghost use Rattle.std.specs.Prelude.{IsTrue, IfSome, is_some};
 ghost use Rattle.adb_schema.specs.Soundness.{schema_word};
@@ -21,7 +21,7 @@ use tree_memory::{MemorySink, MemoryTree};
 /// How a file is read.
 #[derive(Clone, Copy)]
 pub(crate) enum Test {
-    /// Tested to its end, held whole.
+    /// All tests, on a file in memory.
     Whole,
     /// Tested to its end as `apk verify` does: a package in pieces, from a tree.
     Pieces,
@@ -30,7 +30,7 @@ pub(crate) enum Test {
 }
 
 impl Test {
-    /// Adds what this test says of a file, with a line end, and answers of which kind that is.
+    /// Adds the result of this test for a file, with a line end, and returns its kind.
     pub(crate) fn read(
         self,
         alloc: Global,
@@ -58,7 +58,7 @@ impl Test {
     }
 }
 
-/// The first failed test of a file that is held whole.
+/// The first failed test of a file in memory.
 fn fault_of(alloc: Global, file: &[u8]) -> Result<Option<Cause>, AllocError> {
     match verify(alloc, file) {
         Ok(()) => Ok(None),
@@ -121,7 +121,7 @@ fn text_of_blocks(alloc: Global, blocks: &mut Blocks<'_>, which: Which) -> Resul
     Ok(text)
 }
 
-/// Tests the framing of the blocks behind the first.
+/// Tests the framing of the blocks after the first.
 fn check_framing(blocks: &mut Blocks<'_>) -> Result<(), Cause> {
     for _ in 0..u64::MAX {
         if blocks.next()?.is_none() {
@@ -131,7 +131,7 @@ fn check_framing(blocks: &mut Blocks<'_>) -> Result<(), Cause> {
     Ok(())
 }
 
-/// Adds the text of a cause, with a line end: what `verify` prints of it for the first word.
+/// Adds the text of a cause, with a line end, as `verify` prints it for the first word.
 fn add_cause(alloc: Global, cause: Cause, line: &mut Vec<u8>) -> Result<(), AllocError> {
     let mut page = MemorySink::new(alloc);
     if write_error(&Refusal::FileBad { place: 1, cause }, &mut page).is_err() {

@@ -1,4 +1,4 @@
-//! Answers are counted by their kinds, and a digest is taken over their lines. The kinds are the
+//! Results are counted by their kinds, and a digest over their lines is computed. The kinds are the
 //! rows of causes in `docs/commands.md`, "Error lines".
 
 use base_core::Cause;
@@ -6,7 +6,7 @@ use row_lines::{add_number, add_word};
 use sha2::{Digest, Sha256};
 use std::alloc::{AllocError, Global};
 
-/// What an answer says, but for its numbers: that the file is sound, or which cause.
+/// A result without its numbers: that the file is sound, or which cause.
 #[derive(Clone, Copy, PartialEq, Eq)]
 pub(crate) enum AnswerKind {
     Sound,
@@ -27,10 +27,10 @@ pub(crate) enum AnswerKind {
     TextLine,
 }
 
-/// How many kinds of answers there are.
+/// How many kinds of results there are.
 const KINDS: usize = 16;
 
-/// The kinds in the order in which their counts are told.
+/// The kinds in the order in which their counts are printed.
 #[rattlefmt::skip]
 const KIND_NAMES: [(AnswerKind, &[u8]); KINDS] = [
     (AnswerKind::Sound, b"sound"),
@@ -51,7 +51,7 @@ const KIND_NAMES: [(AnswerKind, &[u8]); KINDS] = [
     (AnswerKind::TextLine, b"bad line"),
 ];
 
-/// The kind of an answer with this fault, or with none.
+/// The kind of a result with this fault, or with none.
 pub(crate) fn kind_of(fault: Option<Cause>) -> AnswerKind {
     match fault {
         None => AnswerKind::Sound,
@@ -73,17 +73,17 @@ pub(crate) fn kind_of(fault: Option<Cause>) -> AnswerKind {
     }
 }
 
-/// How many answers there are of each kind, and the SHA-256 (FIPS 180-4) over all their lines.
+/// How many results of each kind there are, and the SHA-256 (FIPS 180-4) over all their lines.
 #[derive(Drop)]
 pub(crate) struct Tally {
-    /// How many answers there are of each kind, in the order of `KIND_NAMES`.
+    /// How many results of each kind there are, in the order of `KIND_NAMES`.
     counts: [u64; KINDS],
     /// The digest of all lines so far.
     lines: Sha256,
 }
 
 impl Tally {
-    /// No answers.
+    /// No results.
     pub(crate) fn new() -> Tally {
         Tally {
             counts: [0; KINDS],
@@ -91,7 +91,7 @@ impl Tally {
         }
     }
 
-    /// Counts an answer, whose line this is.
+    /// Counts a result with this line.
     pub(crate) fn count(&mut self, kind: AnswerKind, line: &[u8]) {
         self.lines.update(line);
         for i in 0..KINDS {
@@ -101,7 +101,7 @@ impl Tally {
         }
     }
 
-    /// Adds each kind of which there is an answer and how many there are, and then the digest.
+    /// Adds each kind with results and their number, and then the digest.
     pub(crate) fn add_to(self, alloc: Global, text: &mut Vec<u8>) -> Result<(), AllocError> {
         for i in 0..KINDS {
             if self.counts[i] > 0 {

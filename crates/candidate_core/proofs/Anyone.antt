@@ -1,4 +1,4 @@
--- Tests of the dependencies that some values stand for.
+-- Tests of the dependencies that some values represent.
 use Rattle.std.proofs.Common.{◌≡◌, List, [], ◌∷◌, Bool, ◌||◌, ◌&&◌, map, refl, ap}
 use Rattle.std.specs.List.{list_all, list_any}
 

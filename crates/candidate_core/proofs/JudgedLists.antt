@@ -1,5 +1,5 @@
--- The dependencies among the entries of a list: of one whose entries are judged, and of one where each
--- is known to be a dependency.
+-- The dependencies among the entries of a list: of one whose entries are judged, and of one if each is
+-- known to be a dependency.
 use Rattle.std.proofs.Common.{◌≡◌, inl, inr, ℕ, zero, suc, ◌+◌, ◌-◌, ◌<◌, Bool, true, false, List, [], ◌∷◌, ◌++◌, length, length-append, append-nil, refl, ap, sym, subst, ◌∙◌, arith, Option, Some, None}
 use Rattle.std.proofs.lemmas.Bool.Decides.{eqb_tells}
 use Rattle.std.specs.List.{cons_option}

@@ -1,4 +1,4 @@
--- The words of an array stand for its entries, and each may be read.
+-- The words of an array represent its entries, and each may be read.
 use Rattle.std.proofs.Common.{◌≡◌, ◌∙◌, ℕ, ◌+◌, ◌-◌, ◌<◌, true, List, length, ap, sym, subst, arith}
 use Rattle.std.specs.Prelude.{slice_index}
 use Rattle.adb_view.specs.Values.{count_of, entries_in, is_sound, nth, value_at}

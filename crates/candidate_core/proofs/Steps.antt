@@ -67,13 +67,13 @@ marked_step i ms cs m c before after h g was is =
     subst (λ (k : ℕ). places_marked 0 (take (suc i) ms) (take (suc i) cs) ≡ places_marked 0 (take i ms) (take i cs) ++ (if m && has_positive_install_if c then k ∷ [] else [])) o (marked_next 0 i ms cs m c h g) in
     is ∙ (ap (λ (x : List ℕ). x ++ (if m && has_positive_install_if c then i ∷ [] else [])) was ∙ (sym next ∙ ap (λ (k : ℕ). places_marked 0 (take k ms) (take k cs)) (sym z)))
 
--- some, all of which pass a test, whatever they stand for
+-- some, all of which pass a test, whatever they represent
 pub some_and_all : {X Y : Type 0} (p : Y → Bool) (f : X → Y) (xs : List X) (ys : List Y) → map f xs ≡ ys → (not (length xs == 0) && list_all (λ x. p (f x)) xs) ≡ (not (length ys == 0) && list_all p ys)
 some_and_all {X} {Y} p f xs ys e =
     subst (λ (z : List Y). (not (length xs == 0) && list_all (λ x. p (f x)) xs) ≡ (not (length z == 0) && list_all p z)) e
     (rw (length-map xs f, all_map p f xs) refl)
 
--- what stands at a place
+-- what is at a place
 pub get_at : {X : Type 0} (xs : List X) (i : ℕ) (d : X) → i < length xs → slice_get xs i ≡ Some (get_or xs i d)
 get_at [] i d h = absurd (omega arith)
 get_at (x ∷ xs) zero d h = refl

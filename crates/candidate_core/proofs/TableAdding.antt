@@ -55,7 +55,7 @@ not_last n (Some k) below = elim (eqb_tells k n) [
   | inr e ↦ e.0
 ]
 
--- a candidate above all others stands behind them
+-- a candidate above all others follows them
 above_last : (ids : List ℕ) (n : ℕ) → ((j : ℕ) → IsIn j ids → j < n) → with_last ids n ≡ ids ++ n ∷ []
 above_last ids n below = rw (not_last n (last_or None ids) (λ k e. last_member None ids n k (λ j bad. absurd (cc)) below e)) refl
 
@@ -73,7 +73,7 @@ leads_on table more cs d leads added name =
     append_nil [] = refl
     append_nil (x ∷ xs) = ap (λ (z : List ℕ). x ∷ z) (append_nil xs)
 
--- what stands at the last place
+-- what is at the last place
 pub last_is : (ids : List ℕ) → slice_get ids (length ids - 1) ≡ last_or None ids
 last_is [] = refl
 last_is (x ∷ ids) = from None x ids

@@ -25,7 +25,7 @@ other_name a b c h e = elim (bool_cases (bytes_eq c a)) [
   | inr g ↦ g
 ]
 
--- the entries of a map, each of whose values stands for some ids
+-- the entries of a map, each of whose values represents some ids
 module _ {X : Type 0} (ids : X → List ℕ) where
   abbrev pub Entries : Type 0
   Entries = List (Bor (List ℕ) × X)

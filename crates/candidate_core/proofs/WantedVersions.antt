@@ -80,7 +80,7 @@ answer_inserted d text old new k v known updates has source word x at = go (is_e
         sym value ∙ (has ∙ (ap (λ (s : ℕ). is_wanted_by d (Some (text s k.1))) key.0 ∙ ap (λ (w : ℕ). is_wanted_by d (Some (text source w))) key.1))
     go false e = known source word x (sym (updates (source, word) ∙ ap (λ (b : Bool). cond b (Some v) (get place_cmp old (source, word))) e) ∙ at)
 
--- where nothing is known, all that is known is right
+-- if nothing is known, all that is known is right
 pub known_of_nothing : (text : ℕ → ℕ → List ℕ) (need : Need) (known : KnownMatches) → ((t : ℕ → ℕ → List ℕ) (d : Dependency) → AreMatchesOf t d known) → AreMatchesFor text need known
 known_of_nothing text (entry d) known h = h text d
 known_of_nothing text (named name) known h = tt

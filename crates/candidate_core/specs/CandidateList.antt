@@ -1,8 +1,7 @@
--- The list of candidates in the making: what it keeps, and how one candidate after the other counts
--- as installed.
--- The rules stand in `docs/selection.md`, "What there is to choose from". *IsCandidateList* and
--- *candidates_in* are cited by the contracts of `Pool`; *is_same_at* and *marked_at* serve their
--- proofs, and say of one place what *with_installed* says of all.
+-- The list of candidates under construction, and how candidates are marked as installed one by one. The
+-- rules are in `docs/selection.md`, "What there is to choose from". The contracts of `Pool` cite
+-- *IsCandidateList* and *candidates_in*. *is_same_at* and *marked_at* serve their proofs: they are
+-- *with_installed* for one place.
 use Rattle.std.specs.Prelude.{◌≤◌, ℕ, zero, suc, Bool, false, if◌then◌else◌, List, [], ◌∷◌, length, Option, Some, None, slice_get}
 use Rattle.std.specs.Option.{option_map_or}
 use Rattle.candidate_core.specs.declared.candidate_list.CandidateList.{CandidateList}
@@ -11,22 +10,22 @@ use Rattle.candidate_core.specs.Candidates.{Candidate, as_installed, is_same_pac
 use Rattle.candidate_core.specs.Packages.{candidates_of_packages}
 use Rattle.candidate_core.specs.Table.{LeadsToOffers}
 
--- whether the list is one of candidates: the table leads each name to the candidates that offer it,
--- and the candidates are not too many
+-- the list is one of candidates: the table has for each name the candidates that offer it, and the
+-- candidates are not too many
 pub record IsCandidateList (list : CandidateList) : Type 0 where
   pub leads : LeadsToOffers list.table (candidates_of_packages list.packages)
   pub fits : length (candidates_of_packages list.packages) ≤ MOST_CANDIDATES
 
--- the candidates of a pool; none after a refusal, which drops the list
+-- the candidates of a pool; none after an error, which drops the list
 abbrev pub candidates_in : Option CandidateList → List Candidate
 candidates_in None = []
 candidates_in (Some list) = candidates_of_packages list.packages
 
--- whether the candidate at a place is the installed package; not where no candidate is there
+-- whether the candidate at a place is the installed package; not if no candidate is there
 abbrev pub is_same_at : Candidate → List Candidate → ℕ → Bool
 is_same_at installed cs place = option_map_or (is_same_package installed) (slice_get cs place) false
 
--- the list, where the candidate at a place counts as installed if it is the installed package
+-- the list, with the candidate at a place marked as installed if it is the installed package
 abbrev pub marked_at : Candidate → ℕ → List Candidate → List Candidate
 marked_at installed place [] = []
 marked_at installed zero (c ∷ cs) =

@@ -1,7 +1,6 @@
--- The packages that a selection is made of, and what each of them meets (apk-package(5),
--- apk-world(5)).
--- The rules stand in `docs/selection.md`, "What there is to choose from", and, for install-if and
--- for names that are occupied, "What satisfies world", 3 and 4. The fields are those of
+-- The packages of which a selection consists, and what each of them meets (apk-package(5),
+-- apk-world(5)). The rules are in `docs/selection.md`, "What there is to choose from", and, for
+-- install-if and for names that are occupied, "What satisfies world", 3 and 4. The fields are those of
 -- `docs/formats.md`, "Schemas", table 3.
 use Rattle.std.specs.Prelude.{ℕ, ◌==◌, nat_eq, nat_lt, Bool, true, false, not, ◌&&◌, ◌||◌, if◌then◌else◌, List, [], ◌∷◌, ◌++◌, length, Option, Some, None, is_some}
 use Rattle.std.specs.Option.{option_and_then, option_map_or}
@@ -15,10 +14,9 @@ use Rattle.dep_core.specs.Dependency.{Dependency}
 use Rattle.dep_core.specs.Meets.{meets}
 pub use Rattle.adb_schema.specs.Dependencies.{dependency_in}
 
--- a package to choose from: `info` is what its index, or the database, says of it, and the other
--- parts are what is read of that. The version is none only where the text is no version, which no
--- tested container has. Repositories count from 1; an installed package that no index has is of
--- none
+-- a package to choose from: `info` is its information in its index, or in the database, and the other
+-- parts are read from it. The version is None only if the text is no version, which never happens in a
+-- tested container. Repositories count from 1; an installed package that no index has is from none
 pub record Candidate : Type 0 where
   pub info : Plain
   pub name : List ℕ
@@ -32,23 +30,23 @@ pub record Candidate : Type 0 where
   pub tag : Option (List ℕ)
   pub installed : Bool
 
--- ---- what is read of a package's information
+-- ---- the parts of a package's information
 
--- the version that a text is, if it is one
+-- the version that a text denotes, if it is one
 abbrev pub version_of_text : List ℕ → Option (List ℕ)
 version_of_text text = if is_version text then Some text else None
 
--- the dependencies of an array; an entry that is none is passed over, and no tested container has
--- one
+-- the dependencies of an array; an entry that is no dependency is skipped, which no tested container
+-- has
 abbrev pub dependencies_of : Plains → List Dependency
 dependencies_of none = []
 dependencies_of (more value values) = cons_option (dependency_in value) (dependencies_of values)
 
--- the dependencies of a value that is a list of a package's information, such as its `depends`
+-- the dependencies in a list of a package's information, such as its `depends`
 abbrev pub dependencies_in : Plain → List Dependency
 dependencies_in value = dependencies_of (entries_in value)
 
--- a candidate by its parts
+-- a candidate from its parts
 abbrev pub candidate_by :
     Plain → List ℕ → Option (List ℕ) → List ℕ →
     List Dependency → List Dependency → List Dependency →
@@ -99,26 +97,26 @@ is_same_version None (Some b) = false
 is_same_version (Some a) None = false
 is_same_version (Some a) (Some b) = bytes_eq a b
 
--- whether a candidate is of a repository and is the installed package: name, text of the version
--- and id are the same
+-- whether a candidate is from a repository and is the installed package: name, text of the version and
+-- id are the same
 abbrev pub is_same_package : Candidate → Candidate → Bool
 is_same_package installed c =
     is_some c.repository
     && (bytes_eq c.name installed.name
     && (is_same_version c.version installed.version && is_same_id c.id installed.id))
 
--- the same candidate, counted as installed
+-- the same candidate, marked as installed
 abbrev pub as_installed : Candidate → Candidate
 as_installed c = record c { installed = true }
 
--- the list, where each candidate that is the installed package counts as installed
+-- the list, with each candidate that is the installed package marked as installed
 abbrev pub as_installed_where_same : Candidate → List Candidate → List Candidate
 as_installed_where_same installed [] = []
 as_installed_where_same installed (c ∷ cs) =
     (if is_same_package installed c then as_installed c else c)
     ∷ as_installed_where_same installed cs
 
--- the list with an installed package, which stands by itself only where no index has it
+-- the list with an installed package, which becomes a candidate of its own only if no index has it
 abbrev pub with_installed : List Candidate → Candidate → List Candidate
 with_installed cs installed =
     if list_any (is_same_package installed) cs then as_installed_where_same installed cs
@@ -126,12 +124,12 @@ with_installed cs installed =
 
 -- ---- what a candidate meets
 
--- what has to be met: a dependency, or the name of a package whose install-if applies
+-- what must be met: a dependency, or the name of a package whose install-if applies
 pub data Need : Type 0 where
   entry : Dependency → Need
   named : List ℕ → Need
 
--- the name that a need asks for
+-- the name of a need
 abbrev pub need_name : Need → List ℕ
 need_name (entry d) = d.name
 need_name (named name) = name
@@ -149,8 +147,7 @@ meets_by_own_name d c = meets d c.name c.version
 abbrev pub meets_dependency : Dependency → Candidate → Bool
 meets_dependency d c = meets_by_own_name d c || list_any (is_met_by_entry d) c.provides
 
--- whether a candidate meets a need; a name that an install-if raises is met only by a candidate of
--- that name
+-- whether a candidate meets a need; only a candidate of that name meets the name of an install-if
 abbrev pub meets_need : Need → Candidate → Bool
 meets_need (entry d) c = meets_dependency d c
 meets_need (named name) c = bytes_eq name c.name
@@ -163,8 +160,8 @@ version_under (entry d) c =
     else option_and_then (λ (p : Dependency). p.version) (find (is_met_by_entry d) c.provides)
 version_under (named name) c = c.version
 
--- whether a candidate is among the offers of a name: it is named so, or has an entry of provides of
--- the name that is no conflict
+-- whether a candidate offers a name: it has the name, or an entry of provides with the name that is no
+-- conflict
 abbrev pub offers_name : List ℕ → Candidate → Bool
 offers_name name c =
     bytes_eq name c.name
@@ -175,14 +172,14 @@ offers_name name c =
 abbrev pub entry_occupies : List ℕ → Dependency → Bool
 entry_occupies name p = not p.conflict && (is_some p.version && bytes_eq name p.name)
 
--- whether a candidate occupies the name, which one member of a selection may do: it is named so, or
--- provides the name with a version
+-- whether a candidate occupies the name, which only one member of a selection may do: it has the name,
+-- or provides it with a version
 abbrev pub occupies_name : List ℕ → Candidate → Bool
 occupies_name name c = bytes_eq name c.name || list_any (entry_occupies name) c.provides
 
 -- ---- under a world
 
--- what world asks for: its entries that are no conflicts
+-- the positive entries of world, which are no conflicts
 abbrev pub positive_entries_of : List Dependency → List Dependency
 positive_entries_of world = filter (λ (d : Dependency). not d.conflict) world
 
@@ -190,8 +187,8 @@ positive_entries_of world = filter (λ (d : Dependency). not d.conflict) world
 abbrev pub uses_tag : List Dependency → List ℕ → Bool
 uses_tag world tag = list_any (λ (d : Dependency). option_map_or (bytes_eq tag) d.tag false) world
 
--- whether a candidate is allowed: installed, or of no repository or an untagged one, or of one
--- whose tag an entry of world uses
+-- whether a candidate is allowed: it is installed, or from no repository or an untagged one, or from
+-- one whose tag an entry of world uses
 abbrev pub is_allowed : List Dependency → Candidate → Bool
 is_allowed world c =
     c.installed || (not (is_some c.repository) || option_map_or (uses_tag world) c.tag true)
@@ -204,8 +201,8 @@ is_barred_by world c = list_any (λ (d : Dependency). d.conflict && meets_depend
 abbrev pub is_eligible : List Dependency → Candidate → Bool
 is_eligible world c = is_allowed world c && not (is_barred_by world c)
 
--- whether a candidate has an install-if that can come to apply: it may be selected itself, and its
--- install-if is not empty and has no conflict
+-- whether a candidate has an install-if that can apply: it may be selected itself, and its install-if
+-- is not empty and has no conflict
 abbrev pub has_usable_install_if : List Dependency → Candidate → Bool
 has_usable_install_if world c =
     is_eligible world c

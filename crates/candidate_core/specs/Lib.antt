@@ -1,8 +1,8 @@
--- what the contract of `apk` says
+-- cited by the contract of `apk`
 pub mod Candidates
 pub mod Rank
 pub mod Options
--- what only other contracts and proofs use
+-- used by other contracts and proofs only
 pub mod Values
 pub mod PlainCode
 pub mod Table

@@ -1,6 +1,5 @@
--- What is known of the versions that one dependency wants.
--- No rule of a document: serves the contracts of `src/matches.rt` and `src/versions.rt`, where
--- answers are kept.
+-- The remembered results for the versions that one dependency accepts. No rule of a document: serves
+-- the contracts of `src/matches.rt` and `src/versions.rt`.
 use Rattle.std.specs.Prelude.{◌≡◌, ℕ, Bool, List, Option, Some}
 use Rattle.std.specs.BTreeMap.{get}
 use Rattle.std.specs.Ordering.{nat_cmp, ordering_then}
@@ -14,7 +13,7 @@ use Rattle.candidate_core.specs.Candidates.{Need, entry, named}
 use Rattle.candidate_core.specs.declared.matches.KnownMatches.{KnownMatches}
 use Rattle.candidate_core.specs.declared.packages.Source.{Source}
 
--- whether a dependency wants a version, if there is one
+-- whether a dependency accepts a version, if there is one
 abbrev pub is_wanted_by : Dependency → Option (List ℕ) → Bool
 is_wanted_by d version = is_wanted d.version d.bits version
 
@@ -22,26 +21,26 @@ is_wanted_by d version = is_wanted d.version d.bits version
 abbrev pub place_cmp : ℕ × ℕ → ℕ × ℕ → Ordering
 place_cmp one other = ordering_then (nat_cmp one.0 other.0) (nat_cmp one.1 other.1)
 
--- this answer is kept for the version that has a word in a source
+-- this result is remembered for the version with a word in a source
 abbrev pub IsMatchOf : KnownMatches → ℕ → ℕ → Bool → Type 0
 IsMatchOf known source word answer = get place_cmp known.answers (source, word) ≡ Some answer
 
--- each answer that is kept is whether the dependency wants the text at its place
+-- each remembered result is whether the dependency accepts the text at its place
 abbrev pub AreMatchesOf : (ℕ → ℕ → List ℕ) → Dependency → KnownMatches → Type 0
 AreMatchesOf text d known = (source word : ℕ) (answer : Bool)
     → IsMatchOf known source word answer → answer ≡ is_wanted_by d (Some (text source word))
 
--- the same for a need; where a name is needed nothing is asked of versions
+-- the same for a need; the need for a name accepts each version
 abbrev pub AreMatchesFor : (ℕ → ℕ → List ℕ) → Need → KnownMatches → Type 0
 AreMatchesFor text (entry d) known = AreMatchesOf text d known
 AreMatchesFor text (named name) known = Unit {0}
 
--- at this place it gives the texts of a source
+-- the function gives the texts of a source at this index
 abbrev pub IsTextOf : Source → ℕ → (ℕ → ℕ → List ℕ) → Type 0
 IsTextOf source place text = (word : ℕ)
     → text place word ≡ text_in (value_at (payload_of source.adb) Text word)
 
--- what is kept for a need is right, by texts among which are those of the source at this place
+-- the results for a need are right, by texts that include those of the source at this index
 abbrev pub AreMatchesIn : Source → ℕ → Need → KnownMatches → Type 0
 AreMatchesIn source place need known = (text : ℕ → ℕ → List ℕ)
     × IsTextOf source place text × AreMatchesFor text need known

@@ -1,5 +1,5 @@
--- The candidates that offer a name, and the options of a need.
--- The rules stand in `docs/selection.md`: "What there is to choose from" (which candidate may be
+-- The candidates that offer a name, and the options of a need, which are the candidates that may meet
+-- it. The rules are in `docs/selection.md`: "What there is to choose from" (which candidate may be
 -- selected and what meets a need), and "Which selection is taken" (the options of a need in rank
 -- order).
 use Rattle.std.specs.Prelude.{◌≡◌, ◌<◌, ℕ, suc, Bool, true, ◌&&◌, if◌then◌else◌, List, [], ◌∷◌}
@@ -11,7 +11,7 @@ pub use Rattle.adb_fields.specs.FirstPair.{IsIn}
 abbrev pub AreMembers : {X : Type 0} → List X → List X → Type 0
 AreMembers {X} xs ys = (c : X) → IsIn c xs → IsIn c ys
 
--- no number stands twice
+-- no number occurs twice
 abbrev pub AreDistinct : List ℕ → Type 0
 AreDistinct [] = Unit {0}
 AreDistinct (c ∷ cs) = (IsIn c cs → ⊥) × AreDistinct cs
@@ -32,7 +32,7 @@ places_offering name candidates = places_from 0 (offers_name name) candidates
 abbrev pub may_meet : SealedPool → Need → Candidate → Bool
 may_meet pool need c = is_eligible pool.world c && meets_need need c
 
--- places in rank order, with one more, which stands before the first that it is better than
+-- places in rank order, with one more, which precedes the first that it is better than
 abbrev pub insert_by_rank : (ℕ → ℕ → Bool) → ℕ → List ℕ → List ℕ
 insert_by_rank better c [] = c ∷ []
 insert_by_rank better c (d ∷ ds) =
@@ -48,13 +48,13 @@ unfoldable pub options_for : SealedPool → Need → List ℕ
 options_for pool need =
     rank_order_of (is_better pool need) (places_from 0 (may_meet pool need) pool.candidates)
 
--- each place of the list is better than those behind it
+-- each place of the list is better than those after it
 abbrev pub IsBestFirst : (ℕ → ℕ → Bool) → List ℕ → Type 0
 IsBestFirst better [] = Unit {0}
 IsBestFirst better (c ∷ cs) =
     ((d : ℕ) → IsIn d cs → better c d ≡ true) × IsBestFirst better cs
 
--- each place of the list is below those behind it
+-- each place of the list is below those after it
 abbrev pub AreRising : List ℕ → Type 0
 AreRising [] = Unit {0}
 AreRising (c ∷ cs) = ((d : ℕ) → IsIn d cs → c < d) × AreRising cs

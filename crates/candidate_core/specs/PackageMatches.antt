@@ -1,5 +1,5 @@
--- What is known of the versions that the dependencies of packages want.
--- No rule of a document: serves the contracts of `src/package_matches.rt`, where answers are kept.
+-- The remembered results for the versions that the dependencies of packages accept. No rule of a
+-- document: serves the contracts of `src/package_matches.rt`.
 use Rattle.std.specs.Prelude.{◌≡◌, ℕ, List, Some, slice_get}
 use Rattle.std.specs.BTreeMap.{BTreeMap, get}
 use Rattle.std.specs.Ordering.{nat_cmp, ordering_then}
@@ -25,8 +25,8 @@ abbrev pub wanted_version_cmp : ℕ × ℕ × ℕ → ℕ × ℕ × ℕ → Orde
 wanted_version_cmp one other = ordering_then
     (ordering_then (nat_cmp one.0 other.0) (nat_cmp one.1 other.1)) (nat_cmp one.2 other.2)
 
--- what is kept under the place of a version's text and some match bits is right for each dependency
--- that names the version with them
+-- the results for the place of a version's text and some match bits are right for each dependency with
+-- this version and these bits
 abbrev pub AreMatchesByVersion :
     (ℕ → ℕ → List ℕ) → BTreeMap (ℕ × ℕ × ℕ) KnownMatches → Type 0
 AreMatchesByVersion text by_version =
@@ -34,7 +34,7 @@ AreMatchesByVersion text by_version =
     → get wanted_version_cmp by_version (source, word, bits) ≡ Some known
     → d.version ≡ Some (text source word) → d.bits ≡ bits → AreMatchesOf text d known
 
--- the packages are these candidates, and what is kept of their dependencies is right
+-- the packages are these candidates, and the results for their dependencies are right
 abbrev pub AreMatchesAmong : List Candidate → PackageMatches → Type 0
 AreMatchesAmong candidates matches =
     (candidates_of_packages matches.packages.now ≡ candidates)

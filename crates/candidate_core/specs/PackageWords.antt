@@ -1,7 +1,6 @@
--- What the words keep that packages are kept by.
--- No rule of a document: serves the contracts of `src/packages.rt` and `src/candidate.rt`. A word
--- of a package's information can be read (`docs/formats.md`, "Values"), and where its source is
--- known to be tested its texts keep their rules ("The texts").
+-- The words that represent packages. No rule of a document: serves the contracts of `src/packages.rt`
+-- and `src/candidate.rt`. A word of a package's information can be read (`docs/formats.md`, "Values"),
+-- and if its source is known to be tested its texts obey their rules ("The texts").
 use Rattle.std.specs.Prelude.{◌≡◌, ◌<◌, ℕ, true, List, length, Some, slice_get}
 use Rattle.adb_view.specs.Adb.{payload_of}
 use Rattle.adb_view.specs.Plain.{Plain}
@@ -12,22 +11,22 @@ use Rattle.candidate_core.specs.SoundTexts.{HasSoundTexts}
 use Rattle.candidate_core.specs.declared.packages.PackageWord.{PackageWord}
 use Rattle.candidate_core.specs.declared.packages.Source.{Source}
 
--- the information of the package that has a word in a source
+-- the information of the package with a word in a source
 abbrev pub info_in_source : Source → ℕ → Plain
 info_in_source source word = value_at (payload_of source.adb) (Obj PkgInfo) word
 
--- the word is that of a package of the source: what it leads to can be read as a package's
--- information, whose texts keep their rules where those of the source do
+-- the word is that of a package of the source: it can be read as a package's information, whose texts
+-- obey their rules if those of the source do
 pub record IsPackageOf (source : Source) (word : ℕ) : Type 0 where
   pub sound : is_sound (payload_of source.adb) (Obj PkgInfo) word ≡ true
   pub texts : source.has_sound_texts ≡ true → HasSoundTexts (info_in_source source word)
 
--- there is a source at the place, and the word is that of a package of it
+-- there is a source at the index, and the word is that of a package of it
 pub record IsPackageAt (sources : List Source) (place word : ℕ) : Type 0 where
   pub within : place < length sources
   pub of_source : (source : Source) → slice_get sources place ≡ Some source
       → IsPackageOf source word
 
--- the word that is kept of a package is that of a package of the source at its place
+-- the stored word of a package is that of a package of the source at its index
 abbrev pub IsPackageAmong : List Source → PackageWord → Type 0
 IsPackageAmong sources kept = IsPackageAt sources kept.source kept.word

@@ -1,7 +1,6 @@
--- Packages that are kept by their words, and the candidates that they are.
--- The order of the list stands in `docs/selection.md`, "What there is to choose from". Serves the
--- contracts of `src/packages.rt` and `src/candidate_list.rt`, which say by it what their values
--- show.
+-- The candidates of packages that are stored as words. The order of the list is in `docs/selection.md`,
+-- "What there is to choose from". Serves the contracts of `src/packages.rt` and
+-- `src/candidate_list.rt`, as the view of their values.
 use Rattle.std.specs.Prelude.{ℕ, zero, suc, Bool, false, List, [], ◌∷◌, map, Option, Some, None, option_copied, slice_get}
 use Rattle.adb_view.specs.Plain.{null, Plains, none, more}
 use Rattle.candidate_core.specs.Candidates.{Candidate, as_installed, candidate_of}
@@ -10,21 +9,21 @@ use Rattle.candidate_core.specs.declared.packages.Packages.{Packages}
 use Rattle.candidate_core.specs.declared.packages.PackageWord.{PackageWord}
 use Rattle.candidate_core.specs.declared.packages.Source.{Source}
 
--- the candidate that has a word in a source, installed or not; where there is no source, which no
--- list of packages has, one without any information
+-- the candidate with a word in a source, installed or not; without a source, which no list of packages
+-- lacks, it has no information
 abbrev pub candidate_in_source : Option Source → ℕ → Bool → Candidate
 candidate_in_source None word installed = candidate_of null None None installed
 candidate_in_source (Some source) word installed =
     candidate_of (info_in_source source word) source.repo (option_copied source.tag) installed
 
--- the candidates that have these values for their information in a source, none of them installed
+-- the candidates whose information these values are in a source, none of them installed
 abbrev pub candidates_of_source : Source → Plains → List Candidate
 candidates_of_source source none = []
 candidates_of_source source (more info infos) =
     candidate_of info source.repo (option_copied source.tag) false
     ∷ candidates_of_source source infos
 
--- the candidate that a kept word leads to, among the sources of its list
+-- the candidate of a stored word, among the sources of its list
 abbrev pub candidate_among : List Source → PackageWord → Candidate
 candidate_among sources kept =
     candidate_in_source (slice_get sources kept.source) kept.word kept.installed
@@ -33,7 +32,7 @@ candidate_among sources kept =
 abbrev pub candidates_of_packages : Packages → List Candidate
 candidates_of_packages packages = map (candidate_among packages.sources.items) packages.words.items
 
--- the list, where the candidate at a place counts as installed
+-- the list, with the candidate at a place marked as installed
 abbrev pub installed_at : ℕ → List Candidate → List Candidate
 installed_at place [] = []
 installed_at zero (c ∷ cs) = as_installed c ∷ cs

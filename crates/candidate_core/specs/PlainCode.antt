@@ -1,14 +1,13 @@
--- How plain values are told apart: each has a list of steps that build it again. The steps say
--- nothing of the format.
--- No rule of a document: serves the types that show a `Candidate` or a pool, whose proofs need that
--- two such values can be told apart (`coded`).
+-- An encoding of plain values: each has a list of steps that build it again. The steps have no meaning
+-- in the format. No rule of a document: serves the views of `Candidate` and of a pool, whose proofs
+-- need that different values have different codes (`coded`).
 use Rattle.std.specs.Prelude.{◌≡◌, ℕ, zero, suc, List, [], ◌∷◌}
 use mathlib.Core.Path.{refl, ap, ◌∙◌}
 use Rattle.std.specs.Coded.{Coded, code_by, coded×, coded_list, coded_ℕ}
 use Rattle.adb_view.specs.Plain.{Plain, Plains, null, int, blob, arr, obj, none, more}
 
--- built values, where the value `v` is put before the entries of an array; any other value in the
--- array's place is dropped, which no steps of a value need
+-- built values, with the value `v` put before the entries of an array; any other value in the array's
+-- place is dropped, which never happens for the steps of a value
 abbrev pub with_first : Plain → Plain → List Plain → List Plain
 with_first v null rest = rest
 with_first v (int n) rest = rest
@@ -16,7 +15,7 @@ with_first v (blob b) rest = rest
 with_first v (arr vs) rest = arr (more v vs) ∷ rest
 with_first v (obj vs) rest = rest
 
--- built values, where the first is put before the entries of the second
+-- built values, with the first put before the entries of the second
 abbrev pub first_with_second : List Plain → List Plain
 first_with_second [] = []
 first_with_second (v ∷ []) = []
@@ -30,19 +29,18 @@ as_object (blob b) = null
 as_object (arr vs) = obj vs
 as_object (obj vs) = null
 
--- built values, where the first, an array, is made an object
+-- built values, with the first, an array, made an object
 abbrev pub first_as_object : List Plain → List Plain
 first_as_object [] = []
 first_as_object (v ∷ rest) = as_object v ∷ rest
 
--- a step: its kind, and the number and the bytes that it adds. It works on the values that the
--- steps behind it built
+-- a step: its kind, and the number and the bytes that it adds. It operates on the values that the steps
+-- after it built
 abbrev pub BuildStep : Type 0
 BuildStep = ℕ × (ℕ × List ℕ)
 
--- the values that stand after a step of a kind: 0 adds Null, 1 an integer, 2 bytes, 3 an array
--- without entries; 4 puts the first value before the entries of the second, and 5 makes the first
--- an object
+-- the values after a step of a kind: 0 adds Null, 1 an integer, 2 bytes, 3 an array without entries; 4
+-- puts the first value before the entries of the second, and 5 makes the first an object
 abbrev pub built_with : ℕ → ℕ → List ℕ → List Plain → List Plain
 built_with zero n b vs = null ∷ vs
 built_with (suc zero) n b vs = int n ∷ vs
@@ -51,7 +49,7 @@ built_with (suc (suc (suc zero))) n b vs = arr none ∷ vs
 built_with (suc (suc (suc (suc zero)))) n b vs = first_with_second vs
 built_with (suc (suc (suc (suc (suc k))))) n b vs = first_as_object vs
 
--- the values that stand after these steps, of which the last is done first
+-- the values after these steps, of which the last is done first
 abbrev pub built : List BuildStep → List Plain
 built [] = []
 built (i ∷ steps) = built_with i.0 i.1.0 i.1.1 (built steps)
@@ -65,7 +63,7 @@ abbrev mutual
   steps_of (arr vs) steps = steps_of_all vs steps
   steps_of (obj vs) steps = (5, (0, [])) ∷ steps_of_all vs steps
 
-  -- the steps that build an array of some values, in front of others
+  -- the steps that build an array of some values, before others
   pub steps_of_all : Plains → List BuildStep → List BuildStep
   steps_of_all none steps = (3, (0, [])) ∷ steps
   steps_of_all (more v vs) steps = (4, (0, [])) ∷ steps_of v (steps_of_all vs steps)
@@ -90,12 +88,12 @@ mutual
       (built_again v (steps_of_all vs steps)
       ∙ ap (λ (z : List Plain). v ∷ z) (all_built_again vs steps))
 
--- the first of some values; Null where there is none
+-- the first of some values; Null if there is none
 abbrev pub first_of : List Plain → Plain
 first_of [] = null
 first_of (v ∷ vs) = v
 
--- plain values are told apart by the steps that build them
+-- plain values are encoded by the steps that build them
 abbrev pub plain_code : Coded Plain
 plain_code =
     code_by (List BuildStep) (coded_list (coded× coded_ℕ (coded× coded_ℕ (coded_list coded_ℕ))))

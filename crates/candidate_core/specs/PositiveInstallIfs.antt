@@ -1,6 +1,6 @@
--- The candidates whose install-if has no conflict.
--- The rule stands in `docs/selection.md`, "What satisfies world", 4 (install-if). Serves the
--- contracts of `src/candidate.rt`, and in `pool_core` those of `src/sealed.rt`.
+-- The candidates whose install-if has no conflict. The rule is in `docs/selection.md`, "What satisfies
+-- world", 4 (install-if). Serves the contracts of `src/candidate.rt`, and in `pool_core` those of
+-- `src/sealed.rt`.
 use Rattle.std.specs.Prelude.{ℕ, suc, ◌==◌, Bool, not, ◌&&◌, if◌then◌else◌, List, [], ◌∷◌, length}
 use Rattle.std.specs.List.{list_all}
 use Rattle.dep_core.specs.Dependency.{Dependency}
@@ -12,8 +12,8 @@ has_positive_install_if c =
     not (length c.install_if == 0)
     && list_all (λ (d : Dependency). not d.conflict) c.install_if
 
--- the places of the candidates that have a mark and an install-if without conflict; the first
--- candidate of the list has the place `n`
+-- the places of the candidates that have a mark and an install-if without conflict; the first candidate
+-- of the list has the place `n`
 abbrev pub places_marked : ℕ → List Bool → List Candidate → List ℕ
 places_marked n [] cs = []
 places_marked n (m ∷ ms) [] = []

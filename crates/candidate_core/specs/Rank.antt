@@ -1,6 +1,5 @@
--- Which of two candidates is taken first for a need.
--- The rule stands in `docs/selection.md`, "Which selection is taken", the table of eleven keys.
--- Each definition that compares says which keys it has.
+-- Which of two candidates is preferred for a need. The rule is in `docs/selection.md`, "Which selection
+-- is taken", the table of eleven keys. Each definition of an order names its keys.
 use Rattle.std.specs.Prelude.{ℕ, Bool, true, false, not, ◌&&◌, List, Option, is_some, slice_get}
 use Rattle.std.specs.Option.{option_map_or, option_cmp}
 use Rattle.std.specs.List.{list_any}
@@ -26,7 +25,7 @@ pub record SealedPool : Type 0 where
   pub world : List Dependency
   pub upgraded : UpgradedNames
 
--- a sealed pool by its parts
+-- a sealed pool from its parts
 abbrev pub sealed_pool_by : List Candidate → List Dependency → UpgradedNames → SealedPool
 sealed_pool_by candidates world upgraded =
     record { candidates = candidates; world = world; upgraded = upgraded }
@@ -49,7 +48,7 @@ is_pinned_to world name tag =
 abbrev pub is_pinned : List Dependency → Candidate → Bool
 is_pinned world c = option_map_or (is_pinned_to world c.name) c.tag false
 
--- key 2: whether a candidate is of a repository without a tag, or of none
+-- key 2: whether a candidate is from a repository without a tag, or from none
 abbrev pub is_untagged : Candidate → Bool
 is_untagged c = not (is_some c.tag)
 
@@ -63,20 +62,19 @@ is_kept_installed upgraded c = c.installed && not (is_upgraded upgraded c.name)
 
 -- ---- the order
 
--- a candidate that has the quality comes before one that has it not
+-- a candidate with the quality precedes one without it
 abbrev pub quality_first : (Candidate → Bool) → Candidate → Candidate → Ordering
 quality_first quality = on quality (flip_args bool_cmp)
 
--- of two versions the greater comes first, and none last
+-- the greater of two versions is first, and none last
 abbrev pub greater_version : Option (List ℕ) → Option (List ℕ) → Ordering
 greater_version = flip_args (option_cmp version_cmp)
 
--- of two repositories the one of the lesser number comes first, and none last
+-- the repository with the smaller number is first, and none last
 abbrev pub earlier_repository : Option ℕ → Option ℕ → Ordering
 earlier_repository = flip_args (option_cmp (flip_args nat_cmp))
 
--- keys 2 to 4: where a candidate comes from, what it is called, and whether it is installed and
--- stays
+-- keys 2 to 4: the tag of a candidate's repository, its name, and whether it is installed and kept
 abbrev pub quality_cmp : UpgradedNames → Need → Candidate → Candidate → Ordering
 quality_cmp upgraded need =
     then_cmp (quality_first is_untagged)
@@ -103,7 +101,7 @@ abbrev pub unpinned_cmp : UpgradedNames → Need → Candidate → Candidate →
 unpinned_cmp upgraded need =
     then_cmp (quality_cmp upgraded need) (then_cmp (merit_cmp need) text_cmp)
 
--- keys 1 to 10, all but the place: what world pins comes first
+-- keys 1 to 10, all but the place: candidates that world pins are first
 abbrev pub candidate_cmp : SealedPool → Need → Candidate → Candidate → Ordering
 candidate_cmp pool need =
     then_cmp (quality_first (is_pinned pool.world)) (unpinned_cmp pool.upgraded need)
@@ -135,6 +133,6 @@ unfoldable pub rank_cmp : SealedPool → Need → ℕ → ℕ → Ordering
 rank_cmp pool need =
     then_cmp (on (candidate_at pool) (option_cmp (candidate_cmp pool need))) nat_cmp
 
--- whether the candidate at the first place comes before that at the second, for a need
+-- whether the candidate at the first place precedes that at the second, for a need
 abbrev pub is_better : SealedPool → Need → ℕ → ℕ → Bool
 is_better pool need a b = is_lt (rank_cmp pool need a b)

@@ -1,6 +1,6 @@
--- Packages whose texts keep their rules, as those of a tested container do.
--- The rules stand in `docs/formats.md`, "The texts": fields 101 to 103 for the entries of
--- `depends`, `provides` and `install-if`, and 302 for the version.
+-- Packages whose texts obey their rules, as in a tested container. The rules are in `docs/formats.md`,
+-- "The texts": fields 101 to 103 for the entries of `depends`, `provides` and `install-if`, and 302 for
+-- the version.
 use Rattle.std.specs.Prelude.{◌≡◌, ◌<◌, ℕ, true}
 use Rattle.version_core.specs.Order.{is_version}
 use Rattle.adb_view.specs.Plain.{Plain}
@@ -13,8 +13,8 @@ abbrev pub HasSoundEntries : Plain → Type 0
 HasSoundEntries list = (i : ℕ) → i < count_of (entries_in list)
     → IsSoundDependency (entry_in list i)
 
--- of a package's information: the version is one, and each entry of its `depends`, of its
--- `provides` and of its `install-if` is a dependency
+-- the texts of a package's information obey their rules: the version is one, and each entry of its
+-- `depends`, its `provides` and its `install-if` is a dependency
 pub record HasSoundTexts (info : Plain) : Type 0 where
   pub version : is_version (text_in (entry_in info INFO_VERSION)) ≡ true
   pub depends : HasSoundEntries (entry_in info INFO_DEPENDS)

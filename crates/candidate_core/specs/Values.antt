@@ -1,7 +1,6 @@
--- What the types of the code stand for, so that contracts speak of candidates, needs and names
--- without where their bytes lie.
--- No rule of a document but in *IsPoolFault*: the limit stands in `docs/selection.md`, "What there
--- is to choose from".
+-- The candidates, needs and names that the types of the code represent, so that contracts do not depend
+-- on where their bytes are. No rule of a document except in *IsPoolFault*: the limit is in
+-- `docs/selection.md`, "What there is to choose from".
 use Rattle.std.specs.Prelude.{◌≡◌, ◌<◌, ◌+◌, ℕ, option_copied}
 use Rattle.adb_schema.specs.Views.{info_value}
 use Rattle.dep_core.specs.Meets.{dependency}
@@ -18,16 +17,16 @@ use Rattle.candidate_core.specs.declared.candidate_list.TheConstants.{MOST_CANDI
 use Rattle.candidate_core.specs.Candidates.{Candidate, candidate_of, Need, entry, named}
 use Rattle.candidate_core.specs.Rank.{UpgradedNames, no_names, all_names, listed_names}
 
--- the candidate that a caller is shown, whose parts are read from its information
+-- the candidate that is shown to a caller, whose parts are read from its information
 abbrev pub candidate_value : Shown → Candidate
 candidate_value c = candidate_of (info_value c.info) c.repo (option_copied c.tag) c.installed
 
--- the need that a value stands for which owns its dependency
+-- the need that a value represents which owns its dependency
 abbrev pub need_of : OwnedNeed → Need
 need_of (Entry dep) = entry (dependency dep)
 need_of (Named name) = named name.now
 
--- the need that a value stands for which borrows its dependency
+-- the need that a value represents which borrows its dependency
 abbrev pub need_by : NeedRef → Need
 need_by (Borrowed.Entry dep) = entry (dependency dep.now)
 need_by (Borrowed.Named name) = named name.now
@@ -38,8 +37,8 @@ names_upgraded_by Nothing = no_names
 names_upgraded_by All = all_names
 names_upgraded_by (Listed words) = listed_names words.now
 
--- the fault is why a list of `total` candidates is not taken: `total` passes the limit, and the
--- count that is reported is the first that does; or there was no memory
+-- why a list of `total` candidates is refused: `total` exceeds the limit, and the reported count is the
+-- first that does; or memory ran out
 abbrev pub IsPoolFault : PoolFault → ℕ → Type 0
 IsPoolFault (TooMany count) total = (MOST_CANDIDATES < total) × (count ≡ MOST_CANDIDATES + 1)
 IsPoolFault Memory total = Unit {0}

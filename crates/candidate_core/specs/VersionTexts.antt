@@ -1,5 +1,5 @@
--- Where the texts of versions stand. Serves the contracts of `src/packages.rt`, and in
--- `option_ranks` those of `src/version_ranks.rt`: versions that are read from one place are one.
+-- The places of the texts of versions. Serves the contracts of `src/packages.rt`, and in `option_ranks`
+-- those of `src/version_ranks.rt`: versions that are read from one place are equal.
 use Rattle.std.specs.Prelude.{◌≡◌, ℕ, List, [], Option, Some, None, IfSome, slice_get}
 use Rattle.adb_view.specs.Adb.{payload_of}
 use Rattle.adb_view.specs.Values.{text_in, value_at}
@@ -7,15 +7,15 @@ use Rattle.adb_view.specs.declared.tables.Kind.TheVariants.{Text}
 use Rattle.candidate_core.specs.declared.packages.Source.{Source}
 use Rattle.candidate_core.specs.declared.versions.RankedVersion.{RankedVersion}
 
--- the text that has a word in a source; empty where there is no source
+-- the text with a word in a source; empty if there is no source
 abbrev pub text_in_source : Option Source → ℕ → List ℕ
 text_in_source None word = []
 text_in_source (Some source) word = text_in (value_at (payload_of source.adb) Text word)
 
--- the text that has a word in the source at a place
+-- the text with a word in the source at an index
 abbrev pub source_text : List Source → ℕ → ℕ → List ℕ
 source_text sources place word = text_in_source (slice_get sources place) word
 
--- the version, where there is one, is the text at its place
+-- the version, if there is one, is the text at its place
 abbrev pub IsReadBy : (ℕ → ℕ → List ℕ) → RankedVersion → Type 0
 IsReadBy text ranked = IfSome ranked.version (λ version. version ≡ text ranked.source ranked.word)

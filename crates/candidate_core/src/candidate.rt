@@ -1,9 +1,8 @@
-//! The packages to choose from, and what is read of them: `Candidate` is what a caller sees,
-//! `Details` what the pool and the search compare.
-//! The rules stand in `docs/selection.md`: "What there is to choose from" says which candidate is
-//! the installed package and what a candidate meets, and "What satisfies world", 3, which names it
-//! occupies. What each field of a package's information is, and which numbers are read, says
-//! `docs/formats.md`, "Schemas", table 3.
+//! Candidates, the packages that the solver chooses from. `Candidate` is what a caller sees,
+//! `Details` what the pool and the search compare. The rules are in `docs/selection.md`: "What
+//! there is to choose from" (which candidate is the installed package, and what a candidate meets),
+//! and "What satisfies world", 3 (which names it occupies). The fields of a package's information,
+//! and which numbers are read, are in `docs/formats.md`, "Schemas", table 3.
 ghost use Rattle.std.specs.Prelude.{◌≡◌, ◌&&◌, ◌==◌, false, not, length, option_copied};
 ghost use Rattle.std.specs.List.{list_all, list_any};
 ghost use Rattle.dep_core.specs.Dependency.{Dependency};
@@ -40,35 +39,35 @@ impl Model for CandId {
     ghost inverse = { λ place. record { place = place } };
 }
 
-/// A package to choose from, as it was given.
+/// A candidate, as it is shown to a caller.
 #[derive(Clone, Copy)]
 pub struct Candidate<'a> {
-    /// What the index of the package, or the database, says of the package.
+    /// The information of the package in its index, or in the database.
     pub info: PkgInfo<'a>,
-    /// The repository of the package, counted from 1; none for an installed package that no index
+    /// The repository of the package, counted from 1; None for an installed package that no index
     /// has.
     pub repo: Option<u64>,
-    /// The tag of the repository, where it has one.
+    /// The tag of the repository, if it has one.
     pub tag: Option<&'a [u8]>,
     /// Whether the package is installed.
     pub installed: bool,
 }
 
-/// What the pool and the search compare of a candidate. It is read from the package's information
-/// when it is asked for, and borrows all texts.
+/// The parts of a candidate that the pool and the search compare. Each is read from the package's
+/// information on demand, and all texts are borrowed.
 #[derive(Drop)]
 pub struct Details<'a> {
-    /// What the index of the package, or the database, says of the package.
+    /// The information of the package in its index, or in the database.
     info: PkgInfo<'a>,
-    /// The repository of the package, counted from 1; none for an installed package that no index
+    /// The repository of the package, counted from 1; None for an installed package that no index
     /// has.
     repo: Option<u64>,
-    /// The tag of the repository, where it has one.
+    /// The tag of the repository, if it has one.
     tag: Option<&'a [u8]>,
     /// Whether the package is installed.
     installed: bool,
-    /// Whether the version and the lists of dependencies are known to keep their rules, so that
-    /// they are not judged again: they were tested with the index, or when the installed package
+    /// Whether the version and the lists of dependencies are known to obey their rules, so that
+    /// they are not judged again. They were tested with the index, or when the installed package
     /// was added.
     has_sound_texts: bool,
 }
@@ -91,8 +90,8 @@ impl<'a> Model for Details<'a> {
 }
 
 impl<'a> Details<'a> {
-    /// What is compared of the package with this word in a source; `installed` says whether the
-    /// package is installed.
+    /// The details of the package with this word in a source; `installed` says whether the package
+    /// is installed.
     pub fn of(source: &Source<'a>, word: Val, installed: bool) -> Details<'a>
         requires { IsPackageOf source.now word }
         ensures { result ≡ candidate_of (info_in_source source.now word) source.now.repo
@@ -107,8 +106,8 @@ impl<'a> Details<'a> {
         }
     }
 
-    /// The candidate as a caller sees it: the information that its parts are read from, and not the
-    /// parts.
+    /// The candidate as a caller sees it: the information from which its parts are read, without
+    /// the parts.
     pub fn candidate(&self) -> Candidate<'a>
         ensures { candidate_value result ≡ self.now }
     {
@@ -127,8 +126,8 @@ impl<'a> Details<'a> {
         self.info.name()
     }
 
-    /// The version of the package; none only where the text is no version, which no tested
-    /// container has.
+    /// The version of the package; None only if the text is no version, which never happens in a
+    /// tested container.
     pub fn version(&self) -> Option<Version<'a>>
         ensures { result ≡ self.now.version }
     {
@@ -140,30 +139,29 @@ impl<'a> Details<'a> {
         }
     }
 
-    // The id of the package as its index, or the database, keeps it: none, which is empty, the
-    // whole of it, or a front of it.
+    // The id of the package in its index, or in the database: empty, the whole id, or a front of
+    // it.
     fn id(&self) -> &'a [u8]
         ensures { result.now ≡ self.now.id }
     {
         self.info.hashes()
     }
 
-    /// What the package needs, and what it excludes: its dependencies, conflicts among them.
+    /// The dependencies of the package, its conflicts among them.
     pub fn depends(&self) -> Deps<'a>
         ensures { result ≡ self.now.depends }
     {
         Deps::of(self.info.depends(), self.has_sound_texts)
     }
 
-    /// What the package provides: names, some with a version.
+    /// The names that the package provides, some with a version.
     pub fn provides(&self) -> Deps<'a>
         ensures { result ≡ self.now.provides }
     {
         Deps::of(self.info.provides(), self.has_sound_texts)
     }
 
-    /// The install-if of the package: where each of these is met, the name of the package is
-    /// needed.
+    /// The install-if of the package: if each of these is met, the name of the package is needed.
     pub fn install_if(&self) -> Deps<'a>
         ensures { result ≡ self.now.install_if }
     {
@@ -178,15 +176,15 @@ impl<'a> Details<'a> {
         any_met_by(&self.depends(), other)
     }
 
-    /// The provider-priority: how much the package is preferred among providers of one name. The
-    /// greater comes first.
+    /// The provider-priority: how strongly the package is preferred among the providers of a name.
+    /// The greater is preferred.
     pub fn priority(&self) -> u64
         ensures { result ≡ self.now.priority }
     {
         self.info.provider_priority()
     }
 
-    /// The repository of the package, counted from 1; none for an installed package that no index
+    /// The repository of the package, counted from 1; None for an installed package that no index
     /// has.
     pub fn repo(&self) -> Option<u64>
         ensures { result ≡ self.now.repository }
@@ -194,14 +192,14 @@ impl<'a> Details<'a> {
         self.repo
     }
 
-    /// The tag of the package's repository, where it has one.
+    /// The tag of the package's repository, if it has one.
     pub fn tag(&self) -> Option<&'a [u8]>
         ensures { option_copied result ≡ self.now.tag }
     {
         self.tag
     }
 
-    /// Whether the package is of a repository without tag, or of none.
+    /// Whether the package is from a repository without tag, or from none.
     pub fn is_untagged(&self) -> bool
         ensures { result ≡ is_untagged self.now }
     {
@@ -215,8 +213,8 @@ impl<'a> Details<'a> {
         self.installed
     }
 
-    /// Whether the candidate is of a repository, and is the same package as an installed one: name,
-    /// text of the version and id are the same.
+    /// Whether the candidate is from a repository, and is the same package as an installed one:
+    /// name, text of the version and id are the same.
     pub fn is_same_package(&self, installed: &Details<'_>) -> bool
         ensures { result ≡ is_same_package installed.now self.now }
     {
@@ -239,8 +237,8 @@ impl<'a> Details<'a> {
         are_some_and_positive(&self.install_if())
     }
 
-    /// Whether the candidate meets a need: a dependency, or the name that an install-if asks for,
-    /// which only a package of that name meets.
+    /// Whether the candidate meets a need: a dependency, or the name of a package whose install-if
+    /// applies, which only a package of that name meets.
     pub fn meets_need(&self, need: &NeedRef<'_>) -> bool
         ensures { result ≡ meets_need (need_by need.now) self.now }
     {
@@ -251,7 +249,7 @@ impl<'a> Details<'a> {
     }
 
     /// Whether the candidate meets a dependency by its own name and version, or by an entry of its
-    /// provides. Whether the dependency is a conflict is not looked at.
+    /// provides. It does not matter whether the dependency is a conflict.
     pub fn meets(&self, dep: &Dep<'_>) -> bool
         ensures { result ≡ meets_dependency (dependency dep.now) self.now }
     {
@@ -273,8 +271,8 @@ impl<'a> Details<'a> {
         dep.met_by(name, version.as_ref())
     }
 
-    /// Whether the candidate occupies a name, which one member of a selection may do: it is named
-    /// so, or provides the name with a version.
+    /// Whether the candidate occupies a name, which only one member of a selection may do: it has
+    /// the name, or provides it with a version.
     pub fn occupies(&self, name: &[u8]) -> bool
         ensures { result ≡ occupies_name name.now self.now }
     {
@@ -285,8 +283,8 @@ impl<'a> Details<'a> {
     }
 }
 
-// Whether two versions have one text, or neither is one. Equal versions with other texts, such as
-// `1` and `01`, are two.
+// Whether two versions have the same text, or neither is one. Equal versions with different texts,
+// such as `1` and `01`, are not the same.
 fn is_same_version(one: Option<Version<'_>>, other: Option<Version<'_>>) -> bool
     ensures { result ≡ is_same_version one.entry other.entry }
 {
@@ -298,8 +296,8 @@ fn is_same_version(one: Option<Version<'_>>, other: Option<Version<'_>>) -> bool
     }
 }
 
-// Whether two ids are the same: both are there, and one is a front of the other, since an index may
-// keep 20 of 32 bytes.
+// Whether two ids are the same: both are present, and one is a front of the other, since an index
+// may store 20 of 32 bytes.
 fn is_same_id(one: &[u8], other: &[u8]) -> bool
     ensures { result ≡ is_same_id one.now other.now }
 {
@@ -309,7 +307,7 @@ fn is_same_id(one: &[u8], other: &[u8]) -> bool
     one.starts_with(other) || other.starts_with(one)
 }
 
-// Whether there are dependencies, none of them a conflict: an install-if that can come to apply.
+// Whether there are dependencies, none of them a conflict: then an install-if of these can apply.
 fn are_some_and_positive(deps: &Deps<'_>) -> bool
     ensures { result ≡ (not (length deps.now == 0)
         && list_all (λ (d : Dependency). not d.conflict) deps.now) }

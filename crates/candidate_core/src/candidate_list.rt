@@ -1,7 +1,6 @@
-//! The list of candidates in the making: the packages of each index, then the installed ones that
-//! no index has.
-//! The rules stand in `docs/selection.md`, "What there is to choose from": the order of the list,
-//! which candidate is the installed package, and how many there may be.
+//! The list of candidates under construction: the packages of each index, then the installed ones
+//! that no index has. The rules are in `docs/selection.md`, "What there is to choose from": the
+//! order of the list, which candidate is the installed package, and the most candidates.
 ghost use Rattle.std.specs.Prelude.{◌≡◌, ◌<◌, ◌+◌, ℕ, [], ◌∷◌, ◌++◌, length, true, None, Some, slice_get, OnOk, IfErr};
 ghost use Rattle.std.specs.List.{list_any};
 ghost use Rattle.adb_schema.specs.Views.{info_value};
@@ -27,13 +26,13 @@ use adb_schema::PkgInfo;
 use adb_view::{Arr, Val, entry_word};
 use std::alloc::{AllocError, Global};
 
-/// Why a package is not taken into a pool.
+/// Why a package was not added to a pool.
 #[derive(Clone, Copy, Debug, PartialEq, Eq)]
 pub enum PoolFault {
-    /// There would be more candidates than a pool holds; `count` is `MOST_CANDIDATES` and 1, the
-    /// first count that is too great.
+    /// There would be more candidates than a pool may have. `count` is `MOST_CANDIDATES` plus 1,
+    /// the first count that is too great.
     TooMany { count: u64 },
-    /// There was no memory.
+    /// Out of memory.
     Memory,
 }
 
@@ -43,13 +42,13 @@ impl From<AllocError> for PoolFault {
 
     ghost from_gives = { λ _ fault. fault ≡ Memory };
 
-    // The fault that want of memory is.
+    // The fault that out of memory is.
     fn from(_: AllocError) -> PoolFault {
         PoolFault::Memory
     }
 }
 
-/// The most candidates that a pool holds (`docs/selection.md`, "What there is to choose from").
+/// The most candidates of a pool (`docs/selection.md`, "What there is to choose from").
 pub const MOST_CANDIDATES: usize = 65536;
 
 /// The candidates so far, and the table of the names that they offer.
@@ -73,9 +72,9 @@ impl<'a> CandidateList<'a> {
         }
     }
 
-    // Puts the package of a source behind the others. `source_place` is the place of the source
-    // among those of the list. After a refusal the list may only be dropped, since the table may
-    // then have a place that the packages have not.
+    // Appends the package of a source. `source_place` is the index of the source in the list. After
+    // an error the list may only be dropped, since the table may then have a place without a
+    // package.
     fn push(
         &mut self,
         source: &Source<'a>,
@@ -109,13 +108,13 @@ impl<'a> CandidateList<'a> {
         Ok(())
     }
 
-    /// Puts the packages of an index behind the others; these are the words of its packages.
+    /// Appends the packages of an index; these are their words.
     #[tactic(auto, using(adb_fields::proofs::FieldReads::entry_sound))]
     pub fn push_all(&mut self, source: Source<'a>, packages: Arr<'a>) -> Result<(), PoolFault>
         requires list { IsCandidateList self.old }
         requires sound { are_all_sound (payload_of source.adb) (Kinds.Obj Tables.PkgInfo)
             (array_entries packages) ≡ true }
-        // Where the source's texts keep their rules, so do those of each of these packages.
+        // If the source's texts obey their rules, so do those of each of these packages.
         requires texts { source.has_sound_texts ≡ true → (i : ℕ)
             → i < count_of (entries_in (array_at (payload_of source.adb)
             (Kinds.Obj Tables.PkgInfo) (array_entries packages))) → HasSoundTexts
@@ -142,8 +141,7 @@ impl<'a> CandidateList<'a> {
         Ok(())
     }
 
-    /// Adds an installed package, or lets the candidates that are the same package count as
-    /// installed.
+    /// Adds an installed package, or marks the candidates that are the same package as installed.
     pub fn push_installed(&mut self, alloc: Global, info: PkgInfo<'a>) -> Result<(), PoolFault>
         requires { IsCandidateList self.old }
         ensures list { OnOk result (IsCandidateList self.new) }
@@ -167,8 +165,8 @@ impl<'a> CandidateList<'a> {
         self.push(&source, source_place, info.word(), true)
     }
 
-    // Lets the candidates that are an installed package count as installed, and answers whether
-    // there is one.
+    // Marks the candidates that are an installed package as installed, and returns whether there is
+    // one.
     fn mark_same(&mut self, installed: &Details<'a>) -> bool
         requires { IsCandidateList self.old }
         ensures list { IsCandidateList self.new }
@@ -185,8 +183,8 @@ impl<'a> CandidateList<'a> {
     }
 }
 
-// Lets each of some candidates count as installed if it is the installed package, and answers
-// whether one is.
+// Marks each of some candidates as installed if it is the installed package, and returns whether
+// one is.
 fn mark_among<'a>(packages: &mut Packages<'a>, ids: &[CandId], installed: &Details<'a>) -> bool
     requires { ids.now
         ≡ places_offering installed.now.name (candidates_of_packages packages.old) }
@@ -202,7 +200,7 @@ fn mark_among<'a>(packages: &mut Packages<'a>, ids: &[CandId], installed: &Detai
     found
 }
 
-// Lets a candidate count as installed if it is the installed package, and answers whether it is.
+// Marks a candidate as installed if it is the installed package, and returns whether it is.
 fn mark_one<'a>(packages: &mut Packages<'a>, id: CandId, installed: &Details<'a>) -> bool
     requires { id < length (candidates_of_packages packages.old) }
     ensures same { result ≡ is_same_at installed.now (candidates_of_packages packages.old) id }

@@ -1,8 +1,7 @@
-//! The dependencies of a package's information: read from it one by one, and judged where they are
-//! not known to keep their rules.
-//! The rules stand in `docs/formats.md`: "Schemas", tables 1 and 3, says where dependencies stand;
-//! "Dependencies" which dependency a name, a version and a match number are; "The texts", fields
-//! 101 to 103, what a tested container keeps.
+//! The dependencies of a package's information: read one by one, and judged if they are not known
+//! to obey their rules. The rules are in `docs/formats.md`: "Schemas", tables 1 and 3 (where
+//! dependencies are), "Dependencies" (which dependency a name, a version and a match number
+//! denote), and "The texts", fields 101 to 103 (the rules in a tested container).
 ghost use Rattle.std.specs.Prelude.{◌≡◌, ◌<◌, ◌==◌, true, length, slice_get, Some};
 ghost use Rattle.std.specs.Option.{option_map};
 ghost use Rattle.adb_fields.specs.ListValue.{list_value};
@@ -16,8 +15,8 @@ use adb_schema::{DepView, List};
 use dep_core::{Dep, dep_of, dep_of_parts};
 use std::marker::Model;
 
-/// A list of dependencies of a package, in the order of its information. Each is read when it is
-/// asked for. Places count from 0, and entries that are no dependency are not counted.
+/// A list of dependencies of a package, in the order of its information. Each is read on demand.
+/// Indexes count from 0, and entries that are no dependency are not counted.
 #[derive(Drop)]
 pub struct Deps<'a> {
     /// The array of the package's information, whose entries count from 1.
@@ -41,7 +40,8 @@ impl<'a> Model for Deps<'a> {
 }
 
 impl<'a> Deps<'a> {
-    /// The dependencies of a list of a package's information; an entry that is none is passed over.
+    /// The dependencies of a list of a package's information; an entry that is no dependency is
+    /// skipped.
     pub fn of(list: List<'a, DepView<'a>>, are_sound: bool) -> Deps<'a>
         requires { are_sound ≡ true → HasSoundEntries (list_value list) }
         ensures { result ≡ dependencies_in (list_value list.entry) }
@@ -82,7 +82,7 @@ impl<'a> Deps<'a> {
     }
 }
 
-/// The dependency of an entry that is known to be one, read without a test of its texts.
+/// The dependency of an entry that is known to be one, read without testing its texts.
 #[tactic(auto, unfolding(dep_core::specs::ValueReading::dependency_of_value))]
 pub(crate) fn read_sound<'a>(view: &DepView<'a>) -> Dep<'a>
     requires { IsSoundDependency (dependency_value view.now) }

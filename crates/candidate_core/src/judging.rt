@@ -1,8 +1,7 @@
-//! Whether the texts of a package's information keep their rules. A long one is judged once,
-//! however many places of the package share it.
-//! The rules stand in `docs/formats.md`, "The texts": fields 101 to 103 for the entries of
-//! `depends`, `provides` and `install-if`, and 302 for the version. What an entry is that keeps
-//! them says "Dependencies" there.
+//! Whether the texts of a package's information obey their rules. A long one is judged once,
+//! however many places of the package share it. The rules are in `docs/formats.md`, "The texts":
+//! fields 101 to 103 for the entries of `depends`, `provides` and `install-if`, and 302 for the
+//! version. Which dependency a good entry denotes is defined in "Dependencies" there.
 ghost use Rattle.std.specs.Prelude.{◌≡◌, true, false, Some, IfOk, IfSome, IfNone};
 ghost use Rattle.std.specs.Option.{option_map};
 ghost use Rattle.adb_fields.specs.Fields.{are_all_sound, array_at};
@@ -46,9 +45,9 @@ pub(crate) const VERSION: usize = 1;
 /// The index of the match number of a dependency (3 in table 1).
 const MATCHING: usize = 2;
 
-/// Whether the texts of a package keep their rules: its version is a version, and each entry of its
-/// `depends`, `provides` and `install-if` is a dependency. The answer `true` is sure; after `false`
-/// the candidate's texts are tested each time that they are read, which costs time alone.
+/// Whether the texts of a package obey their rules: its version is a version, and each entry of its
+/// `depends`, `provides` and `install-if` is a dependency. `true` is reliable. After `false` the
+/// candidate's texts are tested each time that they are read, which only costs time.
 pub fn has_sound_texts(alloc: Global, info: PkgInfo<'_>) -> Result<bool, AllocError>
     ensures { IfOk result (λ sound. sound ≡ true → HasSoundTexts (info_value info.entry)) }
 {
@@ -100,7 +99,7 @@ fn are_dependencies<'a>(judged: &mut Judged<'a>, words: Arr<'a>) -> Result<bool,
     Ok(true)
 }
 
-// The dependency that the object with a word is, if it is one.
+// The dependency of the object with a word, if it is one.
 #[tactic(auto, unfolding(dep_core::specs::ValueReading::dependency_of_value))]
 fn read_entry<'a>(judged: &mut Judged<'a>, word: Val) -> Result<Option<Dep<'a>>, AllocError>
     requires { is_sound (payload_of judged.old.adb) (Kinds.Obj Tables.Dep) word ≡ true }
@@ -119,7 +118,7 @@ fn read_entry<'a>(judged: &mut Judged<'a>, word: Val) -> Result<Option<Dep<'a>>,
     Ok(dep_of_parts(name, version, matching))
 }
 
-// The text of a field of an object, if the text keeps a rule.
+// The text of a field of an object, if the text obeys a rule.
 fn text_if_kept<'a>(
     judged: &mut Judged<'a>,
     which: Which,

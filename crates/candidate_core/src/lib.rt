@@ -1,10 +1,10 @@
-//! What a candidate is: the package of an index or of the database, and what is read of it; the list
-//! of candidates in the making with the table of the names that they offer; and what may be needed.
-//! Views of indexes come in and stay borrowed.
+//! Candidates: the packages of an index or of the database, and what is read of them; the list of
+//! candidates under construction with the table of the names that they offer; and needs. Views of
+//! indexes are borrowed.
 //!
-//! The rules stand in `docs/selection.md`, "What there is to choose from". The contracts cite
-//! `specs/`: `Candidates` (what a candidate is, and what it meets), `Rank` (the eleven keys) and
-//! `Options`.
+//! The rules are in `docs/selection.md`, "What there is to choose from". The contracts cite
+//! `Candidates` (a candidate, and what it meets), `Rank` (the eleven keys) and `Options` of
+//! `specs/`.
 #![tactic(auto)]
 
 mod candidate;

@@ -1,7 +1,7 @@
-//! Which long versions one dependency wants, as far as that was asked. Many packages may share the
-//! text of a version, so a long one is compared once while a need is answered.
-//! What a dependency wants says `docs/selection.md`, "What there is to choose from". That answers
-//! are kept saves time alone, as the README of this crate says.
+//! Which long versions one dependency accepts, as far as they were compared. Many packages may
+//! share the text of a version, so a long one is compared once for a need. What a dependency
+//! accepts is defined in `docs/selection.md`, "What there is to choose from". Remembering the
+//! results only saves time, as the README of this crate says.
 ghost use Rattle.std.specs.Prelude.{◌≡◌, ℕ, List, IfOk, IfSome, is_some, true};
 ghost use Rattle.dep_core.specs.Dependency.{Dependency};
 ghost use Rattle.dep_core.specs.Meets.{dependency, meets};
@@ -14,15 +14,15 @@ use std::alloc::{AllocError, Global};
 use std::collections::BTreeMap;
 use version_core::Version;
 
-/// How many bytes a version has at most that is compared as it is read, wherever it stands. Any
-/// number is right: a greater one lets more packages share long comparisons, a lesser one keeps
-/// answers that are sooner found anew.
+/// The longest version that is compared wherever it occurs. Any number is correct: with a greater
+/// one fewer comparisons are shared, with a smaller one results are remembered that are faster to
+/// compute again.
 const SHORT: usize = 64;
 
-/// Whether one dependency wants long versions.
+/// The remembered results for the long versions that one dependency accepts.
 #[derive(Drop)]
 pub struct KnownMatches {
-    /// The answers, each by the place of the version's source and the word of its text there.
+    /// The results, each by the index of the version's source and the word of its text there.
     answers: BTreeMap<(u32, u32), bool>,
 }
 
@@ -36,12 +36,12 @@ impl KnownMatches {
         }
     }
 
-    /// Whether a dependency wants a version; of a long one the answer is kept, in memory in
-    /// proportion to the number of long texts.
+    /// Whether a dependency accepts a version. The result for a long one is remembered, in memory
+    /// linear in the number of long texts.
     ///
     /// # Errors
     ///
-    /// Want of memory.
+    /// Out of memory.
     pub(crate) fn is_wanted(
         &mut self,
         dep: &Dep<'_>,
@@ -61,7 +61,8 @@ impl KnownMatches {
         }
     }
 
-    /// Whether a dependency wants a version; a long one is compared only where no answer is kept.
+    /// Whether a dependency accepts a version; a long one is compared only if no result is
+    /// remembered.
     pub(crate) fn is_wanted_as_known(&self, dep: &Dep<'_>, found: &RankedVersion<'_>) -> bool
         ensures { (text : ℕ → ℕ → List ℕ) → IsReadBy text found.now
             → AreMatchesOf text (dependency dep.now) self.now
@@ -97,15 +98,14 @@ impl KnownMatches {
     }
 }
 
-// Whether a dependency wants a version, of which nothing is looked up.
+// Whether a dependency accepts a version, by comparing it.
 fn is_version_wanted(dep: &Dep<'_>, found: &RankedVersion<'_>) -> bool
     ensures { result ≡ meets (dependency dep.now) (dependency dep.now).name found.now.version }
 {
     dep.met_by(dep.name, found.version.as_ref())
 }
 
-/// Whether a version is long, so that a comparison with it may take long; a version that is none
-/// is not.
+/// Whether a version is long, so that comparing it may take long; an absent version is not.
 pub fn is_long(version: &Option<Version<'_>>) -> bool
     ensures { result ≡ true → is_some version.now ≡ true }
 {

@@ -1,6 +1,6 @@
-//! What has to be met, what a command upgrades, and the candidates that a need may be met by.
-//! The rules stand in `docs/selection.md`: "What satisfies world", 1 and 4 (what has to be met),
-//! and "Which selection is taken" (needs in their order; key 4 for what a command upgrades).
+//! Needs, the names that a command upgrades, and the candidates that may meet a need. The rules are
+//! in `docs/selection.md`: "What satisfies world", 1 and 4 (needs), and "Which selection is taken"
+//! (the order of needs; key 4 for the names that a command upgrades).
 ghost use Rattle.std.specs.Prelude.{◌≡◌, ◌<◌, ◌==◌, length, slice_get, Some};
 ghost use Rattle.candidate_core.specs.Candidates.{need_name};
 ghost use Rattle.candidate_core.specs.Values.{need_by};
@@ -11,7 +11,8 @@ use base_core::Words;
 use dep_core::Dep;
 use std::marker::Model;
 
-/// What has to be met. The value owns the dependency, whose texts stay borrowed.
+/// A need: a dependency or a name that must be met. It owns the dependency, whose texts are
+/// borrowed.
 #[derive(Drop)]
 pub enum Need<'a> {
     /// An entry of world, or a dependency of a candidate.
@@ -20,7 +21,7 @@ pub enum Need<'a> {
     Named(&'a [u8]),
 }
 
-/// What has to be met, where the dependency is borrowed.
+/// A need whose dependency is borrowed.
 #[derive(Clone, Copy)]
 pub enum NeedRef<'a> {
     /// An entry of world, or a dependency of a candidate.
@@ -30,7 +31,7 @@ pub enum NeedRef<'a> {
 }
 
 impl<'a> NeedRef<'a> {
-    /// The name that the need asks for.
+    /// The name of the need.
     pub fn name(&self) -> &'a [u8]
         ensures { result.now ≡ need_name (need_by self.now) }
     {
@@ -40,7 +41,7 @@ impl<'a> NeedRef<'a> {
         }
     }
 
-    /// Whether the need names a long version, so that it may take long to compare others with it.
+    /// Whether the need has a long version, so that comparing others with it may take long.
     pub fn has_long_version(&self) -> bool {
         match self {
             NeedRef::Entry(dep) => is_long(&dep.version),
@@ -56,7 +57,7 @@ pub enum Upgrade<'a> {
     Nothing,
     /// Every name: the command is `upgrade` without names.
     All,
-    /// The listed names, which `upgrade` is given.
+    /// The names given to `upgrade`.
     Listed(&'a Words),
 }
 
@@ -76,7 +77,7 @@ impl Model for Options {
 }
 
 impl Options {
-    /// The options at some places, which the caller has sorted.
+    /// The options at these places, which the caller has sorted.
     pub fn of(ids: Vec<CandId>) -> Options
         ensures { result ≡ ids.items }
     {

@@ -1,8 +1,8 @@
-//! Which long versions the dependencies of packages want, as far as that was asked. Many packages
-//! may share the texts of the versions that they have, and of those that they name, so two long
-//! ones are compared once, as long as the answers are kept.
-//! What a dependency wants says `docs/selection.md`, "What there is to choose from". That answers
-//! are kept saves time alone, as the README of this crate says.
+//! Which long versions the dependencies of packages accept, as far as they were compared. Many
+//! packages may share the texts of their versions, and of those in their dependencies. So two long
+//! ones are compared once while the results are remembered. What a dependency accepts is defined in
+//! `docs/selection.md`, "What there is to choose from". Remembering the results only saves time, as
+//! the README of this crate says.
 ghost use Rattle.std.specs.Prelude.{◌≡◌, ◌<◌, ℕ, List, IfOk, OnOk, Some, length, slice_get};
 ghost use Rattle.dep_core.specs.Dependency.{Dependency};
 ghost use Rattle.dep_core.specs.Meets.{dependency};
@@ -20,7 +20,7 @@ use dep_core::Dep;
 use std::alloc::{AllocError, Global};
 use std::collections::BTreeMap;
 
-/// A dependency of a package, and where the package has it.
+/// A dependency of a package, and its place in the package.
 #[derive(Clone, Copy)]
 pub struct PackageDep<'d> {
     /// The dependency.
@@ -31,20 +31,20 @@ pub struct PackageDep<'d> {
     pub index: usize,
 }
 
-/// Whether dependencies of packages want long versions.
+/// The remembered results for the long versions that dependencies of packages accept.
 #[derive(Drop)]
 pub struct PackageMatches<'p> {
-    /// What memory comes from.
+    /// The allocator.
     alloc: Global,
     /// The packages.
     pub packages: &'p Packages<'p>,
-    /// What is known of each version that a dependency names: by the place of the version's source,
-    /// the word of its text there, and the match bits of the operator.
+    /// The results for each version in a dependency: by the index of the version's source, the word
+    /// of its text there, and the match bits of the operator.
     by_version: BTreeMap<(u32, u32, u8), KnownMatches>,
 }
 
 impl<'p> PackageMatches<'p> {
-    /// Nothing is known of the dependencies of some packages.
+    /// No results yet for the dependencies of some packages.
     pub fn new(alloc: Global, packages: &'p Packages<'p>) -> PackageMatches<'p>
         ensures { AreMatchesAmong (candidates_of_packages packages.entry.now) result }
     {
@@ -55,14 +55,14 @@ impl<'p> PackageMatches<'p> {
         }
     }
 
-    /// Whether the package at a place, counted from 0, meets a dependency of another by its own name
-    /// and version, or by an entry of its provides. Whether the dependency is a conflict is not
-    /// looked at. What is learnt of long versions is kept, in memory in proportion to the pairs of
-    /// long texts that were compared.
+    /// Whether the package at an index, counted from 0, meets a dependency of another by its own
+    /// name and version, or by an entry of its provides. It does not matter whether the dependency
+    /// is a conflict. Results for long versions are remembered, in memory linear in the number of
+    /// pairs of long texts that were compared.
     ///
     /// # Errors
     ///
-    /// Want of memory.
+    /// Out of memory.
     pub fn meets(&mut self, place: usize, held: &PackageDep<'_>) -> Result<bool, AllocError>
         requires within { place < length (candidates_of_packages self.old.packages.now) }
         requires held { IsDepOf (candidates_of_packages self.old.packages.now) held.now }
@@ -84,8 +84,7 @@ impl<'p> PackageMatches<'p> {
         }
     }
 
-    // Whether the package at a place meets a dependency that names the version whose text stands at
-    // a place.
+    // Whether the package at an index meets a dependency with the version whose text is at a place.
     fn meets_as_known(
         &mut self,
         place: usize,
@@ -113,7 +112,7 @@ impl<'p> PackageMatches<'p> {
     }
 }
 
-// What is known of the version that has a key, taken out; nothing is, where the version has none.
+// The results for the version with a key, taken out of the map; none if the version has no key.
 fn take_known(
     alloc: Global,
     by_version: &mut BTreeMap<(u32, u32, u8), KnownMatches>,

@@ -1,8 +1,8 @@
-//! Packages, each kept as its word and the number of its source: an index, or an installed package.
-//! What is said of a package is read from its source when it is asked for.
-//! Which package stands where says `docs/selection.md`, "What there is to choose from"; what a
-//! package's information has, `docs/formats.md`, "Schemas", table 3. That 12 bytes are kept of each
-//! is this crate's own choice, as its README says.
+//! Packages, each stored as its word and the number of its source: an index, or an installed
+//! package. The details of a package are read from its source on demand. The order of packages is
+//! defined in `docs/selection.md`, "What there is to choose from"; a package's information in
+//! `docs/formats.md`, "Schemas", table 3. Storing 12 bytes for each is this crate's own choice, as
+//! its README says.
 ghost use Rattle.std.specs.Prelude.{All};
 ghost use Rattle.candidate_core.specs.PackageWords.{IsPackageAmong};
 
@@ -16,16 +16,16 @@ use crate::versions::{
 use adb_view::{Adb, Val};
 use std::alloc::{AllocError, Global};
 
-/// Where packages come from: an index, or the database, for one package.
+/// A source of packages: an index, or the database, for one package.
 #[derive(Clone, Copy)]
 pub struct Source<'a> {
     /// The payload that the packages are read from.
     pub adb: Adb<'a>,
-    /// The repository of the packages, counted from 1; none for an installed package.
+    /// The repository of the packages, counted from 1; None for an installed package.
     pub repo: Option<u64>,
-    /// The tag of the repository, where it has one.
+    /// The tag of the repository, if it has one.
     pub tag: Option<&'a [u8]>,
-    /// Whether the texts of its packages are known to keep their rules.
+    /// Whether the texts of its packages are known to obey their rules.
     pub has_sound_texts: bool,
 }
 
@@ -47,7 +47,7 @@ pub struct Packages<'a> {
     pub sources: Vec<Source<'a>>,
     /// The packages, in the order in which they were added.
     words: Vec<PackageWord>,
-    // Each word leads to a package of the source at its place.
+    // Each word is that of a package of the source at its index.
     ghost sound: { All (IsPackageAmong sources.items) words.items },
 }
 
@@ -79,7 +79,7 @@ impl<'a> Packages<'a> {
         self.words.len()
     }
 
-    /// What is read of the package at a place, counted from 0.
+    /// The details of the package at an index, counted from 0.
     pub fn get(&self, place: usize) -> Details<'a>
         requires { place < length (candidates_of_packages self.now) }
         ensures { slice_get (candidates_of_packages self.now) place ≡ Some result }
@@ -102,9 +102,9 @@ impl<'a> Packages<'a> {
         own_version(&source, package)
     }
 
-    /// The version under which the package at a place, counted from 0, meets a need: its own, else
-    /// that of the first entry of its provides that meets it. What is known of long versions is
-    /// not compared anew.
+    /// The version under which the package at an index, counted from 0, meets a need: its own, else
+    /// that of the first entry of its provides that meets it. Remembered results for long versions
+    /// are used.
     pub fn version_under(
         &self,
         place: usize,
@@ -124,12 +124,12 @@ impl<'a> Packages<'a> {
         version_under(&source, package, need, known)
     }
 
-    /// Whether the package at a place, counted from 0, meets a need. What is learnt of long
-    /// versions is kept.
+    /// Whether the package at an index, counted from 0, meets a need. Results for long versions are
+    /// remembered.
     ///
     /// # Errors
     ///
-    /// Want of memory.
+    /// Out of memory.
     pub fn meets_need(
         &self,
         place: usize,
@@ -150,8 +150,8 @@ impl<'a> Packages<'a> {
         meets_need(&source, package, need, known)
     }
 
-    /// Where the text stands of the version that a dependency of a package names, if the dependency
-    /// names one; none where that is not known.
+    /// The place of the text of the version in a package's dependency, if there is one; None if it
+    /// is not known.
     pub(crate) fn version_place(&self, held: &PackageDep<'_>) -> Option<VersionPlace>
         requires { IsDepOf (candidates_of_packages self.now) held.now }
         ensures { IfSome result (λ place. IfSome (dependency held.now.dep.now).version
@@ -166,8 +166,8 @@ impl<'a> Packages<'a> {
         depends_version_place(&source, package, held.index)
     }
 
-    /// Adds a source, and answers its place, counted from 0. After an error the packages are as
-    /// before.
+    /// Adds a source, and returns its index, counted from 0. After an error the packages are
+    /// unchanged.
     pub(crate) fn add_source(&mut self, source: Source<'a>) -> Result<u32, AllocError>
         ensures place { IfOk result (λ place.
             slice_get self.new.sources.items place ≡ Some source.entry) }
@@ -181,8 +181,8 @@ impl<'a> Packages<'a> {
         Ok(place)
     }
 
-    /// Adds the package with a word in the source at a place behind the others. `installed` says
-    /// whether it counts as installed.
+    /// Appends the package with a word in the source at an index. `installed` says whether it
+    /// counts as installed.
     pub fn push(&mut self, source: u32, word: Val, installed: bool) -> Result<(), AllocError>
         requires { IsPackageAt self.old.sources.items source word }
         ensures sources { self.new.sources ≡ self.old.sources }

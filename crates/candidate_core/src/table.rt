@@ -1,7 +1,6 @@
-//! The table of names: for each name the candidates that are named so or provide it, in rising
-//! order and each once. It borrows the names. Most names have one candidate, which takes no memory
-//! of its own.
-//! The rule stands in `docs/selection.md`, "What there is to choose from": by which names a
+//! The table of names: for each name the candidates that have it or provide it, in rising order and
+//! each once. It borrows the names. Most names have one candidate, which needs no memory of its
+//! own. The rule is in `docs/selection.md`, "What there is to choose from": by which names a
 //! candidate meets a dependency. An entry of `provides` without version counts too, and one with a
 //! conflict bit does not.
 ghost use Rattle.std.specs.Prelude.{◌≡◌, ◌&&◌, ℕ, List, [], ◌∷◌, ◌++◌, IfOk, OnOk, None, Some, unwrap_or, not};
@@ -24,7 +23,7 @@ use std::slice;
 /// The candidates that offer each name.
 #[derive(Drop)]
 pub struct Table<'a> {
-    /// What memory comes from.
+    /// The allocator.
     alloc: Global,
     // The first candidate of each name.
     singles: IndexMap<&'a [u8], CandId>,
@@ -83,7 +82,7 @@ impl<'a> Table<'a> {
         Ok(())
     }
 
-    // Adds a candidate to each name that an entry of its provides has.
+    // Adds a candidate to the name of each entry of its provides.
     fn add_provided(&mut self, provides: &Deps<'a>, id: CandId) -> Result<(), AllocError>
         ensures { OnOk result ((name : List ℕ) → ids_of self.new name
             ≡ with_last_where (list_any
@@ -96,7 +95,7 @@ impl<'a> Table<'a> {
         Ok(())
     }
 
-    // Adds a candidate to the name of an entry of its provides, unless that is a conflict.
+    // Adds a candidate to the name of an entry of its provides, unless the entry is a conflict.
     fn add_entry(&mut self, entry: &Dep<'a>, id: CandId) -> Result<(), AllocError>
         ensures { OnOk result ((name : List ℕ) → ids_of self.new name
             ≡ with_last_where (not (dependency entry.now).conflict
@@ -109,8 +108,8 @@ impl<'a> Table<'a> {
         Ok(())
     }
 
-    // Adds a candidate to those of a name, unless it is the last of them: a candidate may provide a
-    // name twice, or its own.
+    // Adds a candidate to those of a name, unless it is already the last of them: a candidate may
+    // provide a name twice, or its own.
     fn add(&mut self, name: &'a [u8], id: CandId) -> Result<(), AllocError>
         ensures { OnOk result ((other : List ℕ) → ids_of self.new other
             ≡ with_last_where (bytes_eq other name.entry.now) (ids_of self.old other) id) }
@@ -133,7 +132,7 @@ impl<'a> Table<'a> {
         }
     }
 
-    // Adds a second candidate to those of a name that has one, unless they are the same.
+    // Adds a second candidate to the only one of a name, unless they are the same.
     fn add_second(&mut self, name: &'a [u8], first: CandId, id: CandId) -> Result<(), AllocError>
         requires list { first_under self.old.lists name.now ≡ None }
         requires single { first_under self.old.singles name.now ≡ Some (first ∷ []) }
@@ -188,7 +187,7 @@ fn pair(alloc: Global, first: CandId, second: CandId) -> Result<Vec<CandId>, All
     Ok(ids)
 }
 
-// Puts a candidate behind others, unless it is the last of them.
+// Appends a candidate, unless it is already the last one.
 fn push_once(ids: &mut Vec<CandId>, id: CandId) -> Result<(), AllocError>
     ensures { OnOk result (ids.new.items ≡ with_last ids.old.items id) }
 {

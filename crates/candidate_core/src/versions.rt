@@ -1,7 +1,6 @@
-//! The versions that options are ranked by: what is read of each, and where its text stands, so
-//! that a text which many packages share is known to be one.
-//! The rule stands in `docs/selection.md`, "Which selection is taken", the last paragraph (the
-//! version of key 5) and key 8.
+//! The versions by which options are ranked: the version of each, and the place of its text, by
+//! which a text that many packages share is recognized. The rule is in `docs/selection.md`, "Which
+//! selection is taken", the last paragraph (the version of key 5) and key 8.
 ghost use Rattle.std.specs.Prelude.{◌≡◌, ◌<◌, ℕ, List, true, IfOk, IfSome, length, option_copied, option_to_list, slice_get, Some};
 ghost use Rattle.std.specs.Option.{option_and_then, option_map};
 ghost use Rattle.std.specs.List.{find, list_any};
@@ -34,18 +33,17 @@ use version_core::Version;
 /// A version that an option is ranked by.
 #[derive(Drop)]
 pub struct RankedVersion<'a> {
-    /// The version; none where the text is no version, or the need is met by an entry without
-    /// version.
+    /// The version; None if the text is no version, or the need is met by an entry without version.
     pub version: Option<Version<'a>>,
     /// The place of the source that the version's text is read from, counted from 0.
     pub source: u32,
     /// The word of the version's text in that source.
     pub word: u32,
-    /// How many of the versions that are ranked come before this one; 0 until they are ranked.
+    /// How many of the ranked versions precede this one; 0 before they are ranked.
     pub rank: usize,
 }
 
-/// Where the text of a version stands.
+/// The place of the text of a version.
 #[derive(Clone, Copy)]
 pub(crate) struct VersionPlace {
     /// The place of the source that the text is read from, counted from 0.
@@ -83,8 +81,7 @@ pub(crate) fn own_version<'a>(source: &Source<'a>, kept: PackageWord) -> RankedV
 }
 
 /// The version under which the package with a word in a source meets a need: its own, else that of
-/// the first entry of provides that meets the need. What is known of long versions is not compared
-/// anew.
+/// the first entry of provides that meets the need. Remembered results for long versions are used.
 pub(crate) fn version_under<'a>(
     source: &Source<'a>,
     kept: PackageWord,
@@ -148,8 +145,8 @@ fn meets_by_own_name_as_known(
     known.is_wanted_as_known(dep, &own_version(source, kept))
 }
 
-// The version of the first entry of a package's provides that meets a dependency; none where no
-// entry does. In the clause, 15 is the index of `provides` (`PROVIDES`).
+// The version of the first entry of a package's provides that meets a dependency; None if no entry
+// does. In the clause, 15 is the index of `provides` (`PROVIDES`).
 fn provided_version<'a>(
     source: &Source<'a>,
     kept: PackageWord,
@@ -175,7 +172,7 @@ fn provided_version<'a>(
             }
         }
     }
-    // No entry meets the dependency: a version that is none needs no place.
+    // No entry meets the dependency: an absent version needs no place.
     RankedVersion {
         version: None,
         source: kept.source,
@@ -184,7 +181,7 @@ fn provided_version<'a>(
     }
 }
 
-// Whether an entry of provides, which is the dependency `found`, in the source at a place meets a
+// Whether an entry of provides, which is the dependency `found` in the source at an index, meets a
 // dependency.
 fn is_met_as_known<'a>(
     source: &Source<'a>,
@@ -209,8 +206,8 @@ fn is_met_as_known<'a>(
     known.is_wanted_as_known(dep, &version_of_entry(source, place, word, found))
 }
 
-// The version of an entry of provides, which is the dependency `found`, in the source at a place.
-// Where the entry has no version, the word is 0.
+// The version of an entry of provides, which is the dependency `found` in the source at an index.
+// If the entry has no version, the word is 0.
 fn version_of_entry<'a>(
     source: &Source<'a>,
     place: u32,
@@ -238,10 +235,10 @@ fn version_of_entry<'a>(
     }
 }
 
-/// Where the text stands of the version that a dependency names which the package with a word in a
-/// source has at an index, counted from 0. None where the texts of the source are not known to keep
-/// their rules: then an entry may be none, and the index is not that of the entry. In the clause, 14
-/// is the index of `depends` (`DEPENDS`).
+/// The place of the text of the version in the dependency with an index, counted from 0, of the
+/// package with a word in a source. None if the texts of the source are not known to obey their
+/// rules: then an entry may be no dependency, and the index is not that of the entry. In the
+/// clause, 14 is the index of `depends` (`DEPENDS`).
 pub(crate) fn depends_version_place(
     source: &Source<'_>,
     kept: PackageWord,
@@ -269,7 +266,7 @@ pub(crate) fn depends_version_place(
     })
 }
 
-/// A copy of a version; its text stays borrowed.
+/// A copy of a version; its text is borrowed.
 pub fn same_version<'a>(version: &Option<Version<'a>>) -> Option<Version<'a>>
     ensures { result ≡ version.entry.now }
 {
@@ -279,8 +276,8 @@ pub fn same_version<'a>(version: &Option<Version<'a>>) -> Option<Version<'a>>
     }
 }
 
-// The dependency that an entry of a list is, if it is one; where the source's texts keep their
-// rules, each entry is.
+// The dependency of an entry of a list, if it is one; if the source's texts obey their rules, each
+// entry is.
 fn read_entry<'a>(source: &Source<'a>, entry: Val) -> Option<Dep<'a>>
     requires sound { is_sound (payload_of source.now.adb) (Kinds.Obj Tables.Dep) entry ≡ true }
     requires texts { source.now.has_sound_texts ≡ true → IsSoundDependency
@@ -295,7 +292,7 @@ fn read_entry<'a>(source: &Source<'a>, entry: Val) -> Option<Dep<'a>>
     read_if_sound(&view)
 }
 
-/// Whether a package of a source meets a need. What is learnt of long versions is kept.
+/// Whether a package of a source meets a need. Results for long versions are remembered.
 pub(crate) fn meets_need(
     source: &Source<'_>,
     kept: PackageWord,
@@ -363,7 +360,7 @@ fn own_version_meets(
     known.is_wanted(dep, &own_version(source, kept))
 }
 
-// Whether an entry of what it provides meets it.
+// Whether one of its provides meets it.
 fn any_entry_meets(
     source: &Source<'_>,
     kept: PackageWord,
@@ -389,7 +386,7 @@ fn any_entry_meets(
     Ok(false)
 }
 
-// Whether an entry of what a package of the source at a place provides meets it.
+// Whether one of the provides of a package in the source at an index meets it.
 fn entry_meets<'a>(
     source: &Source<'a>,
     place: u32,
@@ -412,7 +409,7 @@ fn entry_meets<'a>(
     }
 }
 
-// Whether the dependency that such an entry is meets it.
+// Whether the dependency of such an entry meets it.
 fn found_entry_meets<'a>(
     source: &Source<'a>,
     place: u32,
@@ -438,7 +435,7 @@ fn found_entry_meets<'a>(
     known.is_wanted(dep, &version_of_entry(source, place, entry, &found))
 }
 
-// Whether a dependency asks for this name.
+// Whether a dependency is one on this name.
 fn is_named_as(dep: &Dep<'_>, name: &[u8]) -> bool
     ensures { result ≡ bytes_eq (dependency dep.now).name name.now }
 {

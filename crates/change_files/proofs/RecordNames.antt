@@ -1,4 +1,4 @@
--- What stands under the names of the database, the world and a text database after a change.
+-- What is under the names of the database, the world and a text database after a change.
 use Rattle.std.proofs.Common.{◌≡◌, ◌≢◌, ◌⊎◌, inl, inr, ◌∙◌, ℕ, Bool, true, List, [], ◌∷◌, Option, Some, None, refl, ap, sym, true≢false}
 use Rattle.std.specs.Prelude.{◌&&◌, if◌then◌else◌, IsSome}
 use Rattle.std.specs.Str.{bytes_eq}

@@ -68,7 +68,7 @@ starts_before_dot (n ∷ needle) (x ∷ p) rest plain h =
 abbrev is_plain : List ℕ → Bool
 is_plain top = without_dot top && without_dot (top ++ codes "/")
 
--- below a name without a dot stands a name with an ending only where its path does
+-- below a name without a dot stands a name with an ending only if its path does
 below_before_dot : (top p : List ℕ) → is_plain top ≡ true → is_at_or_below top (aside_name p) ≡ true → is_at_or_below top p ≡ true
 below_before_dot top p plain h =
     let (whole, front) = and_parts (without_dot top) (without_dot (top ++ codes "/")) plain in

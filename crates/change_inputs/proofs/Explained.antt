@@ -97,7 +97,7 @@ explained_root (v ∷ earlier) file text world repositories rs fs a b c d stand 
 
 -- ---- the files of a root as they were read
 
--- the text database counts only where there is no other
+-- the text database counts only if there is no other
 text_or : (history : List TreeState) (text file : Option (List ℕ)) → Option (List ℕ)
 text_or history text None = text
 text_or history text (Some file) = unread history text_database_name
@@ -164,7 +164,7 @@ explained_files history command files rs fs stand indexes =
 
 -- ---- the inputs
 
--- nothing is said where the tree failed or no memory was found
+-- nothing is said if the tree failed or no memory was found
 pub explained_failure : {A : Type 0} (view : A → Inputs) (history : List TreeState) (command : CommandLine) (r : Result A Refused) (fault : Refused) → IsErrAnd r (λ e. e ≡ fault) → IsFailure fault
     → Explains history (λ read. AgreesUnlessDisk view r (inputs_of command read))
 explained_failure view history command r fault is failed = explained history (λ read. AgreesUnlessDisk view r (inputs_of command read)) (λ read. failure_agrees view (inputs_of command read) r fault is failed)

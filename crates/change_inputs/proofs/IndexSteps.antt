@@ -65,7 +65,7 @@ front_more : {X : Type 0} (xs : List X) (x : X) (r : Result (List X) Refusals.Re
 front_more xs x (Ok ys) = ap Ok (sym (append_assoc xs (x ∷ []) ys))
 front_more xs x (Err refusal) = refl
 
--- whatever stands under the paths that are left, these files stand in front of it
+-- whatever is under the paths that are left, these files stand in front of it
 abbrev pub IsReadTo : List TreeState → List Repository → ℕ → List (List ℕ) → Type 0
 IsReadTo history rs i files =
     (rest : List (Option (List ℕ))) → StandAt history (drop i rs) rest

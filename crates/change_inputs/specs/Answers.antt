@@ -9,7 +9,7 @@ use Rattle.report_core.specs.declared.refusal.Refusal as Refusals
 use Rattle.change_inputs.specs.declared.root.Refused.{Refused}
 use Rattle.change_inputs.specs.declared.root.Refused.TheVariants.{Disk, Memory, Refusal}
 
--- an answer, seen by a view, is what a definition gives; want of memory says nothing of it
+-- an answer, seen by a view, is what a definition gives; lack of memory says nothing of it
 abbrev pub Agrees :
     {A B : Type 0} → (A → B) → Result A Refused → Result B Refusals.Refusal → Type 0
 Agrees view (Ok x) wanted = wanted ≡ Ok (view x)
@@ -25,7 +25,7 @@ AgreesUnlessDisk view (Err (Refusal refusal)) wanted = wanted ≡ Err refusal
 AgreesUnlessDisk view (Err Disk) wanted = Unit {0}
 AgreesUnlessDisk view (Err Memory) wanted = Unit {0}
 
--- why a call ends without a refusal: a failed tree or want of memory
+-- why a call ends without a refusal: a failed tree or lack of memory
 abbrev pub IsFailure : Refused → Type 0
 IsFailure (Refusal refusal) = ⊥
 IsFailure Disk = Unit {0}

@@ -1,5 +1,5 @@
 -- The packages that a change chooses from: those of the indexes, and those that are installed. The
--- rules stand in `docs/selection.md`, "What there is to choose from".
+-- rules are in `docs/selection.md`, "What there is to choose from".
 use Rattle.std.specs.Prelude.{ℕ, ◌+◌, nat_lt, true, if◌then◌else◌, List, [], ◌∷◌, ◌++◌, length, None, Result, Ok, Err}
 use Rattle.adb_view.specs.FieldIndexes.{INDEX_PACKAGES, PACKAGE_INFO}
 use Rattle.adb_view.specs.Values.{entries_in, entry_in}

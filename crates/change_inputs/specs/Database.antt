@@ -1,4 +1,4 @@
--- The database of a root: what is installed before a command. The rules stand in
+-- The database of a root: what is installed before a command. The rules are in
 -- `docs/commands.md`, "`add` and `del`" (what is read) and "A root of version 2"; a database's
 -- tests in `docs/formats.md`, "Tests of a container".
 use Rattle.std.specs.Prelude.{ℕ, Bool, true, false, List, [], Option, Some, None, Result, Ok, Err}
@@ -14,7 +14,7 @@ use Rattle.v2_core.specs.declared.read.V2Fault.{V2Fault}
 use Rattle.v2_core.specs.declared.read.V2Fault.TheVariants.{Bad, Memory, TooLarge}
 use Rattle.change_inputs.specs.Chains.{unless_cause}
 
--- what is installed: the packages, the bytes of the container that has them, where there is one,
+-- what is installed: the packages, the bytes of the container that has them, if there is one,
 -- and whether a text database says them
 pub record Database : Type 0 where
   pub packages : List Plain
@@ -45,7 +45,7 @@ payload_database (Err Memory) = Err NoDatabase
 abbrev pub text_database : List ℕ → Result Database Refusal
 text_database text = payload_database (payload_of_text text)
 
--- the database where none is there: one without packages, if it may be begun
+-- the database if none is there: one without packages, if it may be begun
 abbrev pub new_database : Bool → Result Database Refusal
 new_database true = Ok (database_by [] None false)
 new_database false = Err NoDatabase

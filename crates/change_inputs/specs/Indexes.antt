@@ -1,4 +1,4 @@
--- The indexes of repositories, which count from 1. The rules stand in `docs/commands.md`,
+-- The indexes of repositories, which count from 1. The rules are in `docs/commands.md`,
 -- "`add` and `del`" (what is read and refused) and "Error lines"; the tests in `docs/formats.md`,
 -- "Tests of a container".
 use Rattle.std.specs.Prelude.{ℕ, ◌+◌, List, [], ◌∷◌, Option, Some, None, Result, Ok, Err}

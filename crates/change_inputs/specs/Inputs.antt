@@ -1,5 +1,5 @@
 -- What a change reads of a root, in the order of the tests: the database, world, the repositories,
--- and their indexes. The rules stand in `docs/commands.md`, "`add` and `del`": what is read, and
+-- and their indexes. The rules are in `docs/commands.md`, "`add` and `del`": what is read, and
 -- the refusals in their order.
 use Rattle.std.specs.Prelude.{ℕ, suc, List, [], ◌∷◌, Option, Result, Ok}
 use Rattle.adb_view.specs.Plain.{Plain}

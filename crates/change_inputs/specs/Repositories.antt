@@ -1,4 +1,4 @@
--- The repositories of a root, whose indexes are read. The rules stand in `docs/formats.md`,
+-- The repositories of a root, whose indexes are read. The rules are in `docs/formats.md`,
 -- "Repositories", and of leave in `docs/commands.md`, "Words", `--allow-untrusted`.
 use Rattle.std.specs.Prelude.{ℕ, Bool, true, false, List, [], ◌∷◌, Result, Ok, Err}
 use Rattle.dep_core.specs.Repositories.{Repository, repositories_of}

@@ -1,4 +1,4 @@
--- World before a command (apk-world(5)), and the one that the command asks for. The rules stand in
+-- World before a command (apk-world(5)), and the one that the command asks for. The rules are in
 -- `docs/formats.md`, "World", and of the operands in `docs/commands.md`, "`add` and `del`".
 use Rattle.std.specs.Prelude.{ℕ, List, [], ◌∷◌, Option, unwrap_or, Result}
 use Rattle.std.specs.Option.{option_map_or}

@@ -1,4 +1,4 @@
-//! The database of a root: its file, or the text database that is taken over. The rules stand in
+//! The database of a root: its file, or the text database that is taken over. The rules are in
 //! `docs/commands.md`, "`add` and `del`" (what is read) and "A root of version 2"; the tests in
 //! `docs/formats.md`, "Tests of a container".
 ghost use Rattle.adb_fields.specs.ListValue.{list_value};
@@ -60,7 +60,7 @@ impl DatabaseFile {
     ghost use Rattle.change_inputs.specs.Seen.{database_seen};
 
     /// The database of a root, by the files under its two names, of which the text is looked at
-    /// last. Where there is none, `may_begin` says whether one without packages is begun.
+    /// last. If there is none, `may_begin` says whether one without packages is begun.
     ///
     /// # Errors
     ///
@@ -154,7 +154,7 @@ impl DatabaseFile {
         // It has the installed packages then, each once.
         ensures ok { OnOk result (pool.new
             ≡ with_all_installed pool.old (database_seen self.entry.now).packages) }
-        // It is refused only for its count, or for want of memory.
+        // It is refused only for its count, or for lack of memory.
         ensures fault { IfErr result (λ fault. IsPoolFault fault (length
             (with_all_installed pool.old (database_seen self.entry.now).packages))) }
     {
@@ -165,7 +165,7 @@ impl DatabaseFile {
         }
     }
 
-    /// The bytes of the container, where there is one: by them a change tells whether the database
+    /// The bytes of the container, if there is one: by them a change tells whether the database
     /// differs.
     pub(crate) fn file(&self) -> Option<&[u8]>
         ensures { option_copied result ≡ (database_seen self.now).file }
@@ -223,7 +223,7 @@ fn add_packages<'a>(
     // It has these packages then, each once.
     ensures ok { OnOk result (pool.new
         ≡ with_all_installed pool.old (list_of (entries_in (list_value packages.now)))) }
-    // It is refused only for its count, or for want of memory.
+    // It is refused only for its count, or for lack of memory.
     ensures fault { IfErr result (λ fault. IsPoolFault fault (length
         (with_all_installed pool.old (list_of (entries_in (list_value packages.now)))))) }
 {

@@ -1,5 +1,5 @@
 //! The repositories of a root, and their indexes: the files of these are all read before one of
-//! them is tested. The rules stand in `docs/commands.md`, "`add` and `del`" (what is read and
+//! them is tested. The rules are in `docs/commands.md`, "`add` and `del`" (what is read and
 //! refused), and in `docs/formats.md`, "Repositories".
 
 ghost use Rattle.adb_schema.specs.Texts.{text_fault};
@@ -158,7 +158,7 @@ fn test_index_file(alloc: Global, number: u64, file: &[u8]) -> Result<(), Refuse
 ///
 /// # Errors
 ///
-/// `RepositoriesBad` with the first bad line; `Untrusted` where there is one and no leave. Or
+/// `RepositoriesBad` with the first bad line; `Untrusted` if there is one and no leave. Or
 /// `Memory`.
 pub(crate) fn repositories_of(
     alloc: Global,

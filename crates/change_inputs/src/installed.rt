@@ -1,4 +1,4 @@
-//! The database of a root alone, as `info` reads it. The rules stand in `docs/commands.md`,
+//! The database of a root alone, as `info` reads it. The rules are in `docs/commands.md`,
 //! "`info`" and "A root of version 2".
 ghost use Rattle.base_core.specs.Read.{OnlyReads};
 ghost use Rattle.change_inputs.specs.Answers.{AgreesUnlessDisk};
@@ -28,8 +28,8 @@ impl Installed {
     ///
     /// # Errors
     ///
-    /// `NoDatabase`, where there is none and `--initdb` is not given; `DatabaseBad`, or
-    /// `ResultTooLarge` of a text database that passes a limit of the writer. `Disk` where the tree
+    /// `NoDatabase`, if there is none and `--initdb` is not given; `DatabaseBad`, or
+    /// `ResultTooLarge` of a text database that passes a limit of the writer. `Disk` if the tree
     /// failed, and `Memory`.
     pub fn read<T: Tree>(
         alloc: Global,

@@ -1,5 +1,5 @@
 //! What a change reads of a root: the database, world, the list of repositories and their indexes,
-//! tested in this order, and the packages to choose from. The rules stand in `docs/commands.md`,
+//! tested in this order, and the packages to choose from. The rules are in `docs/commands.md`,
 //! "`add` and `del`", what is read.
 //!
 //! `Loaded::read` reads and tests them, and a `Loaded` keeps them: `db` lends the database, `pool`

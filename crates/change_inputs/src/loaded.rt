@@ -1,4 +1,4 @@
-//! What a change reads of a root, and the packages that it chooses from. The rules stand in
+//! What a change reads of a root, and the packages that it chooses from. The rules are in
 //! `docs/commands.md`, "`add` and `del`": what is read, and the refusals in their order; of the
 //! candidates in `docs/selection.md`, "What there is to choose from".
 ghost use Rattle.base_core.specs.Read.{OnlyReads};
@@ -43,10 +43,10 @@ impl Loaded {
     ///
     /// # Errors
     ///
-    /// `NoDatabase`, where there is none and `--initdb` is not given; `DatabaseBad`, or
+    /// `NoDatabase`, if there is none and `--initdb` is not given; `DatabaseBad`, or
     /// `ResultTooLarge` of a text database that passes a limit of the writer; `WorldBad`;
     /// `RepositoriesBad`; `Untrusted`; `IndexMissing` of the first index that is absent; `IndexBad`
-    /// of the first one that fails a test. `Disk` where the tree failed, and `Memory`.
+    /// of the first one that fails a test. `Disk` if the tree failed, and `Memory`.
     pub fn read<T: Tree>(alloc: Global, command: &Command, tree: &mut T) -> Result<Loaded, Refused>
         // It is what some contents at each read say; where the tree shows its files, what these
         // say.
@@ -89,7 +89,7 @@ impl Loaded {
         self.root.database.open(alloc)
     }
 
-    /// The bytes of the database's file, and None where it is absent.
+    /// The bytes of the database's file, and None if it is absent.
     pub fn database_file(&self) -> Option<&[u8]>
         ensures { option_copied result ≡ (inputs_seen self.now).root.database.file }
     {
@@ -103,7 +103,7 @@ impl Loaded {
         self.root.database.is_from_text()
     }
 
-    /// The text of world's file, and nothing where it is absent.
+    /// The text of world's file, and nothing if it is absent.
     pub fn world_text(&self) -> &[u8]
         ensures { result.now ≡ (inputs_seen self.now).root.world_text }
     {
@@ -153,10 +153,10 @@ impl Loaded {
     // The candidates of the indexes, and then those of the database, up to the most that a pool
     // holds.
     fn candidates(&self, alloc: Global) -> Result<Pool<'_>, PoolFault>
-        // They are all candidates, where they are not too many.
+        // They are all candidates, if they are not too many.
         ensures ok { IfOk result (λ pool. pool ≡ candidates_of (inputs_seen self.now)) }
         ensures fits { IfOk result (λ pool. length pool ≤ MOST_CANDIDATES) }
-        // They are refused only for their count, or for want of memory.
+        // They are refused only for their count, or for lack of memory.
         ensures fault { IfErr result (λ fault.
             IsPoolFault fault (length (candidates_of (inputs_seen self.now)))) }
     {

@@ -1,5 +1,5 @@
 //! The files of a root, and what they say for a command: how they are read, tested and opened
-//! again, and why a command does not come to its end. The rules stand in `docs/commands.md`,
+//! again, and why a command does not come to its end. The rules are in `docs/commands.md`,
 //! "`add` and `del`", what is read and refused.
 
 ghost use Rattle.base_core.specs.Read.{OnlyReads, bytes_in};
@@ -27,7 +27,7 @@ use report_core::Refusal;
 use root_names::{database_name, repositories_name, text_database_name, world_name};
 use std::alloc::{AllocError, Global};
 
-/// The files of a root, each None where it is absent. The text database is looked for where there
+/// The files of a root, each None if it is absent. The text database is looked for where there
 /// is no other.
 #[derive(Drop)]
 pub(crate) struct RootFiles {
@@ -54,7 +54,7 @@ pub(crate) struct TestedRoot {
 
 /// Reads the files of a root: first the databases, then world and the repositories.
 pub(crate) fn read_root<T: Tree>(alloc: Global, tree: &mut T) -> Result<RootFiles, Refused>
-    // Each file stands under its name, where the tree shows its files.
+    // Each file is under its name, where the tree shows its files.
     ensures found { IfOk result (λ files. StandInRoot (T.history tree.old) files) }
     // Nothing is refused here.
     ensures failed { IfErr result IsFailure }
@@ -85,7 +85,7 @@ pub(crate) fn read_databases<T: Tree>(
     // The database stands there, where the tree shows its files.
     ensures database { IfOk result (λ found.
         StandsAt (T.history tree.old) database_name (bytes_in found.0)) }
-    // So does the text database, which counts only where there is no other.
+    // So does the text database, which counts only if there is no other.
     ensures text_database { IfOk result (λ found. bytes_in found.0 ≡ None
         → StandsAt (T.history tree.old) text_database_name (bytes_in found.1)) }
     // Nothing is refused here.
@@ -136,7 +136,7 @@ pub(crate) fn test_root(
     })
 }
 
-/// The whole file under a name, or None exactly where it is absent.
+/// The whole file under a name, or None exactly if it is absent.
 pub(crate) fn read_file<T: Tree>(
     alloc: Global,
     tree: &mut T,
@@ -198,7 +198,7 @@ impl From<AllocError> for Refused {
     // What becomes of it, as a caller that uses `?` sees it.
     ghost from_gives = { λ _ refused. refused ≡ Memory };
 
-    // Want of memory, as a command tells it.
+    // Lack of memory, as a command tells it.
     fn from(_: AllocError) -> Refused {
         Refused::Memory
     }

@@ -1,4 +1,4 @@
-//! World before a command, and the one that the command asks for. The rules stand in
+//! World before a command, and the one that the command asks for. The rules are in
 //! `docs/formats.md`, "World", and in `docs/commands.md`, "`add` and `del`".
 ghost use Rattle.base_core.specs.Read.{bytes_in};
 ghost use Rattle.change_inputs.specs.Answers.{Agrees};
@@ -14,7 +14,7 @@ use std::alloc::{AllocError, Global};
 /// World, before a command and after it.
 #[derive(Drop)]
 pub(crate) struct Worlds {
-    /// The text of world's file, and nothing where it is absent.
+    /// The text of world's file, and nothing if it is absent.
     pub(crate) text: Vec<u8>,
     /// World as the text says it.
     pub(crate) before: World,

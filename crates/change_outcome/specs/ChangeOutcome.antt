@@ -1,4 +1,4 @@
--- What a command that changes the installed packages comes to. The rules stand in
+-- What a command that changes the installed packages comes to. The rules are in
 -- `docs/commands.md`, "`add` and `del`": what is refused, in this order, what is written, and what
 -- is reported.
 use Rattle.std.specs.Prelude.{◌≡◌, ℕ, ◌==◌, Bool, true, false, not, ◌||◌, List, [], ◌∷◌, ◌++◌, length, map, sum_by, Option, Some, None, Result, Ok, Err, bytes_eq, slice_get, unwrap_or}
@@ -101,7 +101,7 @@ abbrev pub name_if_needed : Bool → List ℕ → List (List ℕ)
 name_if_needed true name = name ∷ []
 name_if_needed false name = []
 
--- the names of the database and of world, each where it is written: world where its text differs,
+-- the names of the database and of world, each if it is written: world where its text differs,
 -- and an absent file counts as empty
 abbrev pub written_records : Inputs → Records → List (List ℕ)
 written_records inputs records =

@@ -1,5 +1,5 @@
 -- What is staged for a change, and where its actions lead. Serves the law
--- `actions_lead_to_given_files`; the rules stand in `docs/crash-safety.md`,
+-- `actions_lead_to_given_files`; the rules are in `docs/crash-safety.md`,
 -- "A change of several files".
 use Rattle.std.specs.Prelude.{◌≡◌, ℕ, ◌<◌, ◌^◌, List, length, None, IsSome}
 use Rattle.base_core.specs.Files.{Files}

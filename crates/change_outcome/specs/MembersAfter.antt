@@ -1,4 +1,4 @@
--- The packages after a change, name by name. The rules stand in `docs/commands.md`,
+-- The packages after a change, name by name. The rules are in `docs/commands.md`,
 -- "`add` and `del`": what is read of the packages that come, and how they are refused, package by
 -- package.
 use Rattle.std.specs.Prelude.{ℕ, suc, ◌+◌, Bool, List, [], ◌∷◌, length, map, Option, Some, None, Result, Ok, option_map, slice_get}

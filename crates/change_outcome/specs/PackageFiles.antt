@@ -43,7 +43,7 @@ package_path index name version =
 abbrev pub if_name : List ℕ → Option (List ℕ)
 if_name path = if is_name path then Some path else None
 
--- the name of a package's file in the folder of the repository's index; None where there is no such
+-- the name of a package's file in the folder of the repository's index; None if there is no such
 -- repository
 abbrev pub path_beside_index : List ℕ → List ℕ → Option Repository → Option (List ℕ)
 path_beside_index name version None = None

@@ -1,4 +1,4 @@
--- The triggers that a change makes due. The rules stand in `docs/commands.md`, "`add` and `del`",
+-- The triggers that a change makes due. The rules are in `docs/commands.md`, "`add` and `del`",
 -- which triggers are due; the line under what is reported.
 use Rattle.std.specs.Prelude.{ℕ, ◌==◌, Bool, true, false, ◌&&◌, if◌then◌else◌, List, [], ◌∷◌, length, map, codes, Result, Ok, Err, bytes_eq}
 use Rattle.std.specs.List.{filter, flat_map, list_any}
@@ -14,31 +14,11 @@ use Rattle.package_files.specs.Folders.{folder_of}
 use Rattle.report_core.specs.Reports.{report_line, trigger_text}
 use Rattle.report_core.specs.declared.refusal.Refusal.{Refusal}
 use Rattle.report_core.specs.declared.refusal.Refusal.TheVariants.{TriggerNeeded}
+use Rattle.star_patterns.specs.Patterns.{is_matched}
 use Rattle.change_outcome.specs.PackageFiles.{has_script_of}
 use Rattle.report_core.specs.Numbers.{TRIGGER_SCRIPT}
 
 -- ---- patterns
-
--- what is left of some bytes behind each place, the whole and the empty end too
-abbrev pub suffixes_of : List ℕ → List (List ℕ)
-suffixes_of [] = [] ∷ []
-suffixes_of (b ∷ bytes) = (b ∷ bytes) ∷ suffixes_of bytes
-
--- whether bytes are this byte, and then what is asked of the rest
-abbrev pub is_byte_then : ℕ → (List ℕ → Bool) → List ℕ → Bool
-is_byte_then p is_rest [] = false
-is_byte_then p is_rest (b ∷ bytes) = (p == b) && is_rest bytes
-
--- the byte `*`, which stands for any bytes in a pattern
-abbrev pub star : ℕ
-star = 42
-
--- whether a part of a pattern matches a part of a folder
-abbrev pub is_part_matched : List ℕ → List ℕ → Bool
-is_part_matched [] bytes = length bytes == 0
-is_part_matched (p ∷ pattern) bytes =
-    if p == star then list_any (is_part_matched pattern) (suffixes_of bytes)
-    else is_byte_then p (is_part_matched pattern) bytes
 
 -- whether the parts of a pattern match those of a folder, part by part, and of as many parts
 abbrev pub are_parts_matched : List (List ℕ) → List (List ℕ) → Bool
@@ -46,7 +26,7 @@ are_parts_matched [] [] = true
 are_parts_matched [] (part ∷ parts) = false
 are_parts_matched (p ∷ patterns) [] = false
 are_parts_matched (p ∷ patterns) (part ∷ parts) =
-    is_part_matched p part && are_parts_matched patterns parts
+    is_matched p part && are_parts_matched patterns parts
 
 -- Whether a pattern matches a folder. One leading `/` of a pattern is dropped. The root folder,
 -- which has the empty name, is matched by the pattern `/` alone.

@@ -1,4 +1,4 @@
-//! What follows from the definitions of a change. The rules stand in `docs/commands.md`,
+//! What follows from the definitions of a change. The rules are in `docs/commands.md`,
 //! "`add` and `del`", and in `docs/crash-safety.md`, "A change of several files".
 
 ghost use Rattle.std.specs.Prelude.{◌≡◌, ◌<◌, ◌++◌, ℕ, false, List, All, None, Ok, Option, length, map};

@@ -1,4 +1,4 @@
-//! What a command that changes the installed packages answers, prints and leaves. The rules stand
+//! What a command that changes the installed packages answers, prints and leaves. The rules are
 //! in `docs/commands.md`, "`add` and `del`" and "What a change does with files".
 //!
 //! It is a crate of definitions, and of laws about them. `ChangeOutcome` of `specs/` says what a

@@ -1,4 +1,4 @@
 mod PathOrder
+mod PatternParts
 pub mod Loops
-mod Stars
 mod Watching

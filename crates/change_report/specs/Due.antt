@@ -1,4 +1,4 @@
--- Which triggers are due after a change, by the plan of its files. The rules stand in
+-- Which triggers are due after a change, by the plan of its files. The rules are in
 -- `docs/commands.md`, "`add` and `del`", which triggers are due and how they are refused.
 use Rattle.std.specs.Prelude.{ℕ, Bool, true, List, ◌++◌, Option, Some, None, Result, Ok, Err}
 use Rattle.change_outcome.specs.ChangeOutcome.{name_at_place}

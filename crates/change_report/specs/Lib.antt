@@ -3,4 +3,3 @@ pub mod Reported
 pub mod Due
 -- what only inner contracts and proofs use
 pub mod Notices
-pub mod Stars

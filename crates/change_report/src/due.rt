@@ -1,5 +1,5 @@
 //! The packages whose triggers are due, by the folders of the files that a change writes and
-//! removes. The rules stand in `docs/commands.md`, "`add` and `del`", which triggers are due.
+//! removes. The rules are in `docs/commands.md`, "`add` and `del`", which triggers are due.
 
 ghost use Rattle.adb_schema.specs.Views.{package_value};
 ghost use Rattle.change_outcome.specs.Triggers.{due_line, due_lines, folders_of_paths, has_due_trigger, is_watched, trigger_lines, unless_trigger};
@@ -42,7 +42,7 @@ pub fn first_due(members: &Members<'_>, folders: &[&[u8]]) -> Option<usize>
 ///
 /// # Errors
 ///
-/// Want of memory.
+/// Lack of memory.
 pub fn push_trigger_lines(
     report: &mut Report,
     members: &Members<'_>,
@@ -131,7 +131,7 @@ fn folder_text(folder: &[u8]) -> &[u8]
 ///
 /// # Errors
 ///
-/// Want of memory.
+/// Lack of memory.
 pub fn touched_folders<'p>(alloc: Global, plan: &'p FilePlan) -> Result<Vec<&'p [u8]>, AllocError>
     ensures { IfOk result (λ folders. map (λ f. f.now) folders.items
         ≡ folders_of_paths (planned_paths plan.entry.now)) }

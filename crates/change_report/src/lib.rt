@@ -6,7 +6,7 @@
 //! in which a file is written or removed.
 //!
 //! The contracts cite `ChangeOutcome` and `Triggers` of change_outcome, and `Reported` and `Due` of
-//! `specs/`. The rules stand in `docs/commands.md`, "`add` and `del`", what is reported and which
+//! `specs/`. The rules are in `docs/commands.md`, "`add` and `del`", what is reported and which
 //! triggers are due.
 #![tactic(auto)]
 

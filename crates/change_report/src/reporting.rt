@@ -44,7 +44,7 @@ pub struct ReportedChange<'c, 'd, 'm> {
 ///
 /// # Errors
 ///
-/// Want of memory.
+/// Lack of memory.
 pub fn change_report(
     alloc: Global,
     reported: &ReportedChange<'_, '_, '_>,

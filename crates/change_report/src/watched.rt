@@ -1,4 +1,4 @@
-//! What a package says of its trigger. The rule stands in `docs/commands.md`, "`add` and `del`",
+//! What a package says of its trigger. The rule is in `docs/commands.md`, "`add` and `del`",
 //! which triggers are due; the fields in `docs/formats.md`, "Schemas", tables 6 and 7.
 //!
 //! The marks serve the borrow checker alone, which does not know the parts of a view that is made

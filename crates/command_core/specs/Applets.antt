@@ -3,12 +3,12 @@
 -- `docs/commands.md` that has its name.
 use Rattle.std.specs.Prelude.{ℕ, ◌||◌, Option, Some, None, if◌then◌else◌}
 use Rattle.command_core.specs.declared.command.Applet.{Applet}
-use Rattle.command_core.specs.declared.command.Applet.TheVariants.{Add, Del, Upgrade, Fix, Info, Verify, Adbdump, Mkpkg, Mkndx, Version, Demo}
+use Rattle.command_core.specs.declared.command.Applet.TheVariants.{Add, Del, Upgrade, Fix, Info, Verify, Adbdump, Mkpkg, Mkndx, Version, Demo, Adbgen, Audit, Manifest, List, Search, Policy, Help, ProgramVersion}
 use Rattle.command_core.specs.declared.command.Flags.{Flags}
-use Rattle.command_core.specs.declared.operands.OperandKind.TheVariants.{File, Any, Dependency, DependencyName, PackageName, Path, Number}
+use Rattle.command_core.specs.declared.operands.OperandKind.TheVariants.{File, Any, Dependency, DependencyName, PackageName, Path, Number, Pattern}
 use Rattle.command_core.specs.declared.operands.OperandRule.{OperandRule}
 use Rattle.command_core.specs.declared.values.TheConstants.{OUTPUT}
-use Rattle.command_core.specs.Operands.{at_least, exactly}
+use Rattle.command_core.specs.Operands.{at_least, at_most, exactly}
 
 -- the letter of the option that an applet needs, so that it has to be given a value, if there is one
 abbrev pub needed_option : Applet → Option ℕ
@@ -46,3 +46,11 @@ operand_rule Mkpkg flags = Some (exactly 0 File)
 operand_rule Mkndx flags = Some (at_least 0 File)
 operand_rule Version flags = version_operands flags
 operand_rule Demo flags = Some (exactly 1 Number)
+operand_rule Adbgen flags = Some (exactly 1 File)
+operand_rule Audit flags = Some (exactly 0 Any)
+operand_rule Manifest flags = Some (at_least 1 PackageName)
+operand_rule List flags = Some (at_least 0 Pattern)
+operand_rule Search flags = Some (at_least 1 Pattern)
+operand_rule Policy flags = Some (at_least 1 PackageName)
+operand_rule Help flags = Some (at_most 1 Any)
+operand_rule ProgramVersion flags = Some (exactly 0 Any)

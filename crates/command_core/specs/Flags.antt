@@ -50,7 +50,7 @@ with_flag WhoOwns flags = record flags { who_owns = true }
 with_flag Test flags = record flags { test = true }
 with_flag Check flags = record flags { check = true }
 
--- the flags that say of which kind a command is: those of `info`, and those of `version`
+-- the flags that say of which kind a command is: those of `info`, of `list`, and of `version`
 abbrev pub kinds : List Flag
 kinds = Installed ∷ (Contents ∷ (Depends ∷ (WhoOwns ∷ (Test ∷ (Check ∷ [])))))
 

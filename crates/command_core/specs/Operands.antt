@@ -2,14 +2,14 @@
 -- The rules stand in `docs/commands.md`, "Words", and for each applet in the section of
 -- `docs/commands.md` that has its name; of a number in "`demo N`".
 use Rattle.std.specs.Prelude.{ℕ, ◌+◌, ◌==◌, nat_lt, nat_le, Bool, true, false, not, ◌&&◌, List, [], ◌∷◌, length, Option, Some, None, is_some, if◌then◌else◌}
-use Rattle.std.specs.Char.{is_ascii_digit}
+use Rattle.std.specs.Char.{is_ascii_digit, is_ascii_graphic}
 use Rattle.std.specs.List.{list_all}
 use Rattle.std.specs.Str.Parse.{digits_value}
 use Rattle.dep_core.specs.Dependency.{is_dep_name, is_package_name}
 use Rattle.dep_core.specs.Reading.{dependency_of}
 use Rattle.command_core.specs.declared.operands.Operand.{Operand}
 use Rattle.command_core.specs.declared.operands.OperandKind.{OperandKind}
-use Rattle.command_core.specs.declared.operands.OperandKind.TheVariants.{File, Any, Dependency, DependencyName, PackageName, Path, Number}
+use Rattle.command_core.specs.declared.operands.OperandKind.TheVariants.{File, Any, Dependency, DependencyName, PackageName, Path, Number, Pattern}
 use Rattle.command_core.specs.declared.operands.OperandRule.{OperandRule}
 use Rattle.command_core.specs.Files.{is_file, is_path}
 
@@ -38,6 +38,10 @@ abbrev pub is_demo_number : List ℕ → Bool
 is_demo_number text =
     is_decimal text && nat_lt 0 (digits_value 10 text) && nat_le (digits_value 10 text) largest_demo
 
+-- whether a text is a pattern: one byte or more, each a visible ASCII character (0x21 to 0x7e)
+abbrev pub is_pattern : List ℕ → Bool
+is_pattern text = nat_lt 0 (length text) && list_all is_ascii_graphic text
+
 -- whether a text can be an operand of this kind
 abbrev pub is_of_kind : OperandKind → List ℕ → Bool
 is_of_kind File text = is_file text
@@ -47,12 +51,17 @@ is_of_kind DependencyName text = is_dep_name text
 is_of_kind PackageName text = is_package_name text
 is_of_kind Path text = is_path text
 is_of_kind Number text = is_demo_number text
+is_of_kind Pattern text = is_pattern text
 
 -- ---- rules
 
 -- the rule of a number of operands of a kind, or more
 abbrev pub at_least : ℕ → OperandKind → OperandRule
 at_least least kind = record { kind = kind; least = least; most = None }
+
+-- the rule of no more than a number of operands of a kind
+abbrev pub at_most : ℕ → OperandKind → OperandRule
+at_most most kind = record { kind = kind; least = 0; most = Some most }
 
 -- the rule of just a number of operands of a kind
 abbrev pub exactly : ℕ → OperandKind → OperandRule

@@ -4,7 +4,7 @@
 use Rattle.std.specs.Prelude.{ℕ, ◌==◌, nat_le, Bool, true, false, not, ◌&&◌, ◌||◌, List, [], ◌∷◌, length, Option, Some, None, IsTrue}
 use Rattle.std.specs.List.{find, list_all, list_any}
 use Rattle.command_core.specs.declared.command.Applet.{Applet}
-use Rattle.command_core.specs.declared.command.Applet.TheVariants.{Add, Del, Upgrade, Fix, Info, Mkpkg, Mkndx, Version}
+use Rattle.command_core.specs.declared.command.Applet.TheVariants.{Add, Del, Upgrade, Fix, Info, Mkpkg, Mkndx, Version, List as ListApplet, Help, ProgramVersion}
 use Rattle.command_core.specs.declared.command.Flag.{Flag}
 use Rattle.command_core.specs.declared.command.Flag.TheVariants.{AllowUntrusted, NoScripts, Initdb, Simulate, Purge, Installed, Contents, Depends, WhoOwns, Test, Check}
 use Rattle.command_core.specs.declared.command.Flags.{Flags}
@@ -38,7 +38,7 @@ abbrev pub are_within : Flags → Flags → Bool
 are_within allowed flags =
     list_all (λ flag. not (has_flag flag flags) || has_flag flag allowed) all_flags
 
--- the flags that every applet may have
+-- the flags that every applet may have that a word names
 abbrev pub common_flags : Flags
 common_flags = with_flag AllowUntrusted (with_flag NoScripts no_flags)
 
@@ -51,6 +51,9 @@ allowed_flags Fix = with_flag Simulate common_flags
 allowed_flags Info =
     with_flag Installed (with_flag Contents (with_flag Depends (with_flag WhoOwns common_flags)))
 allowed_flags Version = with_flag Test (with_flag Check common_flags)
+allowed_flags ListApplet = with_flag Installed common_flags
+allowed_flags Help = no_flags
+allowed_flags ProgramVersion = no_flags
 allowed_flags applet = common_flags
 
 -- whether an applet may have some flags: each is one of its own, and at most one says of which kind

@@ -36,6 +36,22 @@ pub enum Applet {
     Version,
     /// Show an installation of so many packages in memory.
     Demo,
+    /// Make a container from the text that `adbdump` prints.
+    Adbgen,
+    /// Report installed files that differ from what their packages list.
+    Audit,
+    /// Print the hashes of the files of installed packages.
+    Manifest,
+    /// List packages, installed ones and those of repositories.
+    List,
+    /// Find packages of repositories by name, or by what they provide.
+    Search,
+    /// Report the versions of a package, and where each of them is.
+    Policy,
+    /// Print how a command, or the program, is used.
+    Help,
+    /// Print the version of the program.
+    ProgramVersion,
 }
 
 /// An option without a value; the fields of `Flags` say what each asks for.
@@ -51,7 +67,7 @@ pub enum Flag {
     Simulate,
     /// `--purge`.
     Purge,
-    /// `--installed`, `-e`.
+    /// `--installed`, `-e` of `info`, `-I` of `list`.
     Installed,
     /// `--contents`, `-L`.
     Contents,
@@ -78,7 +94,8 @@ pub struct Flags {
     pub simulate: bool,
     /// `--purge` of `del`: changed configuration files are removed too.
     pub purge: bool,
-    /// `--installed` of `info`: which of the packages are installed.
+    /// `--installed` of `info`: which of the packages are installed; of `list`: only packages that
+    /// are installed.
     pub installed: bool,
     /// `--contents` of `info`: the paths of the packages.
     pub contents: bool,
@@ -131,8 +148,8 @@ impl Flags {
         }
     }
 
-    /// Whether a flag was given that says of which kind the command is: one of `info`, or one of
-    /// `version`.
+    /// Whether a flag was given that says of which kind the command is: one of `info`, of `list`, or
+    /// of `version`.
     pub fn has_kind(&self) -> bool
         ensures { result ≡ has_kind self.now }
     {
@@ -191,6 +208,14 @@ impl Applet {
             Applet::Mkndx => Some(OperandRule::at_least(0, OperandKind::File)),
             Applet::Version => version_operands(flags),
             Applet::Demo => Some(OperandRule::exactly(1, OperandKind::Number)),
+            Applet::Adbgen => Some(OperandRule::exactly(1, OperandKind::File)),
+            Applet::Audit => Some(OperandRule::exactly(0, OperandKind::Any)),
+            Applet::Manifest => Some(OperandRule::at_least(1, OperandKind::PackageName)),
+            Applet::List => Some(OperandRule::at_least(0, OperandKind::Pattern)),
+            Applet::Search => Some(OperandRule::at_least(1, OperandKind::Pattern)),
+            Applet::Policy => Some(OperandRule::at_least(1, OperandKind::PackageName)),
+            Applet::Help => Some(OperandRule::at_most(1, OperandKind::Any)),
+            Applet::ProgramVersion => Some(OperandRule::exactly(0, OperandKind::Any)),
         }
     }
 }

@@ -7,7 +7,7 @@ ghost use Rattle.std.specs.Prelude.{◌≡◌, ◌<◌, ◌==◌, ◌++◌, ◌�
 ghost use Rattle.std.specs.Option.{option_map};
 ghost use Rattle.command_core.specs.Files.{without_dot, is_file, is_output};
 ghost use Rattle.command_core.specs.Named.{file_name, are_files, operand_file};
-ghost use Rattle.command_core.specs.Operands.{at_least, exactly, first_refused, has_room, is_of_kind, operand_at, takes};
+ghost use Rattle.command_core.specs.Operands.{at_least, at_most, exactly, first_refused, has_room, is_of_kind, operand_at, takes};
 ghost use Rattle.command_core.specs.Applets.{needed_option, operand_rule};
 ghost use Rattle.command_core.specs.Sound.{value_rules, IsCommand, are_operands, are_values, is_value_by, rule_for};
 ghost use Rattle.command_core.specs.Command.{CommandLine};
@@ -15,7 +15,7 @@ ghost use Rattle.command_core.specs.Values.{first_value, is_given, is_script};
 ghost use Rattle.command_core.specs.declared.operands.OperandRule.{OperandRule};
 ghost use Rattle.command_core.specs.declared.values.OptionValue.{OptionValue};
 
-use crate::texts::{is_demo_number, is_file, is_path, read_file};
+use crate::texts::{is_demo_number, is_file, is_path, is_pattern, read_file};
 use crate::values::{FILES, OUTPUT, SCRIPT};
 use base_core::{Name, Text};
 use dep_core::{is_dep_name, is_package_name, read_dep};
@@ -39,6 +39,8 @@ pub enum OperandKind {
     Path,
     /// A decimal number from 1 to 20,000, without leading zeros.
     Number,
+    /// A pattern: one byte or more, each a visible ASCII character (0x21 to 0x7e).
+    Pattern,
 }
 
 impl OperandKind {
@@ -54,6 +56,7 @@ impl OperandKind {
             OperandKind::PackageName => is_package_name(text),
             OperandKind::Path => is_path(text),
             OperandKind::Number => is_demo_number(text),
+            OperandKind::Pattern => is_pattern(text),
         }
     }
 }
@@ -78,6 +81,17 @@ impl OperandRule {
             kind,
             least,
             most: None,
+        }
+    }
+
+    /// The rule of no more than a number of operands of a kind.
+    pub fn at_most(most: usize, kind: OperandKind) -> OperandRule
+        ensures { result ≡ at_most most kind }
+    {
+        OperandRule {
+            kind,
+            least: 0,
+            most: Some(most),
         }
     }
 

@@ -2,12 +2,12 @@
 //! The rules stand in `docs/commands.md`, "Words", the last paragraph; the types of scripts in
 //! "`mkpkg`", the number in "`demo N`".
 ghost use Rattle.std.specs.Prelude.{◌≡◌, ◌==◌, IfOk, drop};
-ghost use Rattle.std.specs.Char.{is_ascii_digit};
+ghost use Rattle.std.specs.Char.{is_ascii_digit, is_ascii_graphic};
 ghost use Rattle.std.specs.List.{list_all, list_any, position};
 ghost use Rattle.std.specs.Str.{bytes_eq};
 ghost use Rattle.command_core.specs.Files.{is_file, is_output, is_path, without_dot};
 ghost use Rattle.command_core.specs.Named.{file_name};
-ghost use Rattle.command_core.specs.Operands.{has_zero_in_front, is_decimal, is_demo_number};
+ghost use Rattle.command_core.specs.Operands.{has_zero_in_front, is_decimal, is_demo_number, is_pattern};
 ghost use Rattle.command_core.specs.Values.{colon, is_script, script_file, script_type, script_types};
 
 use base_core::{Name, is_name};
@@ -125,6 +125,23 @@ fn colon(text: &[u8]) -> Option<usize>
     ensures { result ≡ position (λ b. b == colon) text.now }
 {
     text.iter().position(|byte| *byte == b':')
+}
+
+/// Whether a text is a pattern: one byte or more, each a visible ASCII character (0x21 to 0x7e).
+pub(crate) fn is_pattern(text: &[u8]) -> bool
+    ensures { result ≡ is_pattern text.now }
+{
+    if text.is_empty() {
+        return false;
+    }
+    are_visible(text)
+}
+
+/// Whether all bytes are visible ASCII characters.
+fn are_visible(text: &[u8]) -> bool
+    ensures { result ≡ list_all is_ascii_graphic text.now }
+{
+    text.iter().all(|byte| byte.is_ascii_graphic())
 }
 
 /// Whether a text is a number of packages for `demo`: decimal, from 1 to 20,000, without leading

@@ -13,7 +13,7 @@ use Rattle.container_laws.specs.TestsInOrder.{IsBlocksFault, IsContainerFault, I
 use Rattle.container_laws.proofs.FirstHeader.{header_told}
 use Rattle.pkg_core.specs.Whole.{behind_fault, container_fault, fault_by_header, fault_by_schema, root_of_schema, whole_fault}
 
--- ---- tests one behind the other
+-- ---- tests in sequence
 
 chain : List (Option Cause) → Option Cause
 chain [] = None

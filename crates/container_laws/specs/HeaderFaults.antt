@@ -1,5 +1,5 @@
--- Which test of a file's header fails. The tests stand in `docs/formats.md`, "Container", the rows
--- of the header in its table.
+-- Which test of a file's header fails. The tests are in `docs/formats.md`, "Container", the rows of the
+-- header in its table.
 use Rattle.std.specs.Prelude.{◌≡◌, ◌⊎◌, ◌<◌, ◌≤◌, ℕ, List, ◌++◌, length, codes}
 use Rattle.base_core.specs.declared.Cause.{Cause}
 use Rattle.base_core.specs.declared.Cause.TheVariants.{NotAdb, Compressed, Truncated}
@@ -16,8 +16,8 @@ IsCompressedFile file = BeginsAs (codes "ADBd") file ⊎ BeginsAs (codes "ADBc")
 abbrev pub IsNoContainer : List ℕ → Type 0
 IsNoContainer file = (IsCompressedFile file → ⊥) × (BeginsAs (codes "ADB.") file → ⊥)
 
--- The fault of a file's header: it has no four bytes; else it begins as a compressed container;
--- else otherwise than a container begins; else it has no eight bytes
+-- The fault of a file's header: it has fewer than four bytes; else it begins as a compressed container;
+-- else it does not begin as a container; else it has fewer than eight bytes
 abbrev pub IsHeaderFault : List ℕ → Cause → Type 0
 IsHeaderFault file c =
     ((length file < 4) × (c ≡ Truncated 0))

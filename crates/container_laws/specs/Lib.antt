@@ -1,3 +1,3 @@
--- what the laws say
+-- cited by the laws
 pub mod HeaderFaults
 pub mod TestsInOrder

@@ -1,5 +1,5 @@
--- The tests of a container in the order in which they are made. The order stands in
--- `docs/formats.md`, "Tests of a container".
+-- The tests of a container in the order in which they are made. The order is in `docs/formats.md`,
+-- "Tests of a container".
 use Rattle.std.specs.Prelude.{◌≡◌, ◌⊎◌, ◌<◌, ℕ, true, false, List, [], ◌∷◌, Option, Some, None, Ok, slice_get}
 use Rattle.base_core.specs.declared.cause.Cause.{Cause}
 use Rattle.base_core.specs.declared.cause.Cause.TheVariants.{WrongSchema}
@@ -18,14 +18,14 @@ use Rattle.adb_view.specs.Head.{head_fault, root_of}
 use Rattle.container_laws.specs.HeaderFaults.{IsHeaderFault}
 use Rattle.pkg_core.specs.Whole.{behind_fault, root_of_schema}
 
--- the fault of tests in their order: one test has it, and none before that has any
+-- the fault of tests in their order: one test has it, and no test before that has one
 pub record IsFirstFailing (tests : List (Option Cause)) (c : Cause) : Type 0 where
   pub place : ℕ
   pub fails : slice_get tests place ≡ Some (Some c)
   pub before : (j : ℕ) → j < place → slice_get tests j ≡ Some None
 
--- the tests of the values and of the blocks behind them: the head of the payload, the shapes, the
--- texts, the names that stand twice, the other blocks
+-- the tests of the values and of the blocks after them: the head of the payload, the shapes, the texts,
+-- repeated names, the further blocks
 abbrev pub tests_of_values : Which → List ℕ → Reading → List (Option Cause)
 tests_of_values which payload behind =
     head_fault payload
@@ -34,16 +34,16 @@ tests_of_values which payload behind =
     ∷ (repeated_fault which (root_value which payload)
     ∷ (behind_fault which (root_value which payload) behind ∷ []))))
 
--- the fault of a file's blocks: the first block is none; or there is one, and one of its tests or
--- of those behind it fails first
+-- the fault of a file's blocks: the first block is bad; or it is good, and the fault is the first of
+-- its tests or of the further blocks
 abbrev pub IsBlocksFault : Which → Reading → Cause → Type 0
 IsBlocksFault which r c =
     (r ≡ fault c)
     ⊎ ((b : Piece) × (at : ℕ) × (behind : Reading) × (r ≡ more b at behind)
     × IsFirstFailing (tests_of_values which b.payload behind) c)
 
--- the fault of a file that has to have one table at its root: first of the header, then of the
--- schema, then of the blocks
+-- the fault of a file that must have one table at its root: first of the header, then of the schema,
+-- then of the blocks
 abbrev pub IsFaultOfTable : Which → List ℕ → Cause → Type 0
 IsFaultOfTable which file c =
     IsHeaderFault file c
@@ -52,8 +52,8 @@ IsFaultOfTable which file c =
     ⊎ ((is_schema_wanted (schema_word which) schema ≡ true)
     × IsBlocksFault which (reading_of (start_of schema file)) c)))
 
--- the fault of a container of any of the four schemas: of the header, then that it is none of the
--- four, then of its tests
+-- the fault of a container of any of the four schemas: of the header, then that its schema is unknown,
+-- then of its tests
 abbrev pub IsContainerFault : List ℕ → Cause → Type 0
 IsContainerFault file c =
     IsHeaderFault file c

@@ -1,5 +1,6 @@
-//! Which test of a container is the one that is reported: the first, in the order in which the
-//! format lists them. It stands in `docs/formats.md`, "Container" and "Tests of a container".
+//! Which fault of a container is reported: that of the first failed test, in the order in which the
+//! format lists the tests. The order is in `docs/formats.md`, "Container" and "Tests of a
+//! container".
 //!
 //! The functions are laws. They cite the definitions of `specs/`, and those of the readers below.
 #![tactic(auto)]
@@ -18,9 +19,9 @@ pub fn the_first_fault_of_a_header_is_reported()
     ensures { (file : List ℕ) (c : Cause) → header_of file ≡ Err c → IsHeaderFault file c }
 {}
 
-/// The fault that is reported of a container is the first of its tests that fails, in this order:
-/// the header, the schema, the first block, the head of its payload, the shapes of the values,
-/// their texts, the names that stand twice, and the blocks behind them.
+/// The fault that is reported of a container is that of the first failed test, in this order: the
+/// header, the schema, the first block, the head of its payload, the shapes of the values, their
+/// texts, repeated names, and the further blocks.
 pub fn the_first_fault_of_a_container_is_reported()
     // Of a file that has to have one table at its root.
     ensures table { (which : Which) (file : List ℕ) (c : Cause)

@@ -1,15 +1,15 @@
-//! The contents that a package gives of its files. The order and the tests stand in
-//! `docs/formats.md`, "The other blocks".
+//! The contents of a package's files. The order and the tests are in `docs/formats.md`, "The other
+//! blocks".
 use base_core::Cause;
 use pkg_core::{FileContents, Package, PackageFault};
 use row_lines::{add_number, add_word};
 use std::alloc::{AllocError, Global};
 
-/// How often the next file is asked for, also behind an end or a refusal.
+/// How many calls for the next file are made, even after the end or an error.
 const CALLS: u32 = 3;
 
-/// Answers `package BYTES`: the identity of a package, how many folders it has, and what three
-/// calls for its next file answer.
+/// Answers `package BYTES`: the identity of a package, how many folders it has, and the results of
+/// three calls for its next file.
 pub(crate) fn add_files(
     alloc: Global,
     file: &[u8],
@@ -22,7 +22,7 @@ pub(crate) fn add_files(
     }
 }
 
-/// Adds what a package answers.
+/// Adds the results of a package.
 fn add_calls(alloc: Global, package: Package<'_>, answer: &mut Vec<u8>) -> Result<(), AllocError> {
     let mut package = package;
     add_word(answer, &package.id())?;

@@ -1,7 +1,6 @@
-//! Answers questions to `adb_write`, `adb_values` and `pkg_core`: the words and the payloads of
-//! values, whose counts may pass a limit, and the files that a package gives. Its stored run has
-//! all rows; `tests/lines.md` describes their form. The README of this crate has a row for each
-//! question.
+//! Answers questions about `adb_write`, `adb_values` and `pkg_core`: the words and the payloads of
+//! values, whose counts may pass a limit, and the files of a package. Its stored run has all rows;
+//! `tests/lines.md` describes their form. The README of this crate has a row for each question.
 #![tactic(auto)]
 
 mod files;
@@ -17,7 +16,7 @@ use std::io;
 use std::process::ExitCode;
 use values::{add_draft, add_file, add_repeated, add_written};
 
-/// What is asked; the README of this crate says what each question answers.
+/// The kinds of questions; the README of this crate has their answers.
 #[derive(Clone, Copy)]
 enum Question {
     /// `write VALUE ..`.
@@ -50,7 +49,7 @@ const QUESTIONS: [(&[u8], Question); 6] = [
 struct Containers;
 
 impl Subject for Containers {
-    /// Answers by the word that the question begins with.
+    /// Answers a question by its first word.
     fn answer(
         &mut self,
         alloc: Global,
@@ -69,7 +68,7 @@ impl Subject for Containers {
     }
 }
 
-/// Runs the rows that stand on standard input.
+/// Runs the rows of standard input.
 fn main(rt: HostRuntime) -> io::Result<ExitCode> {
     run_program(&rt, rt.alloc(), &mut Containers)
 }

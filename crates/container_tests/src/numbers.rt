@@ -1,5 +1,5 @@
 //! Many blobs that are written in some order and then again; they take many pages of the writer's
-//! table. That equal values are stored once stands in `docs/formats.md`, "Canonical layout".
+//! table. That equal values are stored once is stated in `docs/formats.md`, "Canonical layout".
 use crate::values::add_len;
 use adb_view::Val;
 use adb_write::Writer;
@@ -9,7 +9,7 @@ use std::alloc::{AllocError, Global};
 /// How many blobs are written.
 const BLOBS: u32 = 5000;
 
-/// The order in which the numbers of the blobs come.
+/// The order of the numbers of the blobs.
 #[derive(Clone, Copy)]
 enum Order {
     /// From 0 on.
@@ -28,8 +28,8 @@ const ORDERS: [(&[u8], Order); 3] = [
     (b"scattered", Order::Scattered),
 ];
 
-/// The number of the blob at a place, counted from 0. 7919 is odd, so no two of the scattered ones
-/// have one number.
+/// The number of the blob at an index, counted from 0. 7919 is odd, so no two of the scattered ones
+/// have the same number.
 fn number_at(order: Order, i: u32) -> u32 {
     match order {
         Order::Rising => i,
@@ -38,7 +38,7 @@ fn number_at(order: Order, i: u32) -> u32 {
     }
 }
 
-/// Writes the numbers as blobs of four bytes, and answers their words.
+/// Writes the numbers as blobs of four bytes, and returns their words.
 fn words_of(alloc: Global, writer: &mut Writer, order: Order) -> Result<Vec<Val>, AllocError> {
     let mut words = Vec::new(alloc);
     for i in 0..BLOBS {
@@ -47,8 +47,8 @@ fn words_of(alloc: Global, writer: &mut Writer, order: Order) -> Result<Vec<Val>
     Ok(words)
 }
 
-/// Answers `numbers ORDER`: whether each blob has its word again, and how many bytes the payload
-/// has.
+/// Answers `numbers ORDER`: whether each blob has the same word again, and how many bytes the
+/// payload has.
 pub(crate) fn add_numbers(
     alloc: Global,
     order: &[u8],

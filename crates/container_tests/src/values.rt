@@ -1,8 +1,7 @@
-//! Values that a writer or a draft is given, from the words of a row: `.` is null, `#` and a number
-//! an integer, `'` and bytes a blob, what stands between `[` and `]` an array, and what stands
-//! between `{` and `}` an object. Behind `*` stands how often a value is written, and ` ` leaves
-//! out the words of the values before it. What is written stands in `docs/formats.md`,
-//! "Canonical layout"; the words in the README of this crate.
+//! Values for a writer or a draft, from the words of a row: `.` is null, `#` and a number an
+//! integer, `'` and bytes a blob; `[` and `]` enclose an array, `{` and `}` an object. `*` and a
+//! number repeat a value, and `~` leaves out the words of the values before it. The layout is in
+//! `docs/formats.md`, "Canonical layout"; the words in the README of this crate.
 use adb_schema::PACKAGE_WORD;
 use adb_values::Draft;
 use adb_view::Val;
@@ -14,7 +13,7 @@ use std::alloc::{AllocError, Global};
 /// The most bytes of a payload (`docs/formats.md`, "Canonical layout").
 const MOST_BYTES: usize = 268_435_455;
 
-/// What a word of a row stands for.
+/// A word of a row.
 #[derive(Clone, Copy)]
 enum Part<'a> {
     /// NULL.
@@ -33,7 +32,7 @@ enum Part<'a> {
     LeaveOut,
 }
 
-/// What a word stands for, and how often that is written.
+/// A word of a row, and how often it is written.
 fn part_of(word: &[u8]) -> (Part<'_>, u64) {
     match word.iter().position(|byte| *byte == b'*') {
         Some(at) => (part_named(&word[..at]), long_of(&word[at + 1..])),
@@ -41,7 +40,7 @@ fn part_of(word: &[u8]) -> (Part<'_>, u64) {
     }
 }
 
-/// What a word stands for, once it is known how often.
+/// A word of a row, without the number of its repetitions.
 fn part_named(word: &[u8]) -> Part<'_> {
     match word {
         [b'\'', bytes @ ..] => Part::Blob(bytes),
@@ -54,7 +53,7 @@ fn part_named(word: &[u8]) -> Part<'_> {
     }
 }
 
-/// The number that a word is; 0 where it is none.
+/// The number of a word; 0 if it is no number.
 fn long_of(word: &[u8]) -> u64 {
     number_of(word)
         .and_then(|number| u64::try_from(number).ok())
@@ -63,19 +62,19 @@ fn long_of(word: &[u8]) -> u64 {
 
 // ---- a writer
 
-/// What a writer was given.
+/// The state of a writer after some words.
 #[derive(Drop)]
 struct Written {
     /// The writer.
     writer: Writer,
     /// The entries of each list that is open.
     open: Vec<Vec<Val>>,
-    /// The words of the values that stand in no list.
+    /// The words of the values that are in no list.
     words: Vec<Val>,
 }
 
 impl Written {
-    /// Writes what a word stands for.
+    /// Writes a word of a row.
     fn add(&mut self, alloc: Global, part: Part<'_>, times: u64) -> Result<(), AllocError> {
         match part {
             Part::Open => self.open.push(Vec::new(alloc))?,
@@ -94,7 +93,7 @@ impl Written {
         }
     }
 
-    /// Writes a value so many times; each is an entry of the list that is open.
+    /// Writes a value this many times, each time as an entry of the open list.
     fn add_times(&mut self, part: Part<'_>, entries: &[Val], times: u64) -> Result<(), AllocError> {
         for _ in 0..times {
             let word = self.word_of(part, entries)?;
@@ -118,7 +117,7 @@ impl Written {
     }
 }
 
-/// What a writer is given by the words of a row from the second on.
+/// Writes the words of a row from the second on.
 fn write_values(alloc: Global, words: &Words) -> Result<Written, AllocError> {
     let mut written = Written {
         writer: Writer::new(alloc),
@@ -132,7 +131,7 @@ fn write_values(alloc: Global, words: &Words) -> Result<Written, AllocError> {
     Ok(written)
 }
 
-/// The payload of what was written, whose root is the last value.
+/// The payload of the written values, whose root is the last one.
 fn payload_of(written: Written) -> Result<Vec<u8>, WriteFault> {
     let root = match written.words.last() {
         Some(word) => *word,
@@ -179,7 +178,7 @@ fn add_file_of(alloc: Global, payload: &[u8], answer: &mut Vec<u8>) -> Result<()
     add_word(answer, &file_of(alloc, PACKAGE_WORD, payload)?)
 }
 
-/// Adds the counts just behind the first value at which one passes its limit.
+/// Adds the counts just after the first value at which one passes its limit.
 fn add_fault(alloc: Global, fault: WriteFault, answer: &mut Vec<u8>) -> Result<(), AllocError> {
     match fault {
         WriteFault::TooLarge { bytes, values } => {
@@ -203,7 +202,7 @@ fn add_values(draft: &mut Draft, words: &Words, first: usize) -> Result<(), Allo
     Ok(())
 }
 
-/// Gives a draft what a word stands for.
+/// Adds a word of a row to a draft.
 fn add_part(draft: &mut Draft, part: Part<'_>) -> Result<(), AllocError> {
     match part {
         Part::Null => draft.null(),
@@ -230,8 +229,8 @@ pub(crate) fn add_draft(
     }
 }
 
-/// Answers `repeated N VALUES`: how many bytes the payload of a draft has that is an array of so
-/// many times these values.
+/// Answers `repeated N VALUES`: the length of a draft's payload that is an array of N times these
+/// values.
 pub(crate) fn add_repeated(
     alloc: Global,
     words: &Words,

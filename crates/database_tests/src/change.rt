@@ -1,4 +1,4 @@
-//! Changes of a database, from the words of a row. The rules stand in `docs/formats.md`,
+//! Changes of a database, from the words of a row. The rules are in `docs/formats.md`,
 //! "The database after a change".
 use adb_schema::ReadFault;
 use adb_write::WriteFault;
@@ -101,7 +101,7 @@ fn is_among(words: &Words, name: &[u8]) -> bool {
     false
 }
 
-/// The database of members with these flags, one for each file that they list; none where it is too
+/// The database of members with these flags, one for each file that they list; none if it is too
 /// large.
 fn written(
     alloc: Global,

@@ -20,7 +20,7 @@ pub(crate) fn package_file(alloc: Global, words: &Words) -> Result<Vec<u8>, Allo
     }
 }
 
-/// The container of a package; one that is too large counts as want of memory.
+/// The container of a package; one that is too large counts as lack of memory.
 fn container(alloc: Global, payload: &[u8]) -> Result<Vec<u8>, AllocError> {
     if payload.len() > MOST_BYTES {
         return Err(AllocError);

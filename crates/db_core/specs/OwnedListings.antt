@@ -1,5 +1,5 @@
 -- The files that members own.
--- The rule stands in `docs/formats.md`, "The database after a change": "of its files those that the
+-- The rule is in `docs/formats.md`, "The database after a change": "of its files those that the
 -- package owns".
 use Rattle.std.specs.Prelude.{◌≡◌, ℕ, Bool, true, false, List, [], ◌∷◌, map}
 use Rattle.adb_fields.specs.FirstPair.{IsIn}

@@ -1,4 +1,4 @@
--- The definitions of this crate, whose rules stand in `docs/formats.md`, "The database after a
+-- The definitions of this crate, whose rules are in `docs/formats.md`, "The database after a
 -- change".
 
 -- what the contract of `apk` says

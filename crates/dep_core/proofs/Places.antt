@@ -1,4 +1,4 @@
--- Where the entry of a name stands in a world, or would stand, and what an edit there leaves.
+-- Where the entry of a name is in a world, or would stand, and what an edit there leaves.
 use Rattle.std.proofs.Common.{◌≡◌, ℕ, ◌+◌, ◌<◌, ◌≤◌, Bool, true, false, not, List, [], ◌∷◌, length, get_or, set, Ordering, refl, ap, sym, ◌∙◌, arith, zero, suc, cond, subst, ⊎_elim}
 use Rattle.std.specs.Prelude.{◌||◌}
 use Rattle.std.specs.List.{list_all, insert, remove, HoldsAt}
@@ -76,7 +76,7 @@ has_name-at name [] i l t = absurd (omega arith)
 has_name-at name (e ∷ rest) i l t =
     list_any_at (λ (e' : Dependency). bytes_eq e'.name name) (e ∷ rest) i e l (texts_ties (get_or (e ∷ rest) i e).name name ∙ ap is_eq (t e))
 
--- ---- between the entries before the name and those behind it
+-- ---- between the entries before the name and those after it
 
 pub with_entry-insert : (d : Dependency) (w : List Dependency) (i : ℕ) → i ≤ length w → IsPartitionPoint (λ (e : Dependency). bytes_cmp e.name d.name ≡ Less) (λ (e : Dependency). bytes_cmp e.name d.name ≡ Greater) w i → with_entry d w ≡ insert w i d
 with_entry-insert d [] zero l p = refl

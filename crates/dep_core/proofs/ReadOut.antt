@@ -28,7 +28,7 @@ front-behind p text = take-append-drop (prefix_len p text) text
 abbrev bare : List ℕ → Bool → Option (List ℕ) → Dependency
 bare name conflict tag = dependency_by name None 1 conflict tag
 
--- ---- behind the version
+-- ---- after the version
 
 ended-out : (b : Dependency) (tail : List ℕ) (d : Dependency) → at_version_end b tail ≡ Some d → ((b ≡ d) × (tail ≡ [])) ⊎ ((tag : List ℕ) × (b.tag ≡ None) × (is_tag tag ≡ true) × (with_tag b tag ≡ d) × (tail ≡ 64 ∷ tag))
 unfolding at_version_end
@@ -39,9 +39,9 @@ ended-out b (e ∷ tag) d h =
     let both = and_parts (not (is_some b.tag)) (is_tag tag) parts.1 in
     inr (tag, none-from b.tag both.0, both.1, some-inj found.1, ap (λ c. c ∷ tag) (eqb-true e 64 parts.0))
 
--- ---- behind the name and its tag
+-- ---- after the name and its tag
 
--- what the text behind the name and its tag adds
+-- what the text after the name and its tag adds
 record IsLimited (name : List ℕ) (conflict : Bool) (tag : Option (List ℕ)) (text : List ℕ) (d : Dependency) : Type 0 where
   same_name : d.name ≡ name
   same_conflict : d.conflict ≡ conflict
@@ -103,9 +103,9 @@ limited-out name conflict tag [] d n t h =
 limited-out name conflict tag (c ∷ rest) d n t h =
     limited-by-out name conflict tag (operator_bits (take_while is_operator_byte (c ∷ rest))) (take_while is_operator_byte (c ∷ rest)) (rest_behind is_operator_byte (c ∷ rest)) (c ∷ rest) d n t refl (front-behind is_operator_byte (c ∷ rest)) h
 
--- ---- behind the name
+-- ---- after the name
 
--- what the text behind the name adds
+-- what the text after the name adds
 record IsTagged (name : List ℕ) (conflict : Bool) (text : List ℕ) (d : Dependency) : Type 0 where
   same_name : d.name ≡ name
   same_conflict : d.conflict ≡ conflict

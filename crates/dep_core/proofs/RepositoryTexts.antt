@@ -36,7 +36,7 @@ front-in_line (Some tag) h =
 no_line_end : (text : List ℕ) → list_all is_in_line text ≡ true → All (λ b. is_line_end b ≡ false) text
 no_line_end text h = λ k d l. not-true (is_line_end (get_or text k d)) (AllPass-from_list_all is_in_line text h k d l)
 
--- ---- no blank behind a line
+-- ---- no blank after a line
 
 reverse-long : (xs : List ℕ) → 0 < length xs → eqb 0 (length (reverse xs)) ≡ false
 reverse-long xs h = grind (arith, nat_tests, length-reverse xs)

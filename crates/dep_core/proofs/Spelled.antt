@@ -58,7 +58,7 @@ operator_ends_tag b h = grind (arith, nat_tests)
 name_is_no_mark : (b : ℕ) → is_name_byte b ≡ true → eqb b 33 ≡ false
 name_is_no_mark b h = grind (arith, nat_tests)
 
--- ---- what stands behind the version
+-- ---- what follows the version
 
 ended-tag : (d : Dependency) (tag : Option (List ℕ)) → d.tag ≡ None → is_tag_or_none tag ≡ true → at_version_end d (tag_text tag) ≡ Some (dependency_by d.name d.version d.bits d.conflict tag)
 unfolding at_version_end
@@ -115,7 +115,7 @@ limited-limit_tag spelled name conflict tag v bits op o h t =
     limited-text spelled (bare name conflict None) op v (tag_text tag) bits o h (at_stops tag)
     ∙ ended-tag (with_constraint (bare name conflict None) v bits) tag refl t
 
--- ---- the tag behind the name
+-- ---- the tag after the name
 
 limit_stops : (p : ℕ → Bool) (version : Option (List ℕ)) (bits : ℕ) (limit : List ℕ) → ((b : ℕ) → is_operator_byte b ≡ true → not (p b) ≡ true) → SpellsConstraint limit version bits → stops p limit ≡ true
 limit_stops p None bits limit q e = ap (stops p) e
@@ -133,7 +133,7 @@ tagged-at spelled name conflict tag version bits limit t e g =
     (λ i. cond (is_tag (run is_tag_byte tag limit bytes stop i)) (at_constraint (with_tag (bare name conflict None) (run is_tag_byte tag limit bytes stop i)) (past_run is_tag_byte tag limit bytes stop i)) None)
     ∙ (ap (λ b. cond b (at_constraint (bare name conflict (Some tag)) limit) None) t ∙ limited-limit spelled name conflict (Some tag) version bits limit e g)
 
--- an operator stands behind the name
+-- an operator follows the name
 tagged-operator : (d : Dependency) (op rest : List ℕ) (bits : ℕ) → operator_bits op ≡ Some bits → at_name_end d (op ++ rest) ≡ at_constraint d (op ++ rest)
 unfolding at_name_end
 tagged-operator d op rest bits o = by op (operator-is op bits o).1
@@ -153,7 +153,7 @@ limited-none : (name : List ℕ) (conflict : Bool) → at_constraint (bare name 
 unfolding at_constraint
 limited-none name conflict = refl
 
--- behind the name, where the tag stands there
+-- after the name, where the tag is there
 tagged-front : Versions → (name : List ℕ) (conflict : Bool) (tag version : Option (List ℕ)) (bits : ℕ) (limit : List ℕ) → is_tag_or_none tag ≡ true → SpellsConstraint limit version bits → is_constraint version bits ≡ true → at_name_end (bare name conflict None) (tag_text tag ++ limit) ≡ Some (dependency_by name version bits conflict tag)
 tagged-front spelled name conflict (Some tag) version bits limit t e g = tagged-at spelled name conflict tag version bits limit t e g
 tagged-front spelled name conflict None None bits limit t e g =
@@ -162,7 +162,7 @@ tagged-front spelled name conflict None (Some v) bits limit t e g =
     ap (at_name_end (bare name conflict None)) e.2
     ∙ (tagged-operator (bare name conflict None) e.0 v bits e.1 ∙ (ap (at_constraint (bare name conflict None)) (sym e.2) ∙ limited-limit spelled name conflict None (Some v) bits limit e g))
 
--- behind the name, where the tag stands behind the version
+-- after the name, where the tag follows the version
 tagged-back : Versions → (name : List ℕ) (conflict : Bool) (tag version : Option (List ℕ)) (bits : ℕ) (limit : List ℕ) → is_tag_or_none tag ≡ true → SpellsConstraint limit version bits → is_constraint version bits ≡ true → at_name_end (bare name conflict None) (limit ++ tag_text tag) ≡ Some (dependency_by name version bits conflict tag)
 tagged-back spelled name conflict tag None bits limit t e g =
     ap (λ l. at_name_end (bare name conflict None) (l ++ tag_text tag)) e

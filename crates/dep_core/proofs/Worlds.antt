@@ -1,4 +1,4 @@
--- What an entry more or less leaves of the order of a world, and where a name stands in it.
+-- What an entry more or less leaves of the order of a world, and where a name is in it.
 use Rattle.std.proofs.Common.{◌≡◌, ℕ, Bool, true, false, not, List, [], ◌∷◌, Ordering, refl, ap, sym, ◌∙◌, cond, subst}
 use Rattle.std.specs.List.{list_all, filter}
 use Rattle.std.specs.Ordering.{is_lt, is_eq, match_ordering, ordering_reverse}

@@ -1,13 +1,12 @@
--- Dependencies, after apk-package(5) and apk-world(5): their parts, and which bytes these have.
--- The rules stand in `docs/formats.md`, "Dependencies", the first two paragraphs; the match bits in
+-- Dependencies, after apk-package(5) and apk-world(5): their parts, and which bytes these have. The
+-- rules are in `docs/formats.md`, "Dependencies", the first two paragraphs; the match bits in
 -- "Versions", the last paragraph.
 use Rattle.std.specs.Prelude.{ℕ, ◌==◌, nat_lt, nat_le, Bool, false, not, ◌&&◌, ◌||◌, List, [], ◌∷◌, length, codes, Option}
 use Rattle.std.specs.Char.{is_ascii_alphanumeric}
 use Rattle.std.specs.List.{list_all, list_any}
 
--- what a package needs or excludes: a name, the wanted version if one is named, the match bits
--- against it (1 equal, 2 less, 4 greater, 8 the fuzzy match; 1 where no version is named), whether
--- it excludes what meets it, and the tag that world gives the name
+-- what a package needs or excludes. The match bits are 1 equal, 2 less, 4 greater, 8 the fuzzy match;
+-- they are 1 if no version is named. Only world gives a tag to a name
 pub record Dependency : Type 0 where
   pub name : List ℕ
   pub version : Option (List ℕ)
@@ -15,7 +14,7 @@ pub record Dependency : Type 0 where
   pub conflict : Bool
   pub tag : Option (List ℕ)
 
--- a dependency by its parts
+-- a dependency from its parts
 abbrev pub dependency_by : List ℕ → Option (List ℕ) → ℕ → Bool → Option (List ℕ) → Dependency
 dependency_by name version bits conflict tag =
     record { name = name; version = version; bits = bits; conflict = conflict; tag = tag }

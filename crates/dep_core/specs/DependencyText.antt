@@ -1,5 +1,5 @@
--- Which parts are a dependency, and the one text that each is written as.
--- The rules stand in `docs/formats.md`, "Dependencies", the paragraph of the text of a dependency.
+-- Which parts are a dependency, and the one text that each is written as. The rules are in
+-- `docs/formats.md`, "Dependencies", the paragraph of the text of a dependency.
 use Rattle.std.specs.Prelude.{ℕ, ◌==◌, Bool, true, false, ◌&&◌, List, [], ◌∷◌, ◌++◌, map, Option, Some, None, is_some, unwrap_or, IsTrue}
 use Rattle.std.specs.Map.{lookup}
 use Rattle.version_core.specs.Order.{is_version}
@@ -9,13 +9,12 @@ use Rattle.dep_core.specs.Dependency.{Dependency, is_dep_name, is_tag, operators
 abbrev pub operator_text : ℕ → Option (List ℕ)
 operator_text bits = lookup (λ b. b == bits) (map (λ (o : List ℕ × ℕ). (o.1, o.0)) operators)
 
--- whether match bits fit the wanted version: without one they are those of `=`, with one those of an
--- operator
+-- whether match bits fit the wanted version: those of `=` if there is none, else those of an operator
 abbrev pub is_constraint : Option (List ℕ) → ℕ → Bool
 is_constraint None bits = bits == 1
 is_constraint (Some version) bits = is_version version && is_some (operator_text bits)
 
--- whether a tag, where there is one, has the bytes of a tag
+-- whether a tag, if there is one, has the bytes of a tag
 abbrev pub is_tag_or_none : Option (List ℕ) → Bool
 is_tag_or_none None = true
 is_tag_or_none (Some tag) = is_tag tag
@@ -29,18 +28,17 @@ is_dependency d = is_dep_name d.name && is_constraint d.version d.bits && is_tag
 abbrev pub IsDependency : Dependency → Type 0
 IsDependency d = IsTrue (is_dependency d)
 
--- the text that tells a conflict: `!` (33), or nothing where it is none
+-- the text that marks a conflict: `!` (33), or nothing if it is none
 abbrev pub mark_text : Bool → List ℕ
 mark_text true = 33 ∷ []
 mark_text false = []
 
--- the text of a tag: `@` (64) and the tag, or nothing where there is none
+-- the text of a tag: `@` (64) and the tag, or nothing if there is none
 abbrev pub tag_text : Option (List ℕ) → List ℕ
 tag_text None = []
 tag_text (Some tag) = 64 ∷ tag
 
--- the text of what is wanted of the version: operator and version, or nothing where any version is
--- taken
+-- the text of the wanted version: operator and version, or nothing if any version is accepted
 abbrev pub constraint_text : Option (List ℕ) → ℕ → List ℕ
 constraint_text None bits = []
 constraint_text (Some version) bits = unwrap_or (operator_text bits) [] ++ version

@@ -1,5 +1,5 @@
--- The world of a text, apart from how it is read.
--- The rules stand in `docs/formats.md`, "World"; laws of `laws` say that *world_of* keeps them.
+-- The world of a text, defined independently of how it is read. The rules are in `docs/formats.md`,
+-- "World"; the laws in `laws` prove that *world_of* agrees with it.
 use Rattle.std.specs.Prelude.{◌≡◌, ℕ, ◌+◌, ◌<◌, Bool, true, false, not, ◌&&◌, List, [], ◌∷◌, length, map, take, Some, is_ok}
 use Rattle.std.specs.List.{flat_map}
 use Rattle.std.specs.List.Sorted.{IsPermutation}
@@ -16,7 +16,7 @@ abbrev pub have_different_names : List Dependency → Bool
 have_different_names [] = true
 have_different_names (d ∷ rest) = not (has_name d.name rest) && have_different_names rest
 
--- each word is a dependency, no name stands twice, and the world has just these dependencies, in
+-- each word is a dependency, no name occurs twice, and the world has exactly these dependencies, in
 -- order of their names
 pub record IsWorldOf (text : List ℕ) (world : List Dependency) : Type 0 where
   pub entries : List Dependency
@@ -25,9 +25,10 @@ pub record IsWorldOf (text : List ℕ) (world : List Dependency) : Type 0 where
   pub same : IsPermutation entries world
   pub in_order : IsWorld world
 
--- this line, counted from 1, is the first one with which the lines so far are no world any more
+-- this line, counted from 1, is the first that spoils the world: the lines before it are one, and with
+-- it they are not
 pub record IsFirstBadLine (text : List ℕ) (line : ℕ) : Type 0 where
-  -- how many lines stand before it
+  -- how many lines precede it
   pub before : ℕ
   pub number : line ≡ before + 1
   pub within : before < length (lines_of text)

@@ -1,5 +1,5 @@
--- What the refusals of the readers say.
--- The rules stand in `docs/formats.md`, "World" and "Repositories": the first bad line is reported.
+-- What the faults of the readers say about the text. The rules are in `docs/formats.md`, "World" and
+-- "Repositories": the first bad line is reported.
 use Rattle.std.specs.Prelude.{◌≡◌, ℕ, List, Result, Err}
 use Rattle.dep_core.specs.declared.world.WorldFault.{WorldFault}
 use Rattle.dep_core.specs.declared.world.WorldFault.TheVariants.{Bad as BadWorld, Memory as WorldMemory}
@@ -8,12 +8,13 @@ use Rattle.dep_core.specs.declared.repos.ReposFault.TheVariants.{Bad as BadRepos
 use Rattle.dep_core.specs.Dependency.{Dependency}
 use Rattle.dep_core.specs.Repositories.{Repository}
 
--- a bad line is the first one; want of memory says nothing of the text
+-- a bad line is the first one; running out of memory says nothing about the text
 abbrev pub IsWorldFault : WorldFault → Result (List Dependency) ℕ → Type 0
 IsWorldFault (BadWorld line) read = read ≡ Err line
 IsWorldFault WorldMemory read = Unit {0}
 
--- the fault tells the line at which the definition stops; want of memory stands for any
+-- a bad line is the one at which the definition stops; running out of memory says nothing about the
+-- text
 abbrev pub IsReposFault : ReposFault → Result (List Repository) ℕ → Type 0
 IsReposFault (BadRepos line) read = read ≡ Err line
 IsReposFault ReposMemory read = Unit {0}

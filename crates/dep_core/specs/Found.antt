@@ -1,10 +1,10 @@
--- What the entries that were found in a text are held by.
--- Serves the proof of `World::read`, as the invariant of `Found` in `world`.
+-- The keys of the entries that were found in a text. Serves the proof of `World::read`, as the
+-- invariant of `Found` in `world`.
 use Rattle.std.specs.Prelude.{◌≡◌, ℕ, List, [], ◌∷◌}
 use Rattle.std.specs.Borrow.{Bor}
 use Rattle.dep_core.specs.Dependency.{Dependency}
 
--- each entry is held by its own name
+-- each entry has its own name as its key
 abbrev pub IsByName : List (Bor (List ℕ) × Dependency) → Type 0
 IsByName [] = Unit {0}
 IsByName (e ∷ rest) = (e.0.now ≡ e.1.name) × IsByName rest

@@ -1,5 +1,5 @@
--- A path below the root may be written with one `/` in front.
--- The rules stand in `docs/formats.md`, "Repositories", and `docs/commands.md`, "`info`".
+-- A path below the root may be written with one `/` in front. The rules are in `docs/formats.md`,
+-- "Repositories", and `docs/commands.md`, "`info`".
 use Rattle.std.specs.Prelude.{ℕ, ◌==◌, if◌then◌else◌, List, [], ◌∷◌}
 
 -- a text without one leading `/` (47)

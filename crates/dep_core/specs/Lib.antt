@@ -1,5 +1,5 @@
--- The definitions of this crate. Each file names the place of its rule.
--- what the contract of `apk` says
+-- The definitions of this crate. The head of each file names the section with its rule.
+-- cited by the contract of `apk`
 pub mod Dependency
 pub mod DependencyText
 pub mod Reading
@@ -9,7 +9,7 @@ pub mod LeadingSlash
 pub mod Meets
 pub mod World
 pub mod Repositories
--- what only inner contracts and proofs use
+-- used by inner contracts and proofs only
 pub mod Spelling
 pub mod Entries
 pub mod RepositoryText

@@ -1,7 +1,6 @@
--- Which dependency a text is, if it is one.
--- The rules stand in `docs/formats.md`, "Dependencies", the paragraph of the text of a dependency.
--- Each definition `at_..` reads from one place of the grammar on, with the dependency as it was read so
--- far.
+-- Which dependency a text denotes, if any. The rules are in `docs/formats.md`, "Dependencies", the
+-- paragraph of the text of a dependency. Each definition `at_..` reads from one place of the grammar
+-- on, with the dependency as read so far.
 use Rattle.std.specs.Prelude.{ℕ, ◌==◌, Bool, true, false, not, ◌&&◌, ◌||◌, if◌then◌else◌, List, [], ◌∷◌, ◌++◌, drop, codes, Option, Some, None, is_some}
 use Rattle.std.specs.List.{prefix_len, take_while}
 use Rattle.std.specs.Map.{lookup}
@@ -9,11 +8,11 @@ use Rattle.std.specs.Str.{bytes_eq}
 use Rattle.version_core.specs.Order.{is_version}
 use Rattle.dep_core.specs.Dependency.{Dependency, dependency_by, is_name_byte, is_dep_name, is_tag_byte, is_tag, operators}
 
--- what is left of a text behind the longest front of bytes that have a property
+-- the text after its longest front of bytes that have a property
 abbrev pub rest_behind : (ℕ → Bool) → List ℕ → List ℕ
 rest_behind p text = drop (prefix_len p text) text
 
--- whether operators have this byte: `<`, `=`, `>` or `~`
+-- whether a byte occurs in operators: `<`, `=`, `>` or `~`
 abbrev pub is_operator_byte : ℕ → Bool
 is_operator_byte b = (b == 60) || (b == 61) || (b == 62) || (b == 126)
 
@@ -21,12 +20,11 @@ is_operator_byte b = (b == 60) || (b == 61) || (b == 62) || (b == 126)
 abbrev pub operator_bits : List ℕ → Option ℕ
 operator_bits text = lookup (bytes_eq text) (operators ++ ((codes "=~", 9) ∷ (codes "~=", 9) ∷ []))
 
--- whether a byte is not the `@` (64) that stands before a tag
+-- whether a byte is not the `@` (64) that precedes a tag
 abbrev pub is_not_at : ℕ → Bool
 is_not_at b = not (b == 64)
 
--- a dependency on any version; as each one without a wanted version it has the match bits of the
--- operator `=`, which are 1
+-- a dependency on any version; it has the match bits of the operator `=`, which are 1
 abbrev pub any_version : Bool → List ℕ → Dependency
 any_version conflict name = dependency_by name None 1 conflict None
 
@@ -38,13 +36,13 @@ with_tag d tag = dependency_by d.name d.version d.bits d.conflict (Some tag)
 abbrev pub with_constraint : Dependency → List ℕ → ℕ → Dependency
 with_constraint d version bits = dependency_by d.name (Some version) bits d.conflict d.tag
 
--- reads behind the version: nothing, or `@` (64) and the tag, if none stands behind the name
+-- reads after the version: nothing, or `@` (64) and the tag, if no tag followed the name
 unfoldable pub at_version_end : Dependency → List ℕ → Option Dependency
 at_version_end d [] = Some d
 at_version_end d (b ∷ tag) =
     if (b == 64) && (not (is_some d.tag) && is_tag tag) then Some (with_tag d tag) else None
 
--- reads behind the operator: the version, up to an `@`
+-- reads after the operator: the version, up to an `@`
 unfoldable pub at_version : Dependency → ℕ → List ℕ → Option Dependency
 at_version d bits text =
     if is_version (take_while is_not_at text)
@@ -52,20 +50,19 @@ at_version d bits text =
     (rest_behind is_not_at text)
     else None
 
--- reads on behind the bytes of an operator, with its match bits; there are none where they are no
--- operator
+-- reads after the bytes of an operator, with its match bits; None if they are no operator
 abbrev pub at_operator_end : Dependency → Option ℕ → List ℕ → Option Dependency
 at_operator_end d None text = None
 at_operator_end d (Some bits) text = at_version d bits text
 
--- reads behind the name and its tag: nothing, or the operator
+-- reads after the name and its tag: nothing, or the operator
 unfoldable pub at_constraint : Dependency → List ℕ → Option Dependency
 at_constraint d [] = Some d
 at_constraint d (b ∷ rest) =
     at_operator_end d (operator_bits (take_while is_operator_byte (b ∷ rest)))
     (rest_behind is_operator_byte (b ∷ rest))
 
--- reads behind the `@`: the tag
+-- reads after the `@`: the tag
 unfoldable pub at_tag : Dependency → List ℕ → Option Dependency
 at_tag d text =
     if is_tag (take_while is_tag_byte text)
@@ -73,12 +70,12 @@ at_tag d text =
     (rest_behind is_tag_byte text)
     else None
 
--- reads behind the name: the tag behind `@` (64), if one stands there
+-- reads after the name: `@` (64) and the tag, if there is one
 unfoldable pub at_name_end : Dependency → List ℕ → Option Dependency
 at_name_end d [] = Some d
 at_name_end d (b ∷ rest) = if b == 64 then at_tag d rest else at_constraint d (b ∷ rest)
 
--- reads behind the mark of a conflict, or from the front where there is none: the name
+-- reads the name, from the front or after the mark of a conflict
 unfoldable pub at_name : Bool → List ℕ → Option Dependency
 at_name conflict text =
     if is_dep_name (take_while is_name_byte text)
@@ -86,7 +83,8 @@ at_name conflict text =
     (rest_behind is_name_byte text)
     else None
 
--- the dependency that a text is, or None where it is none; `!` (33) in front makes it a conflict
+-- the dependency that a text denotes, or None if it denotes none; a leading `!` (33) makes it a
+-- conflict
 unfoldable pub dependency_of : List ℕ → Option Dependency
 dependency_of [] = None
 dependency_of (b ∷ rest) = if b == 33 then at_name true rest else at_name false (b ∷ rest)

@@ -1,5 +1,5 @@
--- Repositories: where indexes lie, a path on each line, some under a tag.
--- The rules stand in `docs/formats.md`, "Repositories".
+-- Repositories: the paths of indexes, one on each line, some under a tag. The rules are in
+-- `docs/formats.md`, "Repositories".
 use Rattle.std.specs.Prelude.{ℕ, ◌+◌, ◌-◌, ◌==◌, Bool, true, false, ◌&&◌, if◌then◌else◌, List, [], ◌∷◌, ◌++◌, length, take, Option, Some, None, Result, Ok, Err}
 use Rattle.std.specs.Option.{option_map}
 use Rattle.std.specs.List.{suffix_len, take_while}
@@ -14,11 +14,11 @@ pub record Repository : Type 0 where
   pub tag : Option (List ℕ)
   pub path : List ℕ
 
--- a repository by its parts
+-- a repository from its parts
 abbrev pub repository : Option (List ℕ) → List ℕ → Repository
 repository tag path = record { tag = tag; path = path }
 
--- the text up to the blanks that it ends with
+-- the text without the blanks at its end
 abbrev pub without_trailing_blanks : List ℕ → List ℕ
 without_trailing_blanks text = take (length text - suffix_len is_blank text) text
 
@@ -26,7 +26,7 @@ without_trailing_blanks text = take (length text - suffix_len is_blank text) tex
 abbrev pub without_outer_blanks : List ℕ → List ℕ
 without_outer_blanks text = without_trailing_blanks (rest_behind is_blank text)
 
--- whether a line, without blanks at its ends, is passed over: it is empty, or begins with `#` (35)
+-- whether a line, without blanks at its ends, is skipped: it is empty, or begins with `#` (35)
 abbrev pub is_comment : List ℕ → Bool
 is_comment [] = true
 is_comment (b ∷ rest) = b == 35
@@ -42,7 +42,7 @@ abbrev pub at_path : Option (List ℕ) → List ℕ → Option Repository
 at_path tag path =
     if is_name (without_slash path) then Some (repository tag (without_slash path)) else None
 
--- the repository of a text behind `@`: the tag, blanks, the path
+-- the repository of a text after `@`: the tag, blanks, the path
 unfoldable pub tagged_repository : List ℕ → Option Repository
 tagged_repository text =
     let tag = take_while is_tag_byte text in
@@ -50,8 +50,7 @@ tagged_repository text =
     if is_tag tag && begins_with_blank rest then at_path (Some tag) (rest_behind is_blank rest)
     else None
 
--- the repository of a line without blanks at its ends that is not passed over; `@` (64) stands before a
--- tag
+-- the repository of a line that is not skipped, without blanks at its ends; `@` (64) precedes a tag
 unfoldable pub repository_of : List ℕ → Option Repository
 repository_of [] = None
 repository_of (b ∷ rest) = if b == 64 then tagged_repository rest else at_path None (b ∷ rest)
@@ -60,21 +59,21 @@ repository_of (b ∷ rest) = if b == 64 then tagged_repository rest else at_path
 abbrev pub singleton : Repository → List Repository
 singleton found = found ∷ []
 
--- what a line names: nothing, one repository, or none where it is bad
+-- the repositories on a line, none or one; None if the line is bad
 abbrev pub repositories_on : List ℕ → Option (List Repository)
 repositories_on line =
     if is_comment (without_outer_blanks line) then Some []
     else option_map singleton (repository_of (without_outer_blanks line))
 
--- the repositories of a line, or none where it is bad, before those of the lines behind it
+-- the repositories of a line before those of the lines after it; the number of the line if it is bad
 abbrev pub with_repositories : ℕ → Option (List Repository) → Result (List Repository) ℕ
     → Result (List Repository) ℕ
 with_repositories line None rest = Err line
 with_repositories line (Some found) (Ok rest) = Ok (found ++ rest)
 with_repositories line (Some found) (Err bad) = Err bad
 
--- the repositories of some lines, the first of which has a number, or the number of the first bad
--- line
+-- the repositories of some lines, the first of which has this number; or else the number of the first
+-- bad line
 abbrev pub repositories_from : ℕ → List (List ℕ) → Result (List Repository) ℕ
 repositories_from line [] = Ok []
 repositories_from line (text ∷ rest) =

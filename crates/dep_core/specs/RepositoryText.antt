@@ -1,4 +1,4 @@
--- Which repositories lines can name, and a text that names them. The rules stand in `docs/formats.md`,
+-- Which repositories lines can name, and a text that names them. The rules are in `docs/formats.md`,
 -- "Repositories"; serves the law `repositories_are_read_back`.
 use Rattle.std.specs.Prelude.{ℕ, ◌==◌, Bool, not, ◌&&◌, List, [], ◌∷◌, ◌++◌, Option, Some, None}
 use Rattle.std.specs.List.{list_all, suffix_len}
@@ -7,22 +7,22 @@ use Rattle.dep_core.specs.DependencyText.{is_tag_or_none}
 use Rattle.dep_core.specs.Repositories.{Repository}
 use Rattle.dep_core.specs.World.{is_blank, is_line_end}
 
--- whether a line can hold this path: it is a name, has no line end, and does not end with a blank
+-- whether a line can have this path: it is a name, has no line end, and does not end with a blank
 abbrev pub is_line_path : List ℕ → Bool
 is_line_path path =
     is_name path && (list_all (λ b. not (is_line_end b)) path && (suffix_len is_blank path == 0))
 
--- whether a line can name this repository: its tag is a tag, and a line can hold its path
+-- whether a line can name this repository: its tag is a tag, and a line can have its path
 abbrev pub is_line_repository : Repository → Bool
 is_line_repository found = is_tag_or_none found.tag && is_line_path found.path
 
--- what stands before the path: `@` (64), the tag and a space (32), or nothing where there is no tag
+-- the text before the path: `@` (64), the tag and a space (32), or nothing if there is no tag
 abbrev pub tag_front : Option (List ℕ) → List ℕ
 tag_front None = []
 tag_front (Some tag) = 64 ∷ (tag ++ (32 ∷ []))
 
--- a text that names these repositories: a line for each, which ends with a line end (10), the path
--- behind a slash (47)
+-- a text that names these repositories: for each a line with the path after a slash (47), which ends
+-- with a line end (10)
 abbrev pub repositories_text : List Repository → List ℕ
 repositories_text [] = []
 repositories_text (found ∷ rest) =

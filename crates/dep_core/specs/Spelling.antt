@@ -1,19 +1,18 @@
--- The texts of a dependency, apart from how they are read.
--- The rules stand in `docs/formats.md`, "Dependencies": the tag may also stand behind the version, and
--- `~` has two more texts.
+-- The texts of a dependency, defined independently of how they are read. The rules are in
+-- `docs/formats.md`, "Dependencies": the tag may also follow the version, and `~` has two more texts.
 use Rattle.std.specs.Prelude.{◌≡◌, ℕ, List, [], ◌++◌, Option, Some, None, ◌⊎◌}
 use Rattle.dep_core.specs.Dependency.{Dependency}
 use Rattle.dep_core.specs.DependencyText.{IsDependency, mark_text, tag_text}
 use Rattle.dep_core.specs.Reading.{operator_bits}
 
--- a text spells what is wanted of the version: an operator of the match bits, and the version; or
--- nothing where any is taken
+-- a text spells a version constraint: an operator of these match bits, and the version; or nothing if
+-- any version is accepted
 abbrev pub SpellsConstraint : List ℕ → Option (List ℕ) → ℕ → Type 0
 SpellsConstraint text None bits = text ≡ []
 SpellsConstraint text (Some version) bits =
     (operator : List ℕ) × (operator_bits operator ≡ Some bits) × (text ≡ operator ++ version)
 
--- a text spells a dependency in the grammar: the tag stands behind the name or behind the version
+-- a text spells a dependency in the grammar: the tag follows the name or the version
 abbrev pub SpellsDependency : List ℕ → Dependency → Type 0
 SpellsDependency text d =
     IsDependency d × ((limit : List ℕ) × SpellsConstraint limit d.version d.bits

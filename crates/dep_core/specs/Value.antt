@@ -1,28 +1,28 @@
--- Dependencies as they stand in a package's information: a name, a version and a match number,
--- which is the match bits of the operator, and 16 more for a conflict.
--- The rules stand in `docs/formats.md`, "Dependencies", the paragraph of the value in a package; the
--- three fields are those of "Schemas", table 1.
+-- Dependencies in a package's information: a name, a version and a match number. The match number is
+-- the match bits of the operator, and 16 more for a conflict. The rules are in `docs/formats.md`,
+-- "Dependencies", the paragraph of the value in a package; the three fields are those of "Schemas",
+-- table 1.
 use Rattle.std.specs.Prelude.{ℕ, ◌+◌, ◌%◌, ◌==◌, nat_lt, Bool, true, false, ◌&&◌, if◌then◌else◌, List, [], ◌∷◌, Option, Some, None, unwrap_or}
 use Rattle.version_core.specs.Order.{is_version}
 use Rattle.version_core.specs.Op.{is_op}
 use Rattle.dep_core.specs.Dependency.{Dependency}
 
--- the three fields of a dependency in a package: an empty version is none, and a match number that is
--- absent counts as 0
+-- the three fields of a dependency in a package: an empty version stands for none, and an absent match
+-- number counts as 0
 pub record DepValue : Type 0 where
   pub name : List ℕ
   pub version : List ℕ
   pub matching : Option ℕ
 
--- the match number of a dependency, or None where it is left out: 16 stands for a conflict, and 7 (so
--- 23) for any version; none is written for the operator `=` (1) alone or for no version
+-- the match number of a dependency, or None if it is absent. 16 marks a conflict, and 7 (so 23) accepts
+-- any version. None is written for the operator `=` (1) alone, or if no version is wanted
 abbrev pub matching_of : Option (List ℕ) → ℕ → Bool → Option ℕ
 matching_of None bits true = Some 23
 matching_of None bits false = None
 matching_of (Some version) bits true = Some (16 + bits)
 matching_of (Some version) bits false = if bits == 1 then None else Some bits
 
--- the value of a dependency without tag; a tag stands in world only
+-- the value of a dependency without tag; only world has tags
 abbrev pub dep_value : Dependency → DepValue
 dep_value d =
     record {

@@ -1,12 +1,12 @@
--- Which dependency a value of a package's information is, if it is one.
--- The rules stand in `docs/formats.md`, "Dependencies", the paragraph of the value in a package.
+-- Which dependency a value of a package's information denotes, if any. The rules are in
+-- `docs/formats.md`, "Dependencies", the paragraph of the value in a package.
 use Rattle.std.specs.Prelude.{ℕ, ◌+◌, ◌%◌, ◌==◌, nat_lt, not, ◌&&◌, ◌||◌, if◌then◌else◌, List, [], ◌∷◌, Option, Some, None}
 use Rattle.dep_core.specs.Dependency.{Dependency, is_dep_name}
 use Rattle.dep_core.specs.Reading.{any_version, with_constraint}
 use Rattle.dep_core.specs.Value.{is_matching, is_version_or_empty}
 
--- the match bits that the low four bits of a match number stand for: 7 and 15 take any version (None),
--- 0 stands for 1, and 8, 10 and 12, which match fuzzily, for 9, 11 and 13, which take equal versions
+-- the match bits for the low four bits of a match number. 7 and 15 accept any version (None), and 0
+-- counts as 1. 8, 10 and 12, which match fuzzily, count as 9, 11 and 13, which accept equal versions
 -- too
 abbrev pub bits_of : ℕ → Option ℕ
 bits_of low =
@@ -15,13 +15,13 @@ bits_of low =
     if (low == 8) || ((low == 10) || (low == 12)) then Some (low + 1) else
     Some low
 
--- the dependency with a wanted version and its match bits; without either the dependency stays as it is
+-- the dependency with a wanted version and its match bits; without match bits it is unchanged
 abbrev pub on_version : Dependency → List ℕ → Option ℕ → Dependency
 on_version d [] bits = d
 on_version d (b ∷ rest) None = d
 on_version d (b ∷ rest) (Some bits) = with_constraint d (b ∷ rest) bits
 
--- the dependency that a name, a version and a match number are, or None where one of them is not
+-- the dependency that a name, a version and a match number denote, or None if one of them is not
 -- allowed; from 16 on it is a conflict
 unfoldable pub dependency_of_value : List ℕ → List ℕ → ℕ → Option Dependency
 dependency_of_value name version matching =

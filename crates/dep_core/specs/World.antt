@@ -1,6 +1,5 @@
--- World, after apk-world(5): what is asked of the installed packages, a dependency for each name,
--- in byte order of the names.
--- The rules stand in `docs/formats.md`, "World".
+-- World, after apk-world(5): the dependencies that the user asks for, one for each name, in byte order
+-- of the names. The rules are in `docs/formats.md`, "World".
 use Rattle.std.specs.Prelude.{ℕ, ◌+◌, ◌==◌, Bool, true, not, ◌&&◌, ◌||◌, if◌then◌else◌, List, [], ◌∷◌, ◌++◌, length, Option, Some, None, option_and_then, Result, Ok, Err, IsTrue}
 use Rattle.std.specs.List.{filter, list_all, list_any, slice_split}
 use Rattle.std.specs.Ordering.{is_lt, match_ordering}
@@ -10,7 +9,7 @@ use Rattle.dep_core.specs.Dependency.{Dependency}
 use Rattle.dep_core.specs.DependencyText.{dep_text, is_dependency}
 use Rattle.dep_core.specs.Reading.{dependency_of}
 
--- whether each name comes before those behind it
+-- whether each name is less than those after it
 abbrev pub is_in_order : List Dependency → Bool
 is_in_order [] = true
 is_in_order (d ∷ rest) =
@@ -24,7 +23,7 @@ IsWorld world = IsTrue (list_all is_dependency world && is_in_order world)
 abbrev pub has_name : List ℕ → List Dependency → Bool
 has_name name world = list_any (λ (d : Dependency). bytes_eq d.name name) world
 
--- world with a dependency, in place of the one of its name or where its name belongs
+-- world with a dependency, in place of the one with its name, or else inserted in order
 abbrev pub with_entry : Dependency → List Dependency → List Dependency
 with_entry d [] = d ∷ []
 with_entry d (e ∷ rest) =
@@ -47,7 +46,7 @@ is_blank b = (b == 32) || (b == 9)
 abbrev pub is_line_end : ℕ → Bool
 is_line_end b = b == 10
 
--- the lines of a text; behind the last line end too there is one
+-- the lines of a text; there is one after the last line end too
 abbrev pub lines_of : List ℕ → List (List ℕ)
 lines_of text = slice_split is_line_end text
 
@@ -55,30 +54,30 @@ lines_of text = slice_split is_line_end text
 abbrev pub words_of : List ℕ → List (List ℕ)
 words_of line = filter (λ word. not (length word == 0)) (slice_split is_blank line)
 
--- world with an entry, unless it is none or its name stands there
+-- world with one more entry, or None if there is none or its name is taken
 abbrev pub with_new_entry : List Dependency → Dependency → Option (List Dependency)
 with_new_entry world d = if has_name d.name world then None else Some (with_entry d world)
 
--- world with the entries of some words, unless one is no dependency or repeats a name
+-- world with the entries of some words, or None if a word is no dependency or repeats a name
 abbrev pub with_words : List Dependency → List (List ℕ) → Option (List Dependency)
 with_words world [] = Some world
 with_words world (word ∷ words) =
     option_and_then (λ more. with_words more words)
     (option_and_then (with_new_entry world) (dependency_of word))
 
--- what comes of the world that a line leaves, or the number of that line where it is bad
+-- the world after a line, or the number of that line if it is bad
 abbrev pub or_bad_line : ℕ → (List Dependency → Result (List Dependency) ℕ)
     → Option (List Dependency) → Result (List Dependency) ℕ
 or_bad_line line next None = Err line
 or_bad_line line next (Some world) = next world
 
--- world with the entries of some lines, the first of which has a number, or the number of the first
--- bad line
+-- world with the entries of some lines, the first of which has this number; or else the number of the
+-- first bad line
 abbrev pub with_lines : List Dependency → ℕ → List (List ℕ) → Result (List Dependency) ℕ
 with_lines world line [] = Ok world
 with_lines world line (text ∷ rest) =
     or_bad_line line (λ more. with_lines more (line + 1) rest) (with_words world (words_of text))
 
--- the world that a text is, or the number of its first bad line, counted from 1
+-- the world that a text denotes, or the number of its first bad line, counted from 1
 unfoldable pub world_of : List ℕ → Result (List Dependency) ℕ
 world_of text = with_lines [] 1 (lines_of text)

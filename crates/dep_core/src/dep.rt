@@ -1,6 +1,5 @@
-//! Dependencies: their parts, names, tags and operators, and what meets them.
-//! The rules stand in `docs/formats.md`, "Dependencies"; the match bits of an operator in
-//! "Versions".
+//! Dependencies: their parts, names, tags and operators, and what meets them. The rules are in
+//! `docs/formats.md`, "Dependencies"; the match bits of an operator in "Versions".
 
 ghost use Rattle.std.specs.Prelude.{IsTrue, ◌≡◌, Some, IfSome, is_some, ◌==◌};
 ghost use Rattle.std.specs.Option.{option_copied};
@@ -16,13 +15,14 @@ use version_core::{Op, Version};
 pub struct Dep<'a> {
     /// The name, of 1 to 255 bytes.
     pub name: &'a [u8],
-    /// The version that is wanted. Without one, any version is taken.
+    /// The wanted version. Without one, any version is accepted.
     pub version: Option<Version<'a>>,
-    /// How a version is to compare with the wanted one: `=` where none is wanted.
+    /// How a version must compare with the wanted one; `=` if no version is wanted.
     pub op: Op,
     /// Whether it excludes what meets it.
     pub conflict: bool,
-    /// The tag of the repositories that may serve it; it stands in world only (apk-world(5)).
+    /// The tag of the repositories that may supply it. Only dependencies in world have one
+    /// (apk-world(5)).
     pub tag: Option<&'a [u8]>,
     pub ghost in_grammar: { IsTrue (is_dependency
         (dependency_by name.now version op conflict (option_copied tag))) },
@@ -75,7 +75,7 @@ impl<'a> Dep<'a> {
         dep
     }
 
-    /// This dependency, on the versions that compare so with the wanted one.
+    /// This dependency with its version and operator replaced.
     pub(crate) fn with_constraint(self, version: Version<'a>, op: Op) -> Dep<'a>
         requires { IsTrue (is_some (operator_text op)) }
         ensures { dependency result ≡ with_constraint (dependency self.entry) version.entry op }
@@ -87,15 +87,15 @@ impl<'a> Dep<'a> {
     }
 }
 
-/// The operator `=`, whose match bits are 1; a dependency without version has it.
+/// The operator `=`, whose match bits are 1. A dependency without version has it.
 fn equal() -> Op
     ensures { result ≡ 1 }
 {
     Op::of(1).unwrap()
 }
 
-/// The operator that a text is, `=~` and `~=` being other texts of `~`. None comes exactly where it
-/// is none.
+/// The operator that a text denotes; `=~` and `~=` are other texts of `~`. None if and only if the
+/// text is no operator.
 pub fn operator_of(text: &[u8]) -> Option<Op>
     ensures bits { result ≡ operator_bits text.now }
     ensures has_text { IfSome result (λ op. IsTrue (is_some (operator_text op))) }
@@ -113,7 +113,7 @@ pub fn operator_of(text: &[u8]) -> Option<Op>
     }
 }
 
-/// The text of an operator that has one.
+/// The text of an operator; it must have one.
 pub fn operator_text(op: Op) -> &'static [u8]
     requires { IsTrue (is_some (operator_text op)) }
     ensures { operator_text op ≡ Some result.now }
@@ -141,7 +141,7 @@ pub fn is_dep_name(name: &[u8]) -> bool
     has_name_bytes(name)
 }
 
-/// Whether all bytes are such as a name may have.
+/// Whether a name may have each of the bytes.
 fn has_name_bytes(name: &[u8]) -> bool
     ensures { result ≡ list_all is_name_byte name.now }
 {
@@ -186,14 +186,14 @@ pub fn is_tag(tag: &[u8]) -> bool
     has_tag_bytes(tag)
 }
 
-/// Whether all bytes are such as a tag may have.
+/// Whether a tag may have each of the bytes.
 fn has_tag_bytes(tag: &[u8]) -> bool
     ensures { result ≡ list_all is_tag_byte tag.now }
 {
     tag.iter().all(|byte| is_tag_byte(*byte))
 }
 
-/// Whether a byte may stand in the name of a dependency.
+/// Whether a byte may be in the name of a dependency.
 pub fn is_name_byte(byte: u8) -> bool
     ensures { result ≡ is_name_byte byte }
 {
@@ -204,7 +204,7 @@ pub fn is_name_byte(byte: u8) -> bool
     }
 }
 
-/// Whether a byte may stand in a tag.
+/// Whether a byte may be in a tag.
 pub fn is_tag_byte(byte: u8) -> bool
     ensures { result ≡ is_tag_byte byte }
 {

@@ -1,6 +1,6 @@
-//! What follows from the definitions, for all texts and dependencies: the body of a law only calls
-//! laws of lower crates, and its contract is proved.
-//! The rules stand in `docs/formats.md`, "Dependencies", "World" and "Repositories".
+//! Theorems about the definitions, for all texts and dependencies. Each is proved as the contract
+//! of a function that only calls laws of lower crates. The rules are in `docs/formats.md`,
+//! "Dependencies", "World" and "Repositories".
 
 ghost use Rattle.std.specs.Prelude.{◌≡◌, ℕ, List, None, Some, Ok, Err, IsTrue, is_ok, map, unwrap_or};
 ghost use Rattle.dep_core.specs.Dependency.{Dependency};
@@ -55,7 +55,7 @@ pub fn worlds_are_read_back()
     versions_have_version_bytes();
 }
 
-/// The world of a text has just the dependencies that its words are, one a name.
+/// The world of a text has exactly the dependencies that its words denote, one per name.
 pub fn worlds_hold_their_words()
     ensures { (text : List ℕ) (world : List Dependency) → world_of text ≡ Ok world
         → IsWorldOf text world }

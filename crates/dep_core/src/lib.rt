@@ -1,14 +1,14 @@
-//! Dependencies, world and repositories, after apk-package(5) and apk-world(5): which texts and
-//! which fields of a package's information are dependencies, the one text that each is written as,
-//! and what meets them; the entries of `etc/apk/world`; the lines of `etc/apk/repositories`.
+//! Dependencies, world and repositories, after apk-package(5) and apk-world(5). The crate reads
+//! dependencies from texts and from fields of a package's information, writes each as one text, and
+//! decides what meets them. It reads and writes `etc/apk/world` and `etc/apk/repositories`.
 //!
-//! Bytes come in; `Dep`, `World` and `Repos` go out, and texts of them. A `Dep` borrows and takes
-//! no memory. The contracts cite `specs/`: `Dependency` (the parts and their bytes),
+//! `Dep`, `World` and `Repos` are read from bytes and written as texts. A `Dep` borrows and
+//! allocates no memory. The contracts cite `specs/`: `Dependency` (the parts and their bytes),
 //! `DependencyText` (the grammar and the text), `Reading`, `Value` and `ValueReading`, `Meets`
-//! (what a `Dep` stands for, and what meets it), `World` and `Repositories`, and `LeadingSlash`
-//! (one slash before a path). `Spelling`, `Entries` and `RepositoryText` say the same apart from
-//! how a text is read, and the functions of `laws` join the two.
-//! The rules stand in `docs/formats.md`, "Dependencies", "World" and "Repositories".
+//! (what a `Dep` represents, and what meets it), `World`, `Repositories`, and `LeadingSlash` (one
+//! slash before a path). `Spelling`, `Entries` and `RepositoryText` define the same texts
+//! independently of how they are read, and the laws in `laws` relate the two. The rules are in
+//! `docs/formats.md`, "Dependencies", "World" and "Repositories".
 #![tactic(auto)]
 
 mod dep;

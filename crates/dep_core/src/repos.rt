@@ -1,5 +1,5 @@
-//! Repositories: the lines of `etc/apk/repositories` and how they are read.
-//! The rules stand in `docs/formats.md`, "Repositories".
+//! Repositories: the lines of `etc/apk/repositories` and how they are read. The rules are in
+//! `docs/formats.md`, "Repositories".
 
 ghost use Rattle.std.specs.Prelude.{◌≡◌, ◌<◌, ◌==◌, ◌++◌, length, slice_get, Some, None, if◌then◌else◌, IfOk, IfErr, option_copied};
 ghost use Rattle.std.specs.Option.{option_map};
@@ -13,12 +13,12 @@ use base_core::{Name, Text};
 use std::alloc::{AllocError, Global};
 use std::marker::Model;
 
-/// Why repositories are not read.
+/// Why repositories were not read.
 #[derive(Clone, Copy, Debug, PartialEq, Eq)]
 pub enum ReposFault {
-    /// The first line, counted from 1, that names no index.
+    /// The first line, counted from 1, that names no repository.
     Bad { line: u64 },
-    /// There was no memory.
+    /// Out of memory.
     Memory,
 }
 
@@ -28,7 +28,7 @@ impl From<AllocError> for ReposFault {
 
     ghost from_gives = { λ _ fault. fault ≡ Memory };
 
-    /// Where no memory was given the repositories are not read.
+    /// Running out of memory is a fault of its own.
     fn from(_: AllocError) -> ReposFault {
         ReposFault::Memory
     }
@@ -51,10 +51,10 @@ impl Model for Repo {
     ghost view = { λ repo. repository repo.tag repo.path };
 }
 
-/// Where indexes lie, in the order of the lines, some under a tag.
+/// Where indexes are found, in the order of the lines, some under a tag.
 #[derive(Drop)]
 pub struct Repos {
-    /// One for each line that is not passed over.
+    /// One for each line that is not skipped.
     repos: Vec<Repo>,
 }
 
@@ -68,8 +68,8 @@ impl Model for Repos {
 }
 
 impl Repos {
-    /// The repositories that a text names, a path on each line, or `@`, a tag, spaces or tabs and a
-    /// path. Lines that are empty or begin with `#` are passed over, as are spaces and tabs at both
+    /// The repositories that a text names. A line has a path, or `@`, a tag, spaces or tabs and a
+    /// path. Lines that are empty or begin with `#` are skipped, as are spaces and tabs at both
     /// ends of a line. One leading `/` of a path is dropped, and the rest must be a name.
     pub fn read(alloc: Global, bytes: &[u8]) -> Result<Repos, ReposFault>
         ensures ok { IfOk result (λ repos. repositories_of bytes.now ≡ Ok repos) }
@@ -100,7 +100,7 @@ impl Repos {
         self.repos.is_empty()
     }
 
-    /// The file of the index of a repository, by how many repositories stand before it.
+    /// The file of the index of a repository, by its index.
     pub fn path(&self, i: usize) -> &Name
         requires { i < length self.now }
         ensures { option_map (λ repo. repo.path) (slice_get self.now i) ≡ Some result.now }
@@ -108,7 +108,7 @@ impl Repos {
         &self.repos[i].path
     }
 
-    /// The tag of a repository, if it has one, by how many repositories stand before it.
+    /// The tag of a repository, if it has one, by its index.
     pub fn tag(&self, i: usize) -> Option<&[u8]>
         requires { i < length self.now }
         ensures { option_map (λ repo. repo.tag) (slice_get self.now i)
@@ -118,7 +118,7 @@ impl Repos {
     }
 }
 
-/// Adds the repository that a line names, if it names one, and tells whether the line is good.
+/// Adds the repository that a line names, if it names one, and returns whether the line is good.
 fn add_line(alloc: Global, repos: &mut Vec<Repo>, line: &[u8]) -> Result<bool, AllocError>
     ensures { IfOk result (λ good.
         option_map (λ found. repos.old.items ++ found) (repositories_on line.now)
@@ -142,7 +142,7 @@ fn without_outer_blanks(text: &[u8]) -> &[u8]
     without_trailing_blanks(&text[blank_len(text)..])
 }
 
-/// The text up to the blanks that it ends with.
+/// The text without the blanks at its end.
 fn without_trailing_blanks(text: &[u8]) -> &[u8]
     ensures { result.now ≡ without_trailing_blanks text.now }
 {
@@ -153,7 +153,7 @@ fn without_trailing_blanks(text: &[u8]) -> &[u8]
     &text[..end]
 }
 
-/// Whether a line without blanks at its ends is passed over.
+/// Whether a line without blanks at its ends is skipped.
 fn is_comment(text: &[u8]) -> bool
     ensures { result ≡ is_comment text.now }
 {
@@ -163,7 +163,7 @@ fn is_comment(text: &[u8]) -> bool
     }
 }
 
-/// The repository of a line that is no comment; None where the line is bad.
+/// The repository of a line that is no comment; None if the line is bad.
 #[tactic(auto, unfolding(crate::specs::Repositories::repository_of))]
 fn read_repo(alloc: Global, text: &[u8]) -> Result<Option<Repo>, AllocError>
     ensures { IfOk result (λ found. found ≡ repository_of text.now) }
@@ -175,7 +175,7 @@ fn read_repo(alloc: Global, text: &[u8]) -> Result<Option<Repo>, AllocError>
     }
 }
 
-/// The repository of a text behind the `@` of its tag; None where it is bad.
+/// The repository of a text after the `@` of its tag; None if it is bad.
 #[tactic(auto, unfolding(crate::specs::Repositories::tagged_repository))]
 fn read_tagged(alloc: Global, text: &[u8]) -> Result<Option<Repo>, AllocError>
     ensures { IfOk result (λ found. found ≡ tagged_repository text.now) }
@@ -197,7 +197,7 @@ fn begins_with_blank(text: &[u8]) -> bool
     }
 }
 
-/// The repository with this tag and this path; None where the path is none.
+/// The repository with this tag and this path; None if the path is not a name.
 fn at_path(alloc: Global, tag: Option<&[u8]>, path: &[u8]) -> Result<Option<Repo>, AllocError>
     ensures { IfOk result (λ found. found ≡ at_path (option_copied tag.entry) path.now) }
 {
@@ -211,7 +211,7 @@ fn at_path(alloc: Global, tag: Option<&[u8]>, path: &[u8]) -> Result<Option<Repo
     Ok(Some(Repo { tag, path }))
 }
 
-/// A text without one leading `/`, which may stand before a path below the root.
+/// A text without one leading `/`, which is allowed before a path below the root.
 pub fn without_slash(path: &[u8]) -> &[u8]
     ensures { result.now ≡ without_slash path.now }
 {

@@ -1,5 +1,5 @@
 //! Dependencies as texts and as values of a package's information: how they are read and written.
-//! The rules stand in `docs/formats.md`, "Dependencies".
+//! The rules are in `docs/formats.md`, "Dependencies".
 
 ghost use Rattle.std.specs.Prelude.{◌≡◌, IsTrue, true, is_some, IfSome, ◌++◌, IfOk, OnOk, ◌≤◌, length, not, position};
 ghost use Rattle.std.specs.Option.{option_map};
@@ -17,8 +17,8 @@ use base_core::Text;
 use std::alloc::{AllocError, Global};
 use version_core::{Op, Version};
 
-/// The dependency that a text is, as `name`, `!name`, `name@tag>=1.2` or `name>=1.2@tag`. None
-/// comes exactly where it is none.
+/// The dependency that a text denotes, as `name`, `!name`, `name@tag>=1.2` or `name>=1.2@tag`. None
+/// if and only if the text is no dependency.
 #[tactic(auto, unfolding(crate::specs::Reading::dependency_of))]
 pub fn read_dep(text: &[u8]) -> Option<Dep<'_>>
     ensures { option_map dependency result ≡ dependency_of text.entry.now }
@@ -42,7 +42,7 @@ fn at_name(conflict: bool, text: &[u8]) -> Option<Dep<'_>>
     at_name_end(Dep::any_version(conflict, name), rest)
 }
 
-/// Reads what stands behind the name: a tag, a constraint or nothing.
+/// Reads what follows the name: a tag, a constraint or nothing.
 #[tactic(auto, unfolding(crate::specs::Reading::at_name_end))]
 fn at_name_end<'a>(dep: Dep<'a>, text: &'a [u8]) -> Option<Dep<'a>>
     ensures { option_map dependency result ≡ at_name_end (dependency dep.entry) text.entry.now }
@@ -54,7 +54,7 @@ fn at_name_end<'a>(dep: Dep<'a>, text: &'a [u8]) -> Option<Dep<'a>>
     }
 }
 
-/// Reads a tag behind the name, and a constraint or nothing behind it.
+/// Reads a tag after the name, and a constraint or nothing after it.
 #[tactic(auto, unfolding(crate::specs::Reading::at_tag))]
 fn at_tag<'a>(dep: Dep<'a>, text: &'a [u8]) -> Option<Dep<'a>>
     ensures { option_map dependency result ≡ at_tag (dependency dep.entry) text.entry.now }
@@ -66,7 +66,7 @@ fn at_tag<'a>(dep: Dep<'a>, text: &'a [u8]) -> Option<Dep<'a>>
     at_constraint(dep.with_tag(tag), rest)
 }
 
-/// Reads an operator and the version behind it, or nothing.
+/// Reads an operator and the version after it, or nothing.
 #[tactic(auto, unfolding(crate::specs::Reading::at_constraint))]
 fn at_constraint<'a>(dep: Dep<'a>, text: &'a [u8]) -> Option<Dep<'a>>
     ensures { option_map dependency result ≡ at_constraint (dependency dep.entry) text.entry.now }
@@ -79,7 +79,7 @@ fn at_constraint<'a>(dep: Dep<'a>, text: &'a [u8]) -> Option<Dep<'a>>
     at_version(dep, op, rest)
 }
 
-/// Reads the version behind an operator, and what follows it.
+/// Reads the version after an operator, and what follows it.
 #[tactic(auto, unfolding(crate::specs::Reading::at_version))]
 fn at_version<'a>(dep: Dep<'a>, op: Op, text: &'a [u8]) -> Option<Dep<'a>>
     requires { IsTrue (is_some (operator_text op)) }
@@ -90,7 +90,7 @@ fn at_version<'a>(dep: Dep<'a>, op: Op, text: &'a [u8]) -> Option<Dep<'a>>
     at_version_end(dep.with_constraint(version, op), rest)
 }
 
-/// Reads what stands behind the version: a tag or nothing.
+/// Reads what follows the version: a tag or nothing.
 #[tactic(auto, unfolding(crate::specs::Reading::at_version_end))]
 fn at_version_end<'a>(dep: Dep<'a>, text: &'a [u8]) -> Option<Dep<'a>>
     ensures { option_map dependency result ≡ at_version_end (dependency dep.entry) text.entry.now }
@@ -102,15 +102,15 @@ fn at_version_end<'a>(dep: Dep<'a>, text: &'a [u8]) -> Option<Dep<'a>>
     }
 }
 
-/// 16: what a match number has above the four bits of the operator where it is a conflict. All
-/// match numbers are below twice as much.
+/// The part of a match number above the operator's four bits that marks a conflict. All match
+/// numbers are below twice as much.
 const CONFLICT: u64 = 16;
 
 /// The dependency of a package's information: a name, a version, which may be empty, and a match
-/// number. The low four bits are the operator's, and 16 stands for a conflict. With the low bits 7
-/// or 15 any version is taken; 0 stands for 1, and 8, 10, 12 for 9, 11, 13. None comes exactly
-/// where the name is none, the version is neither empty nor one, or the number is above 31 or has
-/// the low bits 6 or 14.
+/// number. The low four bits of the number are the operator's, and 16 marks a conflict. With the
+/// low bits 7 or 15 any version is accepted. 0 counts as 1, and 8, 10, 12 count as 9, 11, 13. None
+/// if and only if the name is no name, the version is neither empty nor a version, or the number is
+/// above 31 or has the low bits 6 or 14.
 #[tactic(auto, unfolding(crate::specs::ValueReading::dependency_of_value))]
 pub fn dep_of<'a>(name: &'a [u8], version: &'a [u8], matching: u64) -> Option<Dep<'a>>
     ensures { option_map dependency result
@@ -122,8 +122,8 @@ pub fn dep_of<'a>(name: &'a [u8], version: &'a [u8], matching: u64) -> Option<De
     dep_of_parts(name, version, matching)
 }
 
-/// What `dep_of` answers, of a name and a version that are known to be good, so that neither is
-/// looked at.
+/// The result of `dep_of` for a name and a version that are known to be good, so that neither is
+/// read.
 #[tactic(auto, unfolding(crate::specs::ValueReading::dependency_of_value))]
 pub fn dep_of_parts<'a>(name: &'a [u8], version: &'a [u8], matching: u64) -> Option<Dep<'a>>
     requires name { is_dep_name name.now ≡ true }
@@ -152,8 +152,7 @@ fn is_version_or_empty(text: &[u8]) -> bool
     text.is_empty() || Version::read(text).is_some()
 }
 
-/// The operator against the wanted version that the low four bits of a match number stand for; None
-/// where any version is taken.
+/// The operator that the low four bits of a match number denote; None if any version is accepted.
 fn wanted_op(low: Op) -> Option<Op>
     ensures bits { result ≡ bits_of low }
     ensures has_text { IfSome result (λ op. IsTrue (is_some (operator_text op))) }
@@ -177,7 +176,7 @@ pub fn dep_text(alloc: Global, dep: &Dep<'_>) -> Result<Text, AllocError>
     Text::of(alloc, &text)
 }
 
-/// Adds the text of a dependency behind what is written already.
+/// Appends the text of a dependency.
 pub fn append_dep(text: &mut Vec<u8>, dep: &Dep<'_>) -> Result<(), AllocError>
     ensures { OnOk result (text.new.items ≡ text.old.items ++ dep_text (dependency dep.now)) }
 {
@@ -196,7 +195,7 @@ pub fn append_dep(text: &mut Vec<u8>, dep: &Dep<'_>) -> Result<(), AllocError>
     Ok(())
 }
 
-/// How many bytes of a name a text begins with.
+/// The length of the longest front whose bytes a name may have.
 #[tactic(auto, using(crate::proofs::Prefixes::len_at))]
 pub fn name_len(text: &[u8]) -> usize
     ensures len { result ≡ prefix_len is_name_byte text.now }
@@ -205,14 +204,14 @@ pub fn name_len(text: &[u8]) -> usize
     name_end(text).unwrap_or(text.len())
 }
 
-/// Where the first byte stands that a name may not have.
+/// The index of the first byte that a name may not have.
 fn name_end(text: &[u8]) -> Option<usize>
     ensures { result ≡ position (λ b. not (is_name_byte b)) text.now }
 {
     text.iter().position(|byte| !is_name_byte(*byte))
 }
 
-/// How many bytes of a tag a text begins with.
+/// The length of the longest front whose bytes a tag may have.
 #[tactic(auto, using(crate::proofs::Prefixes::len_at))]
 pub fn tag_len(text: &[u8]) -> usize
     ensures len { result ≡ prefix_len is_tag_byte text.now }
@@ -221,14 +220,14 @@ pub fn tag_len(text: &[u8]) -> usize
     tag_end(text).unwrap_or(text.len())
 }
 
-/// Where the first byte stands that a tag may not have.
+/// The index of the first byte that a tag may not have.
 fn tag_end(text: &[u8]) -> Option<usize>
     ensures { result ≡ position (λ b. not (is_tag_byte b)) text.now }
 {
     text.iter().position(|byte| !is_tag_byte(*byte))
 }
 
-/// How many bytes of an operator a text begins with.
+/// The length of the longest front of operator bytes.
 #[tactic(auto, using(crate::proofs::Prefixes::len_at))]
 pub fn operator_len(text: &[u8]) -> usize
     ensures len { result ≡ prefix_len is_operator_byte text.now }
@@ -237,7 +236,7 @@ pub fn operator_len(text: &[u8]) -> usize
     operator_end(text).unwrap_or(text.len())
 }
 
-/// Where the first byte stands that no operator has.
+/// The index of the first byte that no operator has.
 fn operator_end(text: &[u8]) -> Option<usize>
     ensures { result ≡ position (λ b. not (is_operator_byte b)) text.now }
 {
@@ -251,7 +250,7 @@ fn is_operator_byte(byte: u8) -> bool
     matches!(byte, b'<' | b'=' | b'>' | b'~')
 }
 
-/// How many bytes stand in front of the first `@`.
+/// How many bytes precede the first `@`.
 #[tactic(auto, using(crate::proofs::Prefixes::len_at))]
 pub fn len_before_at(text: &[u8]) -> usize
     ensures len { result ≡ prefix_len is_not_at text.now }
@@ -260,7 +259,7 @@ pub fn len_before_at(text: &[u8]) -> usize
     at_sign(text).unwrap_or(text.len())
 }
 
-/// Where the first `@` stands.
+/// The index of the first `@`.
 fn at_sign(text: &[u8]) -> Option<usize>
     ensures { result ≡ position (λ b. not (is_not_at b)) text.now }
 {
@@ -276,7 +275,7 @@ pub fn blank_len(text: &[u8]) -> usize
     blank_end(text).unwrap_or(text.len())
 }
 
-/// Where the first byte stands that is no blank.
+/// The index of the first byte that is not a blank.
 fn blank_end(text: &[u8]) -> Option<usize>
     ensures { result ≡ position (λ b. not (is_blank b)) text.now }
 {

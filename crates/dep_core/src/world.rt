@@ -1,6 +1,6 @@
-//! World (apk-world(5)): its entries, how they are read from a text and written as one, and edits.
-//! The rules stand in `docs/formats.md`, "World"; how a command edits world in `docs/commands.md`,
-//! "`add` and `del`".
+//! World (apk-world(5)): its entries, how they are read, written and edited. The rules are in
+//! `docs/formats.md`, "World"; how a command edits world is defined in `docs/commands.md`, "`add`
+//! and `del`".
 
 ghost use Rattle.std.specs.Prelude.{◌≡◌, ◌<◌, ◌==◌, Some, length, slice_get, IfOk, IfErr, OnOk, OnErr, IsTrue, [], None, not, if◌then◌else◌};
 ghost use Rattle.dep_core.specs.Meets.{dependency};
@@ -20,13 +20,13 @@ use std::collections::BTreeMap;
 use std::marker::Model;
 use version_core::{Op, Version};
 
-/// Why a world is not read.
+/// Why a world was not read.
 #[derive(Clone, Copy, Debug, PartialEq, Eq)]
 pub enum WorldFault {
-    /// The first line, counted from 1, that has an entry which is no dependency or whose name
-    /// stands before.
+    /// The first line, counted from 1, with an entry that is no dependency or whose name is already
+    /// taken.
     Bad { line: u64 },
-    /// There was no memory.
+    /// Out of memory.
     Memory,
 }
 
@@ -36,18 +36,18 @@ impl From<AllocError> for WorldFault {
 
     ghost from_gives = { λ _ fault. fault ≡ Memory };
 
-    /// Where no memory was given the world is not read.
+    /// Running out of memory is a fault of its own.
     fn from(_: AllocError) -> WorldFault {
         WorldFault::Memory
     }
 }
 
-/// What is asked of the installed packages (apk-world(5)): dependencies in byte order of their
-/// names, one a name.
+/// The dependencies that the user asks for (apk-world(5)), in byte order of their names, one per
+/// name.
 #[derive(Drop)]
 pub struct World {
     alloc: Global,
-    /// In byte order of their names, one a name.
+    /// In byte order of their names, one per name.
     entries: Vec<Entry>,
 }
 
@@ -64,7 +64,7 @@ impl Model for World {
 }
 
 impl World {
-    /// The world that a text is: dependency texts between spaces, tabs and line ends.
+    /// The world that a text denotes: dependency texts between spaces, tabs and line ends.
     pub fn read(alloc: Global, bytes: &[u8]) -> Result<World, WorldFault>
         ensures ok { IfOk result (λ world. world_of bytes.now ≡ Ok world) }
         ensures bad { IfErr result (λ fault. IsWorldFault fault (world_of bytes.now)) }
@@ -82,7 +82,7 @@ impl World {
         Ok(World { alloc, entries })
     }
 
-    /// Puts the dependency in place of the entry of its name, or adds it. A refused call changes
+    /// Replaces the entry of the dependency's name, or inserts one. A call that fails changes
     /// nothing.
     pub fn add(&mut self, dep: &Dep<'_>) -> Result<(), AllocError>
         ensures ok { OnOk result (self.new ≡ with_entry (dependency dep.now) self.old) }
@@ -92,7 +92,7 @@ impl World {
         put(&mut self.entries, entry)
     }
 
-    /// Takes the entry of a name out, and tells whether there was one.
+    /// Removes the entry of a name, and returns whether there was one.
     pub fn del(&mut self, name: &[u8]) -> bool
         ensures found { result ≡ has_name name.now self.old }
         ensures rest { self.new ≡ without_name name.now self.old }
@@ -100,7 +100,7 @@ impl World {
         take_out(&mut self.entries, name)
     }
 
-    /// A line for each entry, which are read as this world.
+    /// The text of this world, a line for each entry. It is read as this world.
     pub fn text(&self, alloc: Global) -> Result<Text, AllocError>
         ensures text { IfOk result (λ text. text ≡ world_text self.now) }
         ensures world { IsWorld self.now }
@@ -128,7 +128,7 @@ impl World {
         self.entries.is_empty()
     }
 
-    /// An entry, by how many entries stand before it.
+    /// An entry, by its index.
     pub fn entry(&self, i: usize) -> Dep<'_>
         requires { i < length self.now }
         ensures { slice_get self.now i ≡ Some (dependency result) }
@@ -140,7 +140,7 @@ impl World {
 /// A dependency that owns its parts.
 #[derive(Drop)]
 pub struct Entry {
-    // The parts are those of `Dep`, with texts of their own.
+    // The parts are those of `Dep`, in texts that the entry owns.
     name: Text,
     version: Option<Text>,
     op: Op,
@@ -185,7 +185,7 @@ impl Entry {
         })
     }
 
-    /// The dependency, lent.
+    /// The dependency, borrowed.
     pub fn dep(&self) -> Dep<'_>
         ensures { dependency result ≡ self.now }
     {
@@ -211,8 +211,8 @@ impl Entry {
     }
 }
 
-/// Puts an entry in place of the one of its name, or where its name belongs. A refused call changes
-/// nothing.
+/// Replaces the entry of the same name, or inserts the entry at the place of its name. A call that
+/// fails changes nothing.
 pub fn put(entries: &mut Vec<Entry>, entry: Entry) -> Result<(), AllocError>
     requires world { IsWorld entries.old.items }
     requires dependency { IsDependency entry }
@@ -227,7 +227,7 @@ pub fn put(entries: &mut Vec<Entry>, entry: Entry) -> Result<(), AllocError>
     Ok(())
 }
 
-/// Takes the entry of a name out, and tells whether there was one.
+/// Removes the entry of a name, and returns whether there was one.
 pub fn take_out(entries: &mut Vec<Entry>, name: &[u8]) -> bool
     requires { IsWorld entries.old.items }
     ensures found { result ≡ has_name name.now entries.old.items }
@@ -243,7 +243,7 @@ pub fn take_out(entries: &mut Vec<Entry>, name: &[u8]) -> bool
     }
 }
 
-/// The index of the entry of a name, or the one that it would have.
+/// The index of the entry of a name, or else the one at which it would be inserted.
 fn index_of(entries: &[Entry], name: &[u8]) -> Result<usize, usize>
     ensures within { IsSearchInRange result (length entries.now) }
     ensures index { IsBinarySearchResult
@@ -275,7 +275,7 @@ impl<'a> Model for Found<'a> {
 }
 
 impl<'a> Found<'a> {
-    /// No entries, as before the first line.
+    /// No entries yet.
     pub fn new(alloc: Global) -> Found<'a>
         ensures { result ≡ [] }
     {
@@ -285,7 +285,7 @@ impl<'a> Found<'a> {
         }
     }
 
-    /// Adds the entries of a line, and tells whether each of its words is a dependency of a new
+    /// Adds the entries of a line, and returns whether each of its words is a dependency with a new
     /// name.
     pub fn add_line(&mut self, line: &'a [u8]) -> Result<bool, AllocError>
         ensures { IfOk result (λ good.
@@ -303,7 +303,7 @@ impl<'a> Found<'a> {
         Ok(true)
     }
 
-    /// Adds the entry that a word is, and tells whether it is a dependency of a new name.
+    /// Adds the entry that a word denotes, and returns whether it is a dependency with a new name.
     fn add_word(&mut self, word: &'a [u8]) -> Result<bool, AllocError>
         ensures { IfOk result (λ good.
             option_and_then (with_new_entry self.old) (dependency_of word.entry.now)
@@ -315,7 +315,7 @@ impl<'a> Found<'a> {
         }
     }
 
-    /// Puts an entry in, and tells whether its name is new.
+    /// Adds an entry, and returns whether its name is new.
     fn add(&mut self, dep: &Dep<'a>) -> Result<bool, AllocError>
         ensures new { IfOk result (λ new. new ≡ not (has_name dep.now.name.now self.old)) }
         ensures added { OnOk result (self.new ≡ with_entry (dependency dep.now) self.old) }

@@ -1,6 +1,5 @@
-//! What an entry of a file says of its bytes, and a file of a tree, read once and compared with two
-//! entries. The rules stand in `docs/commands.md`, "What a change does with files", what counts as
-//! changed.
+//! What an entry says of a file's bytes, and a comparison of a file of a tree with two entries. The
+//! rules are in `docs/commands.md`, "What a change does with files", what counts as changed.
 
 ghost use Rattle.std.specs.Prelude.{◌≡◌, ℕ, List, length, Option, Some, IfOk};
 ghost use Rattle.std.specs.Option.{option_map};
@@ -26,14 +25,14 @@ pub struct Comparison {
     pub as_old: bool,
 }
 
-/// Compares the file under a name with two entries, of which one may be absent: then no bytes are
-/// as it lists them. None comes exactly where the name is absent. The file is read once, in pieces
-/// of 65,536 bytes, and the tree stays as it is, whatever the answer. Also where the tree does not
-/// tell its files the answer is right of some file or of none.
+/// Compares the file under a name with two entries. Either may be absent: then no bytes are as it
+/// lists them. Returns None exactly if the name is absent. The file is read once, in pieces of
+/// 65,536 bytes, and the tree is unchanged, whatever is returned. If the tree's files are not
+/// observable, the answer is right of some file or of none.
 ///
 /// # Errors
 ///
-/// `Disk` where the tree failed.
+/// `Disk` if the tree failed.
 pub fn compare_file<T: Tree>(
     tree: &mut T,
     name: &Name,
@@ -44,7 +43,34 @@ pub fn compare_file<T: Tree>(
     ensures found { IfOk result (λ answer. (file : Option (List ℕ))
         × IfObservable (T.history tree.old) (λ v. file ≡ files_of v name.now)
         × (answer ≡ comparison_of new.entry old.entry file)) }
-    // Where the tree tells its files, it is right of the one that stands there.
+    // If the tree's files are observable, it is right of the file under the name.
+    ensures answer { IfOk result (λ found. IfObservable (T.history tree.old) (λ v.
+        found ≡ comparison_of new.entry old.entry (files_of v name.now))) }
+    ensures tree { OnlyReads (record {}) (T.history tree.old) (T.history tree.new)
+        (T.counts tree.old) (T.counts tree.new) result }
+{
+    let mut piece = [0; PIECE_LEN];
+    compare_file_in(tree, name, new, old, &mut piece)
+}
+
+/// The same as `compare_file`, in a piece that the caller lends, so that many files can share one
+/// piece. The contents of the piece before the call do not matter.
+///
+/// # Errors
+///
+/// `Disk` if the tree failed.
+pub fn compare_file_in<T: Tree>(
+    tree: &mut T,
+    name: &Name,
+    new: Option<ListedFile<'_>>,
+    old: Option<ListedFile<'_>>,
+    piece: &mut [u8; PIECE_LEN],
+) -> Result<Option<Comparison>, Disk>
+    // Of every tree: the answer is right of some file under the name, or of its absence.
+    ensures found { IfOk result (λ answer. (file : Option (List ℕ))
+        × IfObservable (T.history tree.old) (λ v. file ≡ files_of v name.now)
+        × (answer ≡ comparison_of new.entry old.entry file)) }
+    // If the tree's files are observable, it is right of the file under the name.
     ensures answer { IfOk result (λ found. IfObservable (T.history tree.old) (λ v.
         found ≡ comparison_of new.entry old.entry (files_of v name.now))) }
     ensures tree { OnlyReads (record {}) (T.history tree.old) (T.history tree.new)
@@ -53,17 +79,18 @@ pub fn compare_file<T: Tree>(
     let Some(size) = tree.size(name)? else {
         return Ok(None);
     };
-    let comparison = compare_present(tree, name, size, new, old)?;
+    let comparison = compare_present(tree, name, size, new, old, piece)?;
     Ok(Some(comparison))
 }
 
-/// Compares a file that is there, and has so many bytes, with two entries.
+/// Compares a present file, which has this many bytes, with two entries.
 fn compare_present<T: Tree>(
     tree: &mut T,
     name: &Name,
     size: u64,
     new: Option<ListedFile<'_>>,
     old: Option<ListedFile<'_>>,
+    piece: &mut [u8; PIECE_LEN],
 ) -> Result<Comparison, Disk>
     requires { IfObservable (T.history tree.old) (λ v.
         Some size ≡ option_map length (files_of v name.now)) }
@@ -75,7 +102,6 @@ fn compare_present<T: Tree>(
 {
     let mut for_new = Watch::new(new);
     let mut for_old = Watch::new(old);
-    let mut piece = [0; PIECE_LEN];
     let mut at = 0;
     while at < size {
         let len = (size - at).min(PIECE_LEN as u64);
@@ -94,11 +120,11 @@ fn compare_present<T: Tree>(
 /// What an entry of a file says of its bytes.
 #[derive(Clone, Copy)]
 pub struct ListedFile<'a> {
-    /// How many bytes there are; 0 where the entry tells none.
+    /// How many bytes there are; 0 if the entry gives no size.
     pub size: u64,
-    /// The digest of the bytes, by the function that its length tells; empty where there is none.
+    /// The digest of the bytes, whose length says which function it is; empty if there is none.
     pub hash: &'a [u8],
-    /// A link's target, behind a number of two bytes; empty where it is no link.
+    /// A link's target, after a number of two bytes; empty if it is no link.
     pub target: &'a [u8],
 }
 

@@ -1,4 +1,4 @@
--- The definitions of this crate, whose rules stand in `docs/commands.md`, "Files that several
+-- The definitions of this crate, whose rules are in `docs/commands.md`, "Files that several
 -- packages list".
 
 -- what the contract of `apk` says

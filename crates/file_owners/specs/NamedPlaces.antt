@@ -1,5 +1,5 @@
 -- The places of the members that a package names.
--- The rule stands in `docs/commands.md`, "Files that several packages list" (*names*). Serves the
+-- The rule is in `docs/commands.md`, "Files that several packages list" (*names*). Serves the
 -- contracts of `src/named.rt`.
 use Rattle.std.specs.Prelude.{◌≡◌, ℕ, ◌==◌, List, length, Some, slice_get}
 use Rattle.std.specs.List.{list_any}

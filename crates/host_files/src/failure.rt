@@ -1,5 +1,5 @@
 //! Why a call on the host fails, and what of it the program tells.
-//! The rules stand in `docs/commands.md`, "A fault of the tree".
+//! The rules are in `docs/commands.md`, "A fault of the tree".
 
 use std::alloc::{AllocError, Global};
 use std::io;
@@ -30,6 +30,10 @@ pub enum Reason {
     Locked,
     /// Both names of a rename are one.
     SameName,
+    /// A file cannot be renamed to a path, since another file system is mounted there.
+    OtherFileSystem,
+    /// A path belongs to the program itself, which uses it for its lock and its questions.
+    Reserved,
 }
 
 impl Reason {
@@ -47,6 +51,8 @@ impl Reason {
             Reason::LostWrite => "An earlier write was lost",
             Reason::Locked => "Another run holds this folder",
             Reason::SameName => "Is the same name",
+            Reason::OtherFileSystem => "Is on another file system",
+            Reason::Reserved => "Is a name of the program's own",
         }
     }
 }
@@ -58,7 +64,7 @@ pub enum HostFault {
     Memory,
     /// The host's own reason.
     Host(io::Error),
-    /// A reason of this program, and the path that it holds of, where that is not the call's own.
+    /// A reason of this program, and the path that it holds of, if that is not the call's own.
     Own { reason: Reason, at: Option<Vec<u8>> },
 }
 
@@ -68,7 +74,7 @@ impl HostFault {
         HostFault::Own { reason, at: None }
     }
 
-    /// A reason of this program that holds of a path. Where there is no memory for the path it goes
+    /// A reason of this program that holds of a path. If there is no memory for the path it goes
     /// untold.
     pub fn at(alloc: Global, reason: Reason, path: &[u8]) -> HostFault {
         HostFault::Own {
@@ -79,14 +85,14 @@ impl HostFault {
 }
 
 impl From<AllocError> for HostFault {
-    /// Want of memory is a fault of its own.
+    /// Lack of memory is a fault of its own.
     fn from(_: AllocError) -> HostFault {
         HostFault::Memory
     }
 }
 
 impl From<io::Error> for HostFault {
-    /// The host's error; that it has no memory is told as want of memory.
+    /// The host's error; that it has no memory is told as lack of memory.
     fn from(error: io::Error) -> HostFault {
         if error.kind() == ErrorKind::OutOfMemory {
             return HostFault::Memory;
@@ -100,7 +106,7 @@ impl From<io::Error> for HostFault {
 pub struct Failure {
     // The call in words, as `rename`.
     call: &'static str,
-    // The path that it was given; empty where there is none to tell.
+    // The path that it was given; empty if there is none to tell.
     path: Vec<u8>,
     // The second path of a rename; empty for other calls.
     target: Vec<u8>,
@@ -108,7 +114,7 @@ pub struct Failure {
 }
 
 impl Failure {
-    /// The failure of a call on a path, and on a second path or none (empty). Where there is no
+    /// The failure of a call on a path, and on a second path or none (empty). If there is no
     /// memory for a path it goes untold.
     pub fn new(
         alloc: Global,
@@ -132,11 +138,11 @@ impl Failure {
         to.write_all(self.call.as_bytes())?;
         if !self.path.is_empty() {
             to.write_all(b" ")?;
-            to.write_all(&self.path)?;
+            write_path(&self.path, to)?;
         }
         if !self.target.is_empty() {
             to.write_all(b" to ")?;
-            to.write_all(&self.target)?;
+            write_path(&self.target, to)?;
         }
         to.write_all(b": ")?;
         self.print_reason(alloc, to)?;
@@ -153,7 +159,7 @@ impl Failure {
                 if let Some(at) = at
                     && !self.names(at)
                 {
-                    to.write_all(at)?;
+                    write_path(at, to)?;
                     to.write_all(b": ")?;
                 }
                 to.write_all(reason.text().as_bytes())
@@ -164,6 +170,34 @@ impl Failure {
     /// Whether a path is one that the call was given.
     fn names(&self, path: &[u8]) -> bool {
         path == self.path.as_slice() || path == self.target.as_slice()
+    }
+}
+
+/// Prints a path. Bytes that would act on a terminal, those below 0x20 and 0x7f, are printed as
+/// `\x` and two digits.
+pub fn write_path<W: Write>(path: &[u8], to: &mut W) -> io::Result<()> {
+    for piece in path.split_inclusive(|byte| acts_on_terminal(*byte)) {
+        match piece.split_last() {
+            Some((last, before)) if acts_on_terminal(*last) => {
+                to.write_all(before)?;
+                to.write_all(&[b'\\', b'x', hex_digit(*last >> 4), hex_digit(*last & 15)])?;
+            }
+            _ => to.write_all(piece)?,
+        }
+    }
+    Ok(())
+}
+
+/// Whether a byte is no text, but moves or colors what a terminal shows.
+fn acts_on_terminal(byte: u8) -> bool {
+    byte < 0x20 || byte == 0x7f
+}
+
+/// The digit of a number below 16.
+fn hex_digit(n: u8) -> u8 {
+    match n {
+        0..=9 => b'0' + n,
+        _ => (b'a' - 10).wrapping_add(n),
     }
 }
 

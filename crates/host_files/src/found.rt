@@ -1,8 +1,9 @@
 //! What the host has at a path, and what its errors mean.
-//! The rules stand in `docs/crash-safety.md`, "What the host's tree does", the row of each call on
+//! The rules are in `docs/crash-safety.md`, "What the host's tree does", the row of each call on
 //! a path and that of `size`.
 
 use super::failure::{HostFault, Reason};
+use super::rights::Rights;
 use std::alloc::Global;
 use std::fs::{Files, Metadata};
 use std::io::ErrorKind;
@@ -20,12 +21,14 @@ pub enum Found {
     File(LookedAt),
 }
 
-/// A regular file as it was looked at: its length in bytes, and what tells it from every other file
-/// of the host.
+/// A regular file as it was looked at: its length in bytes, its mode and owner, and what tells it
+/// from every other file of the host.
 #[derive(Clone, Copy)]
 pub struct LookedAt {
     /// Its length in bytes.
     pub len: u64,
+    /// Its mode and owner.
+    pub rights: Rights,
     // The host's number of the device that the file is on.
     device: u64,
     // The number of the file on its device.
@@ -37,6 +40,7 @@ impl LookedAt {
     fn of(data: &Metadata) -> LookedAt {
         LookedAt {
             len: data.len(),
+            rights: Rights::of(data),
             device: data.dev(),
             number: data.ino(),
         }

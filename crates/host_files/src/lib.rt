@@ -1,24 +1,29 @@
-//! Files of the host: what stands at a path, files that stay open, the lock on the folder that the
-//! program runs in, and why a call fails.
+//! Files of the host: what stands at a path, files that stay open, their mode and owner, the lock on the
+//! folder that the program runs in, and why a call fails.
 //!
 //! This crate is trusted: no contract can say what a host does. It is to be read with `host_tree`,
 //! which stands on it.
-//! The rules stand in `docs/crash-safety.md`, "What the host's tree does".
+//! The rules are in `docs/crash-safety.md`, "What the host's tree does".
 #![tactic(auto)]
 
 mod failure;
 mod found;
+mod lock;
 mod nearby;
 mod opened;
+mod rights;
 
-pub use failure::{Failure, HostFault, Reason};
+pub use failure::{Failure, HostFault, Reason, write_path};
 pub use found::{Found, LookedAt, look, parent_of, path_text};
+pub use lock::{LOCK_FOLDER, Lock, lock_root, unlock_root};
 pub use nearby::LastFolder;
-pub use opened::{Lock, Opened, close, is_open, lock_root};
+pub use opened::{Opened, close, is_open};
+pub use rights::{FOLDER_MODE, Rights};
 use std::fs::{File, Files};
+use std::io::Eprint;
 use std::time::Clock;
 
-/// What is needed of a runtime: files, sleep, and memory.
-pub trait Host: Files<File = File> + Clock + AllocGlobal + Clone + Drop {}
+/// What is needed of a runtime: files, a clock, standard error, and memory.
+pub trait Host: Files<File = File> + Clock + Eprint + AllocGlobal + Clone + Drop {}
 
-impl<R: Files<File = File> + Clock + AllocGlobal + Clone + Drop> Host for R {}
+impl<R: Files<File = File> + Clock + Eprint + AllocGlobal + Clone + Drop> Host for R {}

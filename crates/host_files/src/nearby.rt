@@ -1,5 +1,5 @@
-//! The folder that the last paths stood in, and a shorter way to its files where it is deep.
-//! The rules stand in `docs/crash-safety.md`, "What the host's tree does", the point of a deep
+//! The folder that the last paths stood in, and a shorter way to its files if it is deep.
+//! The rules are in `docs/crash-safety.md`, "What the host's tree does", the point of a deep
 //! folder.
 
 use super::Host;
@@ -24,7 +24,7 @@ pub struct LastFolder {
     path: Vec<u8>,
     // How many paths in a row stood in it.
     paths: u32,
-    // The folder held open, where it is deep and was asked for often enough.
+    // The folder held open, if it is deep and was asked for often enough.
     opened: Option<OpenFolder>,
 }
 

@@ -1,16 +1,15 @@
-//! Files that stay open between calls, and the lock on the root: one run writes there, or any
-//! number read.
-//! The rules stand in `docs/crash-safety.md`, "What the host's tree does", the rows of `read_at`,
-//! `create`, `append` and `sync`, and the point of the lock.
+//! Files that stay open between calls.
+//! The rules are in `docs/crash-safety.md`, "What the host's tree does", the rows of `read_at`,
+//! `create`, `append` and `sync`.
 
 use super::Host;
 use super::failure::{HostFault, Reason};
 use super::found::{LookedAt, path_text};
+use super::rights::FILE_MODE;
 use std::alloc::Global;
-use std::fs::{File, OpenOptions, TryLockError};
+use std::fs::{File, OpenOptions};
 use std::io::{Read, Seek, SeekFrom, Write};
-use std::time::Duration;
-use std::{fs, thread};
+use std::os::unix::fs::OpenOptionsExt;
 
 /// An open file, with the path under which it was opened, its length, and where the next read goes
 /// on, if that is known.
@@ -20,7 +19,7 @@ pub struct Opened {
     file: File,
     // How many bytes it has, as far as this run knows.
     len: u64,
-    // The offset at which the next read goes on; None where that is not known.
+    // The offset at which the next read goes on; None if that is not known.
     at: Option<u64>,
 }
 
@@ -51,6 +50,7 @@ impl Opened {
         let file = how
             .append(true)
             .create_new(true)
+            .mode(FILE_MODE)
             .open(rt, path_text(path)?)?;
         Ok(Opened {
             path: copy,
@@ -104,44 +104,5 @@ pub fn is_open(slot: &Option<Opened>, path: &[u8]) -> bool {
 pub fn close(slot: &mut Option<Opened>, path: &[u8]) {
     if is_open(slot, path) {
         *slot = None;
-    }
-}
-
-/// Who else may work in the root while a run does.
-#[derive(Clone, Copy)]
-pub enum Lock {
-    /// Other runs that share it.
-    Shared,
-    /// No other run.
-    Exclusive,
-}
-
-/// How long one sleep is, in milliseconds, while another run holds the lock.
-const SLEEP_MILLISECONDS: u64 = 50;
-
-/// How often the lock is tried: as many sleeps as 60 seconds (60,000 milliseconds) have.
-const MOST_TRIES: u64 = 60_000 / SLEEP_MILLISECONDS;
-
-/// Waits until no other run stands in the way, 60 seconds at most. The lock holds until the file
-/// that is answered is closed.
-pub fn lock_root<R: Host>(rt: &R, lock: Lock) -> Result<File, HostFault> {
-    let root = fs::open(rt, ".")?;
-    for _ in 0..MOST_TRIES {
-        match try_to_lock(&root, lock) {
-            Ok(()) => return Ok(root),
-            Err(TryLockError::WouldBlock) => {
-                thread::sleep(rt, Duration::from_millis(SLEEP_MILLISECONDS));
-            }
-            Err(TryLockError::Error(e)) => return Err(e.into()),
-        }
-    }
-    Err(HostFault::own(Reason::Locked))
-}
-
-// Takes the lock if nobody holds it; it waits for no one.
-fn try_to_lock(root: &File, lock: Lock) -> Result<(), TryLockError> {
-    match lock {
-        Lock::Shared => root.try_lock_shared(),
-        Lock::Exclusive => root.try_lock(),
     }
 }

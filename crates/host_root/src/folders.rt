@@ -1,12 +1,15 @@
 //! Folders: those on the way to a file, those that hold nothing, and those whose names changed. The
-//! rules stand in `docs/crash-safety.md`, "What the host's tree does".
+//! rules are in `docs/crash-safety.md`, "What the host's tree does".
 
-use host_files::{Found, Host, HostFault, LastFolder, Reason, look, parent_of, path_text};
+use host_files::{
+    FOLDER_MODE, Found, Host, HostFault, LastFolder, Reason, look, parent_of, path_text,
+};
 use std::alloc::Global;
 use std::collections::BTreeSet;
 use std::fs;
-use std::fs::{Files, OpenFile};
+use std::fs::{DirBuilder, Files, OpenFile};
 use std::io::ErrorKind;
+use std::os::unix::fs::DirBuilderExt;
 
 /// What is known of the folders below the root. Only this run writes there, so what was looked at
 /// once stays so.
@@ -43,6 +46,28 @@ impl Folders {
             }
         }
         Ok(true)
+    }
+
+    /// The deepest folder on the way to a path that is there, as a front of the path; the root is
+    /// the empty one. What is on the way and is no folder ends it.
+    pub fn deepest_on_way<'p, R: Files>(
+        &mut self,
+        rt: &R,
+        path: &'p [u8],
+    ) -> Result<&'p [u8], HostFault> {
+        if self.knows_way(path)? {
+            return Ok(parent_of(path));
+        }
+        let mut folder: &'p [u8] = &[];
+        for (i, byte) in path.iter().enumerate() {
+            if *byte == b'/' {
+                if !self.has(rt, &path[..i])? {
+                    break;
+                }
+                folder = &path[..i];
+            }
+        }
+        Ok(folder)
     }
 
     /// What a path leads to: nothing where something on the way is no folder.
@@ -94,13 +119,15 @@ impl Folders {
         keep(&mut self.changed, folder)
     }
 
-    /// Makes room for a file: the folders on the way to its path, with no folder at the path.
-    pub fn make_room<R: Host>(&mut self, rt: &R, path: &[u8]) -> Result<(), HostFault> {
+    /// Makes room for a file: the folders on the way to its path, with no folder at the path. It
+    /// returns what was found at the path.
+    pub fn make_room<R: Host>(&mut self, rt: &R, path: &[u8]) -> Result<Found, HostFault> {
         self.make_way(rt, path)?;
-        if look_at(rt, self.alloc, path)?.is_folder() {
+        let found = look_at(rt, self.alloc, path)?;
+        if found.is_folder() {
             self.clear(rt, path)?;
         }
-        Ok(())
+        Ok(found)
     }
 
     /// Takes folders away that hold nothing and stand where a file is to be. Where a file or
@@ -181,29 +208,32 @@ impl Folders {
             Found::File(_) => return Err(HostFault::at(self.alloc, Reason::NoFolder, folder)),
             Found::Nothing => {
                 self.note(parent_of(folder))?;
-                fs::create_dir(rt, path_text(folder)?)?;
+                DirBuilder::new()
+                    .mode(FOLDER_MODE)
+                    .create(rt, path_text(folder)?)?;
             }
         }
         self.keep_known(folder)
     }
 
-    /// Takes a folder away if it is empty. It answers whether it did.
+    /// Takes a folder away if it is empty. It answers whether it is gone.
     fn take_away<R: Files>(&mut self, rt: &R, folder: &[u8]) -> Result<bool, HostFault> {
         let around = parent_of(folder);
         let was_noted = self.changed.contains(around);
         self.note(around)?;
-        match fs::remove_dir(rt, path_text(folder)?) {
-            Ok(()) => {}
-            Err(e) if stays(e.kind()) => {
-                if !was_noted {
-                    self.changed.remove(around);
-                }
-                return Ok(false);
+        let is_gone = match fs::remove_dir(rt, path_text(folder)?) {
+            Ok(()) => {
+                self.forget(folder);
+                return Ok(true);
             }
+            Err(e) if is_absent(e.kind()) => true,
+            Err(e) if stays(e.kind()) => false,
             Err(e) => return Err(e.into()),
+        };
+        if !was_noted {
+            self.changed.remove(around);
         }
-        self.forget(folder);
-        Ok(true)
+        Ok(is_gone)
     }
 
     /// Forgets a folder that is gone: it is neither known nor to be written through.
@@ -217,11 +247,11 @@ impl Folders {
 }
 
 /// What stands at a path itself, found by the plain path; a symbolic link is a fault.
-fn look_at<R: Files>(rt: &R, alloc: Global, path: &[u8]) -> Result<Found, HostFault> {
+pub fn look_at<R: Files>(rt: &R, alloc: Global, path: &[u8]) -> Result<Found, HostFault> {
     look(rt, alloc, path, path_text(path)?)
 }
 
-/// Puts a folder among others. Where there is no memory they stay as they are.
+/// Puts a folder among others. If there is no memory they stay as they are.
 fn keep(folders: &mut BTreeSet<Vec<u8>>, folder: Vec<u8>) -> Result<(), HostFault> {
     match folders.insert(folder) {
         Ok(_) => Ok(()),
@@ -285,6 +315,11 @@ fn push(alloc: Global, list: &mut Vec<Vec<u8>>, path: &[u8]) -> Result<(), HostF
 fn write_folder<R: Files>(rt: &R, folder: &[u8]) -> Result<(), HostFault> {
     let path: &[u8] = if folder.is_empty() { b"." } else { folder };
     Ok(fs::open(rt, path_text(path)?)?.sync_all()?)
+}
+
+/// Whether an error says that there is no such folder: a run that was killed may have removed it.
+fn is_absent(kind: ErrorKind) -> bool {
+    matches!(kind, ErrorKind::NotFound | ErrorKind::NotADirectory)
 }
 
 /// Whether an error says that a folder is not empty, that another file system stands on it, or that

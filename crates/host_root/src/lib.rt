@@ -1,5 +1,6 @@
 //! The folder that a program runs in, with what each call of a tree does on the host: the files
-//! that stay open, the folders on the way to a file, and those whose names changed.
+//! that stay open, the folders on the way to a file, those whose names changed, and what the host
+//! would refuse later.
 //!
 //! This crate is trusted: no contract can say what a host does. It is to be read with `host_tree`,
 //! which stands on it, against the table in `docs/crash-safety.md`, "What the host's tree does".
@@ -7,5 +8,6 @@
 
 mod folders;
 mod root;
+mod targets;
 
 pub use root::Root;

@@ -1,15 +1,24 @@
 //! The root: the folder that the program runs in, with the files that stay open between calls. The
-//! rules stand in `docs/crash-safety.md`, "What the host's tree does": the rows of its table, and
+//! rules are in `docs/crash-safety.md`, "What the host's tree does": the rows of its table, and
 //! what follows the table.
 
 use super::folders::Folders;
+use super::targets::{Targets, check_remove};
 use host_files::{
     Found, Host, HostFault, Lock, LookedAt, Opened, Reason, close, is_open, lock_root, parent_of,
-    path_text,
+    path_text, unlock_root,
 };
 use std::alloc::Global;
 use std::fs;
 use std::fs::{File, OpenOptions};
+
+/// The path of the journal's entry while a change that was committed is not done
+/// (`docs/crash-safety.md`, "A change of several files").
+const INTENT: &[u8] = b"lib/apk/intent";
+
+/// How the name ends under which a new file is laid beside one that the user changed
+/// (`docs/commands.md`, "Configuration").
+const ASIDE_ENDING: &[u8] = b".apk-new";
 
 /// The root. From its first call on it holds a lock on the folder, so that it is the only run of
 /// this program that writes there.
@@ -20,7 +29,7 @@ pub struct Root<'a, R: Host> {
     alloc: Global,
     // Which lock the first call takes: shared, or for this run alone.
     lock: Lock,
-    // The folder itself, open while this run holds the lock on it.
+    // The folder that is locked, open while this run holds the lock.
     held: Option<File>,
     // The file that was read last.
     reader: Option<Opened>,
@@ -30,6 +39,10 @@ pub struct Root<'a, R: Host> {
     seen: Option<(Vec<u8>, LookedAt)>,
     // What is known of the folders below the root.
     folders: Folders,
+    // Where files can be renamed to, as far as this run has asked.
+    targets: Targets,
+    // Whether this run finishes what an earlier one committed.
+    recovers: bool,
     // Whether the host once failed to write something through, or to cut off the front of a piece.
     // It may have dropped what it could not write, so that a second try would succeed for nothing:
     // it is not believed again.
@@ -50,6 +63,8 @@ impl<'a, R: Host> Root<'a, R> {
             writer: None,
             seen: None,
             folders: Folders::new(alloc),
+            targets: Targets::new(alloc),
+            recovers: false,
             has_lost: false,
             unsynced_target: None,
         }
@@ -62,6 +77,22 @@ impl<'a, R: Host> Root<'a, R> {
             Some(name) => Some(name),
             None => None,
         }
+    }
+
+    /// Whether a change is committed and not done yet: the next command finishes it.
+    pub fn has_unfinished_change(&self) -> bool {
+        match path_text(INTENT) {
+            Ok(path) => fs::symlink_metadata(self.rt, path).is_ok(),
+            Err(_) => false,
+        }
+    }
+
+    /// Gives the lock back, if it is held. No call comes after this one.
+    pub fn leave(&mut self) {
+        if let Some(held) = &self.held {
+            unlock_root(self.rt, held);
+        }
+        self.held = None;
     }
 
     /// The runtime that the host is asked by.
@@ -87,11 +118,12 @@ impl<'a, R: Host> Root<'a, R> {
         Ok(())
     }
 
-    /// The length of the regular file at a path, or None where there is none.
+    /// The length of the regular file at a path, or None if there is none.
     pub fn length_of(&mut self, path: &[u8]) -> Result<Option<u64>, HostFault> {
         self.enter()?;
         match self.folders.find(self.rt, path)? {
             Found::File(looked_at) => {
+                self.recovers |= path == INTENT;
                 self.seen = Some((Vec::from_slice(self.alloc, path)?, looked_at));
                 Ok(Some(looked_at.len))
             }
@@ -192,7 +224,7 @@ impl<'a, R: Host> Root<'a, R> {
     }
 
     /// Lets `to` lead to the file of `from`, in one step of the host. Folders at `to` that hold
-    /// nothing give way.
+    /// nothing give way. The file gets mode and owner of the one that it replaces first.
     pub fn move_file(&mut self, from: &[u8], to: &[u8]) -> Result<(), HostFault> {
         self.enter()?;
         self.forget(from);
@@ -200,8 +232,9 @@ impl<'a, R: Host> Root<'a, R> {
         if from == to {
             return Err(HostFault::own(Reason::SameName));
         }
-        self.look_at(from)?;
-        self.folders.make_room(self.rt, to)?;
+        let moved = self.look_at(from)?;
+        let replaced = self.folders.make_room(self.rt, to)?;
+        self.keep_rights(from, moved, to, replaced)?;
         self.folders.note(parent_of(from))?;
         self.folders.note(parent_of(to))?;
         let target = Vec::from_slice(self.alloc, to)?;
@@ -210,14 +243,53 @@ impl<'a, R: Host> Root<'a, R> {
         Ok(())
     }
 
-    /// Takes the file at a path away, if there is one, and the folders that held nothing else.
+    /// Gives a file that is to be renamed mode and owner of the file that it replaces, or beside
+    /// which it is laid.
+    fn keep_rights(
+        &mut self,
+        from: &[u8],
+        moved: LookedAt,
+        to: &[u8],
+        replaced: Found,
+    ) -> Result<(), HostFault> {
+        let beside = match to.strip_suffix(ASIDE_ENDING) {
+            Some(beside) => self.folders.find(self.rt, beside)?,
+            None => Found::Nothing,
+        };
+        let ((Found::File(model), _) | (_, Found::File(model))) = (beside, replaced) else {
+            return Ok(());
+        };
+        let kept = moved.rights.change_to(self.rt, from, model.rights);
+        self.has_lost |= kept.is_err();
+        kept
+    }
+
+    /// Asks whether a file can be renamed to a path later, from a source, or whether the path can
+    /// be removed later, if there is no source.
+    pub fn check_target(&mut self, path: &[u8], source: Option<&[u8]>) -> Result<(), HostFault> {
+        self.enter()?;
+        match source {
+            Some(source) => self
+                .targets
+                .check_write(self.rt, &mut self.folders, path, source),
+            None => check_remove(self.rt, self.alloc, &mut self.folders, path),
+        }
+    }
+
+    /// Takes the file at a path away, if there is one, and the folders that held nothing else. In a
+    /// recovery these folders are removed also if the file is gone: the run that was killed had no
+    /// time for them.
     pub fn take_off(&mut self, path: &[u8]) -> Result<(), HostFault> {
         if self.length_of(path)?.is_none() {
+            if self.recovers {
+                self.folders.prune(self.rt, path)?;
+            }
             return Ok(());
         }
         self.forget(path);
         self.folders.note(parent_of(path))?;
         fs::remove_file(self.rt, path_text(path)?)?;
+        self.recovers &= path != INTENT;
         self.folders.prune(self.rt, path)
     }
 

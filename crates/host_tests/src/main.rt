@@ -1,4 +1,4 @@
-//! Answers questions to `host_tree` on the folder that it runs in. The rules stand in
+//! Answers questions to `host_tree` on the folder that it runs in. The rules are in
 //! `docs/crash-safety.md`, "What the host's tree does". Its stored run has all rows;
 //! `tests/lines.md` describes their form, and the README of this crate has a row for each question.
 #![tactic(auto)]
@@ -46,6 +46,7 @@ impl<'a, R: Host> Subject for HostFolder<'a, R> {
             b"write" => add_outcome(answer, self.write(&name, word_at(words, 2))),
             b"remove" => add_outcome(answer, self.tree.remove(&name)),
             b"rename" => self.add_rename(alloc, &name, word_at(words, 2), answer),
+            b"check" => self.add_check(alloc, &name, word_at(words, 2), answer),
             b"size" => self.add_size(alloc, &name, answer),
             b"read" => self.add_read(alloc, &name, words, answer),
             b"list" => self.add_list(alloc, &name, answer),
@@ -73,6 +74,21 @@ impl<'a, R: Host> HostFolder<'a, R> {
         match Name::read(alloc, to)? {
             Some(to) => add_outcome(answer, self.tree.rename(from, &to)),
             None => answer.extend_from_slice(b"no name"),
+        }
+    }
+
+    /// Asks whether a file can be renamed to a name later, from a source, or whether the name can
+    /// be removed later, if the source is empty, and adds how that ended.
+    fn add_check(
+        &mut self,
+        alloc: Global,
+        name: &Name,
+        source: &[u8],
+        answer: &mut Vec<u8>,
+    ) -> Result<(), AllocError> {
+        match Name::read(alloc, source)? {
+            Some(source) => add_outcome(answer, self.tree.check_target(name, Some(&source))),
+            None => add_outcome(answer, self.tree.check_target(name, None)),
         }
     }
 
@@ -168,5 +184,7 @@ fn main(rt: HostRuntime) -> io::Result<ExitCode> {
         rt: &rt,
         tree: HostTree::new(&rt, alloc, Lock::Exclusive),
     };
-    run_program(&rt, alloc, &mut folder)
+    let code = run_program(&rt, alloc, &mut folder);
+    folder.tree.leave();
+    code
 }

@@ -58,6 +58,18 @@ impl<'a, R: Host> HostTree<'a, R> {
         self.root.unsynced_target()
     }
 
+    /// Whether a change is committed and not done yet: the next command finishes it.
+    pub fn has_unfinished_change(&self) -> bool {
+        self.root.has_unfinished_change()
+    }
+
+    /// Gives the lock on the root back. No call comes after this one.
+    pub fn leave(&mut self)
+        ensures faults { self.new.faults ≡ self.old.faults }
+    {
+        self.root.leave();
+    }
+
     /// Counts a fault, and keeps what failed, if it is the first: the call, its path, and the other
     /// path of a rename.
     fn note_failure(
@@ -77,7 +89,7 @@ impl<'a, R: Host> HostTree<'a, R> {
         Disk
     }
 
-    /// What a call on a name answers, with its fault counted. Want of memory is a fault too.
+    /// What a call on a name answers, with its fault counted. Lack of memory is a fault too.
     fn note_answer<T>(
         &mut self,
         call: &'static str,
@@ -109,7 +121,10 @@ impl<'a, R: Host> Tree for HostTree<'a, R> {
     // Each state of the history is whole, as there is none.
     ghost whole = { λ tree. All-nil IsWhole };
 
-    // How many bytes the file under a name has, or None where there is none.
+    // What the host answered is known to nobody else.
+    ghost accepts = { λ source name. Unit {0} };
+
+    // How many bytes the file under a name has, or None if there is none.
     fn size(&mut self, name: &Name) -> Result<Option<u64>, Disk> {
         let answer = self.root.length_of(name.as_bytes());
         self.note_answer("look at", name, answer)
@@ -163,7 +178,7 @@ impl<'a, R: Host> Tree for HostTree<'a, R> {
         }
     }
 
-    // The files below a folder, by their names; want of memory for the answer is no fault of the
+    // The files below a folder, by their names; lack of memory for the answer is no fault of the
     // tree.
     fn list(&mut self, alloc: Global, folder: &Name) -> Result<Names, TreeFault> {
         match list_below(&mut self.root, alloc, folder) {
@@ -174,5 +189,12 @@ impl<'a, R: Host> Tree for HostTree<'a, R> {
                 Err(fault.into())
             }
         }
+    }
+
+    // Asks whether the host lets a file be renamed to the name later, or lets the name be removed.
+    fn check_target(&mut self, name: &Name, source: Option<&Name>) -> Result<(), Disk> {
+        let source = source.map(|source| source.as_bytes());
+        let answer = self.root.check_target(name.as_bytes(), source);
+        self.note_answer("check", name, answer)
     }
 }

@@ -1,4 +1,4 @@
-//! The files below a folder. The rule stands in `docs/crash-safety.md`,
+//! The files below a folder. The rule is in `docs/crash-safety.md`,
 //! "What the host's tree does", the row of `list`.
 ghost use Rattle.std.specs.Prelude.{◌≡◌, ◌↔◌, ◌-◌, [], ◌∷◌, ◌++◌, ℕ, List, All, Contains, IfOk, IsTrue, OnErr, OnOk, Some, length, slice_get};
 ghost use Rattle.std.specs.Cmp.Lexicographic.{slice_cmp};
@@ -132,7 +132,7 @@ fn is_last(names: &Names, name: &Name) -> bool
     names.get(names.len() - 1).as_bytes() == name.as_bytes()
 }
 
-/// Puts a name behind others; where there is no memory they stay as they are.
+/// Puts a name behind others; if there is no memory they stay as they are.
 fn keep(list: &mut Vec<Name>, name: Name) -> Result<(), AllocError>
     ensures ok { OnOk result (list.new.items ≡ list.old.items ++ name ∷ []) }
     ensures err { OnErr result (list.new.items ≡ list.old.items) }

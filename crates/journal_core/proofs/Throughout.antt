@@ -1,4 +1,4 @@
--- What each moment keeps while an intent comes to stand under its name.
+-- What each moment keeps while an intent comes to are under its name.
 use Rattle.std.proofs.Common.{◌≡◌, ◌⊎◌, inl, inr, ⊎_elim, ℕ, List, ◌∷◌, [], None, Result, Ok, Err, OnOk, refl, sym, ap, subst, ◌∙◌}
 use Rattle.base_core.specs.Calls.{IfObservable, HasNow, Moves}
 use Rattle.base_core.specs.Crash.{Since}
@@ -42,7 +42,7 @@ pub free_written : (place : List ℕ) → place ≡ stage_name 0 → (old mid : 
 free_written place place_is old mid told = observable_map old _ _ told (λ v t.
     since_weaker (KeepsFilesBut (λ q. q ≡ place) v) (KeepsFree v) old mid (λ w k q off. k q (λ e. off (inr (e ∙ place_is)))) t)
 
--- ---- what then stands under the name of the waiting intent
+-- ---- what then is under the name of the waiting intent
 
 absent_both : (v w : TreeState) → v.names (stage_name 0) ≡ None → w.names (stage_name 0) ≡ None → KeepsFree v w → KeepsFilesBut (λ q. q ≡ intent_name) v w
 absent_both v w none_v none_w k q off = ⊎_elim

@@ -1,4 +1,4 @@
--- The intent that is found is done, and nothing is where none is found.
+-- The intent that is found is done, and nothing is if none is found.
 use Rattle.std.proofs.Common.{◌≡◌, ℕ, Bool, List, [], ◌∷◌, Option, Some, None, IsSome, Result, Ok, Err, OnOk, refl, sym, ap, subst, ◌∙◌}
 use Rattle.base_core.specs.declared.cause.Cause.{Cause}
 use Rattle.base_core.specs.Tree.{TreeState, File, bytes_at, files_of}

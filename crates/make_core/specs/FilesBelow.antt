@@ -1,5 +1,5 @@
 -- Which files a package holds: those below a folder of a tree.
--- The rule stands in `docs/commands.md`, "`mkpkg`": "With `-F DIR` the package holds all files
+-- The rule is in `docs/commands.md`, "`mkpkg`": "With `-F DIR` the package holds all files
 -- below DIR, under their names below it." Serves the law
 -- `a_made_package_has_the_files_below_its_folder`.
 use Rattle.std.specs.Prelude.{◌≡◌, ℕ, List, ◌∷◌, ◌++◌, map, Some, All}

@@ -1,5 +1,5 @@
 -- Of which packages an index tells, and in which order.
--- The rule stands in `docs/commands.md`, "`mkndx PACKAGE..`". Serves the law
+-- The rule is in `docs/commands.md`, "`mkndx PACKAGE..`". Serves the law
 -- `a_made_index_has_its_packages_in_order`.
 use Rattle.std.specs.Prelude.{◌≡◌, ℕ, ◌+◌, List, [], ◌∷◌, map, Some, None}
 use Rattle.std.specs.List.Sorted.{IsPermutation, IsSorted}

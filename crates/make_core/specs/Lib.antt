@@ -1,4 +1,4 @@
--- The definitions of this crate, whose rules stand in `docs/commands.md`, "`mkpkg`" and "`mkndx
+-- The definitions of this crate, whose rules are in `docs/commands.md`, "`mkpkg`" and "`mkndx
 -- PACKAGE..`".
 
 -- what its laws say

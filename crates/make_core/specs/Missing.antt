@@ -1,5 +1,5 @@
 -- At which option a file that is missing is reported.
--- The rules stand in `docs/commands.md`, "`mkpkg`" (`word N: no such file`), and in
+-- The rules are in `docs/commands.md`, "`mkpkg`" (`word N: no such file`), and in
 -- `docs/DECISIONS.md`, "Making" (a file that was listed below the folder of `-F` and is then not
 -- found). Serves the law `a_missing_file_is_reported_at_its_option`.
 use Rattle.std.specs.Prelude.{◌≡◌, ℕ, List, ◌∷◌, None, Contains}

@@ -1,6 +1,6 @@
 -- What a package and an index that are made hold when they are read again: the value that the
 -- command and the reads give, and of a package the contents of its files.
--- The rules stand in `docs/commands.md`, "`mkpkg`" and "`mkndx PACKAGE..`". Serves the laws
+-- The rules are in `docs/commands.md`, "`mkpkg`" and "`mkndx PACKAGE..`". Serves the laws
 -- `a_made_package_is_read_back` and `a_made_index_is_read_back`.
 use Rattle.command_core.specs.declared.values.TheConstants.{FILES, SCRIPT, TRIGGER}
 use Rattle.std.specs.Prelude.{ℕ, List, length, Result, Ok, Err}

@@ -1,5 +1,5 @@
 //! `mkpkg` and `mkndx`: a package and an index are made, and they are sound.
-//! The rules stand in `docs/commands.md`, "`mkpkg`" and "`mkndx PACKAGE..`", with the refusals in
+//! The rules are in `docs/commands.md`, "`mkpkg`" and "`mkndx PACKAGE..`", with the refusals in
 //! their order; that what is made is sound, in `docs/DECISIONS.md`, "Making".
 ghost use Rattle.base_core.specs.Calls.{IfObservable};
 ghost use Rattle.base_core.specs.Read.{OnlyReads};
@@ -25,7 +25,7 @@ use std::alloc::Global;
 /// `FileMissing` at the place of the first script whose file is absent; then `InfoBad` as
 /// `read_information` says; then `FileMissing` at the folder's place where a file that was listed
 /// is not found; then `TooLarge` where the package's values pass a limit of the writer. `Disk`
-/// where the tree failed, and `Memory`.
+/// if the tree failed, and `Memory`.
 pub fn mkpkg<T: Tree>(alloc: Global, command: &Command, tree: &mut T) -> Result<Vec<u8>, MakeFault>
     requires { command.now.applet ≡ Applet.Mkpkg }
     // Over the files of a tree that tells them: the package is theirs, or the refusal.
@@ -54,7 +54,7 @@ pub fn mkpkg<T: Tree>(alloc: Global, command: &Command, tree: &mut T) -> Result<
 /// # Errors
 ///
 /// Operand by operand, `FileMissing` or `FileBad` at the operand's place; then `TooLarge` where the
-/// index passes a limit of the writer. `Disk` where the tree failed, and `Memory`.
+/// index passes a limit of the writer. `Disk` if the tree failed, and `Memory`.
 pub fn mkndx<T: Tree>(alloc: Global, command: &Command, tree: &mut T) -> Result<Vec<u8>, MakeFault>
     requires { command.now.applet ≡ Applet.Mkndx }
     // Over the files of a tree that tells them.

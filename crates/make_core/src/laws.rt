@@ -1,6 +1,6 @@
 //! What is made is sound, and what it holds: no test of a container fails (apk-v3(5)), and it is
 //! read back.
-//! The rules stand in `docs/commands.md`, "`mkpkg`" and "`mkndx PACKAGE..`", and in
+//! The rules are in `docs/commands.md`, "`mkpkg`" and "`mkndx PACKAGE..`", and in
 //! `docs/formats.md`, "Tests of a container".
 ghost use Rattle.adb_schema.specs.Soundness.{payload_in, root_value};
 ghost use Rattle.adb_view.specs.declared.tables.Which.TheVariants.{Index, Package};

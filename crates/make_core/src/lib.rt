@@ -4,7 +4,7 @@
 //! What a package and an index are is said below: `make_info` (the information of a package, the
 //! output's name), `make_package` and `make_index`. `laws` says that what is made is sound and is
 //! read back.
-//! The rules stand in `docs/commands.md`, "`mkpkg`" and "`mkndx PACKAGE..`"; what the tests of a
+//! The rules are in `docs/commands.md`, "`mkpkg`" and "`mkndx PACKAGE..`"; what the tests of a
 //! container are, in `docs/formats.md`, "Tests of a container".
 #![tactic(auto)]
 

@@ -1,4 +1,4 @@
--- What decides of two entries which stands first, and where that is found in an entry.
+-- What decides of two entries which stands first, and if that is found in an entry.
 use Rattle.std.proofs.Common.{◌≡◌, Some, codes, ap, ◌∙◌}
 use Rattle.std.specs.Ordering.{ordering_then}
 use Rattle.std.specs.declared.cmp.Ordering.{Ordering}

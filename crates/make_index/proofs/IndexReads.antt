@@ -154,7 +154,7 @@ read_err view one os i o es fault r at so made e =
           (subst (λ x. IsMadeBy one (Err fault) (found_entry o.place x)) (sym (with_at so.found i f (without_dot o.text))) made.2) e,
     )
 
--- for want of memory nothing is said of what was found
+-- for lack of memory nothing is said of what was found
 pub read_stopped : {A : Type 0} (view : A → List Plain) (os : List Operand) (r : Result A MakeFault) → IsErrAnd r (λ e. e ≡ Memory) → (read : ℕ → List ℕ → Option (List ℕ)) × AreFiles read 0 os × IsMadeBy view r (found_entries read 0 os)
 read_stopped view os (Ok x) e = absurd e
 read_stopped view os (Err fault) e =

@@ -1,6 +1,6 @@
 -- What an index says of a package (apk-v3(5)): its info, with the package's id and the length of
 -- its file.
--- The rule stands in `docs/commands.md`, "`mkndx PACKAGE..`"; what an id is, in `docs/formats.md`,
+-- The rule is in `docs/commands.md`, "`mkndx PACKAGE..`"; what an id is, in `docs/formats.md`,
 -- "The other blocks".
 use Rattle.std.specs.Prelude.{ℕ, List, length}
 use Rattle.adb_view.specs.Plain.{Plain}

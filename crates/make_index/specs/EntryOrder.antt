@@ -1,5 +1,5 @@
 -- The order of the entries of an index.
--- The rule stands in `docs/commands.md`, "`mkndx PACKAGE..`": "Packages are ordered by name,
+-- The rule is in `docs/commands.md`, "`mkndx PACKAGE..`": "Packages are ordered by name,
 -- version, the version's text and id".
 use Rattle.std.specs.Prelude.{ℕ, List}
 use Rattle.std.specs.Ordering.{on, then_cmp}

@@ -15,6 +15,6 @@ AreFiles read n (o ∷ operands) =
     ((file : List ℕ) → read n (without_dot o.text) ≡ Some file → IsFile file)
     × AreFiles read (n + 1) operands
 
--- the reads of a tree in this state: each finds what stands under its name
+-- the reads of a tree in this state: each finds what is under its name
 abbrev pub reads_of : TreeState → Reads
 reads_of v n name = files_of v name

@@ -1,5 +1,5 @@
 -- What `mkndx` makes (apk(8)): an index of packages.
--- The rule stands in `docs/commands.md`, "`mkndx PACKAGE..`", with the refusals in their order; the
+-- The rule is in `docs/commands.md`, "`mkndx PACKAGE..`", with the refusals in their order; the
 -- fields in `docs/formats.md`, "Schemas", table 8.
 use Rattle.command_core.specs.declared.values.TheConstants.{DESCRIPTION}
 use Rattle.std.specs.Prelude.{ℕ, ◌+◌, ◌==◌, List, [], ◌∷◌, Option, Some, None, Result, Ok, Err}
@@ -82,7 +82,7 @@ index_by description operands read = index_of_found description (found_entries r
 
 -- ---- of a command
 
--- the text of a value, or nothing where there is none
+-- the text of a value, or nothing if there is none
 abbrev pub text_or_empty : Option OptionValue → List ℕ
 text_or_empty None = []
 text_or_empty (Some v) = v.text

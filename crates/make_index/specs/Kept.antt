@@ -46,7 +46,7 @@ pub record IsKeyed (name version id : List ℕ) (entry : Plain) : Type 0 where
 
 -- ---- answers
 
--- an answer, seen by a view, is what a definition gives; want of memory says nothing, and no tree
+-- an answer, seen by a view, is what a definition gives; lack of memory says nothing, and no tree
 -- can have failed
 abbrev pub IsMade :
     {A B : Type 0} → (A → B) → Result A MakeFault → Result B MakeFault → Type 0
@@ -55,7 +55,7 @@ IsMade view (Err Memory) wanted = Unit {0}
 IsMade view (Err Disk) wanted = ⊥
 IsMade view (Err fault) wanted = wanted ≡ Err fault
 
--- an answer, seen by a view, is what a definition gives; want of memory and a fault of the tree say
+-- an answer, seen by a view, is what a definition gives; lack of memory and a fault of the tree say
 -- nothing
 abbrev pub IsMadeBy :
     {A B : Type 0} → (A → B) → Result A MakeFault → Result B MakeFault → Type 0

@@ -1,4 +1,4 @@
--- The definitions of this crate, whose rules stand in `docs/commands.md`, "`mkndx PACKAGE..`".
+-- The definitions of this crate, whose rules are in `docs/commands.md`, "`mkndx PACKAGE..`".
 
 -- what the contract of `apk` says
 pub mod Entries

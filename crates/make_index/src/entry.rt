@@ -1,5 +1,5 @@
 //! An entry of an index: the tests of its package, and its order among the others.
-//! The rules stand in `docs/commands.md`, "`mkndx PACKAGE..`" (the order of packages, and that each
+//! The rules are in `docs/commands.md`, "`mkndx PACKAGE..`" (the order of packages, and that each
 //! must pass all tests of `verify`), and "`verify FILE..`" there.
 ghost use Rattle.adb_schema.specs.Soundness.{first_fault, payload_in, root_value};
 ghost use Rattle.adb_values.specs.Drafts.{draft_with};

@@ -1,6 +1,6 @@
 //! Makes an index of packages (apk(8), `mkndx`): reads the packages that operands name, puts their
 //! entries in order, and writes the container.
-//! The rule stands in `docs/commands.md`, "`mkndx PACKAGE..`", with the refusals in their order;
+//! The rule is in `docs/commands.md`, "`mkndx PACKAGE..`", with the refusals in their order;
 //! the fields in `docs/formats.md`, "Schemas", table 8.
 
 ghost use Rattle.adb_view.specs.Schema.{shape_of, table};
@@ -52,7 +52,7 @@ use version_core::order_is_total;
 /// # Errors
 ///
 /// Operand by operand, `FileMissing` or `FileBad` at the operand's place; then `TooLarge` where the
-/// index passes a limit of the writer. `Disk` where the tree failed, and `Memory`.
+/// index passes a limit of the writer. `Disk` if the tree failed, and `Memory`.
 pub fn make<T: Tree>(alloc: Global, command: &Command, tree: &mut T) -> Result<Vec<u8>, MakeFault>
     requires { command.now.applet ≡ Applet.Mkndx }
     // Over the files of a tree that tells them.

@@ -3,7 +3,7 @@
 //!
 //! The contracts cite `Entries` (what an index says of a package), `EntryOrder` and `Index` (the
 //! index of a command) of `specs/`.
-//! The rules stand in `docs/commands.md`, "`mkndx PACKAGE..`", and in `docs/formats.md`, "Schemas",
+//! The rules are in `docs/commands.md`, "`mkndx PACKAGE..`", and in `docs/formats.md`, "Schemas",
 //! tables 3 and 8.
 #![tactic(auto)]
 

@@ -137,7 +137,7 @@ fn write_entry_info(
     write_info(draft, adb, &mut known, info, id, len)
 }
 
-/// The entry of a package in a payload of its own, or None where the entry passes a limit of the
+/// The entry of a package in a payload of its own, or None if the entry passes a limit of the
 /// writer. `len` is the length of the package's file.
 pub(crate) fn entry_payload(
     alloc: Global,

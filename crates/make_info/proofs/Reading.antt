@@ -90,7 +90,7 @@ among f g value said true h k s =
     found_one f g said (one_said (kind_of_field g) value said (ap (λ x. is_list (kind_of_field x)) (same_field g f h) ∙ k) s) h
 among f g value said false h k s = not_found f g said h
 
--- ---- a value offends exactly where it is not taken
+-- ---- a value offends exactly when it is not taken
 
 abbrev pub IsFresh : List OptionValue → List InfoItem → Type 0
 IsFresh done said = (f : Field) → is_list (kind_of_field f) ≡ false → is_some (find (is_item_for f) said) ≡ list_any (is_for f) done

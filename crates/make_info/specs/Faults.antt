@@ -19,7 +19,7 @@ abbrev pub IsMakeFaultBy : WriteFault → MakeFault → Type 0
 IsMakeFaultBy (Writes.TooLarge bytes values) fault = fault ≡ TooLarge bytes values
 IsMakeFaultBy Writes.Memory fault = fault ≡ Memory
 
--- a fault of the information is at the first place that offends; want of memory says nothing of the
+-- a fault of the information is at the first place that offends; lack of memory says nothing of the
 -- values
 abbrev pub IsInfoFault : {A : Type 0} → MakeFault → Result A ℕ → Type 0
 IsInfoFault (FileMissing place) answer = ⊥
@@ -29,7 +29,7 @@ IsInfoFault (TooLarge bytes values) answer = ⊥
 IsInfoFault Disk answer = ⊥
 IsInfoFault Memory answer = Unit {0}
 
--- a fault of writing has the counts with which the writer stops; want of memory says nothing of them
+-- a fault of writing has the counts with which the writer stops; lack of memory says nothing of them
 abbrev pub IsOverflow : MakeFault → Result (List ℕ) PayloadCounts → Type 0
 IsOverflow (TooLarge bytes values) written = written ≡ Err (bytes, values)
 IsOverflow Memory written = Unit {0}

@@ -1,6 +1,6 @@
 -- The values of `-I` of a command: which field each is for, the package's name and version among
 -- them, and the file that is made.
--- The rules stand in `docs/commands.md`, "`mkpkg`", the first paragraphs, and in "Words", the rows of
+-- The rules are in `docs/commands.md`, "`mkpkg`", the first paragraphs, and in "Words", the rows of
 -- `-I` and `-o`.
 use Rattle.command_core.specs.declared.values.TheConstants.{INFO, OUTPUT}
 use Rattle.std.specs.Prelude.{ℕ, ◌+◌, ◌==◌, nat_lt, Bool, false, List, [], ◌∷◌, ◌++◌, length, take, drop, position, codes, Option, Some, None, option_map, option_and_then, is_some, not, ◌&&◌, if◌then◌else◌}
@@ -30,7 +30,7 @@ field_text_from text (Some colon) =
     option_map (λ f. record { field = f; value = drop (colon + 1) text })
     (field_of (take colon text))
 
--- a text FIELD:VALUE, where FIELD ends before the first `:`; None where there is no `:`, or FIELD
+-- a text FIELD:VALUE, where FIELD ends before the first `:`; None if there is no `:`, or FIELD
 -- is no field
 abbrev pub field_text_in : List ℕ → Option FieldText
 field_text_in text = field_text_from text (position (λ b. b == COLON) text)
@@ -75,12 +75,12 @@ first_text_for f (v ∷ vs) = option_or (text_for f v) (first_text_for f vs)
 abbrev pub if_passes : (List ℕ → Bool) → List ℕ → Option (List ℕ)
 if_passes is_good value = if is_good value then Some value else None
 
--- the package's name, where one is given and good; of several the first counts
+-- the package's name, if one is given and good; of several the first counts
 abbrev pub package_name_in : List OptionValue → Option (List ℕ)
 package_name_in values =
     option_and_then (if_passes is_package_name) (first_text_for Fields.Name values)
 
--- the package's version, where one is given and good; of several the first counts
+-- the package's version, if one is given and good; of several the first counts
 abbrev pub package_version_in : List OptionValue → Option (List ℕ)
 package_version_in values =
     option_and_then (if_passes is_version) (first_text_for Fields.Version values)
@@ -89,7 +89,7 @@ package_version_in values =
 abbrev pub package_file_name : List ℕ → List ℕ → List ℕ
 package_file_name name version = name ++ (HYPHEN ∷ version ++ codes ".apk")
 
--- the name of a package's file; None where its name or its version is lacking
+-- the name of a package's file; None if its name or its version is lacking
 abbrev pub package_file_name_of : Option (List ℕ) → Option (List ℕ) → Option (List ℕ)
 package_file_name_of name version =
     option_and_then (λ name. option_map (package_file_name name) version) name

@@ -1,5 +1,5 @@
 -- The fields that `-I` of `mkpkg` may give, and what a value of each says (apk(8), `mkpkg`).
--- The rules stand in `docs/commands.md`, "`mkpkg`", the table of fields; of dependencies without tag in
+-- The rules are in `docs/commands.md`, "`mkpkg`", the table of fields; of dependencies without tag in
 -- `docs/formats.md`, "Dependencies".
 use Rattle.std.specs.Prelude.{ℕ, ◌^◌, ◌==◌, nat_lt, Bool, true, false, ◌&&◌, if◌then◌else◌, List, [], ◌∷◌, length, map, codes, Option, Some, None, option_map, option_and_then, is_some, Result, Ok, Err}
 use Rattle.std.specs.List.{filter, find, slice_split}
@@ -91,20 +91,20 @@ pub data FieldValue : Type 0 where
   number : ℕ → FieldValue
   need : Dependency → FieldValue
 
--- ---- the values that a text is under a kind; None where it is outside of the kind's grammar
+-- ---- the values that a text is under a kind; None if it is outside of the kind's grammar
 
 -- the values of a field that has one text, which its rule has to allow
 abbrev pub text_if : Bool → List ℕ → Option (List FieldValue)
 text_if true value = Some (text value ∷ [])
 text_if false value = None
 
--- the values of a field of hexadecimal digits: the bytes that they spell; None where the text is no
+-- the values of a field of hexadecimal digits: the bytes that they spell; None if the text is no
 -- such digits
 abbrev pub value_of_digits : Result (List ℕ) FromHexError → Option (List FieldValue)
 value_of_digits (Ok bytes) = Some (text bytes ∷ [])
 value_of_digits (Err e) = None
 
--- the number that a text is; None where it is none, has a zero in front or more than 64 bits
+-- the number that a text is; None if it is none, has a zero in front or more than 64 bits
 abbrev pub decimal_number : List ℕ → Option ℕ
 decimal_number value =
     if is_decimal value && nat_lt (digits_value 10 value) (2 ^ 64) then
@@ -130,17 +130,17 @@ if_untagged d = if is_some d.tag then None else Some d
 abbrev pub need_in : List ℕ → Option Dependency
 need_in part = option_and_then if_untagged (dependency_of part)
 
--- the values of a dependency and of others behind it; None where one of them is no dependency
+-- the values of a dependency and of others behind it; None if one of them is no dependency
 abbrev pub and_needs : Option Dependency → Option (List FieldValue) → Option (List FieldValue)
 and_needs d others =
     option_and_then (λ d. option_map (λ others. need d ∷ others) others) d
 
--- the values of a list of dependencies, one for each part; None where a part is no dependency
+-- the values of a list of dependencies, one for each part; None if a part is no dependency
 abbrev pub needs_in : List (List ℕ) → Option (List FieldValue)
 needs_in [] = Some []
 needs_in (part ∷ parts) = and_needs (need_in part) (needs_in parts)
 
--- the values that a text is under a kind: of a list several or none, of another kind one; None where
+-- the values that a text is under a kind: of a list several or none, of another kind one; None if
 -- the text is not allowed
 abbrev pub values_by_kind : Kind → List ℕ → Option (List FieldValue)
 values_by_kind Kinds.PackageName value = text_if (is_package_name value) value

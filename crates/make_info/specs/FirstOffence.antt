@@ -1,6 +1,6 @@
 -- Which of the values of `-I` is the first that offends. `too_long`: the output is NAME-VERSION.apk,
 -- and that is too long.
--- The rule stands in `docs/commands.md`, "`mkpkg`", the row of `invalid package information`: the first
+-- The rule is in `docs/commands.md`, "`mkpkg`", the row of `invalid package information`: the first
 -- such place. Serves the law `the_first_value_that_offends_is_reported`.
 use Rattle.std.specs.Prelude.{◌≡◌, ℕ, Bool, true, false, List, ◌∷◌, ◌++◌}
 use Rattle.command_core.specs.declared.values.OptionValue.{OptionValue}

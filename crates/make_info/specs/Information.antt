@@ -1,6 +1,6 @@
 -- The information of a package, as the values of `-I` say it (apk(8), `mkpkg`), and its value
 -- (apk-v3(5)).
--- The rules stand in `docs/commands.md`, "`mkpkg`", the table of fields and the row of `invalid package
+-- The rules are in `docs/commands.md`, "`mkpkg`", the table of fields and the row of `invalid package
 -- information`; the order of the fields in `docs/formats.md`, "Schemas", tables 1 and 3.
 use Rattle.std.specs.Prelude.{ℕ, Bool, false, ◌&&◌, ◌||◌, not, if◌then◌else◌, List, [], ◌∷◌, ◌++◌, map, Option, Some, None, option_map, option_and_then, is_some, unwrap_or, Result, Ok, Err}
 use Rattle.std.specs.List.{find, flat_map, list_any}
@@ -24,18 +24,18 @@ pub record InfoItem : Type 0 where
 abbrev pub info_item : Field → FieldValue → InfoItem
 info_item f value = record { field = f; value = value }
 
--- the items so far, and behind them one for each of these values of a field; None where there are no
+-- the items so far, and behind them one for each of these values of a field; None if there are no
 -- values, since the text is not allowed
 abbrev pub with_values :
     List InfoItem → Field → Option (List FieldValue) → Option (List InfoItem)
 with_values before f values = option_map (λ values. before ++ map (info_item f) values) values
 
--- the items of a field with a text; None where the text is not allowed
+-- the items of a field with a text; None if the text is not allowed
 abbrev pub items_of_text : FieldText → Option (List InfoItem)
 items_of_text given =
     with_values [] given.field (values_by_kind (kind_of_field given.field) given.value)
 
--- the items that one value of `-I` says; None where it is no FIELD:VALUE, or the value is outside the
+-- the items that one value of `-I` says; None if it is no FIELD:VALUE, or the value is outside the
 -- field's grammar
 abbrev pub items_of_option : OptionValue → Option (List InfoItem)
 items_of_option v = option_and_then items_of_text (field_text_in v.text)

@@ -1,5 +1,5 @@
 -- Which value stands at the field of a table that a word names (apk-v3(5)).
--- The rule stands in `docs/formats.md`, "Schemas", table 3. Serves the law
+-- The rule is in `docs/formats.md`, "Schemas", table 3. Serves the law
 -- `an_option_gives_the_field_of_its_name`.
 use Rattle.std.specs.Prelude.{ℕ, List, [], ◌∷◌, Option, Some, None, if◌then◌else◌}
 use Rattle.std.specs.Str.{bytes_eq}
@@ -11,7 +11,7 @@ use Rattle.make_info.specs.declared.field.Field.TheVariants as Fields
 use Rattle.make_info.specs.Fields.{is_list, kind_of_field}
 use Rattle.make_info.specs.Information.{InfoItem, value_of_list, value_of_single}
 
--- the value at the field of this name, of values in the order of a table's fields; None where no field
+-- the value at the field of this name, of values in the order of a table's fields; None if no field
 -- has the name
 abbrev pub value_by_name : List ℕ → List Field → Plains → Option Plain
 value_by_name word [] values = None

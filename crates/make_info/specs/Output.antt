@@ -1,5 +1,5 @@
 -- Under which name a container is written (apk(8), `mkpkg` and `mkndx`).
--- The rules stand in `docs/commands.md`, "`mkpkg`" and "`mkndx PACKAGE..`", and in "Words", the row of
+-- The rules are in `docs/commands.md`, "`mkpkg`" and "`mkndx PACKAGE..`", and in "Words", the row of
 -- `-o`.
 use Rattle.std.specs.Prelude.{ℕ, Bool, true, false, if◌then◌else◌, List, Option, None, Result, Ok, Err}
 use Rattle.std.specs.Option.{option_or}

@@ -1,5 +1,5 @@
 -- How the values of `-I` are read one after the other.
--- The rules stand in `docs/commands.md`, "`mkpkg`". Serves the contracts of `information`, whose public
+-- The rules are in `docs/commands.md`, "`mkpkg`". Serves the contracts of `information`, whose public
 -- ones cite *information*.
 use Rattle.std.specs.Prelude.{ℕ, Bool, not, ◌&&◌, ◌||◌, if◌then◌else◌, List, [], ◌∷◌, Option, Some, None, is_some}
 use Rattle.std.specs.List.{find}
@@ -16,7 +16,7 @@ nonempty_part part = if is_nonempty part then part ∷ [] else []
 abbrev pub has_item_for : FieldText → List InfoItem → Bool
 has_item_for given before = is_some (find (is_item_for given.field) before)
 
--- The items so far, and those of one more value; None where it offends. A version offends too where
+-- The items so far, and those of one more value; None if it offends. A version offends too where
 -- `too_long` says that the output's name passes its limit.
 abbrev pub items_with_text : Bool → List InfoItem → Option FieldText → Option (List InfoItem)
 items_with_text too_long before None = None
@@ -25,7 +25,7 @@ items_with_text too_long before (Some given) =
     if not (is_list (kind_of_field given.field)) && has_item_for given before then None else
     with_values before given.field (values_by_kind (kind_of_field given.field) given.value)
 
--- the items so far, with those of the text of a value; None where the value offends
+-- the items so far, with those of the text of a value; None if the value offends
 unfoldable pub items_with : Bool → List InfoItem → List ℕ → Option (List InfoItem)
 items_with too_long before text = items_with_text too_long before (field_text_in text)
 

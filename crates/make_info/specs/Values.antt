@@ -1,5 +1,5 @@
 -- Values that may be lacking, and lists of values.
--- The rules stand in `docs/formats.md`, "Values": an entry may be Null. Serves the definitions of
+-- The rules are in `docs/formats.md`, "Values": an entry may be Null. Serves the definitions of
 -- values of this crate and of others that write containers.
 use Rattle.std.specs.Prelude.{ℕ, ◌==◌, if◌then◌else◌, List, [], ◌∷◌, Option, Some, None}
 use Rattle.adb_view.specs.Plain.{Plain, null, int, Plains, none, more}

@@ -1,4 +1,4 @@
-//! Why nothing was made. The rules stand in `docs/commands.md`, "`mkpkg`" and "`mkndx PACKAGE..`",
+//! Why nothing was made. The rules are in `docs/commands.md`, "`mkpkg`" and "`mkndx PACKAGE..`",
 //! the tables of refusals.
 use adb_write::WriteFault;
 use base_core::{Cause, Disk, TreeFault};

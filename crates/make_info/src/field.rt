@@ -1,5 +1,5 @@
 //! The fields of `-I` of `mkpkg` (apk(8)), and what a value of each has to be.
-//! The rules stand in `docs/commands.md`, "`mkpkg`", the table of fields.
+//! The rules are in `docs/commands.md`, "`mkpkg`", the table of fields.
 ghost use Rattle.make_info.specs.Fields.{field_of, field_word, is_list, kind_of_field, field_among, decimal_number};
 ghost use Rattle.std.specs.Prelude.{◌≡◌};
 
@@ -71,7 +71,7 @@ static FIELDS: [Field; 18] = [
 ];
 
 impl Field {
-    /// The field that a word names; None where it names none.
+    /// The field that a word names; None if it names none.
     #[tactic(auto, unfolding(crate::specs::Fields::field_of))]
     pub(crate) fn of(word: &[u8]) -> Option<Field>
         ensures { result ≡ field_of word.now }

@@ -1,5 +1,5 @@
 //! The information of a package, read from the values of `-I` of `mkpkg` (apk(8)).
-//! The rules stand in `docs/commands.md`, "`mkpkg`", the table of fields and the row of `invalid
+//! The rules are in `docs/commands.md`, "`mkpkg`", the table of fields and the row of `invalid
 //! package information`.
 
 ghost use Rattle.dep_core.specs.Meets.{dependency};
@@ -344,7 +344,7 @@ pub fn an_option_gives_the_field_of_its_name()
 
 /// The value of `-I` that is reported is the first that offends, in the order given: it is not
 /// allowed, it is a second one of its field, or it is the version with which the output's name is
-/// too long. Where none is reported, none offends.
+/// too long. If none is reported, none offends.
 pub fn the_first_value_that_offends_is_reported()
     ensures offends { (too_long : Bool) (values : List OptionValue) (place : ℕ)
         → first_offence too_long [] values ≡ Some place

@@ -3,7 +3,7 @@
 //!
 //! The contracts cite `Fields`, `FieldTexts`, `Values`, `Information`, `Output` and `Reads` of
 //! `specs/`.
-//! The rules stand in `docs/commands.md`, "`mkpkg`".
+//! The rules are in `docs/commands.md`, "`mkpkg`".
 #![tactic(auto)]
 
 mod fault;

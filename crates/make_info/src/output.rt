@@ -1,5 +1,5 @@
 //! Under which name a container is written (apk(8)): the file that `-o` names, or NAME-VERSION.apk.
-//! The rules stand in `docs/commands.md`, "`mkpkg`" and "`mkndx PACKAGE..`", and in "Words", the
+//! The rules are in `docs/commands.md`, "`mkpkg`" and "`mkndx PACKAGE..`", and in "Words", the
 //! row of `-o`.
 ghost use Rattle.make_info.specs.FieldTexts.{first_text_for, is_too_long, package_name_in, named_output, default_output, text_for, package_version_in};
 ghost use Rattle.make_info.specs.Information.{information};
@@ -117,7 +117,7 @@ fn text_for(value: &OptionValue, field: Field) -> Option<&[u8]>
 }
 
 /// The name under which the container of `mkpkg` or `mkndx` is written (apk(8)): the file that `-o`
-/// names, or of `mkpkg` else NAME-VERSION.apk. None comes exactly where the package information of
+/// names, or of `mkpkg` else NAME-VERSION.apk. None comes exactly when the package information of
 /// `mkpkg` is not allowed.
 pub fn output_name(alloc: Global, command: &Command) -> Result<Option<Name>, AllocError>
     ensures { IfOk result (λ name. name ≡ output_name command.now) }

@@ -205,7 +205,7 @@ pub fn write_number(draft: &mut Draft, number: Option<u64>) -> Result<(), AllocE
 }
 
 // The match number of a dependency: its operator's, with 16 more for a conflict, and 23 (7 and 16)
-// for a conflict without version. None where there is no conflict, and either any version is taken
+// for a conflict without version. None if there is no conflict, and either any version is taken
 // or just the one that is named (`=`, which is 1).
 fn matching_of(dep: &Dep<'_>) -> Option<u64>
     ensures { result ≡ (dep_value (dependency dep.now)).matching }

@@ -1,4 +1,4 @@
--- A text gives a value to a field exactly where it is FIELD:VALUE.
+-- A text gives a value to a field exactly when it is FIELD:VALUE.
 use Rattle.std.proofs.Common.{◌≡◌, ℕ, suc, ◌+◌, ◌<◌, Bool, true, false, cond, not, ◌||◌, ◌==◌, nat_lt, bytes_eq, List, [], ◌∷◌, ◌++◌, length, take, drop, get_or, Option, Some, None, refl, ap, sym, ◌∙◌, append_assoc, arith}
 use Rattle.std.specs.List.{find, list_any, position, prefix_len}
 use Rattle.std.specs.Option.{option_map}

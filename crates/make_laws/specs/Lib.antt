@@ -1,4 +1,4 @@
--- The definitions of this crate, whose rules stand in `docs/commands.md`, "`mkpkg`".
+-- The definitions of this crate, whose rules are in `docs/commands.md`, "`mkpkg`".
 
 -- what the laws say
 pub mod NamedFields

@@ -1,5 +1,5 @@
 -- A package that is made, and what it holds in the words of the format (apk-package(5)).
--- The rules stand in `docs/commands.md`, "`mkpkg`", the paragraph on `-F DIR`; the names of fields
+-- The rules are in `docs/commands.md`, "`mkpkg`", the paragraph on `-F DIR`; the names of fields
 -- in `docs/formats.md`, "Schemas". Serves the laws of `src/packages.rt`.
 use Rattle.command_core.specs.declared.values.TheConstants.{FILES, TRIGGER}
 use Rattle.std.specs.Prelude.{◌≡◌, ◌↔◌, ◌⊎◌, ◌==◌, ℕ, ◌+◌, ◌*◌, ◌^◌, ◌<◌, List, [], length, map, codes, sum_by, Ok, All}

@@ -1,5 +1,5 @@
 -- Which values `-I` takes, field by field (apk(8), `mkpkg`), and what each says.
--- The rules stand in `docs/commands.md`, "`mkpkg`": the table of fields, and which field is given
+-- The rules are in `docs/commands.md`, "`mkpkg`": the table of fields, and which field is given
 -- once; the grammar of a dependency in `docs/formats.md`, "Dependencies".
 use Rattle.std.specs.Prelude.{◌≡◌, ◌≢◌, ℕ, ◌*◌, ◌+◌, ◌^◌, ◌<◌, ◌==◌, Bool, true, false, not, List, [], ◌∷◌, ◌++◌, length, map, None, Some}
 use Rattle.std.specs.Fmt.{decimal}

@@ -1,5 +1,5 @@
 -- What the options of a command say of a field, and how a package tells it.
--- The rule stands in `docs/commands.md`, "`mkpkg`": a field of a list may be given several times,
+-- The rule is in `docs/commands.md`, "`mkpkg`": a field of a list may be given several times,
 -- and each value is added; any other is given once. Serves the law
 -- `a_made_package_tells_what_its_options_say`.
 use Rattle.command_core.specs.declared.values.TheConstants.{INFO}

@@ -1,5 +1,5 @@
 -- Which file a script is (apk(8), `mkpkg`).
--- The rule stands in `docs/commands.md`, "`mkpkg`": TYPE of `-s`, and FILE is read whole. Serves
+-- The rule is in `docs/commands.md`, "`mkpkg`": TYPE of `-s`, and FILE is read whole. Serves
 -- the law `a_made_package_has_its_scripts`.
 use Rattle.std.specs.Prelude.{◌≡◌, ◌⊎◌, ℕ, List, Some}
 use Rattle.adb_fields.specs.FirstPair.{IsIn}
@@ -26,7 +26,7 @@ abbrev pub IsNotGiven : List OptionValue → List ℕ → Type 0
 IsNotGiven options type =
     (option : OptionValue) → IsIn option options → script_type option.text ≡ type → ⊥
 
--- what a package has as its script of the type: the one that is given, or none where none is given
+-- what a package has as its script of the type: the one that is given, or none if none is given
 abbrev pub IsScriptGiven : Reads → List OptionValue → List ℕ → Plain → Type 0
 IsScriptGiven read options type script =
     ((bytes : List ℕ) × IsGivenScript read options type bytes × (script ≡ blob_value bytes))

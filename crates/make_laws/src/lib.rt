@@ -3,7 +3,7 @@
 //!
 //! The functions are laws. They cite the definitions of `specs/`, and those of `make_info`,
 //! `make_package`, `make_index` and `make_core` that they speak of.
-//! The rules stand in `docs/commands.md`, "`mkpkg`" and "`mkndx PACKAGE..`", and in
+//! The rules are in `docs/commands.md`, "`mkpkg`" and "`mkndx PACKAGE..`", and in
 //! `docs/formats.md`, "Schemas", by the names of the fields there.
 #![tactic(auto)]
 

@@ -1,5 +1,5 @@
 //! What a package that is made holds: laws over the definitions of `make_package`.
-//! The rules stand in `docs/commands.md`, "`mkpkg`": the paragraph on `-F DIR`, and the options
+//! The rules are in `docs/commands.md`, "`mkpkg`": the paragraph on `-F DIR`, and the options
 //! `-I`, `-s` and `-t`.
 ghost use Rattle.adb_fields.specs.FirstPair.{IsIn};
 ghost use Rattle.adb_fields.specs.Repeated.{folders_in};
@@ -71,7 +71,7 @@ pub fn a_made_package_has_its_scripts()
 }
 
 /// A package that is made tells of each field what the options `-I` say: of a list all that they
-/// say, in the order given, of another field the one value, and nothing where none is given.
+/// say, in the order given, of another field the one value, and nothing if none is given.
 pub fn a_made_package_tells_what_its_options_say()
     ensures { (command : CommandLine) (names : List (List ℕ)) (read : Reads) (bytes : List ℕ)
         (f : Field) → IsMadePackage command names read bytes

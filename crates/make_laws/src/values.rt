@@ -1,7 +1,7 @@
 //! Which values `-I` of `mkpkg` takes and what `--script` gives, and what the values of a package
 //! and of an index tell, field by field: laws over the definitions of `make_info`, `package_files`
 //! and `make_index`.
-//! The rules stand in `docs/commands.md`, "`mkpkg`" (the table of fields) and "`mkndx PACKAGE..`";
+//! The rules are in `docs/commands.md`, "`mkpkg`" (the table of fields) and "`mkndx PACKAGE..`";
 //! the names of fields in `docs/formats.md`, "Schemas".
 ghost use Rattle.adb_copy.specs.Zeros.{without_zeros};
 ghost use Rattle.adb_view.specs.Values.{entry_in, int_in, text_in};
@@ -30,14 +30,14 @@ ghost use Rattle.std.specs.Prelude.{◌≡◌, ◌↔◌, ◌==◌, ◌++◌, �
 
 use dep_core::{read_texts_are_spelled, spelled_texts_are_read};
 
-/// A text gives a value to a field exactly where it is FIELD:VALUE: the field's name, a colon, and
+/// A text gives a value to a field exactly when it is FIELD:VALUE: the field's name, a colon, and
 /// the value.
 pub fn a_text_gives_a_value_to_a_field()
     ensures { (t value : List ℕ) (f : Field)
         → field_text_in t ≡ Some (record { field = f; value = value }) ↔ t ≡ option_text f value }
 {}
 
-/// A value is one of a field exactly where it is of the field's grammar, and says what this says.
+/// A value is one of a field exactly when it is of the field's grammar, and says what this says.
 pub fn a_value_is_taken_by_the_grammar_of_its_field()
     ensures { (f : Field) (value : List ℕ) (said : List FieldValue)
         → values_by_kind (kind_of_field f) value ≡ Some said ↔ SaysOfField f value said }
@@ -46,7 +46,7 @@ pub fn a_value_is_taken_by_the_grammar_of_its_field()
     spelled_texts_are_read();
 }
 
-/// A value of `-I` offends behind those before it exactly where it is not taken.
+/// A value of `-I` offends behind those before it exactly when it is not taken.
 pub fn an_option_offends_unless_it_is_taken()
     ensures { (too_long : Bool) (before : List OptionValue) (option : OptionValue)
         → offends too_long before option ≡ false ↔ IsTakenOption too_long before option }
@@ -62,7 +62,7 @@ pub fn a_script_is_given_as_its_type_and_its_file()
         → (script_type (type ++ 58 ∷ file) ≡ type) × (script_file (type ++ 58 ∷ file) ≡ file) }
 {}
 
-/// A file of a package tells what its bytes in the tree are: where they are a link, the target and
+/// A file of a package tells what its bytes in the tree are: if they are a link, the target and
 /// neither size nor hash; else how many they are and their SHA-256, and no target.
 pub fn a_file_tells_what_its_bytes_are()
     // A link: 0 and 160 are the kind 0xa000, little-endian.

@@ -29,7 +29,7 @@ IsFirstValue (Some v) values = (others : List OptionValue) × (values ≡ v.now 
 abbrev pub IsBytes : Vec ℕ Global → List ℕ → Type 0
 IsBytes file bytes = bytes ≡ file.items
 
--- an answer that is an error is a fault of the tree, or want of memory
+-- an answer that is an error is a fault of the tree, or lack of memory
 abbrev pub IsCutOff : {A : Type 0} → Result A MakeFault → Type 0
 IsCutOff (Ok x) = Unit {0}
 IsCutOff (Err Disk) = Unit {0}
@@ -47,7 +47,7 @@ abbrev pub AreBelow : List OptionValue → TreeState → List (List ℕ) → Typ
 AreBelow [] v names = Unit {0}
 AreBelow (dir ∷ dirs) v names = IsListOf (without_dot dir.text) v names
 
--- of a refusal with a fault this holds; a fault of the tree and want of memory say nothing
+-- of a refusal with a fault this holds; a fault of the tree and lack of memory say nothing
 abbrev pub OnRefusal : MakeFault → (Result (List ℕ) MakeFault → Type 0) → Type 0
 OnRefusal Disk P = Unit {0}
 OnRefusal Memory P = Unit {0}
@@ -64,7 +64,7 @@ pub record IsMadeOf (history : List TreeState) (command : CommandLine)
   pub below : IfObservable history (λ v. AreBelow (values_with FILES command.values) v names)
   pub reads : Explains history (λ read. made_package command names read ≡ made)
 
--- the answer of a run is what is made; a fault of the tree and want of memory stand for anything
+-- the answer of a run is what is made; a fault of the tree and lack of memory stand for anything
 abbrev pub IsMadeRun : List TreeState → CommandLine → Result (Vec ℕ Global) MakeFault → Type 0
 IsMadeRun history command (Ok file) = IsMadeOf history command (Ok file.items)
 IsMadeRun history command (Err fault) = OnRefusal fault (IsMadeOf history command)

@@ -1,6 +1,6 @@
 -- What `mkpkg` makes (apk(8)): a package of its command, of the names below its folder, and of what
 -- reads find.
--- The rule stands in `docs/commands.md`, "`mkpkg`", with the refusals in their order; the limits of
+-- The rule is in `docs/commands.md`, "`mkpkg`", with the refusals in their order; the limits of
 -- a payload in `docs/formats.md`, "Canonical layout".
 use Rattle.command_core.specs.declared.values.TheConstants.{FILES, SCRIPT, TRIGGER}
 use Rattle.std.specs.Prelude.{ℕ, List, length, Option, Some, None, Result, Ok, Err}

@@ -1,5 +1,5 @@
 //! The container of a package: its payload, and the contents blocks behind it.
-//! The rules stand in `docs/formats.md`, "Container" and "The other blocks"; what the installed
+//! The rules are in `docs/formats.md`, "Container" and "The other blocks"; what the installed
 //! size is, in `docs/commands.md`, "`mkpkg`"; that the contents are not held twice, in
 //! `docs/DECISIONS.md`, "Making".
 ghost use Rattle.command_core.specs.declared.values.TheConstants.{TRIGGER};

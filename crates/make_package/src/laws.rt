@@ -1,5 +1,5 @@
 //! What a package is, in the words of the format: laws over the definitions of `package_files`.
-//! The rules stand in `docs/commands.md`, "`mkpkg`", and in `docs/formats.md`, "Schemas", tables 4
+//! The rules are in `docs/commands.md`, "`mkpkg`", and in `docs/formats.md`, "Schemas", tables 4
 //! to 7, by the names of the fields there.
 ghost use Rattle.adb_view.specs.Schema.{field_name_text, table};
 ghost use Rattle.adb_view.specs.declared.tables.Which.TheVariants.{Dir, File, Package, Scripts};

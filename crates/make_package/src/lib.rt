@@ -3,7 +3,7 @@
 //!
 //! The contract cites `Folders`, `Package` and `Sources` of `package_files` (what a package is made
 //! of, and its value) and `Making` (the package of a command) of `specs/`.
-//! The rules stand in `docs/commands.md`, "`mkpkg`", and in `docs/formats.md`, "Schemas", table 7,
+//! The rules are in `docs/commands.md`, "`mkpkg`", and in `docs/formats.md`, "Schemas", table 7,
 //! and "The other blocks".
 #![tactic(auto)]
 

@@ -1,5 +1,5 @@
 //! Makes the package that a command asks for, of what it reads in a tree.
-//! The rule stands in `docs/commands.md`, "`mkpkg`", with the refusals in their order.
+//! The rule is in `docs/commands.md`, "`mkpkg`", with the refusals in their order.
 ghost use Rattle.base_core.specs.Read.{OnlyReads};
 ghost use Rattle.make_package.specs.Answers.{IsBytes, IsMadeRun};
 ghost use Rattle.make_package.specs.Making.{made_package};
@@ -25,7 +25,7 @@ use std::alloc::Global;
 /// `FileMissing` at the place of the first script whose file is absent; then `InfoBad` as
 /// `read_information` says; then `FileMissing` at the folder's place where a file that was listed
 /// is not found; then `TooLarge` where the package's values pass a limit of the writer. `Disk`
-/// where the tree failed, and `Memory`.
+/// if the tree failed, and `Memory`.
 pub fn make<T: Tree>(alloc: Global, command: &Command, tree: &mut T) -> Result<Vec<u8>, MakeFault>
     requires { command.now.applet ≡ Applet.Mkpkg }
     // The tree is only read, and `Disk` has a fault of it for its cause.

@@ -1,6 +1,6 @@
 //! Reads what options name in the tree (apk(8), `mkpkg`): the folder whose files a package holds,
 //! and the files of its scripts.
-//! The rules stand in `docs/commands.md`, "`mkpkg`" (TYPE:FILE of `-s`, and `-F DIR`) and "Words"
+//! The rules are in `docs/commands.md`, "`mkpkg`" (TYPE:FILE of `-s`, and `-F DIR`) and "Words"
 //! (the options).
 ghost use Rattle.base_core.specs.Calls.{IfObservable};
 ghost use Rattle.base_core.specs.Read.{OnlyReads};
@@ -34,7 +34,7 @@ pub(crate) fn list_names<T: Tree>(
     requires { IsTrue (are_values (value_rules Mkpkg) values.now) }
     ensures tree { OnlyReads MakeFault.Disk (T.history tree.old) (T.history tree.new)
         (T.counts tree.old) (T.counts tree.new) result }
-    // Listing can fail by the tree and for want of memory alone.
+    // Listing can fail by the tree and for lack of memory alone.
     ensures cut { IsCutOff result }
     // Where the tree tells its files, these are the names below the folder.
     ensures names { IfOk result (λ names. IfObservable (T.history tree.old) (λ v.

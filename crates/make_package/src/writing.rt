@@ -1,6 +1,6 @@
 //! Writes the value of a package (apk-v3(5)): its information, its folders with their files, its
 //! scripts and triggers.
-//! The rules stand in `docs/commands.md`, "`mkpkg`" (modes, users, which fields are left out), and
+//! The rules are in `docs/commands.md`, "`mkpkg`" (modes, users, which fields are left out), and
 //! in `docs/formats.md`, "Schemas", tables 2, 4, 5, 6 and 7: the fields in their order.
 ghost use Rattle.command_core.specs.declared.values.TheConstants.{TRIGGER};
 ghost use Rattle.adb_values.specs.Drafts.{draft_with};
@@ -136,7 +136,7 @@ fn write_scripts(draft: &mut Draft, scripts: &[Script<'_>]) -> Result<(), AllocE
     draft.close_object()
 }
 
-/// The bytes of the first script of a type, or none where there is none.
+/// The bytes of the first script of a type, or none if there is none.
 fn script_of<'a>(scripts: &'a [Script<'_>], kind: &[u8]) -> &'a [u8]
     ensures { result.now ≡ script_in (scripts_view scripts.now) kind.now }
 {

@@ -1,4 +1,4 @@
--- How many of a list come before an element orders the elements of the list.
+-- How many of a list precedes an element orders the elements of the list.
 use Rattle.std.proofs.Common.{◌≡◌, inl, inr, ℕ, zero, suc, ◌≤◌, ◌<◌, Bool, true, false, List, [], ◌∷◌, length, map, get_or, refl, sym, subst, ap, ◌∙◌, ◌-◌, arith}
 use Rattle.std.specs.Prelude.{Some, slice_get}
 use Rattle.std.specs.List.{filter}
@@ -83,7 +83,7 @@ module _ {X : Type 0} (cmp : X → X → Ordering) (total : IsTotalOrder cmp) wh
           let back : cmp b a ≡ Less = total.antisymm b a ∙ ap ordering_reverse (sym e) in
           nat_greater (count xs a) (count xs b) (below b a back xs n) ∙ e
 
-  -- in a list in order, those that come before an element are a front
+  -- in a list in order, those that precedes an element are a front
   pub a_front_comes_before : (xs : List X) (v : X) → IsSorted cmp xs → IsPartitionedBy (λ x. is_lt (cmp x v)) xs
   a_front_comes_before xs v up = λ i j d low high passes.
       let far : is_lt (cmp (get_or xs j d) (get_or xs i d)) ≡ false = sorted_far (λ x y. is_lt (cmp x y)) (ranks_by total (λ (x : X). x)) xs up i j d low high in
@@ -94,7 +94,7 @@ module _ {X : Type 0} (cmp : X → X → Ordering) (total : IsTotalOrder cmp) wh
       by x y Equal e far h = ap is_lt (sym (total.congr y x v (sym e)) ∙ h)
       by x y Greater e far h = ap is_lt (total.trans x y v (total.antisymm x y ∙ ap ordering_reverse (sym e)) h)
 
--- how long a front is whose elements pass, where no other passes
+-- how long a front is whose elements pass, if no other passes
 pub front_count : {X : Type 0} (p : X → Bool) (xs : List X) (i : ℕ) → i ≤ length xs → IsPartitionPoint (λ x. p x ≡ true) (λ x. p x ≡ false) xs i → i ≡ length (filter p xs)
 front_count p [] i h point = omega (arith, h)
 front_count p (x ∷ xs) zero h point =
@@ -121,7 +121,7 @@ here_is xs i d x within at =
     cc
 
 module _ {X : Type 0} (cmp : X → X → Ordering) (total : IsTotalOrder cmp) where
-  -- what is not equal and does not come behind comes before
+  -- what is not equal and does not come after precedes
   less_by : (x y : X) → is_lt (cmp y x) ≡ false → is_eq (cmp x y) ≡ false → is_lt (cmp x y) ≡ true
   less_by x y back apart = by (cmp x y) refl
     where
@@ -133,7 +133,8 @@ module _ {X : Type 0} (cmp : X → X → Ordering) (total : IsTotalOrder cmp) wh
           let bad : true ≡ false = sym (ap is_lt less) ∙ back in
           absurd (cc)
 
-  -- in a list in order, as many come before an element as stand before it, unless it is equal to the last of these
+  -- in a list in order, as many precedes an element as precede it, unless it is equal to the last of
+  -- these
   pub place_counts : (xs : List X) (i : ℕ) (x : X) → IsSorted cmp xs → slice_get xs i ≡ Some x → i < length xs → (0 < i → (y : X) → slice_get xs (i - 1) ≡ Some y → is_eq (cmp y x) ≡ false) → i ≡ length (filter (λ y. is_lt (cmp y x)) xs)
   place_counts xs i x up at within apart =
       let weak = ranks_by total (λ (y : X). y) in

@@ -42,7 +42,7 @@ no_version = record { version = None; source = 0; word = 0; rank = 0 }
 none_read : Ranking
 none_read = ranking_by false false false false no_version 0 [] no_version None 0
 
--- the version's text is a key of its own, behind the version
+-- the version's text is a key of its own, after the version
 regroup : (u p n g t r : Ordering) → ordering_then (ordering_then u (ordering_then p (ordering_then n (ordering_then g t)))) r ≡ ordering_then (ordering_then u (ordering_then p (ordering_then n g))) (ordering_then t r)
 regroup Less p n g t r = refl
 regroup Greater p n g t r = refl
@@ -133,7 +133,7 @@ module _ (versions : IsTotalOrder version_cmp) (pool : SealedPool) (need : Need)
       let own : All (HasRank Own twice.own.versions) second = all_ranked Own first second twice.own in
       λ i d h. record { read = each_second i d h; under = under i d h; own = own i d h }
 
-  -- what is ready for a key and sorted by it stands in rank order
+  -- what is ready for a key and sorted by it is in rank order
   pub sorted_by_key : (key : VersionKey) (ready sorted : List Ranking) → AreReadyFor key read ready → IsPermutation ready sorted → IsSortedBy (comes_before key) sorted → IsSortedBy (is_better pool need) (map place_of sorted)
   sorted_by_key ByRank ready sorted twice moved up =
       let P : Ranking → Type 0 = IsRanked versions pool need twice.under.versions twice.own.versions in

@@ -85,7 +85,7 @@ module _ {X : Type 0} (f : X → X) where
   first_all (suc i) [] h = refl
   first_all (suc i) (x ∷ xs) h = ap (λ (ys : List X). f x ∷ ys) (first_all i xs (omega (arith, h)))
 
-  -- what stands there, and in front of it
+  -- what is there, and in front of it
   pub first_here : (i : ℕ) (xs : List X) → slice_get (map_first f i xs) i ≡ slice_get xs i
   first_here zero xs = refl
   first_here (suc i) [] = refl

@@ -1,3 +1,3 @@
--- what only contracts and proofs use
+-- used by contracts and proofs only
 pub mod Ranking
 pub mod VersionRanks

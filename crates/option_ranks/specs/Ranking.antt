@@ -1,8 +1,8 @@
--- What options are ranked by, read once for each: the keys of the rank, in their order. Versions
--- are compared by their texts, or by how many of those that are ranked come before them.
--- The rule stands in `docs/selection.md`, "Which selection is taken", the table of eleven keys,
--- which *Rank* says over candidates. This file serves the contracts of `src/rank.rt` and
--- `src/sealed.rt` of `pool_core`: the order of rankings is that of their candidates.
+-- The keys of options, read once for each, in their order. Versions are compared by their texts, or by
+-- how many of the ranked versions precede them. The rule is in `docs/selection.md`, "Which selection is
+-- taken", the table of eleven keys, which *Rank* defines over candidates. This file serves the
+-- contracts of `src/rank.rt` and of `src/sealed.rt` of `pool_core`: the order of rankings is that of
+-- their candidates.
 use Rattle.std.specs.Prelude.{◌≡◌, ℕ, Bool, List, Option, Some}
 use Rattle.std.specs.Option.{option_cmp}
 use Rattle.std.specs.Ordering.{bool_cmp, flip_args, nat_cmp, on, then_cmp}
@@ -15,9 +15,9 @@ use Rattle.candidate_core.specs.declared.versions.RankedVersion.{RankedVersion}
 use Rattle.candidate_core.specs.declared.versions.VersionKind.{VersionKind}
 use Rattle.candidate_core.specs.declared.versions.VersionKind.TheVariants.{Under, Own}
 
--- the keys of one option: whether world pins its name to its tag, whether it has no tag, whether it
--- has the needed name, whether it is installed and stays; `under` is the version under which it
--- meets the need, `version` its own; `place` counts from 0
+-- the keys of one option: whether world pins its name to its tag, whether it has no tag, whether it has
+-- the needed name, whether it is installed and kept; `under` is the version under which it meets the
+-- need, `version` its own; `place` counts from 0
 pub record Ranking : Type 0 where
   pub pinned : Bool
   pub untagged : Bool
@@ -30,7 +30,7 @@ pub record Ranking : Type 0 where
   pub repository : Option ℕ
   pub place : ℕ
 
--- a ranking by its parts
+-- a ranking from its parts
 abbrev pub ranking_by :
     Bool → Bool → Bool → Bool → RankedVersion → ℕ → List ℕ → RankedVersion → Option ℕ → ℕ → Ranking
 ranking_by pinned untagged named kept under priority name version repository place = record {
@@ -46,39 +46,38 @@ ranking_by pinned untagged named kept under priority name version repository pla
   place = place;
 }
 
--- a version that is ranked, with its place and rank, where `version` is what is read at that place
+-- a ranked version, with its place and rank, whose text at that place is `version`
 abbrev pub with_version : RankedVersion → Option (List ℕ) → RankedVersion
 with_version ranked version = record ranked { version = version }
 
--- what is read of a candidate, at the place and with the ranks of a ranking
+-- the ranking of a candidate, with the places and the ranks of a ranking
 abbrev pub read_as : SealedPool → Need → Candidate → Ranking → Ranking
 read_as pool need c r =
     ranking_by (is_pinned pool.world c) (is_untagged c) (has_needed_name need c)
     (is_kept_installed pool.upgraded c) (with_version r.under (version_under need c)) c.priority c.name
     (with_version r.version c.version) c.repository r.place
 
--- there is a candidate at the place of the ranking, and the ranking is what is read of it
+-- there is a candidate at the place of the ranking, and the ranking is that of it
 abbrev pub IsRankingIn : SealedPool → Need → Ranking → Type 0
 IsRankingIn pool need r = (c : Candidate) × ((candidate_at pool r.place ≡ Some c)
     × (r ≡ read_as pool need c r))
 
--- the order of two versions of a kind: the greater comes first; candidates' own versions are told
--- apart by their texts too
+-- the order of two versions of a kind: the greater is first; equal own versions of candidates are
+-- ordered by their texts
 abbrev pub version_order : VersionKind → Option (List ℕ) → Option (List ℕ) → Ordering
 version_order Under = greater_version
 version_order Own = then_cmp greater_version (option_cmp bytes_cmp)
 
--- the order of two versions of a kind by what versions are compared by: the lesser rank comes
--- first, or the order is that of the versions
+-- the order of two versions of a kind by their ranks, the lesser first, or by the versions themselves
 abbrev pub version_key_cmp : VersionKey → VersionKind → RankedVersion → RankedVersion → Ordering
 version_key_cmp ByRank kind = on (λ (v : RankedVersion). v.rank) nat_cmp
 version_key_cmp ByText kind = on (λ (v : RankedVersion). v.version) (version_order kind)
 
--- a ranking whose key is true comes before one whose key is false
+-- a ranking whose key is true precedes one whose key is false
 abbrev pub truth_first : (Ranking → Bool) → Ranking → Ranking → Ordering
 truth_first key = on key (flip_args bool_cmp)
 
--- keys 2 to 4: untagged first, then by the needed name, then what is installed and stays
+-- keys 2 to 4: untagged first, then by the needed name, then installed and kept
 abbrev pub quality_ranking_cmp : Ranking → Ranking → Ordering
 quality_ranking_cmp =
     then_cmp (truth_first (λ r. r.untagged))
@@ -114,6 +113,6 @@ unpinned_ranking_cmp key =
 abbrev pub candidate_ranking_cmp : VersionKey → Ranking → Ranking → Ordering
 candidate_ranking_cmp key = then_cmp (truth_first (λ r. r.pinned)) (unpinned_ranking_cmp key)
 
--- all eleven keys: by the place where the others are equal
+-- all eleven keys: the place decides if the others are equal
 unfoldable pub ranking_cmp : VersionKey → Ranking → Ranking → Ordering
 ranking_cmp key = then_cmp (candidate_ranking_cmp key) (on (λ (r : Ranking). r.place) nat_cmp)

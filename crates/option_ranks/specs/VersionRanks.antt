@@ -1,8 +1,7 @@
--- The ranks of the versions of options: each version of a list is ranked by how many of them come
--- before it.
--- The rule stands in `docs/selection.md`, "Which selection is taken", keys 5, 8 and 9 of the table.
--- Serves the contracts of `src/version_ranks.rt`: a rank may stand for a version where two options
--- are compared.
+-- The ranks of the versions of options: each version of a list is ranked by how many of them precede
+-- it. The rule is in `docs/selection.md`, "Which selection is taken", keys 5, 8 and 9 of the table.
+-- Serves the contracts of `src/version_ranks.rt`: a rank may represent a version when two options are
+-- compared.
 use Rattle.std.specs.Prelude.{◌≡◌, ℕ, List, length, map, Option, All, is_some}
 use Rattle.std.specs.List.{filter}
 use Rattle.std.specs.List.Sorted.{IsPermutation}
@@ -17,27 +16,26 @@ use Rattle.candidate_core.specs.declared.versions.RankedVersion.{RankedVersion}
 use Rattle.candidate_core.specs.declared.versions.VersionKind.{VersionKind}
 use Rattle.candidate_core.specs.declared.versions.VersionKind.TheVariants.{Under, Own}
 
--- ---- where the texts of versions stand
+-- ---- the places of the texts of versions
 
--- both are versions, or neither is, and their texts stand at one place: the same word in the same
--- source
+-- both are versions, or neither is, and their texts are at one place: the same word in the same source
 pub record HaveSamePlace (one other : RankedVersion) : Type 0 where
   pub version : is_some one.version ≡ is_some other.version
   pub source : one.source ≡ other.source
   pub word : one.word ≡ other.word
 
--- both versions of a ranking, where they are there, are the texts at their places in some sources
+-- both versions of a ranking, if they exist, are the texts at their places in some sources
 abbrev pub IsReadFrom : List Source → Ranking → Type 0
 IsReadFrom sources r = IsReadBy (source_text sources) r.under × IsReadBy (source_text sources) r.version
 
 -- ---- ranks
 
--- the version of an option that a kind names: the one under which it meets the need, or its own
+-- the version of an option by a kind: the one under which it meets the need, or its own
 abbrev pub version_of : VersionKind → Ranking → RankedVersion
 version_of Under r = r.under
 version_of Own r = r.version
 
--- the rank of a version among some: how many of them come before it
+-- the rank of a version among some: how many of them precede it
 abbrev pub rank_among : VersionKind → List (Option (List ℕ)) → Option (List ℕ) → ℕ
 rank_among kind versions version =
     length (filter (λ one. is_lt (version_order kind one version)) versions)
@@ -69,7 +67,7 @@ version_with_rank_among kind versions v = version_with_rank (rank_among kind ver
 abbrev pub HasRankAmong : VersionKind → List (Option (List ℕ)) → RankedVersion → Type 0
 HasRankAmong kind versions v = v.rank ≡ rank_among kind versions v.version
 
--- one of the versions stands at the place of another, and has this rank
+-- one of the versions is at the place of another, and has this rank
 abbrev pub IsRankAt : List RankedVersion → RankedVersion → ℕ → Type 0
 IsRankAt versions other rank = (v : RankedVersion)
     × (IsIn v versions × (HaveSamePlace v other × (v.rank ≡ rank)))
@@ -83,7 +81,7 @@ abbrev pub AreReadAlike : VersionKind → List Ranking → Type 0
 AreReadAlike kind rankings = (text : ℕ → ℕ → List ℕ)
     × All (λ r. IsReadBy text (version_of kind r)) rankings
 
--- one function of places gives the texts of these versions and of one more
+-- one function of places has the texts of these versions and of one more
 abbrev pub IsReadTogether : List RankedVersion → RankedVersion → Type 0
 IsReadTogether versions v = (text : ℕ → ℕ → List ℕ)
     × (IsReadBy text v × All (IsReadBy text) versions)
@@ -94,8 +92,8 @@ abbrev pub AreReadTogether : VersionKind → List RankedVersion → List Ranking
 AreReadTogether kind versions rankings = (text : ℕ → ℕ → List ℕ)
     × (All (IsReadBy text) versions × All (λ r. IsReadBy text (version_of kind r)) rankings)
 
--- the rankings `after` are those `before` in some order, each with the rank of its version among
--- some that hold the versions of all
+-- the rankings `after` are those `before` in some order, each with the rank of its version among some
+-- that include the versions of all
 pub record AreRankedFrom (kind : VersionKind) (before after : List Ranking) : Type 0 where
   pub versions : List (Option (List ℕ))
   pub moved : List Ranking

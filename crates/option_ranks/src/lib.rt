@@ -1,9 +1,10 @@
-//! The order of the options of a need: the keys of each are read once, long versions are ranked
-//! among those of all options, and the first key that differs decides.
+//! The order of the options of a need, which are the candidates that may meet it. The keys of each
+//! option are read once, long versions are ranked among those of all options, and the first key
+//! that differs decides.
 //!
-//! The rule stands in `docs/selection.md`, "Which selection is taken", the table of eleven keys. The
-//! contracts cite `specs/`: `Ranking` (the keys, in their order) and `VersionRanks` (the rank of a
-//! version is how many come before it). `Rank` of `candidate_core` says which option is better.
+//! The rule is in `docs/selection.md`, "Which selection is taken", the table of eleven keys. The
+//! contracts cite `Ranking` (the keys, in their order) and `VersionRanks` (the rank of a version is
+//! how many precede it) of `specs/`. `Rank` of `candidate_core` defines which option is better.
 #![tactic(auto)]
 
 mod rank;

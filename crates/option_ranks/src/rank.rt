@@ -1,8 +1,8 @@
-//! Which of two options is taken first for a need. Each key of an option is read once, versions are
-//! compared by their texts or their ranks, and the first key that differs decides.
-//! The rule stands in `docs/selection.md`, "Which selection is taken", the table of eleven keys.
-//! Keys 8 and 9, the candidate's own version and then the version's text, are one here: the order
-//! of own versions tells both, and so does their rank.
+//! Which of two options of a need is preferred. Each key of an option is read once, versions are
+//! compared by their texts or their ranks, and the first key that differs decides. The rule is in
+//! `docs/selection.md`, "Which selection is taken", the table of eleven keys. Keys 8 and 9, the
+//! candidate's own version and then the version's text, are one here: the order of own versions
+//! combines both, and so does their rank.
 ghost use Rattle.std.specs.Prelude.{◌≡◌};
 ghost use Rattle.std.specs.Option.{option_cmp};
 ghost use Rattle.std.specs.Ordering.{bool_cmp, flip_args, then_cmp};
@@ -15,7 +15,7 @@ use std::cmp::Ordering;
 use std::marker::Model;
 use version_core::Version;
 
-/// What the versions of two options are compared by.
+/// How the versions of two options are compared.
 #[derive(Clone, Copy)]
 pub enum VersionKey {
     /// The ranks of the versions; both versions of each option are ranked.
@@ -24,12 +24,12 @@ pub enum VersionKey {
     ByText,
 }
 
-/// What an option is ranked by, in the order of the keys.
+/// The keys of an option, in their order.
 #[derive(Drop)]
 pub struct RankedOption<'a> {
     /// Key 1: whether world pins the candidate's name to its tag.
     pub pinned: bool,
-    /// Key 2: whether the candidate is of a repository without tag, or of none.
+    /// Key 2: whether the candidate is from a repository without tag, or from none.
     pub untagged: bool,
     /// Key 3: whether the candidate has the name that is needed.
     pub named: bool,
@@ -43,7 +43,7 @@ pub struct RankedOption<'a> {
     pub name: &'a [u8],
     /// Keys 8 and 9: the candidate's own version.
     pub version: RankedVersion<'a>,
-    /// Key 10: the repository, counted from 1; none for an installed package that no index has.
+    /// Key 10: the repository, counted from 1; None for an installed package that no index has.
     pub repo: Option<u64>,
     /// Key 11: the place in the list of candidates.
     pub id: CandId,
@@ -114,7 +114,7 @@ impl<'a> RankedOption<'a> {
     }
 
     // The order by keys 2 to 4: whether an option has no tag, has the needed name, is installed and
-    // stays.
+    // kept.
     fn by_quality(&self, other: &RankedOption<'_>) -> Ordering
         ensures { result ≡ quality_ranking_cmp self.now other.now }
     {
@@ -136,7 +136,7 @@ impl<'a> RankedOption<'a> {
         }
     }
 
-    // The order by keys 5 to 9: the version under which the need is met, and what follows.
+    // The order by keys 5 to 9, from the version under which the need is met on.
     fn by_merit(&self, other: &RankedOption<'_>, key: VersionKey) -> Ordering
         ensures { result ≡ merit_ranking_cmp key self.now other.now }
     {
@@ -147,7 +147,7 @@ impl<'a> RankedOption<'a> {
         }
     }
 
-    // The order by keys 6 to 9: the greater priority comes first.
+    // The order by keys 6 to 9: the greater priority is first.
     fn by_priority(&self, other: &RankedOption<'_>, key: VersionKey) -> Ordering
         ensures { result ≡ priority_ranking_cmp key self.now other.now }
     {
@@ -158,8 +158,8 @@ impl<'a> RankedOption<'a> {
         }
     }
 
-    // The order by keys 7 to 9: the byte-lesser name comes first, and then the greater own version,
-    // and of equal ones the byte-lesser text.
+    // The order by keys 7 to 9: the byte-lesser name is first, then the greater own version, and of
+    // equal ones the byte-lesser text.
     fn by_name(&self, other: &RankedOption<'_>, key: VersionKey) -> Ordering
         ensures { result ≡ name_ranking_cmp key self.now other.now }
     {
@@ -174,15 +174,14 @@ impl<'a> RankedOption<'a> {
 }
 
 // The order by a quality, of which the first option has `one` and the second `other`: an option
-// that has the quality comes first.
+// with the quality is first.
 fn truth_first(one: bool, other: bool) -> Ordering
     ensures { result ≡ flip_args bool_cmp one other }
 {
     other.cmp(&one)
 }
 
-// The order of two versions of a kind by what versions are compared by: their ranks, or the
-// versions themselves.
+// The order of two versions of a kind by their ranks, or by the versions themselves.
 fn by_version_key(
     key: VersionKey,
     kind: VersionKind,
@@ -197,9 +196,9 @@ fn by_version_key(
     }
 }
 
-/// The order of two versions of a kind: the greater first. Of the candidates' own versions, equal
-/// ones are told apart by their texts, the byte-lesser first; under which of two equal texts a need
-/// is met makes no difference.
+/// The order of two versions of a kind: the greater first. Equal own versions of candidates are
+/// ordered by their texts, the byte-lesser first. Under which of two equal versions a need is met
+/// makes no difference.
 pub(crate) fn compare_versions(
     kind: VersionKind,
     one: &Option<Version<'_>>,
@@ -213,8 +212,8 @@ pub(crate) fn compare_versions(
     }
 }
 
-// The order of two versions: the greater first, and of equal ones the byte-lesser text. Texts are
-// looked at only then, since they may be long.
+// The order of two versions: the greater first, and of equal ones the byte-lesser text. Only then
+// are texts read, since they may be long.
 fn by_version_and_text(one: &Option<Version<'_>>, other: &Option<Version<'_>>) -> Ordering
     ensures { result ≡ then_cmp greater_version (option_cmp bytes_cmp) one.now other.now }
 {
@@ -225,7 +224,7 @@ fn by_version_and_text(one: &Option<Version<'_>>, other: &Option<Version<'_>>) -
     }
 }
 
-// The order of two versions: the greater comes first, and none last.
+// The order of two versions: the greater is first, and none last.
 fn by_version(one: &Option<Version<'_>>, other: &Option<Version<'_>>) -> Ordering
     ensures { result ≡ greater_version one.now other.now }
 {
@@ -249,7 +248,7 @@ fn by_version_text(one: &Option<Version<'_>>, other: &Option<Version<'_>>) -> Or
     }
 }
 
-// The order of two repositories: the lesser number comes first, and none last.
+// The order of two repositories: the smaller number is first, and none last.
 fn by_repo(one: Option<u64>, other: Option<u64>) -> Ordering
     ensures { result ≡ earlier_repository one other }
 {

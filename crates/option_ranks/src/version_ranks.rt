@@ -1,8 +1,8 @@
 //! The ranks of the versions of options. Each long text of a version is compared with others once
-//! for all the packages that share it, so that options are sorted by numbers.
-//! The rule stands in `docs/selection.md`, "Which selection is taken", keys 5, 8 and 9 of the
-//! table; how versions are compared says `docs/formats.md`, "Versions". That texts are told apart
-//! by where they stand saves time alone, as the README of this crate says.
+//! for all the packages that share it, so that options are sorted by numbers. The rule is in
+//! `docs/selection.md`, "Which selection is taken", keys 5, 8 and 9 of the table; versions are
+//! compared as in `docs/formats.md`, "Versions". Identifying texts by their places only saves time,
+//! as the README of this crate says.
 ghost use Rattle.std.specs.Prelude.{◌≡◌, ◌<◌, ◌-◌, ℕ, List, true, All, OnOk, IfOk, IfSome, Some, length, map, slice_get};
 ghost use Rattle.std.specs.List.Sorted.{IsSorted};
 ghost use Rattle.std.specs.Ordering.{is_eq, on};
@@ -18,14 +18,14 @@ use std::alloc::{AllocError, Global};
 use std::cmp::Ordering;
 use version_core::{Version, order_is_total};
 
-/// Ranks the versions of options if one of them is long, and answers by what they are to be
-/// compared. The options may come into another order. It takes time in proportion to k log k in
-/// the k options, and sorts the n texts that they read, which takes n log n comparisons, or n where
-/// they stand in order, and some n more; short texts are sooner compared than ranked.
+/// Ranks the versions of options if one of them is long, and returns how they are to be compared.
+/// It may reorder the options. For k options with n different texts it takes time linear in k log
+/// k, and n log n comparisons of texts, or some 2n if they are in order. Short texts are compared
+/// faster than ranked.
 ///
 /// # Errors
 ///
-/// Want of memory.
+/// Out of memory.
 pub fn rank_long_versions<'a>(
     alloc: Global,
     options: &mut Vec<RankedOption<'a>>,
@@ -42,7 +42,7 @@ pub fn rank_long_versions<'a>(
     Ok(VersionKey::ByRank)
 }
 
-// Whether a version of an option is long. Nothing rests on the answer but time.
+// Whether a version of an option is long. The result only affects time.
 fn has_long_version(options: &[RankedOption<'_>]) -> bool {
     for option in options {
         if is_long(&option.under.version) || is_long(&option.version.version) {
@@ -52,8 +52,8 @@ fn has_long_version(options: &[RankedOption<'_>]) -> bool {
     false
 }
 
-// Ranks one version of each option, that of a kind, among those of all, and may put the options
-// into another order.
+// Ranks one version of each option, that of a kind, among those of all, and may reorder the
+// options.
 fn rank_versions<'a>(
     alloc: Global,
     options: &mut Vec<RankedOption<'a>>,
@@ -63,10 +63,10 @@ fn rank_versions<'a>(
     ensures { OnOk result (AreRankedFrom kind options.old.items options.new.items) }
 {
     order_is_total();
-    // Then options that read one text stand together.
+    // Then options that read one text are adjacent.
     options.sort_by(|one, other| by_place(one.version_of(kind), other.version_of(kind)))?;
     let mut versions = distinct_versions(alloc, options, kind)?;
-    // Where ranks are known, they are nearly the order, and few versions are compared then.
+    // Known ranks are nearly the order, and then few versions are compared.
     versions.sort_by(|one, other| one.rank.cmp(&other.rank))?;
     versions.sort_by(|one, other| compare_versions(kind, &one.version, &other.version))?;
     rank_sorted(&mut versions, kind);
@@ -76,15 +76,15 @@ fn rank_versions<'a>(
     Ok(())
 }
 
-// The order of two versions by the places of their texts. Any order does that puts those of one
-// place together, so the contract says nothing.
+// The order of two versions by the places of their texts. Any order suffices that makes those of
+// one place adjacent, so the contract has no clause for it.
 fn by_place(one: &RankedVersion<'_>, other: &RankedVersion<'_>) -> Ordering {
     one.source
         .cmp(&other.source)
         .then(one.word.cmp(&other.word))
 }
 
-// The versions of options, each once where options that read one text stand together.
+// The versions of options, each once if options that read one text are adjacent.
 fn distinct_versions<'a>(
     alloc: Global,
     options: &[RankedOption<'a>],
@@ -106,9 +106,9 @@ fn distinct_versions<'a>(
     Ok(versions)
 }
 
-// A copy of the version of an option that a kind names; its text stays borrowed. Its rank is that
-// of the version under which the option meets the need, which is mostly the same one: 0 until
-// these are ranked. Nothing rests on it but time.
+// A copy of the version of an option and a kind; its text is borrowed. Its rank is that of the
+// version under which the option meets the need, which is mostly the same one; it is 0 before these
+// are ranked. It only affects time.
 fn version_to_rank<'a>(option: &RankedOption<'a>, kind: VersionKind) -> RankedVersion<'a>
     ensures { result
         ≡ version_with_rank option.entry.now.under.rank (version_of kind option.entry.now) }
@@ -136,7 +136,7 @@ fn reads_the_text_before(options: &[RankedOption<'_>], i: usize, kind: VersionKi
     is_same_place(options[i - 1].version_of(kind), options[i].version_of(kind))
 }
 
-// Whether two versions are read from one text: the source and the word tell, and not the bytes.
+// Whether two versions are read from one text, by the source and the word, and not by the bytes.
 fn is_same_place(one: &RankedVersion<'_>, other: &RankedVersion<'_>) -> bool
     ensures { result ≡ true → HaveSamePlace one.now other.now }
 {
@@ -145,8 +145,8 @@ fn is_same_place(one: &RankedVersion<'_>, other: &RankedVersion<'_>) -> bool
         && one.word == other.word
 }
 
-// Gives each of some sorted versions its rank among them: how many stand before it and the equal
-// ones beside it. Each is compared with the one before it alone.
+// Gives each of some sorted versions its rank among them: how many precede it and its equals. Each
+// is only compared with the one before it.
 fn rank_sorted(versions: &mut Vec<RankedVersion<'_>>, kind: VersionKind)
     requires { IsSorted (on (λ (v : RankedVersion). v.version) (version_order kind))
         versions.old.items }
@@ -185,7 +185,7 @@ fn set_own_rank(version: &mut RankedVersion<'_>, rank: usize)
     version.rank = rank;
 }
 
-// Gives each option the rank of its version among some, which have theirs.
+// Gives each option the rank of its version among versions that have ranks.
 fn set_ranks<'a>(
     options: &mut Vec<RankedOption<'a>>,
     kind: VersionKind,
@@ -202,8 +202,8 @@ fn set_ranks<'a>(
     }
 }
 
-// The rank of a version among some, which have theirs. Each of an option stands among them, so that
-// none is counted anew; but the contract need not say so.
+// The rank of a version among versions that have ranks. Each version of an option is one of them,
+// so none is counted again; the contract need not say so.
 fn rank_of(version: &RankedVersion<'_>, versions: &[RankedVersion<'_>], kind: VersionKind) -> usize
     requires ranked { All (HasRankAmong kind (versions_in versions.now)) versions.now }
     requires alike { IsReadTogether versions.now version.now }
@@ -215,8 +215,8 @@ fn rank_of(version: &RankedVersion<'_>, versions: &[RankedVersion<'_>], kind: Ve
     }
 }
 
-// The rank of the version that stands at the place of another, found by halving where versions
-// stand by their places.
+// The rank of the version at the place of another, found by bisection if versions are sorted by
+// their places.
 fn rank_at_place(version: &RankedVersion<'_>, versions: &[RankedVersion<'_>]) -> Option<usize>
     ensures { IfSome result (IsRankAt versions.now version.now) }
 {
@@ -230,7 +230,7 @@ fn rank_at_place(version: &RankedVersion<'_>, versions: &[RankedVersion<'_>]) ->
     None
 }
 
-// How many of some versions come before one; each is compared with it.
+// How many of some versions precede one; each is compared with it.
 fn rank_among(
     kind: VersionKind,
     versions: &[RankedVersion<'_>],

@@ -55,7 +55,7 @@ by_room true true e = refl
 by_room true false e = absurd (cc)
 by_room false b e = absurd (cc)
 
--- a file goes aside only where its name there is free
+-- a file goes aside only if its name there is free
 pub aside_free : (change : FileChange) (path : List ℕ) (entry : Plain) (found : Option (List ℕ)) → fate_by change path entry found ≡ goes_aside → is_free_beside change path ≡ true
 aside_free change path entry None e = absurd (cc)
 aside_free change path entry (Some bytes) e = by_tests (not (is_guarded path) || (is_as_listed entry bytes || is_as_old (old_entry change path) bytes)) e

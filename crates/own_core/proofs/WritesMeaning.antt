@@ -234,7 +234,7 @@ is_aside goes_in h = absurd (true≢false (sym h))
 is_aside gives_way h = absurd (true≢false (sym h))
 is_aside goes_aside h = refl
 
--- a file goes aside only where nobody lists the name beside
+-- a file goes aside only if nobody lists the name beside
 pub free_beside : (change : FileChange) (files : Files) (c : PathClaim) → is_fate goes_aside (claim_fate change c (files c.path)) ≡ true → is_claimed change (aside_name c.path) ≡ false
 free_beside change files c h = by_file (files c.path) h
   where

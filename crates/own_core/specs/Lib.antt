@@ -1,4 +1,4 @@
--- The definitions of this crate, whose rules stand in `docs/commands.md`, "What a change does
+-- The definitions of this crate, whose rules are in `docs/commands.md`, "What a change does
 -- with files".
 
 -- what the contracts of this crate's calls say

@@ -1,4 +1,4 @@
-//! Who owns the files of packages, as text. The rules stand in `docs/commands.md`,
+//! Who owns the files of packages, as text. The rules are in `docs/commands.md`,
 //! "Files that several packages list".
 
 use adb_schema::FilePath;

@@ -8,7 +8,7 @@ use std::alloc::{AllocError, Global};
 
 /// The container of `package NAME VERSION PRIORITY PATHS REPLACES..`. The paths have commas between
 /// them, and each is that of an empty file. What is replaced is `NAME:VERSION:MATCH`, where the
-/// number says which versions match. None where the words give no container.
+/// number says which versions match. None if the words give no container.
 pub(crate) fn package_of(alloc: Global, words: &Words) -> Result<Option<Vec<u8>>, AllocError> {
     let mut dump = Vec::new(alloc);
     dump.extend_from_slice(b"#%SCHEMA: 676b6370\ninfo:\n")?;

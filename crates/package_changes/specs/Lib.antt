@@ -1,4 +1,4 @@
--- The definitions of this crate, whose rules stand in `docs/commands.md`, "`add` and `del`", and
+-- The definitions of this crate, whose rules are in `docs/commands.md`, "`add` and `del`", and
 -- "`upgrade` and `fix`".
 
 -- what the contract of `apk` says

@@ -199,6 +199,6 @@ module _ {A B : Type 0} (S : A → B → Type 0) (w : Result B MakeFault) where
   tree_fault (Err e) Trees.Disk h = answered Disk e h tt
   tree_fault (Err e) Trees.Memory h = answered Memory e h tt
 
--- what is said of the states before is said of those of now, where they are the same
+-- what is said of the states before is said of those of now, if they are the same
 pub told_as : (t0 t1 : List TreeState) (P : ℕ → Reads → Type 0) → t1 ≡ t0 → ((n : ℕ) → Explains t1 (P n)) → (n : ℕ) → Explains t0 (P n)
 told_as t0 t1 P e h n = let Q : List TreeState → Type 0 = λ t. Explains t (P n) in subst Q e (h n)

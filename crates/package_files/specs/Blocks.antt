@@ -1,5 +1,5 @@
 -- The bytes of contents blocks.
--- The rules stand in `docs/formats.md`, "The other blocks" (the two positions and the bytes) and
+-- The rules are in `docs/formats.md`, "The other blocks" (the two positions and the bytes) and
 -- "Container" (header and padding). Serves the contracts of `src/packing.rt`.
 use Rattle.std.specs.Prelude.{◌≡◌, ℕ, ◌+◌, ◌-◌, ◌≤◌, List, ◌++◌, length, take}
 use Rattle.std.specs.Int.{w32, to_le_bytes}

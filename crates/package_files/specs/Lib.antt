@@ -1,4 +1,4 @@
--- The definitions of this crate, whose rules stand in `docs/commands.md`, "`mkpkg`", and in
+-- The definitions of this crate, whose rules are in `docs/commands.md`, "`mkpkg`", and in
 -- `docs/formats.md`, "The other blocks".
 
 -- what the contract of `apk` says

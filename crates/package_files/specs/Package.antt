@@ -1,5 +1,5 @@
 -- The value of a package (apk-v3(5)) and the contents of its files, of what was read.
--- The rules stand in `docs/commands.md`, "`mkpkg`" (modes, users, sizes, links), and in
+-- The rules are in `docs/commands.md`, "`mkpkg`" (modes, users, sizes, links), and in
 -- `docs/formats.md`: "Schemas", tables 2, 4, 5, 6 and 7 (the fields in their order), and "The other
 -- blocks" (contents).
 use Rattle.std.specs.Prelude.{ℕ, ◌+◌, ◌*◌, ◌^◌, ◌==◌, nat_lt, Bool, not, ◌&&◌, if◌then◌else◌, List, [], ◌∷◌, ◌++◌, length, take, drop, map, codes, bytes_eq, sum_by, Option}

@@ -1,5 +1,5 @@
 -- What a package is made of, as reads find it: the script files, and the files of each folder.
--- The rules stand in `docs/commands.md`, "`mkpkg`": TYPE:FILE of `-s`, the files below the folder
+-- The rules are in `docs/commands.md`, "`mkpkg`": TYPE:FILE of `-s`, the files below the folder
 -- of `-F`, and where the place of a file that is absent is reported.
 use Rattle.std.specs.Prelude.{ℕ, ◌+◌, ◌==◌, List, [], ◌∷◌, length, map, filter, Option, Some, None, Result, Ok, Err}
 pub use Rattle.base_core.specs.Lists.{and_then}
@@ -89,7 +89,7 @@ source_folders_from place read n folders =
     each_from (λ (folder : FolderListing). length folder.files) (folder_at place read) n folders
 
 -- the folders of a package by the names that are listed below the folder that the first value of
--- `-F` gives; no folders where it is not given
+-- `-F` gives; no folders if it is not given
 abbrev pub folders_below :
     Reads → ℕ → List OptionValue → List (List ℕ) → Result (List SourceFolder) MakeFault
 folders_below read n [] names = Ok []

@@ -1,5 +1,5 @@
 //! The files of a package as it is packed, and what their bytes are (apk-package(5)).
-//! The rules stand in `docs/commands.md`, "`mkpkg`", the paragraph on `-F DIR` (when a file is a
+//! The rules are in `docs/commands.md`, "`mkpkg`", the paragraph on `-F DIR` (when a file is a
 //! symbolic link), and in `docs/formats.md`, "The texts", field 406 (what its target is).
 ghost use Rattle.std.specs.Prelude.{◌≡◌, ◌∷◌, true, false, IfOk, MatchOption};
 ghost use Rattle.std.specs.Str.{is_utf8};
@@ -50,7 +50,7 @@ pub enum FileKind {
 }
 
 impl FileKind {
-    /// What the bytes of a file are: a link, where they are its mark and a text that is not empty,
+    /// What the bytes of a file are: a link, if they are its mark and a text that is not empty,
     /// else a regular file.
     #[tactic(auto, unfolding(crate::specs::Package::kind_of_file))]
     pub(crate) fn of(alloc: Global, bytes: &[u8]) -> Result<FileKind, AllocError>
@@ -117,7 +117,7 @@ fn target(alloc: Global, text: &[u8]) -> Result<Text, AllocError>
     Ok(Text::from_vec(target))
 }
 
-/// The text behind the mark of a link. None comes exactly where the bytes are no link.
+/// The text behind the mark of a link. None comes exactly when the bytes are no link.
 #[tactic(auto, unfolding(crate::specs::Package::is_link_file))]
 fn link_text(bytes: &[u8]) -> Option<&[u8]>
     ensures { MatchOption result (is_link_file bytes.now ≡ false) (λ text.

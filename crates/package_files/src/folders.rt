@@ -1,5 +1,5 @@
 //! The folders of a package, and which of the files below a folder of the tree stands in which.
-//! The rule stands in `docs/commands.md`, "`mkpkg`", the paragraph on `-F DIR`: "Its folders are
+//! The rule is in `docs/commands.md`, "`mkpkg`", the paragraph on `-F DIR`: "Its folders are
 //! the root and each folder that holds a file at any depth, in byte order".
 ghost use Rattle.std.specs.Prelude.{◌≡◌, ◌<◌, ◌≤◌, ◌+◌, ◌-◌, not, [], length, drop, map, replicate, slice_get, OnOk, IfOk};
 ghost use Rattle.std.specs.List.{suffix_len};

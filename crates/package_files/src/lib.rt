@@ -4,7 +4,7 @@
 //! The contracts cite `Folders` (the folders of a package), `Package` (what a package is made of,
 //! and its value), `Sources` (what is read of a tree), `Runs` (how an answer relates to what the
 //! reads find) and `Packed` (the files as they are packed) of `specs/`.
-//! The rules stand in `docs/commands.md`, "`mkpkg`", the paragraph on `-F DIR`, and in
+//! The rules are in `docs/commands.md`, "`mkpkg`", the paragraph on `-F DIR`, and in
 //! `docs/formats.md`, "The other blocks" (positions and order of contents).
 #![tactic(auto)]
 

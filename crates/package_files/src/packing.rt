@@ -1,6 +1,6 @@
 //! Reads the files of a package, each once, and packs them: what they are, and their contents in
 //! blocks (apk-package(5)).
-//! The rules stand in `docs/formats.md`, "The other blocks" (which files have a block, positions,
+//! The rules are in `docs/formats.md`, "The other blocks" (which files have a block, positions,
 //! order) and "Container" (header and padding of a block); that a file is not held twice, in
 //! `docs/DECISIONS.md`, "Making".
 ghost use Rattle.base_core.specs.Read.{OnlyReads};
@@ -255,7 +255,7 @@ fn read_listed<T: Tree>(
 }
 
 /// Reads the file under a name where its bytes will stand: behind the front of a block, which is
-/// appended. Gives the offset at which the bytes begin, or None exactly where the file is absent.
+/// appended. Gives the offset at which the bytes begin, or None exactly if the file is absent.
 fn read_in_block<T: Tree>(
     tree: &mut T,
     position: (u64, u64),

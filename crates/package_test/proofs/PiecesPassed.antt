@@ -1,4 +1,4 @@
--- Pieces that were read one after the other.
+-- Pieces that were read in sequence.
 use Rattle.std.proofs.Common.{◌≡◌, ℕ, zero, suc, ◌+◌, ◌-◌, ◌*◌, ◌<◌, ◌≤◌, Bool, true, false, if◌then◌else◌, List, [], ◌∷◌, ◌++◌, length, take, drop, replicate, Option, Some, None, Result, Ok, Err, refl, ap, sym, subst, ◌∙◌, arith, suc-mul}
 use Rattle.std.specs.Prelude.{IfOk, IfSome, IsErrOf}
 use Rattle.std.proofs.lemmas.List.{drop-drop, length-append, length-replicate}
@@ -40,7 +40,7 @@ reads_as name len d e h0 h1 a b value other first = record {
   proper = first.proper;
 }
 
--- where nothing is read
+-- if nothing is read
 proper_still : (h : List TreeState) (name : List ℕ) (len n : ℕ) → IfObservable h (λ v. IsSoLong name len v → n ≡ n)
 proper_still [] name len n = tt
 proper_still (v ∷ earlier) name len n = λ long. refl
@@ -61,7 +61,7 @@ with_files [] files = files
 with_files (c ∷ cs) files = given c (with_files cs files)
 
 -- of all pieces these are left, and the same test fails first; of the files that came whole the
--- contents stand at these places, and of the one that is open the bytes that came
+-- contents are at these places, and of the one that is open the bytes that came
 pub record IsLeft (now : PieceReader) (places : List FilePlace) (pkg : List ℕ) (all : PiecesRead) : Type 0 where
   pub rest : PiecesRead
   pub reading : IsReading now pkg rest
@@ -126,7 +126,7 @@ both_seen h later name len begun now places seen same named long passed is_seen 
 
 -- ---- one piece more
 
--- bytes that came before stand where their file begins, also behind the next piece
+-- bytes that came before stand where their file begins, also after the next piece
 still_stand : (opened : Option OpenFile) (pkg so_far : List ℕ) (before after : ℕ) → IfSome opened (λ o. after ≡ before) → length so_far ≡ handed_out_from before opened → HasAt pkg before so_far → HasAt pkg after so_far
 still_stand (Some o) pkg so_far before after same long has = subst (λ (n : ℕ). HasAt pkg n so_far) (sym same) has
 still_stand None pkg [] before after same long has = refl
@@ -259,7 +259,7 @@ all_contents : (cs : List Contents) → contents_in (with_files cs no_more) ≡ 
 all_contents [] = refl
 all_contents (c ∷ cs) = ap (λ (ds : List Contents). c ∷ ds) (all_contents cs)
 
--- behind the last piece all files stand at their places
+-- after the last piece all files are at their places
 pub all_stand : (now : PieceReader) (places : List FilePlace) (pkg : List ℕ) (all : PiecesRead) (files : FilesRead) (l : IsLeft now places pkg all) → files_joined all [] ≡ files → l.rest ≡ no_piece → (fault_in files ≡ None) × AreAtPlaces pkg places (contents_in files)
 all_stand now places pkg all files l whole end =
     let same : files ≡ with_files l.files no_more = sym whole ∙ (l.joined ∙ ap (λ (p : PiecesRead). with_files l.files (files_joined p l.so_far)) end) in

@@ -1,4 +1,4 @@
--- A package is tested whole by its front, by its values and by what stands behind them.
+-- A package is tested whole by its front, by its values and by what follows them.
 use Rattle.std.proofs.Common.{◌≡◌, ◌≢◌, ℕ, ◌+◌, ◌≤◌, ◌==◌, Bool, true, false, if◌then◌else◌, List, [], ◌∷◌, ◌++◌, length, Option, Some, None, option_map, Result, Ok, Err, refl, ap, sym, subst, ◌∙◌, arith}
 use Rattle.std.specs.Prelude.{IfOk}
 use Rattle.std.specs.Option.{option_or}
@@ -59,7 +59,7 @@ whole_by_files pkg front files (Tests.Sound places) is sound same tested = (
 whole_by_files pkg front files (Tests.Bad c) is sound same tested =
     package_by_front pkg front is ∙ (ap (λ (o : Option Cause). option_or o (fault_in (files_in_file pkg))) sound ∙ (ap fault_in same ∙ tested))
 
--- the tests of each package with this front, by the bytes that were seen behind it
+-- the tests of each package with this front, by the bytes that were seen after it
 abbrev pub IsWholeTold : List TreeState → List ℕ → Front → FilesTest → Type 0
 IsWholeTold h name front test = (seen : List ℕ)
     × IsSeenIn h name (front_file_len front) (front_end front) seen

@@ -1,6 +1,6 @@
--- The definitions of this crate. Each file names the place of its rule.
--- what the contract of `apk` says: nothing
--- what only inner contracts and proofs use
+-- The definitions of this crate. The head of each file names the section with its rule.
+-- cited by the contract of `apk`: nothing
+-- used by inner contracts and proofs only
 pub mod Tested
 pub mod Tests
 pub mod Places

@@ -1,6 +1,5 @@
--- Where the contents of a package's files begin, and what the tests of it say.
--- The rules stand in `docs/formats.md`, "The other blocks": the contents of the files, in rising order
--- of their positions.
+-- Where the contents of a package's files begin, and the result of its tests. The rules are in
+-- `docs/formats.md`, "The other blocks": the contents of the files, in rising order of their positions.
 use Rattle.std.specs.Prelude.{◌≡◌, ℕ, ◌<◌, ◌==◌, ◌&&◌, ◌||◌, ◌⊎◌, nat_lt, Bool, List, [], ◌∷◌, Option, Some, None, option_map}
 use Rattle.std.specs.List.{find}
 use Rattle.adb_schema.specs.Soundness.{payload_fault}
@@ -17,7 +16,7 @@ use Rattle.package_test.specs.declared.places.FilePlace.{FilePlace}
 
 -- ---- of the bytes of a package
 
--- the contents are those of the file whose place this is, and stand there in a package of these bytes
+-- the contents are those of the file of this place, and are there in a package of these bytes
 pub record IsAtPlace (pkg : List ℕ) (place : FilePlace) (contents : Contents) : Type 0 where
   pub folder : place.folder ≡ contents.folder
   pub file : place.file ≡ contents.file
@@ -31,46 +30,46 @@ AreAtPlaces pkg (place ∷ places) [] = ⊥
 AreAtPlaces pkg (place ∷ places) (contents ∷ others) =
     IsAtPlace pkg place contents × AreAtPlaces pkg places others
 
--- ---- what the tests say
+-- ---- the result of the tests
 
--- what the tests say of the files of a package: each has its contents at its place, or the first failed
--- test
+-- the result of the tests for the files of a package: each has its contents at its place, or the first
+-- failed test
 abbrev pub AreFilesTested : FilesRead → List ℕ → FilesTest → Type 0
 AreFilesTested files pkg (Sound places) =
     (fault_in files ≡ None) × AreAtPlaces pkg places.items (contents_in files)
 AreFilesTested files pkg (Bad c) = fault_in files ≡ Some c
 
--- what the tests say of a package as a whole: no test fails, and each file has its contents at its
+-- the result of the tests for a whole package: no test fails, and each file has its contents at its
 -- place, or the first failed test
 abbrev pub IsWholeTested : List ℕ → FilesTest → Type 0
 IsWholeTested pkg (Sound places) =
     (package_fault pkg ≡ None) × AreAtPlaces pkg places.items (contents_in (files_in_file pkg))
 IsWholeTested pkg (Bad c) = package_fault pkg ≡ Some c
 
--- where no test fails, none of the values behind a front does
+-- if no test fails, none of the values after a front does
 abbrev pub HasSoundPayload : Front → FilesTest → Type 0
 HasSoundPayload front (Sound places) = payload_fault Package (front_payload front) ≡ None
 HasSoundPayload front (Bad c) = Unit {0}
 
 -- ---- in the order of the files
 
--- a file comes before another by its folder, and then by itself
+-- a file precedes another by its folder, and then by itself
 abbrev pub IsBeforeFile : ℕ → ℕ → ℕ → ℕ → Type 0
 IsBeforeFile folder file other_folder other_file =
     (folder < other_folder) ⊎ ((folder ≡ other_folder) × (file < other_file))
 
--- whether a file comes before another by its folder, and then by itself
+-- whether a file precedes another by its folder, and then by itself
 abbrev pub is_before_file : ℕ → ℕ → ℕ → ℕ → Bool
 is_before_file folder file other_folder other_file =
     nat_lt folder other_folder || ((folder == other_folder) && nat_lt file other_file)
 
--- each of these places is of a file that comes behind the one with these positions
+-- each of these places is of a file after the one with these positions
 abbrev pub ArePlacedBehind : ℕ → ℕ → List FilePlace → Type 0
 ArePlacedBehind folder file [] = Unit {0}
 ArePlacedBehind folder file (place ∷ places) =
     IsBeforeFile folder file place.folder place.file × ArePlacedBehind folder file places
 
--- each of these places is of a file that comes behind those of all places before it
+-- each of these places is of a file after those of all places before it
 abbrev pub AreInFileOrder : List FilePlace → Type 0
 AreInFileOrder [] = Unit {0}
 AreInFileOrder (place ∷ places) =

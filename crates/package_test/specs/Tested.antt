@@ -1,6 +1,5 @@
--- A package in a tree that was read and tested once.
--- The rules stand in `docs/formats.md`, "Tests of a container" and "The other blocks". Serves the
--- contracts of `read_package` and `TestedPackage`.
+-- A package in a tree that was read and tested once. The rules are in `docs/formats.md`, "Tests of a
+-- container" and "The other blocks". Serves the contracts of `read_package` and `TestedPackage`.
 use Rattle.std.specs.Prelude.{◌≡◌, ℕ, List, length, Option, Some, None}
 use Rattle.sha2.specs.Sha256.{sha256}
 use Rattle.adb_view.specs.Plain.{Plain}
@@ -14,7 +13,7 @@ use Rattle.package_test.specs.declared.package.TestedPackage.{TestedPackage}
 use Rattle.package_test.specs.declared.read.PackageRead.{PackageRead}
 use Rattle.package_test.specs.declared.read.PackageRead.TheVariants.{Absent, Bad, Sound}
 
--- ---- what it shows
+-- ---- the fields of a tested package
 
 -- the name under which the file of a tested package was read
 abbrev pub tested_name : TestedPackage → List ℕ
@@ -24,7 +23,7 @@ tested_name pkg = pkg.name
 abbrev pub tested_len : TestedPackage → ℕ
 tested_len pkg = front_file_len pkg.front
 
--- the bytes that hold the value of a tested package
+-- the bytes of the value of a tested package
 abbrev pub tested_payload : TestedPackage → List ℕ
 tested_payload pkg = front_payload pkg.front
 
@@ -32,7 +31,7 @@ tested_payload pkg = front_payload pkg.front
 abbrev pub tested_value : TestedPackage → Plain
 tested_value pkg = root_value Package (tested_payload pkg)
 
--- the id of a tested package: the SHA-256 of the bytes that hold its value
+-- the id of a tested package: the SHA-256 of the bytes of its value
 abbrev pub tested_id : TestedPackage → List ℕ
 tested_id pkg = sha256 (tested_payload pkg)
 
@@ -44,12 +43,12 @@ pub record IsTestedOf (name file : List ℕ) (pkg : TestedPackage) : Type 0 wher
   pub sound : package_fault file ≡ None
   pub value : tested_value pkg ≡ root_value Package (payload_in file)
   pub id : tested_id pkg ≡ package_id file
-  -- what is read again of its files
+  -- needed to read its files again
   pub long : tested_len pkg ≡ length file
   pub payload : tested_payload pkg ≡ payload_in file
   pub places : AreAtPlaces file pkg.places.items (contents_in (files_in_file file))
 
--- what `read_package` answers of a file under this name, or where there is none
+-- the result of `read_package` for a file under this name, or for none
 abbrev pub IsReadOf : List ℕ → Option (List ℕ) → PackageRead → Type 0
 IsReadOf name None Absent = Unit {0}
 IsReadOf name None (Bad c) = ⊥

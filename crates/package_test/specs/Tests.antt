@@ -1,6 +1,6 @@
--- What the tests of a package say of a file, or of where there is none.
--- The rules stand in `docs/formats.md`, "Tests of a container". Serves the contract of `test_package`,
--- which `verify` uses (`docs/commands.md`, "`verify FILE..`").
+-- The result of testing a file as a package, or for no file. The rules are in `docs/formats.md`, "Tests
+-- of a container". Serves the contract of `test_package`, which `verify` uses (`docs/commands.md`,
+-- "`verify FILE..`").
 use Rattle.std.specs.Prelude.{◌≡◌, ℕ, List, Option, Some, None}
 use Rattle.base_core.specs.declared.cause.Cause.TheVariants.{WrongSchema}
 use Rattle.pkg_core.specs.Whole.{container_fault, package_fault}
@@ -11,8 +11,8 @@ use Rattle.package_test.specs.declared.test.PackageTest.TheVariants.{Absent, Bad
 abbrev pub HasOtherSchema : List ℕ → Type 0
 HasOtherSchema file = (found : ℕ) × (package_fault file ≡ Some (WrongSchema found))
 
--- what `test_package` answers of a file, or where there is none; a fault is that of the file as a
--- container, whatever its schema
+-- the result of `test_package` for a file, or for none; a fault is that of the file as a container of
+-- any schema
 abbrev pub IsTestOf : Option (List ℕ) → PackageTest → Type 0
 IsTestOf None Absent = Unit {0}
 IsTestOf None OtherSchema = ⊥

@@ -1,5 +1,5 @@
-//! The contents of a package's files are read once and tested, piece by piece.
-//! The rules stand in `docs/formats.md`, "The other blocks", the paragraph of pieces.
+//! The contents of a package's files are read once and tested, piece by piece. The rules are in
+//! `docs/formats.md`, "The other blocks", the paragraph of pieces.
 
 ghost use Rattle.std.specs.Prelude.{◌≡◌, ℕ, List, Some, length, IfOk};
 ghost use Rattle.adb_block.specs.Reading.{reading_of};
@@ -18,7 +18,7 @@ use piece_reader::{
 use pkg_core::{Contents, Front, the_pieces_of_each_file_joined_are_its_contents};
 use std::alloc::Global;
 
-/// What the tests of a package say of its files.
+/// The result of the tests of a package's files.
 #[derive(Drop)]
 pub(crate) enum FilesTest {
     /// No test failed: the places at which the contents of each file begin, in the order of the
@@ -28,7 +28,7 @@ pub(crate) enum FilesTest {
     Bad(Cause),
 }
 
-/// Reads and tests the blocks behind the values of a package.
+/// Reads and tests the blocks after the values of a package.
 pub(crate) fn read_files<T: Tree>(
     alloc: Global,
     tree: &mut T,
@@ -36,7 +36,7 @@ pub(crate) fn read_files<T: Tree>(
     front: &Front,
     contents: &Contents<'_>,
 ) -> Result<FilesTest, TreeFault>
-    // For each package that is so long and has the bytes that were seen.
+    // For each package of this length that has the bytes that were read.
     ensures files { IfOk result (λ test. (seen : List ℕ)
         × IsSeenIn (T.history tree.old) name.now (front_file_len front.now) (front_end front.now)
         seen
@@ -44,12 +44,12 @@ pub(crate) fn read_files<T: Tree>(
         → HasAt pkg (front_end front.now) seen → AreFilesTested (files_by_blocks
         (expected_contents (value_of_contents contents.now))
         (reading_of (behind_front front.now pkg))) pkg test)) }
-    // The tree stays as it is; a failed tree is answered only where it failed, and no call is a
-    // misuse where the tree shows the file, as long as it was.
+    // The tree is unchanged. `Disk` is returned only if the tree failed, and no call is a misuse if
+    // the file still has its length.
     ensures tree { ReadsFile name.now (front_file_len front.now) DiskFault (T.history tree.old)
         (T.history tree.new) (T.counts tree.old) (T.counts tree.new) result }
 {
-    // Laws that the proof needs; they compute nothing.
+    // Laws that the proof needs; they have no effect at run time.
     the_pieces_are_refused_for_the_first_fault_of_the_blocks();
     the_pieces_of_each_file_joined_are_its_contents();
     let mut reader = PieceReader::new(front, contents, name);

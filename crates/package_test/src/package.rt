@@ -1,7 +1,7 @@
-//! A package in a tree that was read and tested once.
-//! The rules stand in `docs/formats.md`, "The other blocks", the last two paragraphs (the front,
-//! and pieces); what is kept of a package, in the README of this crate and in `docs/DECISIONS.md`,
-//! "Packages that are not held whole".
+//! A package in a tree that was read and tested once. The rules are in `docs/formats.md`, "The
+//! other blocks", the last two paragraphs (the front, and pieces). What is kept of a package in
+//! memory is described in the README of this crate and in `docs/DECISIONS.md`, "Packages that are
+//! not held whole".
 
 ghost use Rattle.std.specs.Prelude.{◌≡◌, true, is_none};
 ghost use Rattle.adb_schema.specs.Soundness.{payload_fault};
@@ -14,12 +14,12 @@ use piece_reader::FilePieces;
 use pkg_core::{Contents, Front};
 
 /// A package in a tree that passed all tests: its name, its values, and where the contents of each
-/// file begin. Contracts see, by `Tested` of `specs/`, what it shows and of which files it is.
+/// file begin. Contracts see, by `Tested` of `specs/`, its value and of which files it is.
 #[derive(Drop)]
 pub struct TestedPackage {
     /// The name under which it was read.
     pub(crate) name: Name,
-    /// The header and the first block, which holds the values.
+    /// The header and the first block, which has the values.
     pub(crate) front: Front,
     /// Where the contents of each file begin, in the order of the files.
     pub(crate) places: Vec<FilePlace>,
@@ -36,14 +36,14 @@ impl TestedPackage {
     ghost use Rattle.pkg_core.specs.Values.{payload_of_contents, value_of_contents};
     ghost use Rattle.sha2.specs.Sha256.{sha256};
 
-    /// The name under which the package stands in the tree.
+    /// The name under which the package is in the tree.
     pub fn name(&self) -> &Name
         ensures { result.now ≡ tested_name self.now }
     {
         &self.name
     }
 
-    /// The values of the package. They are not tested again, and no memory is taken.
+    /// The values of the package. They are not tested again, and no memory is allocated.
     pub fn contents(&self) -> Contents<'_>
         ensures value { value_of_contents result ≡ tested_value self.now }
         ensures payload { payload_of_contents result ≡ tested_payload self.now }
@@ -52,12 +52,12 @@ impl TestedPackage {
         Contents::open(self.front.payload())
     }
 
-    /// The contents of the file with these positions in pieces, from the first on. No piece comes
-    /// where it has no contents.
+    /// The contents of the file with these positions in pieces, from the first on. A file without
+    /// contents has no pieces.
     pub fn file(&self, folder: u32, file: u32) -> FilePieces<'_>
         ensures name { package_of_file result ≡ tested_name self.now }
         ensures len { len_around_file result ≡ tested_len self.now }
-        // Whatever the tree shows: its bytes are compared with the size and the digest that the
+        // Whatever the tree has, its bytes are compared with the size and the digest that the
         // package's value lists for it.
         ensures due { file_due result ≡ expected_with_positions folder file
             (expected_contents (tested_value self.now)) }

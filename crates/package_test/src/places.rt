@@ -1,6 +1,5 @@
-//! Where the contents of a package's files begin.
-//! The order of the files is that of `docs/formats.md`, "The other blocks"; places are looked for
-//! by halving, as the README of this crate says.
+//! Where the contents of a package's files begin. The order of the files is that of
+//! `docs/formats.md`, "The other blocks"; a place is found by bisection.
 
 ghost use Rattle.std.specs.List.Sorted.{IsPartitionPoint};
 ghost use Rattle.std.specs.Prelude.{◌≡◌, ◌≤◌, ◌++◌, ◌∷◌, [], true, false, if◌then◌else◌, length, OnOk};
@@ -21,7 +20,7 @@ pub(crate) struct FilePlace {
     pub at: u64,
 }
 
-/// Keeps where the file of a part begins, once its last piece came.
+/// Records where the file of a part begins, after its last piece was read.
 pub(crate) fn keep_place(places: &mut Vec<FilePlace>, part: Part, at: u64) -> Result<(), AllocError>
     ensures { OnOk result (places.new.items ≡ (if part.last
         then places.old.items ++ place_of_part part at ∷ [] else places.old.items)) }
@@ -36,8 +35,8 @@ pub(crate) fn keep_place(places: &mut Vec<FilePlace>, part: Part, at: u64) -> Re
     Ok(())
 }
 
-/// The offset at which the file with these positions begins, of places in the order of the files.
-/// They are halved at each step.
+/// The offset at which the file with these positions begins, from places in the order of the files,
+/// by bisection.
 pub(crate) fn offset_of(places: &[FilePlace], folder: u32, file: u32) -> Option<u64>
     ensures { AreInFileOrder places.now → result ≡ offset_of_file folder file places.now }
 {

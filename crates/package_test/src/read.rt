@@ -1,7 +1,6 @@
-//! How a package in a tree is read and tested: its front, its values, and then piece by piece what
-//! stands behind them.
-//! The rules stand in `docs/formats.md`, "Tests of a container", and "The other blocks", the
-//! paragraphs of a front and of pieces.
+//! The reader and the tests of a package in a tree: its front, its values, and then the blocks
+//! after them piece by piece. The rules are in `docs/formats.md`, "Tests of a container", and "The
+//! other blocks", the paragraphs of a front and of pieces.
 
 ghost use Rattle.std.specs.Prelude.{◌≡◌, ℕ, List, Option, Some, IfOk};
 ghost use Rattle.adb_schema.specs.declared.read.TheConstants.{PACKAGE_WORD};
@@ -21,7 +20,7 @@ use base_core::{Cause, Name, Tree, TreeFault};
 use pkg_core::{Contents, Front, FrontFault, PackageFault, read_front};
 use std::alloc::Global;
 
-/// What stands under a name, by the tests of a package.
+/// The result of reading and testing the package under a name.
 #[derive(Drop)]
 pub enum PackageRead {
     /// There is no file.
@@ -32,24 +31,24 @@ pub enum PackageRead {
     Sound(TestedPackage),
 }
 
-/// Reads the package under a name, and tests it: its front, its values, and then the blocks behind
-/// them, piece by piece. The tests and their order are those of a package that is read whole. The
-/// tree stays as it is, whatever the answer.
+/// Reads the package under a name, and tests it: its front, its values, and then the blocks after
+/// them, piece by piece. The tests and their order are those of a package in memory. The tree is
+/// unchanged, whatever the result.
 ///
 /// # Errors
 ///
-/// `Disk` where the tree failed, or `Memory`.
+/// `Disk` if the tree failed, or `Memory`.
 pub fn read_package<T: Tree>(
     alloc: Global,
     tree: &mut T,
     name: &Name,
 ) -> Result<PackageRead, TreeFault>
-    // The answer is that for some file, which is the one under the name where the tree tells it.
+    // The result is that for some file, which is the one under the name if the tree is observable.
     ensures read { IfOk result (λ read. (found : Option (List ℕ))
         × IfObservable (T.history tree.old) (λ v. found ≡ files_of v name.now)
         × IsReadOf name.now found read) }
-    // The tree stays as it is; a failed tree is answered only where it failed, and no call is a
-    // misuse where the tree tells its files.
+    // The tree is unchanged. `Disk` is returned only if the tree failed, and no call is a misuse if
+    // the tree is observable.
     ensures tree { OnlyReads DiskFault (T.history tree.old) (T.history tree.new)
         (T.counts tree.old) (T.counts tree.new) result }
 {
@@ -69,8 +68,8 @@ fn read_named<T: Tree>(
     ensures read { IfOk result (λ read. (found : Option (List ℕ))
         × IfObservable (T.history tree.old) (λ v. found ≡ files_of v name.now)
         × IsReadOf name.now found read) }
-    // The tree stays as it is; a failed tree is answered only where it failed, and no call is a
-    // misuse where the tree tells its files.
+    // The tree is unchanged. `Disk` is returned only if the tree failed, and no call is a misuse if
+    // the tree is observable.
     ensures tree { OnlyReads DiskFault (T.history tree.old) (T.history tree.new)
         (T.counts tree.old) (T.counts tree.new) result }
 {
@@ -86,7 +85,7 @@ fn read_named<T: Tree>(
     }
 }
 
-/// The answer for a package of this name with this front, by what the tests said.
+/// The result for a package of this name with this front, by the result of the tests.
 fn read_by(name: Name, front: Front, test: FilesTest) -> PackageRead
     requires { HasSoundPayload front test }
     ensures { (pkg : List ℕ) → IsFrontOf PACKAGE_WORD pkg front → IsWholeTested pkg test
@@ -102,22 +101,22 @@ fn read_by(name: Name, front: Front, test: FilesTest) -> PackageRead
     }
 }
 
-/// Tests the values behind a front and, where they are good, the blocks behind them.
+/// Tests the values after a front and, if they are good, the blocks after them.
 fn read_behind<T: Tree>(
     alloc: Global,
     tree: &mut T,
     name: &Name,
     front: &Front,
 ) -> Result<FilesTest, TreeFault>
-    // For each package with this front that has the bytes that were seen behind it.
+    // For each package with this front that has the bytes that were seen after it.
     ensures whole { IfOk result (λ test. (seen : List ℕ)
         × IsSeenIn (T.history tree.old) name.now (front_file_len front.now) (front_end front.now)
         seen
         × ((pkg : List ℕ) → IsFrontOf PACKAGE_WORD pkg front.now
         → HasAt pkg (front_end front.now) seen → IsWholeTested pkg test)) }
     ensures payload { IfOk result (HasSoundPayload front.now) }
-    // The tree stays as it is; a failed tree is answered only where it failed, and no call is a
-    // misuse where the tree shows the file, as long as it was.
+    // The tree is unchanged. `Disk` is returned only if the tree failed, and no call is a misuse if
+    // the file still has its length.
     ensures tree { ReadsFile name.now (front_file_len front.now) DiskFault (T.history tree.old)
         (T.history tree.new) (T.counts tree.old) (T.counts tree.new) result }
 {

@@ -1,6 +1,5 @@
-//! What the tests of a package in a tree say.
-//! The rules stand in `docs/formats.md`, "Tests of a container", and `docs/commands.md`, "`verify
-//! FILE..`".
+//! The result of the tests of a package in a tree. The rules are in `docs/formats.md`, "Tests of a
+//! container", and `docs/commands.md`, "`verify FILE..`".
 
 ghost use Rattle.std.specs.Prelude.{◌≡◌, ℕ, List, Option, Some, IfOk};
 ghost use Rattle.base_core.specs.Calls.{IfObservable};
@@ -15,13 +14,13 @@ use crate::read::{PackageRead, read_package};
 use base_core::{Cause, Name, Tree, TreeFault};
 use std::alloc::Global;
 
-/// What the tests of a package say of the file under a name.
+/// The result of testing the file under a name as a package.
 #[derive(Clone, Copy, Debug, PartialEq, Eq, Drop)]
 pub enum PackageTest {
     /// There is no file.
     Absent,
-    /// The file passes the tests of its header, and has another schema. Nothing behind that was
-    /// tested.
+    /// The file passes the tests of its header, and has another schema. Nothing after its header
+    /// was tested.
     OtherSchema,
     /// The file is a package, and no test fails.
     Sound,
@@ -29,24 +28,24 @@ pub enum PackageTest {
     Bad(Cause),
 }
 
-/// Tests the file under a name as a package: its front, its values, and then the blocks behind
-/// them, piece by piece. The tests and their order are those of a container that is read whole.
-/// The tree stays as it is, whatever the answer.
+/// Tests the file under a name as a package: its front, its values, and then the blocks after them,
+/// piece by piece. The tests and their order are those of a container in memory. The tree is
+/// unchanged, whatever the result.
 ///
 /// # Errors
 ///
-/// `Disk` where the tree failed, or `Memory`.
+/// `Disk` if the tree failed, or `Memory`.
 pub fn test_package<T: Tree>(
     alloc: Global,
     tree: &mut T,
     name: &Name,
 ) -> Result<PackageTest, TreeFault>
-    // The answer is that for some file, which is the one under the name where the tree tells it.
+    // The result is that for some file, which is the one under the name if the tree is observable.
     ensures tests { IfOk result (λ test. (found : Option (List ℕ))
         × IfObservable (T.history tree.old) (λ v. found ≡ files_of v name.now)
         × IsTestOf found test) }
-    // The tree stays as it is; a failed tree is answered only where it failed, and no call is a
-    // misuse where the tree tells its files.
+    // The tree is unchanged. `Disk` is returned only if the tree failed, and no call is a misuse if
+    // the tree is observable.
     ensures tree { OnlyReads DiskFault (T.history tree.old) (T.history tree.new)
         (T.counts tree.old) (T.counts tree.new) result }
 {
@@ -54,7 +53,7 @@ pub fn test_package<T: Tree>(
     Ok(test_of(&read))
 }
 
-/// What the tests say, by what was read.
+/// The result of the tests, by the result of the read.
 fn test_of(read: &PackageRead) -> PackageTest
     ensures { (name : List ℕ) (found : Option (List ℕ)) → IsReadOf name found read.now
         → IsTestOf found result }
@@ -66,7 +65,7 @@ fn test_of(read: &PackageRead) -> PackageTest
     }
 }
 
-/// What the first failed test of a package says.
+/// The result of the tests with this first failed test.
 fn test_by(cause: Cause) -> PackageTest
     ensures { (file : List ℕ) → package_fault file ≡ Some cause → IsTestOf (Some file) result }
 {

@@ -1,4 +1,4 @@
--- What follows of the newest state, where the history is observable.
+-- What follows of the newest state, if the history is observable.
 use Rattle.std.proofs.Common.{◌≡◌, List, [], ◌∷◌, subst, arith}
 use Rattle.std.specs.List.{All}
 use Rattle.base_core.specs.Calls.{IfObservable}

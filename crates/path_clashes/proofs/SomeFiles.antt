@@ -1,5 +1,5 @@
 -- A clash over some files before which no clash of written names comes is the first one over the files
--- that stand under its two names.
+-- that are under its two names.
 use Rattle.std.proofs.Common.{◌≡◌, ◌⊎◌, ⊎_elim, inl, inr, ℕ, Bool, true, false, cond, List, [], length, Some, None, refl, sym, ap, subst, ◌∙◌, true≢false}
 use Rattle.std.specs.Prelude.{not, ◌&&◌, ◌||◌, bytes_eq, is_some}
 use Rattle.std.specs.Cmp.Lexicographic.{bytes_decides}
@@ -76,7 +76,7 @@ module _ (change : NameChange) (pair : NamePair) (may : IsFirstBelowFolder chang
   folder_written off =
       ⊎_elim (λ counts. counts) (λ counts. absurd (true≢false (sym counts ∙ off))) (or_cases (change.counts_as_written pair.path) (change.counts_as_written pair.other) may.is.written)
 
-  -- with a written folder above the other name, where that is not written
+  -- with a written folder above the other name, if that is not written
   above_other : (a : List ℕ) → IsFolderOf a pair.other → change.counts_as_written a ≡ true → change.counts_as_written pair.other ≡ false → precedes_pair (record { path = a; other = pair.other }) pair ≡ false
   above_other a above counts off =
       ⊎_elim (λ same. subst (λ (l : List ℕ). precedes_pair (record { path = l; other = pair.other }) pair ≡ false) (sym (same_folder a pair.path pair.other above may.is.folder same))

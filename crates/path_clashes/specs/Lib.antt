@@ -1,4 +1,4 @@
--- The definitions of this crate, whose rule stands in `docs/commands.md`, "What a change does
+-- The definitions of this crate, whose rule is in `docs/commands.md`, "What a change does
 -- with files", test 2.
 
 -- what the contract of `apk` says

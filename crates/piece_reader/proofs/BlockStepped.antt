@@ -26,7 +26,7 @@ use Rattle.piece_reader.specs.Blocks.{IsInBlock, head_size}
 use Rattle.piece_reader.specs.Opened.{IsOpenFile, bytes_to_come}
 use Rattle.piece_reader.specs.declared.open.OpenFile.{OpenFile}
 
--- the payload's bytes behind the positions
+-- the payload's bytes after the positions
 pub contents_at : (place : BlockPlace) (frame : Frame) (file : List ℕ) (n : ℕ) → 8 + n ≡ frame.payload_len → contents_bytes (payload_at frame place file) ≡ take n (drop (place.at + frame.head_len + 8) file)
 contents_at place frame file n is =
     ap (λ (k : ℕ). drop 8 (take k (drop frame.head_len (drop place.at file)))) (sym is)

@@ -23,7 +23,7 @@ use Rattle.piece_reader.proofs.BlockSeen.{not_ok, nothing_seen}
 
 -- ---- bytes that were seen, and those up to an offset
 
--- some bytes stand for those between two offsets: first these, then the others at another offset
+-- some bytes represent those between two offsets: first these, then the others at another offset
 pub record IsSeenUpTo (h : List TreeState) (name : List ℕ) (len at to mid : ℕ) (first second : List ℕ) : Type 0 where
   pub all : List ℕ
   pub is_seen : IsSeenIn h name len at all

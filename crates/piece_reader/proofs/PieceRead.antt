@@ -1,4 +1,4 @@
--- The bytes of a piece, and those behind them.
+-- The bytes of a piece, and those after them.
 use Rattle.std.proofs.Common.{◌≡◌, ℕ, ◌+◌, ◌-◌, ◌≤◌, List, ◌++◌, length, take, drop, Option, Some, Result, Ok, Err, ap, sym, ◌∙◌, arith}
 use Rattle.std.specs.Prelude.{IsErrAnd}
 use Rattle.std.proofs.lemmas.List.{length-append}
@@ -27,7 +27,7 @@ disk_piece so_far file bytes further before (Err Disk) fault is disk = tt
 
 -- ---- a piece
 
--- of the bytes to come, those behind the piece
+-- of the bytes to come, those after the piece
 abbrev pub behind_piece : OpenFile → List ℕ → List ℕ → List ℕ
 behind_piece o bytes file = take (file_bytes_left o.file - length bytes) (drop (o.at + length bytes) file)
 
@@ -56,7 +56,7 @@ append_assoc xs ys zs =
     let d = length-append ys zs in
     omega (arith, a, b, c, d)
 
--- a piece behind which more is left
+-- a piece after which more is left
 pub next_further : (o : OpenFile) (g : FileCheck) (at : ℕ) (so_far file bytes : List ℕ) (part : Part) (further before : PiecesRead) → length bytes ≤ file_bytes_left o.file → HasAt file o.at bytes → IsOpenFile o so_far file further before → IsTaken o.file so_far bytes (behind_piece o bytes file) further (Ok (part, Some g)) → at ≡ o.at + length bytes → file_bytes_left g ≡ file_bytes_left o.file - length bytes
     → IsNextPiece so_far file bytes further before (Ok (part, Some (record { file = g; at = at })))
 next_further o g at so_far file bytes part further before few has is taken stands left =

@@ -24,7 +24,7 @@ use Rattle.piece_reader.specs.declared.reader.Due.TheVariants.{Files}
 use Rattle.piece_reader.specs.declared.reader.PieceReader.{PieceReader}
 use Rattle.piece_reader.proofs.FilesFound.{seen_up_to}
 
--- the schema of a file plays no part behind its first block
+-- the schema of a file plays no part after its first block
 pub any_schema : (es : List Expected) (schema at : ℕ) (last : Option BlockKind) (pkg : List ℕ) → pieces_by_blocks es (reading_of (record { schema = schema; last = last; at = at; left = drop at pkg })) ≡ pieces_by_blocks es (reading_of (record { schema = 0; last = last; at = at; left = drop at pkg }))
 unfolding reading_of
 any_schema es schema at last pkg = refl
@@ -56,7 +56,7 @@ seen_unless_disk h later name len at file_at left first bytes (Bad d) same stand
 seen_unless_disk h later name len at file_at left first bytes Disk same stands room seen few then =
     record { all = first; is_seen = seen; has_first = λ pkg has. has; has_bytes = λ c is pkg has. absurd (let e : Disk ≡ Bad c = is in (cc)) }
 
--- where a reader stands behind a piece
+-- where a reader follows a piece
 pub behind : (place : BlockPlace) (o : OpenFile) (rest : Option OpenFile) (part : Part) (n : ℕ) → o.at + file_bytes_left o.file ≤ place.at → n ≤ file_bytes_left o.file → IsPieceOf o n (part, rest) → o.at + n ≤ offset_in place rest
 behind place o None part n room few is = omega (arith, room, few)
 behind place o (Some further) part n room few is = omega (arith, is.2)
@@ -65,7 +65,7 @@ pub behind_within : (place : BlockPlace) (o : OpenFile) (rest : Option OpenFile)
 behind_within place o None part n room within few is = within
 behind_within place o (Some further) part n room within few is = omega (arith, is.2, room, within, few)
 
--- behind a piece that is not the last one of its file
+-- after a piece that is not the last one of its file
 pub behind_part : (place : BlockPlace) (o : OpenFile) (rest : Option OpenFile) (part : Part) (n at : ℕ) → at ≤ o.at → IsPieceOf o n (part, rest) → part.last ≡ false → at + n ≤ offset_in place rest
 behind_part place o None part n at before is more = absurd (false≢true (sym more ∙ ap (λ (p : Part). p.last) is))
 behind_part place o (Some further) part n at before is more = omega (arith, before, is.2)

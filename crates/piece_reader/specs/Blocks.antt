@@ -1,6 +1,5 @@
--- What was read of a block, and what it comes to.
--- The rules stand in `docs/formats.md`, "The other blocks"; the framing of a block in "Container".
--- Serves the contracts of `block`.
+-- The parts of a block that were read, and the result for a block. The rules are in `docs/formats.md`,
+-- "The other blocks"; the framing of a block in "Container". Serves the contracts of `block`.
 use Rattle.std.specs.Prelude.{◌≡◌, ◌≤◌, ◌<◌, ℕ, ◌+◌, min, List, [], ◌∷◌, length, drop, Option, Some, None, Result, Ok, Err}
 use Rattle.adb_block.specs.Frames.{IsFramed, raw_size}
 use Rattle.adb_block.specs.declared.block.Frame.{Frame}
@@ -18,12 +17,12 @@ use Rattle.piece_reader.specs.declared.block.BlockStep.TheVariants.{End, Passed,
 use Rattle.piece_reader.specs.declared.piece.PieceFault.{PieceFault}
 use Rattle.piece_reader.specs.declared.piece.PieceFault.TheVariants.{Bad, Disk}
 
--- how many bytes of a block stand in front of its payload
+-- how many bytes of a block precede its payload
 abbrev pub head_size : Option Frame → ℕ
 head_size None = 0
 head_size (Some frame) = frame.head_len
 
--- these bytes of a block's payload were seen: the positions, which are its first bytes, where it has as
+-- these bytes of a block's payload were read: the positions, which are its first bytes, if it has as
 -- many, else no more than it has
 abbrev pub SeesPositions : Option Frame → List ℕ → List ℕ → Type 0
 SeesPositions None positions seen = seen ≡ []
@@ -35,8 +34,8 @@ abbrev pub IsInBlock : Option Frame → ℕ → Type 0
 IsInBlock None seen = Unit {0}
 IsInBlock (Some frame) seen = seen ≤ frame.head_len + min POSITIONS_LEN frame.payload_len
 
--- what was read of the block at a place of this file is what stands there; or it is the first failed
--- test
+-- the parts that were read of the block at a place are those of this file; or the result is the first
+-- failed test
 abbrev pub IsBlockRead : BlockPlace → List ℕ → Result BlockRead PieceFault → Type 0
 IsBlockRead place file (Ok read) =
     IsFramed (Ok read.framing) (drop place.at file) (step_at place file)
@@ -44,8 +43,8 @@ IsBlockRead place file (Ok read) =
 IsBlockRead place file (Err (Bad c)) = pieces_at place file ≡ refusal c
 IsBlockRead place file (Err Disk) = Unit {0}
 
--- what the reading of the block at a place answers for this package: no block is left, a block was
--- passed, or the contents of a file begin; or the first failed test
+-- the result of reading the block at a place in this package: no block is left, a block was passed, or
+-- the contents of a file begin; or the first failed test
 abbrev pub IsNextBlock : BlockPlace → List ℕ → Result BlockStep PieceFault → BlockPlace → Type 0
 IsNextBlock before file (Ok End) after = pieces_at before file ≡ no_piece
 IsNextBlock before file (Ok Passed) after = pieces_at before file ≡ pieces_at after file
@@ -54,22 +53,21 @@ IsNextBlock before file (Ok (Opened o)) after =
 IsNextBlock before file (Err (Bad c)) after = pieces_at before file ≡ refusal c
 IsNextBlock before file (Err Disk) after = Unit {0}
 
--- a reader stands further on behind a block, and within the package, and so do the bytes to come of a
--- file that was opened
+-- a reader is at a later place after a block, and within the package, and so are the unread bytes of an
+-- opened file
 abbrev pub GoesFurther : BlockPlace → BlockStep → BlockPlace → Type 0
 GoesFurther before End after = Unit {0}
 GoesFurther before Passed after = (before.at < after.at) × (after.at ≤ after.len)
 GoesFurther before (Opened o) after =
     (o.at + file_bytes_left o.file ≤ after.at) × (after.at ≤ after.len)
 
--- what was seen ends, at this offset, no later than where the next read begins
+-- the bytes that were read end, at this offset, no later than the next read begins
 abbrev pub EndsBefore : ℕ → BlockStep → BlockPlace → Type 0
 EndsBefore end End after = Unit {0}
 EndsBefore end Passed after = end ≤ after.at
 EndsBefore end (Opened o) after = end ≤ o.at
 
--- the walk before and after a block: it goes on behind the file that is opened; at the end no file is
--- due
+-- the walk before and after a block: it advances over the opened file; at the end no file is expected
 abbrev pub GoesOnWith : Walk → BlockStep → Walk → Type 0
 GoesOnWith before End after = left_in before ≡ []
 GoesOnWith before Passed after = after ≡ before

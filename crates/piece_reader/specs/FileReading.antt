@@ -1,6 +1,5 @@
--- A single file of a package that is read in pieces.
--- The rules stand in `docs/formats.md`, "The other blocks", the paragraph of pieces. Serves the
--- contracts of `FilePieces`.
+-- A single file of a package that is read in pieces. The rules are in `docs/formats.md`, "The other
+-- blocks", the paragraph of pieces. Serves the contracts of `FilePieces`.
 use Rattle.std.specs.Prelude.{◌≡◌, ◌<◌, ℕ, ◌+◌, ◌⊎◌, Bool, true, false, List, [], ◌++◌, length, Option, Some, None, option_map, Result, Ok, Err}
 use Rattle.base_core.specs.declared.cause.Cause.{Cause}
 use Rattle.pkg_core.specs.Contents.{Expected, hash_fault}
@@ -12,7 +11,7 @@ use Rattle.piece_reader.specs.declared.piece.PieceFault.TheVariants.{Bad, Disk}
 use Rattle.piece_reader.specs.declared.one_file.FilePieces.{FilePieces}
 use Rattle.piece_reader.specs.declared.open.OpenFile.{OpenFile}
 
--- ---- what it shows
+-- ---- the fields of a reader of one file
 
 -- the name of the package that a file is read from
 abbrev pub package_of_file : FilePieces → List ℕ
@@ -22,17 +21,17 @@ package_of_file file = file.name.now
 abbrev pub len_around_file : FilePieces → ℕ
 len_around_file file = file.len
 
--- how many bytes of a file are still to be read; none where no file is open
+-- how many bytes of a file are still to be read; none if no file is open
 abbrev pub bytes_left_in : Option OpenFile → ℕ
 bytes_left_in None = 0
 bytes_left_in (Some o) = file_bytes_left o.file
 
--- how many bytes of a single file that is read are still to come
+-- how many bytes of a single file are still to be read
 abbrev pub bytes_left_of : FilePieces → ℕ
 bytes_left_of file = bytes_left_in file.opened
 
--- what the bytes of a file are compared with: its positions, its size and its digest, as the package
--- lists them; None where it has no contents
+-- the positions, the size and the digest that the package lists for the file; None if it has no
+-- contents
 abbrev pub file_due : FilePieces → Option Expected
 file_due file = option_map expected_of file.due
 
@@ -40,17 +39,17 @@ file_due file = option_map expected_of file.due
 abbrev pub kept_fault : FilePieces → Option Cause
 kept_fault file = file.refused
 
--- ---- which bytes of the package are still to come
+-- ---- which bytes of the package are still to be read
 
--- no test failed in the reading of a file, and from a package of these bytes the bytes `left` of the
--- file are still to come
+-- no test of a file failed, and from a package of these bytes the bytes `left` of the file are still to
+-- be read
 abbrev pub IsFileReading : FilePieces → List ℕ → List ℕ → Type 0
 IsFileReading file pkg left = (file.refused ≡ None) × AreToCome file.opened pkg left
 
--- ---- what is answered
+-- ---- the results
 
--- what a call for the next piece answers where the tree shows the package: these bytes are the next of
--- those that are left, and the rest is still to come; or none is left
+-- the result of a call for the next piece if the tree has the package: these bytes are the next of
+-- those that are left, and the rest is still to be read; or none is left
 abbrev pub GivesBytes : (List ℕ → Type 0) → List ℕ → List ℕ → Result Bool PieceFault → Type 0
 GivesBytes AreToComeThen left bytes (Ok true) =
     (rest : List ℕ) × (left ≡ bytes ++ rest) × AreToComeThen rest
@@ -58,32 +57,32 @@ GivesBytes AreToComeThen left bytes (Ok false) = (left ≡ []) × AreToComeThen 
 GivesBytes AreToComeThen left bytes (Err (Bad c)) = ⊥
 GivesBytes AreToComeThen left bytes (Err Disk) = Unit {0}
 
--- ---- what the bytes are compared with, whatever the tree shows
+-- ---- the tests of the bytes, whatever the tree has
 
--- the bytes have the size and the digest that are due; of a file without contents there are none
+-- the bytes have the expected size and digest; a file without contents has none
 abbrev pub AreAsDue : Option Expected → List ℕ → Type 0
 AreAsDue None bytes = bytes ≡ []
 AreAsDue (Some e) bytes = (length bytes ≡ e.size) × (hash_fault e.hash bytes ≡ None)
 
--- the bytes have the size that is due, and another digest
+-- the bytes have the expected size, and another digest
 abbrev pub HaveOtherDigest : Option Expected → List ℕ → Cause → Type 0
 HaveOtherDigest None bytes c = ⊥
 HaveOtherDigest (Some e) bytes c = (length bytes ≡ e.size) × (hash_fault e.hash bytes ≡ Some c)
 
--- just these bytes were handed out, by the state of a reader: more are to come, or they are as is due;
--- after a failed test nothing is said
+-- exactly these bytes were returned, by the state of a reader: more are to be read, or the bytes are as
+-- expected; after a failed test nothing is promised
 abbrev pub HaveComeBy : Option Cause → Option OpenFile → Option Expected → List ℕ → Type 0
 HaveComeBy (Some c) opened due bytes = Unit {0}
 HaveComeBy None None due bytes = AreAsDue due bytes
 HaveComeBy None (Some o) due bytes = HasTaken o.file bytes
 
--- just these bytes of the file were handed out so far
+-- exactly these bytes of the file were returned so far
 abbrev pub HaveCome : FilePieces → List ℕ → Type 0
 HaveCome file bytes = HaveComeBy (kept_fault file) file.opened (file_due file) bytes
 
--- What a call answers when these bytes (`so_far`) were handed out before: the piece comes behind them;
--- or they are all, and as is due; and no test failed then. Or with the piece they are all, and have
--- another digest; or a test had failed before.
+-- The result of a call after these bytes (`so_far`) were returned. Without an error, no test has
+-- failed: the piece follows the bytes; or they are complete, and as expected. With an error, the bytes
+-- and the piece are complete and have another digest; or a test had failed before.
 abbrev pub ComesBehind : FilePieces → List ℕ → List ℕ → Result Bool PieceFault → FilePieces → Type 0
 ComesBehind old so_far bytes (Ok true) new =
     (kept_fault new ≡ None) × HaveCome new (so_far ++ bytes)
@@ -93,14 +92,14 @@ ComesBehind old so_far bytes (Err (Bad c)) new =
     (kept_fault old ≡ Some c) ⊎ HaveOtherDigest (file_due old) (so_far ++ bytes) c
 ComesBehind old so_far bytes (Err Disk) new = Unit {0}
 
--- the piece that came has so many bytes, at least one, and so many fewer are to come; or none came and
--- none was left
+-- the piece has this many bytes, at least one, and so many fewer are to be read; or there was no piece
+-- and none was left
 abbrev pub HasFewerLeft : FilePieces → ℕ → FilePieces → Bool → Type 0
 HasFewerLeft old len new true =
     (0 < len) × (bytes_left_of old ≡ len + bytes_left_of new)
 HasFewerLeft old len new false = bytes_left_of old ≡ 0
 
--- a failed test is kept by the reader of a file
+-- a failed test is remembered by the reader of a file
 abbrev pub HasRefusedFile : PieceFault → FilePieces → Type 0
 HasRefusedFile (Bad c) file = file.refused ≡ Some c
 HasRefusedFile Disk file = Unit {0}

@@ -1,6 +1,6 @@
--- Where a reader of the pieces of a package stands, and what a call of it answers.
--- The rules stand in `docs/formats.md`, "The other blocks", the paragraph of pieces; the order of the
--- files in the paragraph above it. Serves the contracts of `PieceReader`.
+-- The position of a reader of the pieces of a package, and the result of a call. The rules are in
+-- `docs/formats.md`, "The other blocks", the paragraph of pieces; the order of the files in the
+-- paragraph above it. Serves the contracts of `PieceReader`.
 use Rattle.std.specs.Prelude.{◌≡◌, ℕ, ◌+◌, ◌-◌, if◌then◌else◌, List, [], ◌∷◌, is_none, Option, Some, None, IfSome, Result, Ok, Err}
 use Rattle.base_core.specs.declared.cause.Cause.{Cause}
 use Rattle.pkg_core.specs.Contents.{Expected}
@@ -19,7 +19,7 @@ use Rattle.piece_reader.specs.declared.reader.Due.{Due}
 use Rattle.piece_reader.specs.declared.reader.Due.TheVariants.{Files, Nothing, Refused}
 use Rattle.piece_reader.specs.declared.reader.PieceReader.{PieceReader}
 
--- ---- what a reader shows
+-- ---- the fields of a reader
 
 -- the name of the package that a reader reads
 abbrev pub name_in_tree : PieceReader → List ℕ
@@ -38,53 +38,52 @@ offset_in place (Some o) = o.at
 abbrev pub offset_of : PieceReader → ℕ
 offset_of reader = offset_in reader.place reader.opened
 
--- the files that are due: their last piece is still to come
+-- the expected files: those whose last piece is still to be read
 abbrev pub due_in : BlockPlace → Option OpenFile → List Expected
 due_in place None = left_in place.walk
 due_in place (Some o) = expected_of o.file.wanted ∷ left_in place.walk
 
--- the files that are due, by what is to come: behind the last block, and behind a failed test, none is
+-- the expected files, by what is left of a reader: none after the last block, or after a failed test
 abbrev pub due_by : Due → BlockPlace → Option OpenFile → List Expected
 due_by Files place opened = due_in place opened
 due_by Nothing place opened = []
 due_by (Refused c) place opened = []
 
--- the files of a reader whose last piece is still to come
+-- the files of a reader whose last piece is still to be read
 abbrev pub due_files : PieceReader → List Expected
 due_files reader = due_by reader.due reader.place reader.opened
 
--- a reader goes on: no test failed, and the last block was not passed
+-- a reader can continue: no test failed, and the last block was not passed
 abbrev pub IsGoingOn : PieceReader → Type 0
 IsGoingOn reader = reader.due ≡ Files
 
--- a reader goes on, and stands between two files: none is open
+-- a reader can continue, and is between two files: none is open
 abbrev pub StandsBetween : PieceReader → Type 0
 StandsBetween reader = IsGoingOn reader × (reader.opened ≡ None)
 
--- ---- what is still to come, of a package of these bytes
+-- ---- the pieces to be read, of a package of these bytes
 
--- these pieces are those of the blocks from a place on, and in front of them those of what is left of
--- the file that is open
+-- these pieces are those of the rest of the open file, followed by those of the blocks from a place on
 abbrev pub ArePiecesFrom : BlockPlace → Option OpenFile → List ℕ → PiecesRead → Type 0
 ArePiecesFrom place None pkg pieces = pieces ≡ pieces_at place pkg
 ArePiecesFrom place (Some o) pkg pieces =
     (so_far : List ℕ) × IsOpenFile o so_far pkg (pieces_at place pkg) pieces
 
--- these pieces are left, by what is to come: behind the last block none is, behind a failed test its
--- fault alone
+-- these pieces are left, by what is left of a reader: none after the last block, only the fault after a
+-- failed test
 abbrev pub AreLeft : Due → BlockPlace → Option OpenFile → List ℕ → PiecesRead → Type 0
 AreLeft Files place opened pkg pieces = ArePiecesFrom place opened pkg pieces
 AreLeft Nothing place opened pkg pieces = pieces ≡ no_piece
 AreLeft (Refused c) place opened pkg pieces = pieces ≡ refusal c
 
--- these pieces are still to come of a reader, from a package of these bytes
+-- these pieces of a reader are still to be read, from a package of these bytes
 abbrev pub IsReading : PieceReader → List ℕ → PiecesRead → Type 0
 IsReading reader pkg pieces = AreLeft reader.due reader.place reader.opened pkg pieces
 
--- ---- what is answered
+-- ---- the results
 
--- what a call for the next piece answers: these bytes are it, and what is left is still to come; no
--- piece is left; or the first failed test, which is told from then on
+-- the result of a call for the next piece: it has these bytes, and the rest is still to be read; no
+-- piece is left; or the first failed test, which each later call returns again
 abbrev pub AnswersNext : (PiecesRead → Type 0) → PiecesRead → List ℕ
     → Result (Option Part) PieceFault → Type 0
 AnswersNext AreToCome before bytes (Ok (Some part)) =
@@ -93,7 +92,7 @@ AnswersNext AreToCome before bytes (Ok None) = (before ≡ no_piece) × AreToCom
 AnswersNext AreToCome before bytes (Err (Bad c)) = (before ≡ refusal c) × AreToCome (refusal c)
 AnswersNext AreToCome before bytes (Err Disk) = Unit {0}
 
--- the piece is one of the first file that is due, and this one is due until its last piece came
+-- the piece is one of the first expected file, which is expected until its last piece was read
 pub record IsOfFirstDue (before : List Expected) (part : Part)
     (after : List Expected) : Type 0 where
   pub first : Expected
@@ -102,61 +101,60 @@ pub record IsOfFirstDue (before : List Expected) (part : Part)
   pub of_first : part ≡ part_of first part.last
   pub left : after ≡ (if part.last then others else first ∷ others)
 
--- the files that are due before and after a call: the pieces come file by file, and at the end no file
--- is due
+-- the expected files before and after a call: the pieces are in the order of the files, and at the end
+-- no file is expected
 abbrev pub ComesInOrder : List Expected → Option Part → List Expected → Type 0
 ComesInOrder before None after = before ≡ []
 ComesInOrder before (Some part) after = IsOfFirstDue before part after
 
--- behind a piece a reader goes on, and the file is open unless the piece is its last one
+-- after a piece a reader can continue, and the file is open unless the piece is its last one
 pub record GoesOnBehind (part : Part) (old new : PieceReader) : Type 0 where
   pub before : IsGoingOn old
   pub after : IsGoingOn new
   pub open_file : is_none new.opened ≡ part.last
 
--- a failed test is kept by the reader of a package
+-- a failed test is remembered by the reader of a package
 abbrev pub HasRefused : PieceFault → PieceReader → Type 0
 HasRefused (Bad c) reader = reader.due ≡ Refused c
 HasRefused Disk reader = Unit {0}
 
--- ---- where a file stands
+-- ---- the place of a file
 
--- the offset at which the file begins whose piece came last
+-- the offset at which the file of the last piece begins
 abbrev pub start_of_file : PieceReader → ℕ
 start_of_file reader = reader.start
 
--- how many bytes were handed out of the file that is open, which begins at `start`; 0 where none is
--- open
+-- how many bytes were returned of the open file, which begins at `start`; 0 if none is open
 abbrev pub handed_out_from : ℕ → Option OpenFile → ℕ
 handed_out_from start None = 0
 handed_out_from start (Some o) = o.at - start
 
--- how many bytes a reader has handed out of the file that is open
+-- how many bytes of the open file a reader has returned
 abbrev pub handed_out : PieceReader → ℕ
 handed_out reader = handed_out_from reader.start reader.opened
 
--- the bytes of a piece stand in the package, behind those of its file that were handed out before
+-- the bytes of a piece are in the package, after those of its file that were returned before
 abbrev pub HasPieceAt : PieceReader → List ℕ → List ℕ → Option Part → PieceReader → Type 0
 HasPieceAt old pkg bytes None new = Unit {0}
 HasPieceAt old pkg bytes (Some part) new = HasAt pkg (start_of_file new + handed_out old) bytes
 
--- a piece of so many bytes was handed out of the file that is open, whose offset stays; behind the last
--- piece none is open, and 0 are handed out of it
+-- a piece of this length was returned of the open file, whose offset is unchanged; after the last piece
+-- none is open, and 0 bytes of it count as returned
 pub record KeepsStart (part : Part) (len : ℕ) (old new : PieceReader) : Type 0 where
   pub same : IfSome old.opened (λ o. start_of_file new ≡ start_of_file old)
   pub handed : handed_out new ≡ (if part.last then 0 else handed_out old + len)
 
 -- ---- inside
 
--- the walk before and after the search for the next file: it goes on behind the file that was found;
--- None where none is due
+-- the walk before and after the search for the next file: it advances over the file that was found;
+-- None if none is expected
 abbrev pub FindsFile : Walk → Option OpenFile → Walk → Type 0
 FindsFile before None after = left_in before ≡ []
 FindsFile before (Some found) after =
     left_in before ≡ expected_of found.file.wanted ∷ left_in after
 
--- what the search for the next file answers in this package: its contents begin, and the pieces behind
--- them come from where the reader stands then; no piece is left; or the first failed test
+-- the result of the search for the next file in this package: its contents begin, and the pieces after
+-- them are those from the new position; no piece is left; or the first failed test
 abbrev pub IsFileFound : BlockPlace → List ℕ → Result (Option OpenFile) PieceFault → BlockPlace
     → Type 0
 IsFileFound before pkg (Ok None) after = pieces_at before pkg ≡ no_piece
@@ -165,7 +163,7 @@ IsFileFound before pkg (Ok (Some o)) after =
 IsFileFound before pkg (Err (Bad c)) after = pieces_at before pkg ≡ refusal c
 IsFileFound before pkg (Err Disk) after = Unit {0}
 
--- what is answered of the file whose piece is next, the one that is open already or the next one
+-- the result for the file of the next piece, the one that is already open or the next one
 abbrev pub IsFileOpened : PieceReader → List ℕ → PiecesRead
     → Result (Option OpenFile) PieceFault → PieceReader → Type 0
 IsFileOpened old pkg before (Ok None) new = before ≡ no_piece
@@ -174,14 +172,13 @@ IsFileOpened old pkg before (Ok (Some o)) new =
 IsFileOpened old pkg before (Err (Bad c)) new = before ≡ refusal c
 IsFileOpened old pkg before (Err Disk) new = Unit {0}
 
--- an open file begins at `start`: it stands behind as many bytes as were handed out of it, and if it
--- was open before this is where it began then
+-- an open file begins at `start`: its unread bytes follow those that were returned, and if it was open
+-- before, it began there too
 pub record IsStartOf (old : PieceReader) (o : OpenFile) (start : ℕ) : Type 0 where
   pub stands : o.at ≡ start + handed_out old
   pub same : IfSome old.opened (λ o. start ≡ start_of_file old)
 
--- what a read of the next piece answers, as *AnswersNext*, but that nothing is said of what comes after
--- a failed test
+-- the result of reading the next piece, as *AnswersNext*, without a promise after a failed test
 abbrev pub IsPieceRead : PieceReader → List ℕ → PiecesRead → List ℕ
     → Result (Option Part) PieceFault → Type 0
 IsPieceRead new pkg before bytes (Ok (Some part)) = (after : PiecesRead)
@@ -190,7 +187,7 @@ IsPieceRead new pkg before bytes (Ok None) = before ≡ no_piece
 IsPieceRead new pkg before bytes (Err (Bad c)) = before ≡ refusal c
 IsPieceRead new pkg before bytes (Err Disk) = Unit {0}
 
--- the files that are due before a file was opened: it, and those that the walk has left; none where
+-- the expected files before a file was opened: this file, and those that the walk has left; none if
 -- none was opened
 abbrev pub OpensDue : List Expected → Option OpenFile → BlockPlace → Type 0
 OpensDue before None place = before ≡ []

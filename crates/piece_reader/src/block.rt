@@ -1,6 +1,6 @@
-//! What is read of a block: its header, and the positions that contents begin with; and the next
-//! file whose contents a block holds.
-//! The rules stand in `docs/formats.md`, "The other blocks"; the framing of a block in "Container".
+//! The reader of a block: its header, and the positions at the front of contents; and the search
+//! for the next file with contents. The rules are in `docs/formats.md`, "The other blocks"; the
+//! framing of a block in "Container".
 
 ghost use Rattle.std.specs.Prelude.{◌≡◌, ◌≤◌, ◌<◌, ◌+◌, ◌-◌, ◌^◌, ℕ, List, length, IfErr, IfOk, IfSome, OnOk};
 ghost use Rattle.adb_block.specs.Frames.{raw_size};
@@ -17,43 +17,42 @@ use adb_block::{Frame, frame_of};
 use base_core::{Name, Tree};
 use pkg_core::{BlockPlace, FileCheck, HeadBytes, POSITIONS_LEN, Step};
 
-/// What was read of a block: what its header frames, and the first eight bytes of its payload,
-/// where it has as many.
+/// The parts of a block that were read: its frame, and the first eight bytes of its payload, if it
+/// has as many.
 #[derive(Clone, Copy)]
 pub(crate) struct BlockRead {
-    /// What its header frames; None where no block is left.
+    /// The frame of its header; None if no block is left.
     pub framing: Option<Frame>,
-    /// The positions that its payload begins with; zeros where it has no eight bytes.
+    /// The positions that its payload begins with; zeros if it has no eight bytes.
     pub positions: [u8; POSITIONS_LEN],
 }
 
-/// What a block of a package in a tree comes to.
+/// The result for a block of a package in a tree.
 #[derive(Drop)]
 pub(crate) enum BlockStep<'a> {
-    /// No block is left, and no file is due.
+    /// No block is left, and no file is expected.
     End,
-    /// The block holds no contents.
+    /// The block has no contents.
     Passed,
     /// The contents of the next file begin.
     Opened(OpenFile<'a>),
 }
 
-/// Goes on behind the block at a place, in the package of this name. No more is read of it than its
-/// header and the first eight bytes of its payload, and the tree stays as it is, whatever the
-/// answer.
+/// Advances over the block at a place, in the package of this name. It reads only the block's
+/// header and the first eight bytes of its payload. The tree is unchanged, whatever the result.
 ///
 /// # Errors
 ///
-/// `Bad` with the first failed test: of the block's framing, as `frame_of` of `adb_block` tells it,
-/// or of its contents' positions and size, as `BlockPlace::step` of `pkg_core` does; or `Disk`
-/// where the tree failed.
+/// `Bad` with the first failed test: of the block's framing, as in `frame_of` of `adb_block`, or of
+/// its contents' positions and size, as in `BlockPlace::step` of `pkg_core`. `Disk` if the tree
+/// failed.
 pub(crate) fn next_block<'a, T: Tree>(
     tree: &mut T,
     name: &Name,
     place: &mut BlockPlace<'a>,
 ) -> Result<BlockStep<'a>, PieceFault>
     requires { place.old.at ≤ place.old.len }
-    // For each package that is so long and has the bytes that were seen.
+    // For each package of this length that has the bytes that were read.
     ensures block { (seen : List ℕ)
         × IsSeenIn (T.history tree.old) name.now place.old.len place.old.at seen
         × IfOk result (λ step. EndsBefore (place.old.at + length seen) step place.new)
@@ -63,8 +62,8 @@ pub(crate) fn next_block<'a, T: Tree>(
     ensures within { place.new.at ≤ place.new.len }
     ensures walk { IfOk result (λ step. GoesOnWith place.old.walk step place.new.walk) }
     ensures further { IfOk result (λ step. GoesFurther place.old step place.new) }
-    // The tree stays as it is; a failed tree is answered only where it failed, and no call is a
-    // misuse where the tree shows the file, as long as it was.
+    // The tree is unchanged. `Disk` is returned only if the tree failed, and no call is a misuse if
+    // the file still has its length.
     ensures tree { ReadsFile name.now place.old.len DiskFault (T.history tree.old)
         (T.history tree.new) (T.counts tree.old) (T.counts tree.new) result }
 {
@@ -78,7 +77,7 @@ pub(crate) fn next_block<'a, T: Tree>(
     }
 }
 
-/// The file that a block at an offset opens: its bytes stand behind the header and the positions.
+/// The file that a block at an offset opens: its bytes follow the header and the positions.
 fn file_at<'a>(file: FileCheck<'a>, at: u64, framing: Option<Frame>) -> OpenFile<'a>
     // Offsets have 64 bits.
     requires { at + head_size framing + POSITIONS_LEN < 2 ^ 64 }
@@ -95,7 +94,7 @@ fn file_at<'a>(file: FileCheck<'a>, at: u64, framing: Option<Frame>) -> OpenFile
     }
 }
 
-/// Reads what has to be known of the block at a place: its header and the positions.
+/// Reads the header and the positions of the block at a place.
 pub(crate) fn read_block<T: Tree>(
     tree: &mut T,
     name: &Name,
@@ -111,8 +110,8 @@ pub(crate) fn read_block<T: Tree>(
         × IfOk result (λ read. IsInBlock read.framing (length seen))
         × ((file : List ℕ) → length file ≡ place.now.len → HasAt file place.now.at seen
         → IsBlockRead place.now file result) }
-    // The tree stays as it is; a failed tree is answered only where it failed, and no call is a
-    // misuse where the tree shows the file, as long as it was.
+    // The tree is unchanged. `Disk` is returned only if the tree failed, and no call is a misuse if
+    // the file still has its length.
     ensures tree { ReadsFile name.now place.now.len DiskFault (T.history tree.old)
         (T.history tree.new) (T.counts tree.old) (T.counts tree.new) result }
 {
@@ -124,7 +123,7 @@ pub(crate) fn read_block<T: Tree>(
     Ok(BlockRead { framing, positions })
 }
 
-/// Reads the first eight bytes of the payload of a block at an offset, where it has as many.
+/// Reads the first eight bytes of the payload of a block at an offset, if it has as many.
 #[tactic(auto, using(pkg_core::proofs::SeenBytes::seen_by_read, pkg_core::proofs::SeenBytes::proper_where_long))]
 fn read_positions<T: Tree>(
     tree: &mut T,
@@ -137,8 +136,8 @@ fn read_positions<T: Tree>(
         × ((file_len : ℕ)
         → IsSeen (T.history tree.old) name.now file_len (at + head_size framing) seen)) }
     ensures disk { IfErr result (λ fault. fault ≡ DiskFault) }
-    // The tree stays as it is; a failed tree is answered only where it failed, and no call is a
-    // misuse where the tree shows the file, as long as it was.
+    // The tree is unchanged. `Disk` is returned only if the tree failed, and no call is a misuse if
+    // the file still has its length.
     ensures tree { (file_len : ℕ) → at ≤ file_len
         → IfSome framing (λ frame. at + raw_size frame ≤ file_len)
         → ReadsFile name.now file_len DiskFault (T.history tree.old) (T.history tree.new)
@@ -153,8 +152,7 @@ fn read_positions<T: Tree>(
     Ok(positions)
 }
 
-/// Goes on to the next file whose contents a block holds, past blocks that hold none; None behind
-/// the last block.
+/// Advances to the next file with contents, over blocks without any; None after the last block.
 pub(crate) fn next_file<'a, T: Tree>(
     tree: &mut T,
     name: &Name,
@@ -172,8 +170,8 @@ pub(crate) fn next_file<'a, T: Tree>(
     ensures walk { IfOk result (λ found. FindsFile place.old.walk found place.new.walk) }
     ensures room { IfOk result (λ found. IfSome found (λ next.
         next.at + file_bytes_left next.file ≤ place.new.at)) }
-    // The tree stays as it is; a failed tree is answered only where it failed, and no call is a
-    // misuse where the tree shows the file, as long as it was.
+    // The tree is unchanged. `Disk` is returned only if the tree failed, and no call is a misuse if
+    // the file still has its length.
     ensures tree { ReadsFile name.now place.old.len DiskFault (T.history tree.old)
         (T.history tree.new) (T.counts tree.old) (T.counts tree.new) result }
 {

@@ -1,12 +1,16 @@
 //! The contents of a package's files (apk-package(5)) in pieces, read from a tree of files: no
-//! package is held whole.
+//! package is completely in memory.
 //!
-//! `PieceReader` hands out the pieces of all files of a package, one after the other, into a
-//! `Piece` of up to 65,536 bytes. `FilePieces` hands out those of a single file, by the offset at
-//! which it begins. Neither takes memory. The contracts cite `Readers` (which pieces of a package
-//! are still to come), `FileReading` (which bytes of a single file), `Blocks` (what a block comes
-//! to) and `Opened` (the bytes of a file that are still to come) of `specs/`.
-//! The rules stand in `docs/formats.md`, "The other blocks".
+//! `PieceReader` returns the pieces of all files of a package in order, in a `Piece` of up to
+//! 65,536 bytes. `FilePieces` returns those of a single file, by the offset at which it begins.
+//! Neither allocates memory. The contracts cite these modules of `specs/`:
+//!
+//! - `Readers`: which pieces of a package are still to be read;
+//! - `FileReading`: which bytes of a single file are;
+//! - `Blocks`: the result for a block;
+//! - `Opened`: the unread bytes of an open file.
+//!
+//! The rules are in `docs/formats.md`, "The other blocks".
 #![tactic(auto)]
 
 mod block;

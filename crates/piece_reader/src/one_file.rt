@@ -1,5 +1,5 @@
-//! The pieces of a single file of a package.
-//! The rules stand in `docs/formats.md`, "The other blocks", the paragraph of pieces.
+//! The pieces of a single file of a package. The rules are in `docs/formats.md`, "The other
+//! blocks", the paragraph of pieces.
 
 ghost use Rattle.std.specs.Option.{ForSome};
 ghost use Rattle.std.specs.Prelude.{◌≡◌, ◌<◌, ◌≤◌, Some};
@@ -12,19 +12,19 @@ use base_core::{Cause, Name, Tree};
 use pkg_core::{Contents, Wanted, wanted_file};
 
 /// The bytes of a single file of a package in pieces, read from the package at the offset at which
-/// the file begins. All is tested anew. It takes no memory. Contracts see, by `FileReading` of
-/// `specs/`, which bytes of a package are still to come.
+/// the file begins. All of them are tested again. It allocates no memory. Contracts see, by
+/// `FileReading` of `specs/`, which bytes of a package are still to be read.
 #[derive(Drop)]
 pub struct FilePieces<'a> {
     // The name of the package.
     pub(crate) name: &'a Name,
     // How many bytes the package has.
     pub(crate) len: u64,
-    // The values of the package, which tell what is due.
+    // The values of the package, which name the expected contents.
     pub(crate) contents: Contents<'a>,
-    // What the bytes are compared with; None where the file has no contents.
+    // The size and the digest that the bytes must have; None if the file has no contents.
     pub(crate) due: Option<Wanted<'a>>,
-    // The file with what is left of it; None behind its last piece.
+    // The rest of the file; None after its last piece.
     pub(crate) opened: Option<OpenFile<'a>>,
     // The test that failed, if one did.
     pub(crate) refused: Option<Cause>,
@@ -45,9 +45,9 @@ impl<'a> FilePieces<'a> {
     ghost use Rattle.piece_reader.specs.Opened.{place_fault};
     ghost use Rattle.piece_reader.specs.declared.piece.PieceFault.TheVariants.{Bad, Disk as DiskFault};
 
-    /// The file with these positions, which begins at this offset in the package of this name and
-    /// with so many bytes and these values. No piece comes where it has no contents. Where it has
-    /// some, and no offset is given or the package is too short for them, each call is refused.
+    /// The file with these positions. It begins at this offset in the package, which has this name,
+    /// this length and these values. A file without contents has no pieces. Each call fails if the
+    /// file has contents, but no offset is given or the package is too short for them.
     pub fn new(
         name: &'a Name,
         len: u64,
@@ -84,8 +84,8 @@ impl<'a> FilePieces<'a> {
         }
     }
 
-    /// The pieces of a file with contents, which begins at this offset; each call is refused where
-    /// it has no place there.
+    /// The pieces of a file with contents, which begins at this offset; each call fails if it has
+    /// no place there.
     fn of(
         name: &'a Name,
         len: u64,
@@ -124,37 +124,37 @@ impl<'a> FilePieces<'a> {
         }
     }
 
-    /// Reads the next piece, and tells whether one came; else the file has ended. The pieces have
-    /// 65,536 bytes each, and the last one 1 to 65,536. The tree stays as it is, whatever the
-    /// answer.
+    /// Reads the next piece, and returns whether there was one; else the file has ended. The pieces
+    /// have 65,536 bytes each, and the last one 1 to 65,536. The tree is unchanged, whatever the
+    /// result.
     ///
     /// # Errors
     ///
-    /// `Bad` with `HashDiffers`, before the last piece is handed out, where all bytes together do
-    /// not have the file's digest, and again from then on; at once where the file has no place in
-    /// the package (`new`); or `Disk` where the tree failed: then the reader may only be dropped.
+    /// `Bad` with `HashDiffers` in place of the last piece, if all bytes together do not have the
+    /// file's digest. `Bad` at once if the file has no place in the package (`new`). Each later
+    /// call returns the same. `Disk` if the tree failed: then the reader may only be dropped.
     pub fn next_piece<T: Tree>(
         &mut self,
         tree: &mut T,
         piece: &mut Piece,
     ) -> Result<bool, PieceFault>
-        // Where the tree shows the package.
+        // If the tree has the package.
         ensures piece { IfObservable (T.history tree.old) (λ v. (pkg left : List ℕ)
             → files_of v (package_of_file self.old) ≡ Some pkg → IsFileReading self.old pkg left
             → GivesBytes (IsFileReading self.new pkg) left piece.new result) }
-        // For each package, also one that was changed since: the last piece and the end come only
-        // where all bytes together have the size and the digest that are due.
+        // For each package, also one that was changed since: the last piece and the end are
+        // returned only if all bytes together have the expected size and digest.
         ensures tested { (so_far : List ℕ) → HaveCome self.old so_far
             → ComesBehind self.old so_far piece.new result self.new }
         ensures due { file_due self.new ≡ file_due self.old }
         ensures left { IfOk result (HasFewerLeft self.old (length piece.new) self.new) }
         ensures refused { IfErr result (λ fault. HasRefusedFile fault self.new) }
-        // A test that failed is answered by every later call.
+        // Each later call returns a test that failed.
         ensures again { IfSome (kept_fault self.old) (λ cause. result ≡ Err (Bad cause)) }
         ensures name { package_of_file self.new ≡ package_of_file self.old }
         ensures len { len_around_file self.new ≡ len_around_file self.old }
-        // The tree stays as it is; a failed tree is answered only where it failed, and no call is a
-        // misuse where the tree shows the file, as long as it was.
+        // The tree is unchanged. `Disk` is returned only if the tree failed, and no call is a
+        // misuse if the file still has its length.
         ensures tree { ReadsFile (package_of_file self.old) (len_around_file self.old) DiskFault
             (T.history tree.old) (T.history tree.new) (T.counts tree.old) (T.counts tree.new)
             result }
@@ -171,8 +171,8 @@ impl<'a> FilePieces<'a> {
         }
     }
 
-    /// Reads the next piece, where no test failed. The clauses are those of `next_piece`, but that
-    /// a failed test is not kept yet.
+    /// Reads the next piece, if no test failed. The clauses are those of `next_piece`, except that
+    /// a failed test is not remembered yet.
     fn read_next<T: Tree>(&mut self, tree: &mut T, piece: &mut Piece) -> Result<bool, PieceFault>
         requires { kept_fault self.old ≡ None }
         ensures piece { IfObservable (T.history tree.old) (λ v. (pkg left : List ℕ)
@@ -184,8 +184,8 @@ impl<'a> FilePieces<'a> {
         ensures left { IfOk result (HasFewerLeft self.old (length piece.new) self.new) }
         ensures name { package_of_file self.new ≡ package_of_file self.old }
         ensures len { len_around_file self.new ≡ len_around_file self.old }
-        // The tree stays as it is; a failed tree is answered only where it failed, and no call is a
-        // misuse where the tree shows the file, as long as it was.
+        // The tree is unchanged. `Disk` is returned only if the tree failed, and no call is a
+        // misuse if the file still has its length.
         ensures tree { ReadsFile (package_of_file self.old) (len_around_file self.old) DiskFault
             (T.history tree.old) (T.history tree.new) (T.counts tree.old) (T.counts tree.new)
             result }

@@ -1,5 +1,5 @@
-//! A file of a package whose pieces are read one by one.
-//! The rules stand in `docs/formats.md`, "The other blocks", the paragraph of pieces.
+//! A file of a package that is read in pieces. The rules are in `docs/formats.md`, "The other
+//! blocks", the paragraph of pieces.
 
 ghost use Rattle.std.specs.Prelude.{◌≡◌, ◌≤◌, ◌<◌, ◌+◌, ◌++◌, ◌^◌, [], ℕ, List, None, Some, length, IfNone, IfOk, IfSome, IsOkAnd};
 ghost use Rattle.std.specs.Result.{result_err};
@@ -15,25 +15,26 @@ use crate::piece::{Piece, PieceFault};
 use base_core::{Cause, Name, Tree};
 use pkg_core::{FileCheck, Part, Wanted};
 
-/// A file of a package whose pieces are being read, and the offset of its next byte in the package.
-/// Contracts see, by `Opened` of `specs/`, which bytes of the package are still to come.
+/// A file of a package that is being read in pieces, and the offset of its next byte in the
+/// package. Contracts see, by `Opened` of `specs/`, which bytes of the package are still to be
+/// read.
 #[derive(Drop)]
 pub(crate) struct OpenFile<'a> {
-    /// What of the file was taken, and what is due.
+    /// The check of the file, with the expected size and digest.
     pub(crate) file: FileCheck<'a>,
     /// The offset of its next byte in the package.
     pub(crate) at: u64,
 }
 
 impl<'a> OpenFile<'a> {
-    /// Reads the file's next piece, of 65,536 bytes, or of what is left, from the package of this
-    /// name, and gives which part of which file it is and, unless it is the last, what is left of
-    /// the file. The tree stays as it is, whatever the answer.
+    /// Reads the file's next piece, of 65,536 bytes or the rest, from the package of this name. It
+    /// returns which part of which file the piece is, and the rest of the file, unless the piece is
+    /// the last. The tree is unchanged, whatever the result.
     ///
     /// # Errors
     ///
-    /// `Bad` with `HashDiffers`, behind the last piece, where all bytes together do not have the
-    /// file's digest, or `Disk` where the tree failed.
+    /// `Bad` with `HashDiffers`, after the last piece, if all bytes together do not have the file's
+    /// digest, or `Disk` if the tree failed.
     pub(crate) fn next_piece<T: Tree>(
         self,
         tree: &mut T,
@@ -52,7 +53,7 @@ impl<'a> OpenFile<'a> {
             → IsNextPiece so_far file piece.new further before result }
         ensures len { NotDisk result → length piece.new ≡ next_len self.entry.file }
         ensures part { IfOk result (IsPieceOf self.entry (length piece.new)) }
-        // Only the last piece ends the file, and behind it all bytes together have its size and its
+        // Only the last piece ends the file, and after it all bytes together have its size and its
         // digest.
         ensures more { IfOk result (λ read. IfSome read.1 (λ further.
             0 < file_bytes_left further.file)) }
@@ -64,8 +65,8 @@ impl<'a> OpenFile<'a> {
         ensures room { IfOk result (λ read. IfSome read.1 (λ further.
             further.at + file_bytes_left further.file
             ≡ self.entry.at + file_bytes_left self.entry.file)) }
-        // The tree stays as it is; a failed tree is answered only where it failed, and no call is a
-        // misuse where the tree shows the file, as long as it was.
+        // The tree is unchanged. `Disk` is returned only if the tree failed, and no call is a
+        // misuse if the file still has its length.
         ensures tree { (file_len : ℕ) → self.entry.at + file_bytes_left self.entry.file ≤ file_len
             → ReadsFile name.now file_len DiskFault (T.history tree.old) (T.history tree.new)
             (T.counts tree.old) (T.counts tree.new) result }
@@ -81,12 +82,12 @@ impl<'a> OpenFile<'a> {
     }
 }
 
-/// Opens a file with contents at an offset, of a package with so many bytes.
+/// Opens a file with contents at an offset, of a package of this length.
 ///
 /// # Errors
 ///
-/// `DataOrder` with the pair (0, 0) where no offset is given, or `DataSize` where the package ends
-/// before the file.
+/// `DataOrder` with the pair (0, 0) if no offset is given, or `DataSize` if the package ends before
+/// the file.
 pub(crate) fn open_at<'a>(
     wanted: Wanted<'a>,
     at: Option<u64>,

@@ -1,5 +1,5 @@
-//! A piece: the buffer that holds it, and why there is no next one.
-//! The rules stand in `docs/formats.md`, "The other blocks", the paragraph of pieces.
+//! The buffer of a piece, and why there is no next one. The rules are in `docs/formats.md`, "The
+//! other blocks", the paragraph of pieces.
 
 ghost use Rattle.std.specs.Prelude.{◌≡◌, ◌≤◌, ◌+◌, ℕ, [], length, IfErr, OnOk};
 ghost use Rattle.pkg_core.specs.Seen.{IsSeen, ReadsFile};
@@ -11,7 +11,7 @@ use pkg_core::PIECE_LEN;
 use std::marker::Model;
 use thiserror::Error;
 
-/// A buffer for one piece, of up to 65,536 bytes. Contracts see the bytes that it holds.
+/// A buffer for one piece, of up to 65,536 bytes. Contracts see its bytes.
 #[derive(Drop)]
 pub struct Piece {
     /// Room for the longest piece.
@@ -32,7 +32,7 @@ impl Model for Piece {
 }
 
 impl Piece {
-    /// A piece of no bytes. It takes no memory.
+    /// A piece of no bytes. It allocates no memory.
     pub fn new() -> Piece
         ensures { result ≡ [] }
     {
@@ -42,7 +42,7 @@ impl Piece {
         }
     }
 
-    /// The bytes that the piece holds, at most 65,536 (`PIECE_LEN` of `pkg_core`).
+    /// The bytes of the piece, at most 65,536 (`PIECE_LEN` of `pkg_core`).
     pub fn bytes(&self) -> &[u8]
         ensures bytes { result.now ≡ self.now }
         ensures few { length result.now ≤ PIECE_LEN }
@@ -50,8 +50,8 @@ impl Piece {
         &self.bytes[..self.len]
     }
 
-    /// Reads so many bytes of a file, from an offset on, into the piece. After an error the piece
-    /// holds some bytes.
+    /// Reads this many bytes of a file, from an offset on, into the piece. After an error the bytes
+    /// of the piece are unspecified.
     #[tactic(auto, using(pkg_core::proofs::SeenBytes::seen_by_read, pkg_core::proofs::SeenBytes::proper_where_long))]
     pub(crate) fn read<T: Tree>(
         &mut self,
@@ -65,8 +65,8 @@ impl Piece {
         ensures disk { IfErr result (λ fault. fault ≡ DiskFault) }
         ensures seen { OnOk result ((file_len : ℕ)
             → IsSeen (T.history tree.old) name.now file_len at self.new) }
-        // The tree stays as it is; a failed tree is answered only where it failed, and no call is a
-        // misuse where the tree shows the file, as long as it was.
+        // The tree is unchanged. `Disk` is returned only if the tree failed, and no call is a
+        // misuse if the file still has its length.
         ensures tree { (file_len : ℕ) → at + len ≤ file_len
             → ReadsFile name.now file_len DiskFault (T.history tree.old) (T.history tree.new)
             (T.counts tree.old) (T.counts tree.new) result }

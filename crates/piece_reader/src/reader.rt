@@ -1,6 +1,5 @@
-//! A reader of the pieces of a package's files, one after the other.
-//! The rules stand in `docs/formats.md`, "The other blocks", the paragraph of pieces; the order of
-//! the files in the paragraph above it.
+//! A reader of the pieces of a package's files in order. The rules are in `docs/formats.md`, "The
+//! other blocks", the paragraph of pieces; the order of the files in the paragraph above it.
 
 ghost use Rattle.std.specs.Option.{ForSome};
 ghost use Rattle.std.specs.Prelude.{◌≤◌, ◌≡◌, List};
@@ -16,7 +15,7 @@ use adb_block::BlockKind;
 use base_core::{Cause, Name, Tree};
 use pkg_core::{BlockPlace, Contents, Front, Part, Walk};
 
-/// What is still to come of a reader.
+/// What is left of a reader.
 #[derive(Clone, Copy)]
 pub(crate) enum Due {
     /// The pieces of the files that are left.
@@ -28,18 +27,18 @@ pub(crate) enum Due {
 }
 
 /// A reader of the contents of a package's files in pieces, block by block in the order of the
-/// package. It takes no memory. Contracts see, by `Readers` of `specs/`, which pieces of a package
-/// are still to come, the offset from which on it is read, and the one at which the file begins
-/// whose piece came last.
+/// package. It allocates no memory. Contracts see, by `Readers` of `specs/`, the pieces of a
+/// package that are still to be read, the offset of the next read, and the offset at which the file
+/// of the last piece begins.
 #[derive(Drop)]
 pub struct PieceReader<'a> {
     /// The name of the package.
     pub(crate) name: &'a Name,
-    /// Where the reader stands in the blocks: behind the one of the file that is open.
+    /// The position of the reader in the blocks: after the one of the open file.
     pub(crate) place: BlockPlace<'a>,
-    /// The file of which a piece came and more are to come.
+    /// The file of which some pieces, but not all, were read.
     pub(crate) opened: Option<OpenFile<'a>>,
-    /// The offset at which the file begins whose piece came last.
+    /// The offset at which the file of the last piece begins.
     pub(crate) start: u64,
     /// Whether files are left, the last block was passed, or a test failed.
     pub(crate) due: Due,
@@ -62,8 +61,8 @@ impl<'a> PieceReader<'a> {
     ghost use Rattle.piece_reader.specs.declared.reader.Due.TheVariants.{Files};
     ghost use Rattle.piece_reader.specs.declared.piece.PieceFault.TheVariants.{Disk as DiskFault};
 
-    /// A reader in front of the first piece of the package of this name, whose front and values
-    /// were read.
+    /// A reader before the first piece of the package of this name, whose front and values were
+    /// read.
     pub fn new(front: &Front, contents: &Contents<'a>, name: &'a Name) -> PieceReader<'a>
         ensures name { name_in_tree result ≡ name.entry.now }
         ensures len { package_len result ≡ front_file_len front.now }
@@ -71,7 +70,7 @@ impl<'a> PieceReader<'a> {
         ensures files { due_files result
             ≡ expected_contents (value_of_contents contents.entry.now) }
         ensures start { StandsBetween result }
-        // What is to come are the pieces of the blocks behind the front.
+        // The pieces to read are those of the blocks after the front.
         ensures pieces { (pkg : List ℕ) → IsReading result pkg
             (pieces_by_blocks (expected_contents (value_of_contents contents.entry.now))
             (reading_of (behind_front front.now pkg))) }
@@ -102,29 +101,29 @@ impl<'a> PieceReader<'a> {
         }
     }
 
-    /// The offset at which the file begins whose piece came last.
+    /// The offset at which the file of the last piece begins.
     pub fn file_start(&self) -> u64
         ensures { result ≡ start_of_file self.now }
     {
         self.start
     }
 
-    /// Reads the next piece, and gives which part of which file it is; None comes exactly behind
-    /// the last block. The pieces of a file have 65,536 bytes each, and the last one 1 to 65,536.
-    /// The tree stays as it is, whatever the answer.
+    /// Reads the next piece, and returns which part of which file it is; None exactly after the
+    /// last block. The pieces of a file have 65,536 bytes each, and the last one 1 to 65,536. The
+    /// tree is unchanged, whatever the result.
     ///
     /// # Errors
     ///
-    /// `Bad` with the first failed test, and again from then on: the order and the size of a file
-    /// are tested before its first piece, its digest before its last one is handed out. `Disk`
-    /// where the tree failed; then the reader may only be dropped.
+    /// `Bad` with the first failed test, and each later call returns the same. The order and the
+    /// size of a file are tested before its first piece, its digest before its last one is
+    /// returned. `Disk` if the tree failed; then the reader may only be dropped.
     pub fn next_piece<T: Tree>(
         &mut self,
         tree: &mut T,
         piece: &mut Piece,
     ) -> Result<Option<Part>, PieceFault>
-        // For each package that is so long and has the bytes that were seen, from where the reader
-        // stood to where it stands then.
+        // For each package of this length that has the bytes read between the old position and the
+        // new one.
         ensures piece { (seen : List ℕ)
             × IsSeenIn (T.history tree.old) (name_in_tree self.old) (package_len self.old)
             (offset_of self.old) seen
@@ -135,24 +134,25 @@ impl<'a> PieceReader<'a> {
             → (before : PiecesRead) → IsReading self.old pkg before
             → AnswersNext (IsReading self.new pkg) before piece.new result
             × IfOk result (λ found. HasPieceAt self.old pkg piece.new found self.new)) }
-        // The pieces come file by file, in the order of the package; behind a piece the reader goes
-        // on.
+        // The pieces are in the order of the files in the package; after a piece the reader can
+        // continue.
         ensures order { IfOk result (λ found.
             ComesInOrder (due_files self.old) found (due_files self.new)) }
         ensures goes_on { IfOk result (λ found. IfSome found (λ part.
             GoesOnBehind part self.old self.new)) }
-        // A piece that is not the last one stands wholly in front of what is read next.
+        // A piece that is not the last one is completely before the next read.
         ensures bytes { IfOk result (λ found. IfSome found (λ part. part.last ≡ false
             → offset_of self.old + length piece.new ≤ offset_of self.new)) }
-        // The offset at which its file begins stays, and what was handed out grows by the piece.
+        // The offset at which its file begins is unchanged, and the bytes returned so far grow by
+        // the piece.
         ensures start { IfOk result (λ found. IfSome found (λ part.
             KeepsStart part (length piece.new) self.old self.new)) }
-        // A test that failed is kept, and answered by every later call.
+        // A failed test is remembered, and each later call returns it.
         ensures refused { IfErr result (λ fault. HasRefused fault self.new) }
         ensures name { name_in_tree self.new ≡ name_in_tree self.old }
         ensures len { package_len self.new ≡ package_len self.old }
-        // The tree stays as it is; a failed tree is answered only where it failed, and no call is a
-        // misuse where the tree shows the file, as long as it was.
+        // The tree is unchanged. `Disk` is returned only if the tree failed, and no call is a
+        // misuse if the file still has its length.
         ensures tree { ReadsFile (name_in_tree self.old) (package_len self.old) DiskFault
             (T.history tree.old) (T.history tree.new) (T.counts tree.old) (T.counts tree.new)
             result }
@@ -164,7 +164,7 @@ impl<'a> PieceReader<'a> {
         }
     }
 
-    /// Reads the next piece, where files are left, and keeps the end or a failed test for the next
+    /// Reads the next piece, if files are left, and remembers the end or a failed test for the next
     /// calls. The clauses are those of `next_piece`.
     fn read_due<T: Tree>(
         &mut self,
@@ -193,8 +193,8 @@ impl<'a> PieceReader<'a> {
         ensures refused { IfErr result (λ fault. HasRefused fault self.new) }
         ensures name { name_in_tree self.new ≡ name_in_tree self.old }
         ensures len { package_len self.new ≡ package_len self.old }
-        // The tree stays as it is; a failed tree is answered only where it failed, and no call is a
-        // misuse where the tree shows the file, as long as it was.
+        // The tree is unchanged. `Disk` is returned only if the tree failed, and no call is a
+        // misuse if the file still has its length.
         ensures tree { ReadsFile (name_in_tree self.old) (package_len self.old) DiskFault
             (T.history tree.old) (T.history tree.new) (T.counts tree.old) (T.counts tree.new)
             result }
@@ -213,8 +213,8 @@ impl<'a> PieceReader<'a> {
         }
     }
 
-    /// Reads the next piece of the file that is open, or of the next one. The clauses are those of
-    /// `next_piece`, but that a failed test is not kept yet.
+    /// Reads the next piece of the open file, or of the next one. The clauses are those of
+    /// `next_piece`, except that a failed test is not remembered yet.
     fn read_next<T: Tree>(
         &mut self,
         tree: &mut T,
@@ -241,8 +241,8 @@ impl<'a> PieceReader<'a> {
             is_none self.new.opened ≡ part.last)) }
         ensures name { name_in_tree self.new ≡ name_in_tree self.old }
         ensures len { package_len self.new ≡ package_len self.old }
-        // The tree stays as it is; a failed tree is answered only where it failed, and no call is a
-        // misuse where the tree shows the file, as long as it was.
+        // The tree is unchanged. `Disk` is returned only if the tree failed, and no call is a
+        // misuse if the file still has its length.
         ensures tree { ReadsFile (name_in_tree self.old) (package_len self.old) DiskFault
             (T.history tree.old) (T.history tree.new) (T.counts tree.old) (T.counts tree.new)
             result }
@@ -257,7 +257,7 @@ impl<'a> PieceReader<'a> {
         Ok(Some(part))
     }
 
-    /// The file that is open, or the next one; None behind the last block.
+    /// The file that is open, or the next one; None after the last block.
     fn open_next<T: Tree>(&mut self, tree: &mut T) -> Result<Option<OpenFile<'a>>, PieceFault>
         ensures file { (seen : List ℕ)
             × IsSeenIn (T.history tree.old) (name_in_tree self.old) (package_len self.old)
@@ -278,8 +278,8 @@ impl<'a> PieceReader<'a> {
         ensures due { self.new.due ≡ self.old.due }
         ensures name { name_in_tree self.new ≡ name_in_tree self.old }
         ensures len { package_len self.new ≡ package_len self.old }
-        // The tree stays as it is; a failed tree is answered only where it failed, and no call is a
-        // misuse where the tree shows the file, as long as it was.
+        // The tree is unchanged. `Disk` is returned only if the tree failed, and no call is a
+        // misuse if the file still has its length.
         ensures tree { ReadsFile (name_in_tree self.old) (package_len self.old) DiskFault
             (T.history tree.old) (T.history tree.new) (T.counts tree.old) (T.counts tree.new)
             result }
@@ -295,8 +295,8 @@ impl<'a> PieceReader<'a> {
     }
 }
 
-/// The first failed test of the pieces is that of the blocks: what `verify` of `pkg_core` refuses a
-/// package for that is held whole.
+/// The first failed test of the pieces is that of the blocks: the one for which `verify` of
+/// `pkg_core` refuses the package in memory.
 pub fn the_pieces_are_refused_for_the_first_fault_of_the_blocks()
     ensures { (expected : List Expected) (r : Reading)
         → refusal_in (pieces_by_blocks expected r) ≡ contents_fault expected r }

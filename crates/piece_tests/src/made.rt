@@ -1,5 +1,5 @@
-//! Packages of several files, with flaws. The layout stands in `docs/formats.md`, "Container",
-//! "Values" and "The other blocks".
+//! Packages of several files, with flaws. The layout is in `docs/formats.md`, "Container", "Values"
+//! and "The other blocks".
 
 ghost use Rattle.std.specs.Prelude.{◌<◌, ◌^◌, length};
 
@@ -8,24 +8,24 @@ use sha1::Sha1;
 use sha2::Digest;
 use std::alloc::{AllocError, Global};
 
-/// The head of a payload, whose root is still to be set, and the info of the package `a` of version
-/// `1`.
+/// The head of a payload, whose root is not yet set, and the information of the package `a` of
+/// version `1`.
 const INFO: &[u8] = b"\0\0\0\0\0\0\0\0\x01a\x011\x03\0\0\0\x08\0\0\x80\x0a\0\0\x80";
 
-/// What is wrong with a package.
+/// The flaw of a package.
 #[derive(Clone, Copy)]
 pub(crate) enum Flaw {
     /// Nothing.
     None,
     /// The byte at an offset of the last file is another than its digest is of.
     Spoiled(usize),
-    /// In place of the last block of contents the first one stands once more.
+    /// The last block of contents is replaced by a copy of the first one.
     Repeated,
-    /// The payload of the last block of contents is cut to so many bytes.
+    /// The payload of the last block of contents is cut to this length.
     Shortened(usize),
 }
 
-/// The contents of a file of so many bytes: 0 to 250, again and again.
+/// The contents of a file of this length: 0 to 250, repeated.
 pub(crate) fn bytes_of(alloc: Global, len: u32) -> Result<Vec<u8>, AllocError> {
     let mut bytes = Vec::new(alloc);
     for i in 0..len {
@@ -68,7 +68,7 @@ fn contents_with(alloc: Global, sizes: &[u32], i: usize, flaw: Flaw) -> Result<V
     }
 }
 
-/// The payload of the contents of the file that so many stand in front of: its two positions, which
+/// The payload of the contents of the file with this many files before it: its two positions, which
 /// count from 1, and its bytes.
 fn contents_of(alloc: Global, before: usize, size: u32) -> Result<Vec<u8>, AllocError> {
     let mut payload = Vec::new(alloc);
@@ -78,8 +78,8 @@ fn contents_of(alloc: Global, before: usize, size: u32) -> Result<Vec<u8>, Alloc
     Ok(payload)
 }
 
-/// The payload of contents with a flaw. A file's bytes stand behind its two positions, eight bytes;
-/// 255 is none of them.
+/// The payload of contents with a flaw. A file's bytes follow its two positions, eight bytes; 255
+/// is none of them.
 fn flawed(alloc: Global, payload: &[u8], flaw: Flaw) -> Result<Vec<u8>, AllocError> {
     let mut bytes = payload.to_vec(alloc)?;
     match flaw {
@@ -118,8 +118,8 @@ pub(crate) fn payload_of(alloc: Global, sizes: &[u32]) -> Result<Vec<u8>, AllocE
     Ok(payload)
 }
 
-/// Adds a file of this name, size and digest, and gives the offset of its object. The words of its
-/// fields are blobs (0x8), the size (0x1) and NULL.
+/// Adds a file of this name, size and digest, and returns the offset of its object. The words of
+/// its fields are blobs (0x8), the size (0x1) and NULL.
 fn add_file(
     payload: &mut Vec<u8>,
     letter: u8,
@@ -141,7 +141,8 @@ fn add_file(
     add_words(payload, &words)
 }
 
-/// Adds an object or an array of these words, at an offset that four divides, and gives the offset.
+/// Adds an object or an array of these words, at an offset that is a multiple of four, and returns
+/// the offset.
 fn add_words(payload: &mut Vec<u8>, words: &[u32]) -> Result<u32, AllocError> {
     for _ in 0..(4 - payload.len() % 4) % 4 {
         payload.push(0)?;
@@ -154,7 +155,7 @@ fn add_words(payload: &mut Vec<u8>, words: &[u32]) -> Result<u32, AllocError> {
     Ok(at)
 }
 
-/// The low 28 bits of a number, which a word of a payload has for an offset.
+/// The low 28 bits of a number, which are the offset in a word of a payload.
 pub(crate) fn low_word(number: usize) -> u32
     ensures { result < 2 ^ 28 }
 {

@@ -1,7 +1,7 @@
-//! Answers questions to `pkg_core`, `piece_reader` and `package_test`: a file's
-//! contents piece by piece, the front of a block against the next file, the front of a package, and
-//! the pieces of a package's files in a tree. Its stored run has all rows; `tests/lines.md`
-//! describes their form. The README of this crate has a row for each question.
+//! Answers questions about `pkg_core`, `piece_reader` and `package_test`: a file's contents in
+//! pieces, a block of contents against the next file, the front of a package, and the pieces of a
+//! package's files in a tree. Its stored run has all rows; `tests/lines.md` describes their form.
+//! The README of this crate has a row for each question.
 #![tactic(auto)]
 
 ghost use Rattle.std.specs.Prelude.{◌≡◌, IfSome};
@@ -28,10 +28,10 @@ const MOST_BYTES: u32 = 1_000_000;
 /// The most pieces of a row's file.
 const MOST_PIECES: usize = 100;
 
-/// How many bytes the file has whose contents are opened.
+/// The length of the file whose contents are opened.
 const OPENED: u32 = 3;
 
-/// What is asked; the README of this crate says what each question answers.
+/// The kinds of questions; the README of this crate has their answers.
 #[derive(Clone, Copy)]
 enum Question {
     /// `pieces LEN`, `pieces LEN AT`.
@@ -40,7 +40,7 @@ enum Question {
     Open,
     /// `cuts BYTES`.
     Cuts,
-    /// Of a package with files of some sizes.
+    /// About a package with files of some sizes.
     Package(Asked),
 }
 
@@ -64,7 +64,7 @@ const QUESTIONS: [(&[u8], Question); 10] = [
 struct Files;
 
 impl Subject for Files {
-    /// Answers a question by its first word. No question rests on one before it.
+    /// Answers a question by its first word. Questions are independent of each other.
     fn answer(
         &mut self,
         alloc: Global,
@@ -81,7 +81,7 @@ impl Subject for Files {
     }
 }
 
-/// The number that a word tells, at most `MOST_BYTES`; 0 where it tells none.
+/// The number of a word, at most `MOST_BYTES`; 0 if it is no number.
 pub(crate) fn small_number(word: &[u8]) -> u32 {
     let number = number_of(word).unwrap_or(0);
     u32::try_from(number).unwrap_or(0).min(MOST_BYTES)
@@ -95,7 +95,7 @@ fn positions(folder: u32, file: u32) -> [u8; 8] {
     bytes
 }
 
-/// The values of a package with this payload; none where a test fails.
+/// The values of a package with this payload; None if a test fails.
 fn values(alloc: Global, payload: &[u8]) -> Option<Checked<'_>>
     ensures { IfSome result (λ checked. which_of checked ≡ Tables.Package) }
 {
@@ -104,8 +104,8 @@ fn values(alloc: Global, payload: &[u8]) -> Option<Checked<'_>>
     Checked::new(alloc, shaped).ok()
 }
 
-/// Adds the pieces of a file: `pieces LEN`, or `pieces LEN AT`, where the byte at an offset is
-/// another than the digest is of.
+/// Adds the pieces of a file: `pieces LEN`, or `pieces LEN AT`, in which the byte at an offset
+/// differs from the bytes of the digest.
 fn add_pieces(alloc: Global, words: &Words, answer: &mut Vec<u8>) -> Result<(), AllocError> {
     let len = small_number(word_at(words, 1));
     let mut bytes = bytes_of(alloc, len)?;
@@ -127,7 +127,7 @@ fn add_pieces(alloc: Global, words: &Words, answer: &mut Vec<u8>) -> Result<(), 
     }
 }
 
-/// Adds each piece of a file, and what is answered behind the last.
+/// Adds each piece of a file, and the result after the last.
 fn add_each(
     alloc: Global,
     file: FileCheck<'_>,
@@ -186,8 +186,8 @@ pub(crate) fn add_cause(
     }
 }
 
-/// Adds what blocks of contents come to in a package whose one file has three bytes: `open FOLDER
-/// FILE LEN`, by the positions and the length of the payload, and the same once more.
+/// Adds the result for blocks of contents in a package whose only file has three bytes: `open
+/// FOLDER FILE LEN`, by the positions and the length of the payload, and the same a second time.
 fn add_opened(alloc: Global, words: &Words, answer: &mut Vec<u8>) -> Result<(), AllocError> {
     let payload = payload_of(alloc, &[OPENED])?;
     let Some(checked) = values(alloc, &payload) else {

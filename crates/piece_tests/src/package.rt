@@ -1,4 +1,4 @@
-//! Packages in a tree: their fronts, and their files, which are read in pieces. The tests stand in
+//! Packages in a tree: their fronts, and their files, which are read in pieces. The tests are in
 //! `docs/formats.md`, "The other blocks", its last two paragraphs.
 
 use crate::made::{Flaw, low_word, package_of};
@@ -15,38 +15,38 @@ use tree_memory::MemoryTree;
 /// The most pieces that are asked for, and the most files of a row's package.
 const MOST: usize = 100;
 
-/// What is asked of a package with files of some sizes.
+/// The questions about a package with files of some sizes.
 #[derive(Clone, Copy)]
 pub(crate) enum Asked {
     /// Its pieces, and how it was read: `read SIZES`.
     Read,
-    /// Its pieces where a byte of the last file is another: `spoil AT SIZES`.
+    /// Its pieces if a byte of the last file differs: `spoil AT SIZES`.
     Spoil,
-    /// The same where the first block of contents stands in place of the last: `repeat SIZES`.
+    /// The same if the last block of contents is replaced by the first: `repeat SIZES`.
     Repeat,
-    /// The same where the last block of contents has so many bytes: `shorten LEN SIZES`.
+    /// The same if the last block of contents has this length: `shorten LEN SIZES`.
     Shorten,
-    /// Its pieces, and then how long those of each file are once more, from one that is not there
-    /// to the first: `back SIZES`.
+    /// Its pieces, and then the lengths of those of each file read again, from one that does not
+    /// exist to the first: `back SIZES`.
     Back,
-    /// The same from the last to the first, where a byte of the last file was changed in between:
+    /// The same from the last to the first, with a byte of the last file changed in between:
     /// `change AT SIZES`.
     Change,
-    /// What it comes to that is cut at each length, from one offset on: `ends FROM SIZES`.
+    /// The result for the package cut at each length, from one offset on: `ends FROM SIZES`.
     Ends,
 }
 
-/// What is read of a package.
+/// Which parts of a package are read.
 #[derive(Clone, Copy)]
 struct Reading<'r> {
     /// The front alone is read, and no piece.
     front: bool,
-    /// It is told how many calls of the tree there are behind the front, and the longest read of
+    /// Whether the number of calls of the tree after the front is printed, and the longest read of
     /// them.
     counts: bool,
-    /// How many of the files are read once more, from the last to the first.
+    /// How many of the files are read again, from the last to the first.
     back: u32,
-    /// The bytes that come in place of the package before that.
+    /// The bytes that replace the package before that.
     changed: Option<&'r [u8]>,
 }
 
@@ -60,8 +60,8 @@ impl Reading<'_> {
     };
 }
 
-/// Adds to `answer` what is asked of a package, as the README of this crate has it for each
-/// question; a number stands before the sizes of its files where the question takes one.
+/// Adds to `answer` the answer to a question about a package, as the README of this crate lists it;
+/// if the question takes a number, it precedes the sizes of the files.
 pub(crate) fn add_asked(
     alloc: Global,
     asked: Asked,
@@ -81,7 +81,7 @@ pub(crate) fn add_asked(
     add_asked_of(alloc, asked, number, &sizes, &file, answer)
 }
 
-/// Adds to `answer` what is asked of a package that was made.
+/// Adds to `answer` the answer to a question about a package that was made.
 fn add_asked_of(
     alloc: Global,
     asked: Asked,
@@ -101,7 +101,7 @@ fn add_asked_of(
     add_package(alloc, file, reading, answer)
 }
 
-/// Adds what is read of a package that is changed at an offset of its last file in between.
+/// Adds the result of reading a package that is changed at an offset of its last file in between.
 fn add_changed(
     alloc: Global,
     file: &[u8],
@@ -119,7 +119,7 @@ fn add_changed(
     add_package(alloc, file, reading, answer)
 }
 
-/// The sizes that the words from a place on tell.
+/// The sizes in the words from an index on.
 fn sizes_from(alloc: Global, words: &Words, first: usize) -> Result<Vec<u32>, AllocError> {
     let mut sizes = Vec::new(alloc);
     for i in first..words.len() {
@@ -130,7 +130,7 @@ fn sizes_from(alloc: Global, words: &Words, first: usize) -> Result<Vec<u32>, Al
     Ok(sizes)
 }
 
-/// Answers `cuts BYTES`: what the front of a package comes to where its file is cut at each length.
+/// Answers `cuts BYTES`: the result for the front of a package whose file is cut at each length.
 pub(crate) fn add_fronts(
     alloc: Global,
     file: &[u8],
@@ -141,8 +141,8 @@ pub(crate) fn add_fronts(
     add_cuts(alloc, file, 0, reading, answer)
 }
 
-/// Adds what a package comes to that is cut at each length from one on, at each length at which
-/// that is another than at the length before.
+/// Adds the result for a package that is cut at each length from one on, at each length at which it
+/// differs from the one before.
 fn add_cuts(
     alloc: Global,
     file: &[u8],
@@ -161,7 +161,7 @@ fn add_cuts(
     Ok(())
 }
 
-/// Adds a length, and what was found there.
+/// Adds a length, and the result for it.
 fn add_cut(
     alloc: Global,
     len: usize,
@@ -173,7 +173,7 @@ fn add_cut(
     add_word(answer, found)
 }
 
-/// What is read of a package.
+/// The result of reading a package.
 fn package_text(alloc: Global, file: &[u8], reading: Reading<'_>) -> Result<Vec<u8>, AllocError> {
     let mut text = Vec::new(alloc);
     add_package(alloc, file, reading, &mut text)?;
@@ -182,7 +182,7 @@ fn package_text(alloc: Global, file: &[u8], reading: Reading<'_>) -> Result<Vec<
 
 // ---- a package in a tree
 
-/// Adds what is read of a package that is a file of these bytes in a tree.
+/// Adds the result of reading a package that is a file of these bytes in a tree.
 fn add_package(
     alloc: Global,
     file: &[u8],
@@ -205,7 +205,7 @@ fn put(tree: &mut MemoryTree, name: &Name, bytes: &[u8]) -> Result<(), AllocErro
     Ok(())
 }
 
-/// Adds what is read of the package under a name.
+/// Adds the result of reading the package under a name.
 fn add_readings(
     alloc: Global,
     tree: &mut MemoryTree,
@@ -222,7 +222,7 @@ fn add_readings(
     }
 }
 
-/// Adds the pieces behind a front, and of files once more.
+/// Adds the pieces after a front, and those of files read again.
 fn add_behind_front(
     alloc: Global,
     tree: &mut MemoryTree,
@@ -242,7 +242,7 @@ fn add_behind_front(
     Ok(())
 }
 
-/// Adds how many calls of the tree there were behind so many, and its longest read.
+/// Adds how many calls of the tree followed the first ones, and the longest read.
 fn add_counts(
     alloc: Global,
     tree: &MemoryTree,
@@ -256,7 +256,7 @@ fn add_counts(
     add_number(alloc, answer, u128::from(tree.longest_read()))
 }
 
-/// Adds what the values behind a front come to, or its pieces, and tells whether all were read.
+/// Adds the result for the values after a front, or its pieces, and returns whether all were read.
 fn add_contents(
     alloc: Global,
     tree: &mut MemoryTree,
@@ -275,7 +275,7 @@ fn add_contents(
     }
 }
 
-/// Adds how many folders there are where the front alone is read, or else the pieces.
+/// Adds the number of folders if only the front is read, else the pieces.
 fn add_pieces(
     alloc: Global,
     tree: &mut MemoryTree,
@@ -303,8 +303,8 @@ fn add_folders(
     Ok(false)
 }
 
-/// Adds all pieces that are still to come, and tells whether the end came. Behind a fault the
-/// reader is asked once more.
+/// Adds all pieces that are left, and returns whether the end was reached. After a fault it makes
+/// one more call.
 fn add_all(
     alloc: Global,
     tree: &mut MemoryTree,
@@ -332,8 +332,8 @@ fn add_all(
     Ok(false)
 }
 
-/// Adds how long the pieces of each of the last files of a package are that is read once, from the
-/// last file to the first; of the changed bytes if there are any.
+/// Adds the lengths of the pieces of each of the last files of a package that is read once, from
+/// the last file to the first; of the changed bytes if there are any.
 fn add_again(
     alloc: Global,
     tree: &mut MemoryTree,
@@ -355,7 +355,7 @@ fn add_again(
     }
 }
 
-/// Adds how long the pieces of each of the last files are, until one has a fault.
+/// Adds the lengths of the pieces of each of the last files, until one has a fault.
 fn add_files(
     alloc: Global,
     tree: &mut MemoryTree,
@@ -372,8 +372,8 @@ fn add_files(
     Ok(())
 }
 
-/// Adds how long the pieces of a file are, and tells whether the end came. Behind a fault the file
-/// is asked once more.
+/// Adds the lengths of the pieces of a file, and returns whether the end was reached. After a fault
+/// it makes one more call.
 fn add_file(
     alloc: Global,
     tree: &mut MemoryTree,

@@ -1,4 +1,4 @@
--- Behind the last block, where the file may end in its padding.
+-- After the last block, where the file may end in its padding.
 use Rattle.std.proofs.Common.{◌≡◌, ℕ, suc, ◌+◌, ◌-◌, ◌<◌, ◌≤◌, Bool, true, false, nat_le, min, List, [], length, drop, Some, refl, ap, sym, subst, ◌∙◌, arith}
 use Rattle.std.proofs.lemmas.List.{drop_all}
 use Rattle.adb_block.specs.Framing.{next_step}
@@ -7,7 +7,7 @@ use Rattle.adb_block.specs.Reader.{standing_behind}
 use Rattle.adb_block.specs.Reading.{done, reading_from, reading_of}
 use Rattle.adb_block.specs.declared.block.BlockKind.{BlockKind}
 
--- where nothing is left, nothing is read
+-- if nothing is left, nothing is read
 nothing_left : (k : BlockKind) (at : ℕ) (bytes : List ℕ) → bytes ≡ [] → reading_from (suc (length bytes)) (Some k) at bytes ≡ done
 unfolding reading_from next_step
 nothing_left k at bytes e = subst (λ (xs : List ℕ). reading_from (suc (length xs)) (Some k) at xs ≡ done) (sym e) refl

@@ -25,7 +25,7 @@ use Rattle.adb_view.specs.declared.tables.Which.TheVariants as Tables
 use Rattle.pkg_core.specs.Contents.{Contents, Expected, digest_fault, expected_at, expected_contents, expected_files, expected_folders, hash_fault}
 use Rattle.pkg_core.specs.GoodContents.{AreContentsOf, AreTrueTo, HaveDigests, IsDigestOf}
 
--- ---- where nothing is told, each text and number keeps its rule
+-- ---- if nothing is told, each text and number keeps its rule
 
 -- what is told of texts, as adb_schema's law says
 abbrev pub TellsFirst : Type 0

@@ -13,7 +13,7 @@ use Rattle.pkg_core.specs.Contents as C
 use Rattle.pkg_core.specs.Contents.{Expected, FilesRead, contents_fault, fault_in, files_by_blocks}
 use Rattle.pkg_core.specs.FirstContents.{PlacedPayload, blocks_of_contents, contents_test, with_contents, IsFirstContentsFault}
 
--- the first of the tests of these blocks, with this framing behind them
+-- the first of the tests of these blocks, with this framing after them
 record IsFirst (blocks : List PlacedPayload) (framing : Option Cause) (es : List Expected) (c : Cause) : Type 0 where
   pub k : ℕ
   pub reached : k ≤ length blocks
@@ -28,7 +28,7 @@ whole_block : (short : Bool) (c : Cause) (o : Option Cause) → (if short then S
 whole_block true c o h = absurd cc
 whole_block false c o h = h
 
--- a good block, and the first fault behind it
+-- a good block, and the first fault after it
 one_later : (block : PlacedPayload) (blocks : List PlacedPayload) (framing : Option Cause) (e : Expected) (es : List Expected) (c : Cause) → C.contents_block_fault block.0 block.1 (e ∷ es) ≡ None → IsFirst blocks framing es c → IsFirst (block ∷ blocks) framing (e ∷ es) c
 one_later block blocks framing e es c good f =
     let reached = f.reached in

@@ -1,4 +1,4 @@
--- Bytes that were seen one after the other.
+-- Bytes that were seen in sequence.
 use Rattle.std.proofs.Common.{◌≡◌, ℕ, zero, suc, ◌+◌, ◌-◌, ◌≤◌, Bool, true, false, List, [], ◌∷◌, ◌++◌, length, take, drop, replicate, ◌==◌, Option, Some, None, refl, ap, sym, subst, ◌∙◌, arith}
 use Rattle.std.specs.Prelude.{IfErr, IfSome, IsErrAnd, IsErrOf, OnOk, Result, Ok, Err}
 use Rattle.std.specs.Option.{option_map}

@@ -1,4 +1,4 @@
--- The tests of a whole container, by those of its values and those behind them.
+-- The tests of a whole container, by those of its values and those after them.
 use Rattle.std.proofs.Common.{◌≡◌, ◌≢◌, ℕ, List, Option, Some, None, Result, Ok, Err, refl}
 use Rattle.base_core.specs.declared.cause.Cause.{Cause}
 use Rattle.adb_block.specs.Header.{header_of}
@@ -25,7 +25,7 @@ other_fault Index file h = refl
 other_fault Idb file h = refl
 other_fault Intent file h = refl
 
--- of a package, the tests of what stands behind its values come last
+-- of a package, the tests of what follows its values come last
 tests_then : (payload : Option Cause) (files : FilesRead) → option_or payload None ≡ None → option_or payload (fault_in files) ≡ fault_in files
 tests_then None files h = refl
 tests_then (Some c) files h = (cc)

@@ -1,6 +1,6 @@
--- Which files of a package have contents, and what stands for them in the blocks behind its values.
--- The rules stand in `docs/formats.md`, "The other blocks", the second paragraph; tables 3 to 5 of
--- "Schemas" have the fields.
+-- Which files of a package have contents, and how the blocks after its values represent them. The rules
+-- are in `docs/formats.md`, "The other blocks", the second paragraph; tables 3 to 5 of "Schemas" have
+-- the fields.
 use Rattle.std.specs.Prelude.{ℕ, ◌+◌, ◌==◌, nat_lt, Bool, bytes_eq, not, ◌&&◌, if◌then◌else◌, List, [], ◌∷◌, ◌++◌, length, drop, Option, Some, None}
 use Rattle.std.specs.List.{find}
 use Rattle.sha1.specs.Sha1.{sha1}
@@ -20,9 +20,9 @@ use Rattle.adb_fields.specs.Repeated.{folders_in, files_in}
 use Rattle.adb_schema.specs.Soundness.{file_pair}
 use Rattle.adb_schema.specs.Texts.{is_with_contents}
 
--- ---- what is expected
+-- ---- the expected files
 
--- a file whose contents are due: the positions of its folder and of itself in it, which count from
+-- a file whose contents are expected: the positions of its folder and of itself in it, which count from
 -- 1, its size, and its digest
 pub record Expected : Type 0 where
   pub folder : ℕ
@@ -30,8 +30,7 @@ pub record Expected : Type 0 where
   pub size : ℕ
   pub hash : List ℕ
 
--- the file at a position of a folder, if it has contents, which it has where it has no target and its
--- size is above 0
+-- the file at a position of a folder, if it has contents: it has no target and its size is above 0
 abbrev pub expected_at : ℕ → ℕ → Plain → List Expected
 expected_at folder i file =
     if is_with_contents file
@@ -43,13 +42,13 @@ expected_at folder i file =
     } ∷ []
     else []
 
--- of the files of a folder those with contents, where the first of these files has position i
+-- those files of a folder that have contents, the first of the files at position i
 abbrev pub expected_files : ℕ → ℕ → List Plain → List Expected
 expected_files folder i [] = []
 expected_files folder i (file ∷ files) =
     expected_at folder i file ++ expected_files folder (i + 1) files
 
--- of the files of several folders those with contents, where the first of these folders has position i
+-- those files of several folders that have contents, the first of the folders at position i
 abbrev pub expected_folders : ℕ → List Plain → List Expected
 expected_folders i [] = []
 expected_folders i (folder ∷ folders) =
@@ -61,21 +60,21 @@ expected_contents pkg = expected_folders 1 (folders_in pkg)
 
 -- ---- one block of contents
 
--- the bytes in front of a file's own in its contents: the positions of its folder and of itself, four
--- bytes each
+-- the length of the positions in front of a file's bytes in its contents: those of its folder and of
+-- itself, four bytes each
 abbrev pub POSITIONS_LEN : ℕ
 POSITIONS_LEN = 8
 
--- the bytes of the file in the payload of a block of contents: what stands behind its two positions
+-- the bytes of the file in the payload of a block of contents: those after its two positions
 abbrev pub contents_bytes : List ℕ → List ℕ
 contents_bytes payload = drop POSITIONS_LEN payload
 
--- the fault of a digest of some function that is not the wanted one; None where the two are equal
+-- the fault if the digest by some function is not the wanted one; None if the two are equal
 abbrev pub digest_fault : (List ℕ → Digest) → List ℕ → List ℕ → Option Cause
 digest_fault as_digest wanted found =
     if bytes_eq wanted found then None else Some (HashDiffers (as_digest wanted) (as_digest found))
 
--- the fault of bytes that do not have this digest, if they do not; the length of the digest tells the
+-- the fault of bytes that do not have this digest, if they do not. The length of the digest selects the
 -- function (FIPS 180-4): 20 bytes SHA-1, 32 SHA-256, 64 SHA-512. A digest of another length is not
 -- compared
 unfoldable pub hash_fault : List ℕ → List ℕ → Option Cause
@@ -99,19 +98,19 @@ expected_fault payload e =
     then Some (DataSize e.size (length (contents_bytes payload)))
     else hash_fault e.hash (contents_bytes payload)
 
--- the first failed test of contents against the file that is expected next; where none is, any contents
+-- the first failed test of contents against the next expected file; if none is expected, any contents
 -- are out of order, and (0, 0) was expected
 abbrev pub next_fault : List ℕ → List Expected → Option Cause
 next_fault payload [] = Some (DataOrder (0, 0) (file_pair payload))
 next_fault payload (e ∷ es) = expected_fault payload e
 
 -- the first failed test of a block of contents at an offset: it has the bytes of the positions, and its
--- contents are those of the file that is expected next
+-- contents are those of the next expected file
 abbrev pub contents_block_fault : List ℕ → ℕ → List Expected → Option Cause
 contents_block_fault payload at es =
     if nat_lt (length payload) POSITIONS_LEN then Some (Truncated at) else next_fault payload es
 
--- the fault at the end of the blocks: a file is left, for which (0, 0) stands in the place of contents
+-- the fault at the end of the blocks if a file is left: (0, 0) was found in the place of its contents
 abbrev pub missing_fault : List Expected → Option Cause
 missing_fault [] = None
 missing_fault (e ∷ es) = Some (DataOrder (e.folder, e.file) (0, 0))
@@ -124,7 +123,7 @@ pub record Contents : Type 0 where
   pub file : ℕ
   pub bytes : List ℕ
 
--- the files with their contents, one after the other, up to the last or to the first failed test
+-- the files with their contents in order, up to the last or to the first failed test
 pub data FilesRead : Type 0 where
   no_more : FilesRead
   refused : Cause → FilesRead
@@ -135,7 +134,7 @@ abbrev pub unless_fault : Option Cause → FilesRead → FilesRead
 unless_fault None files = files
 unless_fault (Some c) files = refused c
 
--- the contents of an expected file: what stands behind its positions
+-- the contents of an expected file: the bytes after its positions
 abbrev pub contents_by : List ℕ → Expected → Contents
 contents_by payload e = record { folder = e.folder; file = e.file; bytes = contents_bytes payload }
 
@@ -144,15 +143,14 @@ abbrev pub with_next : List ℕ → (List Expected → FilesRead) → List Expec
 with_next payload further [] = no_more
 with_next payload further (e ∷ es) = given (contents_by payload e) (further es)
 
--- the files that are read from a block on, `further` being what is read behind it; a block that is no
--- contents is passed over
+-- the files from a block on, with `further` for those after it; a block without contents is skipped
 abbrev pub files_at_block :
     BlockKind → List ℕ → ℕ → (List Expected → FilesRead) → List Expected → FilesRead
 files_at_block Kinds.Contents payload at further es =
     unless_fault (contents_block_fault payload at es) (with_next payload further es)
 files_at_block kind payload at further es = further es
 
--- the files that the blocks give, against those that are expected
+-- the files of the blocks, against those that are expected
 unfoldable pub files_by_blocks : List Expected → Reading → FilesRead
 files_by_blocks es done = unless_fault (missing_fault es) no_more
 files_by_blocks es (fault c) = refused c
@@ -171,7 +169,7 @@ contents_in no_more = []
 contents_in (refused c) = []
 contents_in (given contents files) = contents ∷ contents_in files
 
--- the first failed test of the blocks behind a package's values, block by block
+-- the first failed test of the blocks after a package's values, block by block
 abbrev pub contents_fault : List Expected → Reading → Option Cause
 contents_fault es r = fault_in (files_by_blocks es r)
 
@@ -181,7 +179,7 @@ contents_fault es r = fault_in (files_by_blocks es r)
 abbrev pub is_of_file : ℕ → ℕ → Contents → Bool
 is_of_file folder file contents = (contents.folder == folder) && (contents.file == file)
 
--- the bytes of some contents; none where there are none
+-- the bytes of some contents; none if there are none
 abbrev pub bytes_or_none : Option Contents → List ℕ
 bytes_or_none None = []
 bytes_or_none (Some contents) = contents.bytes

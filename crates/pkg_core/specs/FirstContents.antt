@@ -1,7 +1,6 @@
--- Which test of the blocks behind a package's values fails first: the blocks of contents one by
--- one, then the framing behind them, then the files that are left.
--- The rules stand in `docs/formats.md`, "The other blocks". Serves the law
--- `the_first_fault_of_contents_is_reported`.
+-- Which test of the blocks after a package's values fails first: the blocks of contents one by one,
+-- then the framing after them, then that no file is left. The rules are in `docs/formats.md`, "The
+-- other blocks". Serves the law `the_first_fault_of_contents_is_reported`.
 use Rattle.std.specs.Prelude.{◌≡◌, ℕ, ◌<◌, ◌≤◌, List, [], ◌∷◌, length, drop, slice_get, Option, Some, None}
 use Rattle.std.specs.Option.{option_or}
 use Rattle.std.specs.Result.{result_err}
@@ -27,8 +26,8 @@ blocks_of_contents done = []
 blocks_of_contents (fault c) = []
 blocks_of_contents (more b at r) = with_contents b.kind (b.payload, at) (blocks_of_contents r)
 
--- a test by its block: the block against the files that are still expected; or, where no block is left,
--- the framing behind the last one and then that no file is left
+-- a test by its block: the block against the files that are still expected; or, if no block is left,
+-- the framing after the last one and then that no file is left
 abbrev pub contents_test : Option Cause → List Expected → Option PlacedPayload → Option Cause
 contents_test framing es (Some block) = contents_block_fault block.0 block.1 es
 contents_test framing es None = option_or framing (missing_fault es)
@@ -38,7 +37,7 @@ abbrev pub contents_test_at : List Expected → Reading → ℕ → Option Cause
 contents_test_at es r k =
     contents_test (result_err (pieces_of r)) (drop k es) (slice_get (blocks_of_contents r) k)
 
--- one of the tests has this fault, and none before it has any
+-- one of the tests has this fault, and none before it has one
 pub record IsFirstContentsFault (es : List Expected) (r : Reading) (c : Cause) : Type 0 where
   pub k : ℕ
   pub reached : k ≤ length (blocks_of_contents r)

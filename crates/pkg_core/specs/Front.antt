@@ -1,6 +1,6 @@
--- The front of a container: its header and its first block, and what is tested of them.
--- The rules stand in `docs/formats.md`, "The other blocks", the paragraph of a front; the tests in
--- "Container", the table, and "Values", the first paragraph.
+-- The front of a container: its header and its first block, and their tests. The rules are in
+-- `docs/formats.md`, "The other blocks", the paragraph of a front; the tests in "Container", the table,
+-- and "Values", the first paragraph.
 use Rattle.std.specs.Prelude.{◌≡◌, ℕ, ◌==◌, if◌then◌else◌, List, length, drop, Option, Some, None, Result, Ok, Err}
 use Rattle.base_core.specs.declared.cause.Cause.{Cause}
 use Rattle.base_core.specs.declared.cause.Cause.TheVariants.{WrongSchema}
@@ -21,7 +21,7 @@ front_block_fault done = None
 front_block_fault (fault c) = Some c
 front_block_fault (more b at r) = head_fault b.payload
 
--- the first failed test of a file's front, by what its header tells: the schema is to be this one
+-- the first failed test of a file's front, by its header, which must have this schema
 abbrev pub front_fault_by : ℕ → List ℕ → Result ℕ Cause → Option Cause
 front_fault_by schema file (Err c) = Some c
 front_fault_by schema file (Ok found) =
@@ -32,9 +32,9 @@ front_fault_by schema file (Ok found) =
 unfoldable pub front_fault : ℕ → List ℕ → Option Cause
 front_fault schema file = front_fault_by schema file (header_of file)
 
--- ---- what is held of it
+-- ---- the contents of a front
 
--- the payload of the first block that a front holds
+-- the payload of the first block in a front
 abbrev pub front_payload : Front → List ℕ
 front_payload front = front.payload.items
 
@@ -42,11 +42,11 @@ front_payload front = front.payload.items
 abbrev pub front_file_len : Front → ℕ
 front_file_len front = front.len
 
--- the offset behind the first block and its padding
+-- the offset after the first block and its padding
 abbrev pub front_end : Front → ℕ
 front_end front = front.at
 
--- where a reader of blocks stands behind a front, in this file
+-- the position of a reader of blocks after a front, in this file
 abbrev pub behind_front : Front → List ℕ → Standing
 behind_front front file = record {
   schema = front.schema;
@@ -55,7 +55,7 @@ behind_front front file = record {
   left = drop front.at file;
 }
 
--- a front is that of this file: it holds the file's schema, length and first block, which begins at
+-- a front is that of this file: it has the file's schema, length and first block, which begins at
 -- offset 8, and no test of the front fails
 pub record IsFrontOf (schema : ℕ) (file : List ℕ) (front : Front) : Type 0 where
   pub header : header_of file ≡ Ok schema
@@ -66,8 +66,8 @@ pub record IsFrontOf (schema : ℕ) (file : List ℕ) (front : Front) : Type 0 w
       (reading_of (behind_front front file))
   pub head : head_fault (front_payload front) ≡ None
 
--- what a read of a front answers of a file, or where there is none; a fault of the tree and want of
--- memory say nothing of it
+-- the result of reading a front, for a file or for none; an I/O error of the tree and running out of
+-- memory say nothing about it
 abbrev pub IsFrontRead : ℕ → Option (List ℕ) → Result (Option Front) FrontFault → Type 0
 IsFrontRead schema None (Ok None) = Unit {0}
 IsFrontRead schema None (Ok (Some front)) = ⊥
@@ -82,19 +82,19 @@ IsFrontRead schema (Some file) (Err Memory) = Unit {0}
 
 -- ---- part by part
 
--- where a reader of blocks stands behind the first block of a file, which ends at this offset
+-- the position of a reader of blocks after the first block of a file, which ends at this offset
 abbrev pub behind_first : ℕ → ℕ → List ℕ → Standing
 behind_first schema at file =
     record { schema = schema; last = Some Adb; at = at; left = drop at file }
 
--- a fault of the tree, or want of memory; it says nothing of the container
+-- an I/O error of the tree, or out of memory; it says nothing about the container
 abbrev pub IsNotBad : FrontFault → Type 0
 IsNotBad (Bad c) = ⊥
 IsNotBad Disk = Unit {0}
 IsNotBad Memory = Unit {0}
 
--- what a read of a front answers of a file that is there, of which so many bytes were seen: the front
--- takes just these
+-- the result of reading the front of a file that exists, of which this many bytes were read: the front
+-- takes exactly these
 abbrev pub IsPresentRead : ℕ → Result Front FrontFault → ℕ → List ℕ → Type 0
 IsPresentRead schema (Ok front) seen file = IsFrontOf schema file front × (front.at ≡ seen)
 IsPresentRead schema (Err (Bad c)) seen file = front_fault schema file ≡ Some c

@@ -1,6 +1,6 @@
--- What the contents of files come to where no test fails.
--- The rules stand in `docs/formats.md`, "The other blocks". Serves the laws
--- `good_blocks_give_the_contents_of_each_file` and `a_package_has_the_contents_of_its_files`.
+-- The contents of files if no test fails. The rules are in `docs/formats.md`, "The other blocks".
+-- Serves the laws `good_blocks_give_the_contents_of_each_file` and
+-- `a_package_has_the_contents_of_its_files`.
 use Rattle.std.specs.Prelude.{◌≡◌, ◌⊎◌, ℕ, true, List, [], ◌∷◌, length, None}
 use Rattle.sha1.specs.Sha1.{sha1}
 use Rattle.sha2.specs.Sha256.{sha256}
@@ -22,20 +22,21 @@ AreContentsOf [] (contents ∷ others) = ⊥
 AreContentsOf (e ∷ es) [] = ⊥
 AreContentsOf (e ∷ es) (contents ∷ others) = IsContentsOf e contents × AreContentsOf es others
 
--- ---- where the values of the package are good
+-- ---- if the values of the package are good
 
 -- the digest is that of the bytes, by one of the three functions
 abbrev pub IsDigestOf : List ℕ → List ℕ → Type 0
 IsDigestOf hash bytes = (hash ≡ sha1 bytes) ⊎ ((hash ≡ sha256 bytes) ⊎ (hash ≡ sha512 bytes))
 
--- the contents are what the file's entry says of them
+-- the contents are those of the file's entry
 pub record IsTrueTo (e : Expected) (contents : Contents) : Type 0 where
   pub folder : contents.folder ≡ e.folder
   pub file : contents.file ≡ e.file
   pub size : length contents.bytes ≡ e.size
   pub digest : IsDigestOf e.hash contents.bytes
 
--- there are contents for each expected file, in order and no others, and each are what the entry says
+-- there are contents for each expected file, in order and no others, and each are those of the file's
+-- entry
 abbrev pub AreTrueTo : List Expected → List Contents → Type 0
 AreTrueTo [] [] = Unit {0}
 AreTrueTo [] (contents ∷ others) = ⊥

@@ -1,6 +1,5 @@
--- A hasher of the function that a digest's length tells.
--- Which function that is stands in `docs/formats.md`, "The other blocks". Serves the contracts of
--- `Hasher`.
+-- A hasher of the function that a digest's length selects, as in `docs/formats.md`, "The other blocks".
+-- Serves the contracts of `Hasher`.
 use Rattle.std.specs.Prelude.{◌≡◌, ℕ, List, length, None}
 use Rattle.sha1.specs.Sha1.{Holds}
 use Rattle.sha2.specs.Hashers.{Holds256, Holds512}
@@ -8,8 +7,8 @@ use Rattle.pkg_core.specs.Contents.{hash_fault}
 use Rattle.pkg_core.specs.declared.hasher.Hasher.{Hasher}
 use Rattle.pkg_core.specs.declared.hasher.Hasher.TheVariants as Hashers
 
--- a hasher holds this message, to be compared with this digest: it is of the function that the digest's
--- length tells; of another length no bytes have a fault
+-- a hasher has taken this message, to be compared with this digest: it is of the function that the
+-- digest's length selects; for another length no bytes have a fault
 abbrev pub HoldsFor : Hasher → List ℕ → List ℕ → Type 0
 HoldsFor (Hashers.Sha1 hasher) hash message = (length hash ≡ 20) × Holds hasher message
 HoldsFor (Hashers.Sha256 hasher) hash message = (length hash ≡ 32) × Holds256 hasher message

@@ -1,9 +1,9 @@
--- The definitions of this crate. Each file names the place of its rule.
+-- The definitions of this crate. The head of each file names the section with its rule.
 
--- what the contract of `apk` says
+-- cited by the contract of `apk`
 pub mod Contents
 pub mod Whole
--- what only inner contracts and proofs use
+-- used by inner contracts and proofs only
 pub mod Opened
 pub mod Refusals
 pub mod GoodContents

@@ -1,7 +1,6 @@
--- What a package that is read shows, and what a call for its next file answers. `opened_` is said of a
--- package that is held whole.
--- The rules stand in `docs/formats.md`, "The other blocks". Serves the contracts of `Package` and
--- `Walk`.
+-- The contents of a package that was read, and the result of a call for its next file. Names with
+-- `opened_` concern a package in memory. The rules are in `docs/formats.md`, "The other blocks". Serves
+-- the contracts of `Package` and `Walk`.
 use Rattle.std.specs.Prelude.{◌≡◌, ℕ, ◌+◌, ◌==◌, ◌&&◌, Bool, List, [], ◌∷◌, ◌++◌, drop, Option, Some, None, Result, Ok, Err}
 use Rattle.std.specs.List.{find}
 use Rattle.base_core.specs.declared.cause.Cause.{Cause}
@@ -18,12 +17,12 @@ use Rattle.pkg_core.specs.declared.walk.Wanted.{Wanted}
 use Rattle.pkg_core.specs.declared.walk.Rest.{Rest}
 use Rattle.pkg_core.specs.declared.walk.FileContents.{FileContents}
 
--- the contents of a file that was handed out
+-- the contents of a file that was returned
 abbrev pub contents_view : FileContents → Contents
 contents_view f = record { folder = f.path; file = f.file; bytes = f.bytes.now }
 
--- what a call for the next file answers, by what was to be read before and is after it: the next file;
--- None where there is no more; or the first failed test, which is told from then on
+-- the result of a call for the next file, by the files left before and after it: the next file; None if
+-- no file is left; or the first failed test, which each later call returns again
 abbrev pub IsNextFile : FilesRead → Result (Option FileContents) Cause → FilesRead → Type 0
 IsNextFile before (Ok None) after = (before ≡ no_more) × (after ≡ no_more)
 IsNextFile before (Ok (Some f)) after = before ≡ given (contents_view f) after
@@ -35,8 +34,8 @@ IsNextFile before (Err c) after = (before ≡ refused c) × (after ≡ refused c
 abbrev pub expected_of : Wanted → Expected
 expected_of w = record { folder = w.folder; file = w.file; size = w.size; hash = w.hash.now }
 
--- the files with contents that are left of folders, the first of which has position i, where the first
--- j files of that folder are passed
+-- the files with contents that are left of folders, the first of which has position i, after the first
+-- j files of that folder
 abbrev pub left_from : ℕ → ℕ → List Plain → List Expected
 left_from i j [] = []
 left_from i j (folder ∷ folders) =
@@ -48,8 +47,8 @@ left_in walk =
     left_from (walk.folder + 1) walk.file
     (drop walk.folder (list_of (entries_in (list_value walk.folders))))
 
--- the walk takes the first of the files before it and has the others after it, or answers None where
--- there is none
+-- the walk takes the first of the files before it and has the others after it, or returns None if there
+-- is none
 abbrev pub TakesFirst : List Expected → Option Wanted → List Expected → Type 0
 TakesFirst before None after = (before ≡ []) × (after ≡ [])
 TakesFirst before (Some w) after = before ≡ expected_of w ∷ after
@@ -66,7 +65,7 @@ expected_with_positions folder file es = find (has_positions folder file) es
 
 -- ---- the blocks with it
 
--- the files that are still to be read of a package, without what was refused before
+-- the files of a package that are still to be read, ignoring an earlier error
 abbrev pub files_left : Rest → FilesRead
 files_left rest = files_by_blocks (left_in rest.walk) (reading_of rest.blocks)
 
@@ -75,8 +74,7 @@ abbrev pub unless_refused : Option Cause → FilesRead → FilesRead
 unless_refused None files = files
 unless_refused (Some c) files = refused c
 
--- what a read of the next file answers, as *IsNextFile*, but that nothing is said of what comes after a
--- fault
+-- the result of reading the next file, as *IsNextFile*, without a promise after an error
 abbrev pub ReadsNext : FilesRead → Result (Option FileContents) Cause → FilesRead → Type 0
 ReadsNext before (Ok None) after = (before ≡ no_more) × (after ≡ no_more)
 ReadsNext before (Ok (Some f)) after = before ≡ given (contents_view f) after
@@ -87,7 +85,7 @@ abbrev pub GivesFirst : List ℕ → FileContents → List Expected → List Exp
 GivesFirst payload f [] after = ⊥
 GivesFirst payload f (e ∷ es) after = (contents_view f ≡ contents_by payload e) × (es ≡ after)
 
--- what the walk answers to a block of contents at an offset: those of the next file, where no test
+-- the result of the walk for a block of contents at an offset: those of the next file, if no test
 -- fails, or the first failed test
 abbrev pub GivesContents : List ℕ → ℕ → List Expected → Result FileContents Cause → List Expected
     → Type 0
@@ -101,10 +99,10 @@ GivesContents payload at before (Err c) after = contents_block_fault payload at 
 abbrev pub opened_value : Package → Plain
 opened_value pkg = checked_value pkg.checked
 
--- the bytes that hold the value of a package
+-- the bytes of a package's value
 abbrev pub opened_payload : Package → List ℕ
 opened_payload pkg = pkg.payload.now
 
--- the files of a package that are still to be given
+-- the files of a package that are still to be read
 abbrev pub opened_files : Package → FilesRead
 opened_files pkg = unless_refused pkg.refused (files_left pkg.rest)

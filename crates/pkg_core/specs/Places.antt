@@ -1,6 +1,6 @@
--- Where a reader stands in the blocks of a package, and what a block comes to.
--- The rules stand in `docs/formats.md`, "The other blocks"; the framing of a block in "Container".
--- Serves the contract of `BlockPlace::step`.
+-- The position of a reader in the blocks of a package, and the result for a block. The rules are in
+-- `docs/formats.md`, "The other blocks"; the framing of a block in "Container". Serves the contract of
+-- `BlockPlace::step`.
 use Rattle.std.specs.Prelude.{◌≡◌, ◌≤◌, ℕ, ◌+◌, ◌-◌, min, List, [], ◌∷◌, length, take, drop, Option, Some, None, Result, Ok, Err}
 use Rattle.base_core.specs.declared.cause.Cause.{Cause}
 use Rattle.adb_block.specs.Framing.{Step as BlockStep, next_step}
@@ -21,26 +21,26 @@ use Rattle.pkg_core.specs.declared.place.Step.TheVariants.{End, Passed, Opened}
 
 -- ---- of a file
 
--- where a reader of blocks stands at a place of this file; its schema does not count there, so 0 stands
--- for it
+-- the position of a reader of blocks at a place of this file; its schema does not matter there, so it
+-- is 0
 abbrev pub standing_at_place : BlockPlace → List ℕ → Standing
 standing_at_place place file =
     record { schema = 0; last = Some place.last; at = place.at; left = drop place.at file }
 
--- what stands at a place of this file: a block, the end or a fault
+-- the result at a place of this file: a block, the end or a fault
 abbrev pub step_at : BlockPlace → List ℕ → BlockStep
 step_at place file = next_step (Some place.last) place.at (drop place.at file)
 
--- the pieces that the blocks of this file give from a place on
+-- the pieces of the blocks of this file from a place on
 abbrev pub pieces_at : BlockPlace → List ℕ → PiecesRead
 pieces_at place file =
     pieces_by_blocks (left_in place.walk) (reading_of (standing_at_place place file))
 
--- the payload of the block of this frame that stands at a place of this file
+-- the payload of the block of this frame that is at a place of this file
 abbrev pub payload_at : Frame → BlockPlace → List ℕ → List ℕ
 payload_at frame place file = (framed_piece frame (drop place.at file)).payload
 
--- the positions that a reader hands in are the first bytes of the block's payload, where it has as many
+-- the positions that a reader passes are the first bytes of the block's payload, if it has as many
 abbrev pub HasPositions : Option Frame → List ℕ → BlockPlace → List ℕ → Type 0
 HasPositions None positions place file = Unit {0}
 HasPositions (Some frame) positions place file =
@@ -48,11 +48,11 @@ HasPositions (Some frame) positions place file =
 
 -- ---- a step
 
--- how many bytes a block has with its padding, where so many are left
+-- the size of a block with its padding, with this many bytes left
 abbrev pub whole_size : Frame → ℕ → ℕ
 whole_size frame left = raw_size frame + min (padding_of (raw_size frame)) (left - raw_size frame)
 
--- the place behind a block and its padding, of which the last block of a file may lack some
+-- the place after a block and its padding; the padding of the last block may be cut
 abbrev pub place_behind : BlockPlace → Frame → BlockPlace
 place_behind place frame = record {
   len = place.len;
@@ -61,8 +61,8 @@ place_behind place frame = record {
   at = place.at + whole_size frame (place.len - place.at);
 }
 
--- of a file that a step opened all bytes are still to be handed in: those that the block's payload has
--- behind the positions
+-- all bytes of a file that a step opened are still to be taken: those of the block's payload after the
+-- positions
 abbrev pub HasAllLeft : Frame → Step → Type 0
 HasAllLeft frame End = Unit {0}
 HasAllLeft frame Passed = Unit {0}
@@ -74,16 +74,14 @@ IsOfContents frame End = Unit {0}
 IsOfContents frame Passed = Unit {0}
 IsOfContents frame (Opened f) = frame.kind ≡ Kinds.Contents
 
--- the walk before and after a step: it goes on behind the file that is opened; at the end no file is
--- due
+-- the walk before and after a step: it advances over the opened file; at the end no file is expected
 abbrev pub WalksOn : Walk → Step → Walk → Type 0
 WalksOn before End after = (left_in before ≡ []) × (left_in after ≡ [])
 WalksOn before Passed after = after ≡ before
 WalksOn before (Opened f) after = left_in before ≡ expected_of f.wanted ∷ left_in after
 
--- what a step answers at a place of this file: no block is left; a block was passed; the contents of a
--- file begin, and the pieces behind them come from where the reader stands then; or the first failed
--- test
+-- the result of a step at a place of this file: no block is left; a block was passed; the contents of a
+-- file begin, and the pieces after them are those from the new position; or the first failed test
 abbrev pub IsStepped : Option Frame → BlockPlace → List ℕ → Result Step Cause → BlockPlace → Type 0
 IsStepped framing before file (Ok End) after = pieces_at before file ≡ no_piece
 IsStepped framing before file (Ok Passed) after = pieces_at before file ≡ pieces_at after file

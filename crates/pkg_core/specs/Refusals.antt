@@ -1,5 +1,5 @@
--- What the refusals of this crate report.
--- The rule stands in `docs/formats.md`, "Tests of a container": the first fault is reported.
+-- The meaning of this crate's refusals. The rule is in `docs/formats.md`, "Tests of a container": the
+-- first fault is reported.
 use Rattle.std.specs.Prelude.{◌≡◌, Option, Some}
 use Rattle.base_core.specs.declared.cause.Cause.{Cause}
 use Rattle.adb_schema.specs.declared.read.ReadFault.{ReadFault}
@@ -7,7 +7,7 @@ use Rattle.adb_schema.specs.declared.read.ReadFault.TheVariants as ReadFaults
 use Rattle.pkg_core.specs.declared.pack.PackageFault.{PackageFault}
 use Rattle.pkg_core.specs.declared.pack.PackageFault.TheVariants.{Bad, Memory}
 
--- a bad container is refused with the first failed test; want of memory says nothing of it
+-- a bad container is refused with the first failed test; running out of memory says nothing about it
 abbrev pub IsFaultOf : PackageFault → Option Cause → Type 0
 IsFaultOf (Bad cause) fault = fault ≡ Some cause
 IsFaultOf Memory fault = Unit {0}

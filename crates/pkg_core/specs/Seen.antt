@@ -1,6 +1,6 @@
--- What reads of a file have seen of it, and what they make of the tree.
--- What a read of a tree answers stands in `docs/crash-safety.md`, "What each call does"; that the tests
--- count only bytes that were read, in `docs/formats.md`, "The other blocks", the paragraph of a front.
+-- Which bytes of a file were read, and the effect of reads on the tree. The result of a read of a tree
+-- is defined in `docs/crash-safety.md`, "What each call does". That the tests depend only on bytes that
+-- were read is stated in `docs/formats.md`, "The other blocks", the paragraph of a front.
 use Rattle.std.specs.Prelude.{◌≡◌, ◌≤◌, ℕ, ◌+◌, List, length, take, drop, Some, IfSome, Result, OnOk, IfErr, IsErrOf}
 use Rattle.base_core.specs.Calls.{IfObservable}
 use Rattle.base_core.specs.Faults.{Counts, GoesOn, HasCause, IsNoFault}
@@ -11,20 +11,20 @@ use Rattle.base_core.specs.declared.tree.Disk.{Disk}
 abbrev pub HasAt : List ℕ → ℕ → List ℕ → Type 0
 HasAt file at bytes = take (length bytes) (drop at file) ≡ bytes
 
--- a read saw these bytes: where the tree tells its files, and the one under this name is so long, it
+-- a read saw these bytes: if the tree is observable, and the file under this name has this length, it
 -- has them at this offset
 abbrev pub IsSeen : List TreeState → List ℕ → ℕ → ℕ → List ℕ → Type 0
 IsSeen history name len at bytes =
     IfObservable history
     (λ v. IfSome (files_of v name) (λ file. length file ≡ len → HasAt file at bytes))
 
--- a read saw these bytes, and they lie within a file that is so long
+-- a read saw these bytes, and they are within a file of this length
 pub record IsSeenIn (history : List TreeState) (name : List ℕ) (len at : ℕ)
     (bytes : List ℕ) : Type 0 where
   pub seen : IsSeen history name len at bytes
   pub within : at + length bytes ≤ len
 
--- the file under this name is there and is so long
+-- the file under this name exists and has this length
 pub record IsSoLong (name : List ℕ) (len : ℕ) (v : TreeState) : Type 0 where
   pub file : List ℕ
   pub present : files_of v name ≡ Some file
@@ -34,17 +34,17 @@ pub record IsSoLong (name : List ℕ) (len : ℕ) (v : TreeState) : Type 0 where
 abbrev pub tree_fault : Disk
 tree_fault = record {}
 
--- a call that only reads, which is no misuse where the file under the name is so long as it was;
--- `disk_fault` is its answer where the tree failed
+-- a call that only reads, and is no misuse if the file under the name has this length; `disk_fault` is
+-- its result if the tree failed
 pub record ReadsFile {A E : Type 0} (name : List ℕ) (len : ℕ) (disk_fault : E)
     (old new : List TreeState) (before now : Counts) (result : Result A E) : Type 0 where
-  -- the states stay
+  -- the states are unchanged
   pub same : new ≡ old
   -- no count falls
   pub goes_on : GoesOn before now
-  -- the tree failed only where that has its cause
+  -- it reports a failure of the tree only if there was one
   pub disk : IsErrOf result disk_fault → HasCause before now
-  -- an answer that is no fault of the tree raised neither faults nor wants
+  -- a result that is no failure of the tree raised neither the count of faults nor that of wants
   pub kept : OnOk result (IsNoFault before now)
   pub others : IfErr result (λ fault. (fault ≡ disk_fault → ⊥) → IsNoFault before now)
   pub proper : IfObservable old (λ v. IsSoLong name len v → now.misuses ≡ before.misuses)

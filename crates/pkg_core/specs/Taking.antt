@@ -1,6 +1,5 @@
--- Where a file stands whose bytes are handed in piece by piece.
--- The rules stand in `docs/formats.md`, "The other blocks", the paragraph of pieces. Serves the
--- contracts of `FileCheck` and `open_file`.
+-- The progress of a file whose bytes are taken in pieces. The rules are in `docs/formats.md`, "The
+-- other blocks", the paragraph of pieces. Serves the contracts of `FileCheck` and `open_file`.
 use Rattle.std.specs.Prelude.{◌≡◌, ℕ, ◌-◌, min, true, false, List, [], ◌++◌, length, Option, Some, None, Result, Ok, Err}
 use Rattle.base_core.specs.declared.cause.Cause.{Cause}
 use Rattle.pkg_core.specs.Contents.{contents_bytes, hash_fault}
@@ -11,7 +10,7 @@ use Rattle.pkg_core.specs.declared.file.FileCheck.{FileCheck}
 use Rattle.pkg_core.specs.declared.file.Part.{Part}
 use Rattle.pkg_core.specs.declared.file.TheConstants.{PIECE_LEN}
 
--- how many bytes of a file are still to be handed in
+-- how many bytes of a file are still to be taken
 abbrev pub file_bytes_left : FileCheck → ℕ
 file_bytes_left f = f.wanted.size - f.done
 
@@ -19,25 +18,24 @@ file_bytes_left f = f.wanted.size - f.done
 abbrev pub next_len : FileCheck → ℕ
 next_len f = min (file_bytes_left f) PIECE_LEN
 
--- just these bytes of a file were handed in
+-- exactly these bytes of a file were taken
 pub record HasTaken (f : FileCheck) (so_far : List ℕ) : Type 0 where
   pub hashed : HoldsFor f.hasher f.wanted.hash.now so_far
   pub long : length so_far ≡ f.done
 
--- these bytes of a file with this digest were taken; if no more are left (None) they have the digest
+-- these bytes of a file with this digest were taken; if none are left (None) they have the digest
 abbrev pub IsTested : List ℕ → List ℕ → Option FileCheck → Type 0
 IsTested hash bytes None = hash_fault hash bytes ≡ None
 IsTested hash bytes (Some f) = HasTaken f bytes
 
--- the pieces of the bytes that are left of a file, behind those that were handed in so far, and then
--- further ones
+-- the pieces of the rest of a file, after the bytes that were taken so far, and then further ones
 abbrev pub pieces_in : FileCheck → List ℕ → List ℕ → PiecesRead → PiecesRead
 pieces_in f so_far left further =
     pieces_from (whole_pieces (length left)) (expected_of f.wanted)
     (hash_fault f.wanted.hash.now (so_far ++ left)) left further
 
--- what is answered to bytes that are handed in: they are the next piece, and then comes what is left of
--- the file or, behind its last piece, what is further; or the digest differs
+-- the result for the bytes of a call: they are the next piece, followed by the pieces of the rest or,
+-- after the last piece, by the further ones; or the digest differs
 abbrev pub IsTaken : FileCheck → List ℕ → List ℕ → List ℕ → PiecesRead
     → Result (Part × Option FileCheck) Cause → Type 0
 IsTaken f so_far bytes left further (Ok (part, Some g)) =
@@ -49,14 +47,14 @@ IsTaken f so_far bytes left further (Ok (part, None)) =
 IsTaken f so_far bytes left further (Err c) =
     pieces_in f so_far (bytes ++ left) further ≡ refusal c
 
--- the answer tells a part of this file, and unless it is the last, the same file with what is left
+-- the result is a part of this file, and, unless it is the last, the same file with its rest
 abbrev pub IsPartOf : FileCheck → Part × Option FileCheck → Type 0
 IsPartOf f (part, Some g) =
     (part ≡ part_of (expected_of f.wanted) false) × (g.wanted ≡ f.wanted)
 IsPartOf f (part, None) = part ≡ part_of (expected_of f.wanted) true
 
--- what the opening of a file answers to a block of contents with this payload: the contents are those
--- of a file, of which nothing was handed in yet; or the first failed test
+-- the result of opening a file for a block of contents with this payload: the contents are those of a
+-- file of which nothing was taken yet; or the first failed test
 abbrev pub IsOpened : PiecesRead → List ℕ → PiecesRead → Result FileCheck Cause → Type 0
 IsOpened before payload further (Ok f) =
     (before ≡ pieces_in f [] (contents_bytes payload) further) × HasTaken f []

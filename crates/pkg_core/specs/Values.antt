@@ -1,5 +1,5 @@
--- What a package shows whose values were tested.
--- Serves the contracts of `Contents`; what a payload stands for is told in `docs/formats.md`, "Values".
+-- The values of a package after their tests. Serves the contracts of `Contents`; the value of a payload
+-- is defined in `docs/formats.md`, "Values".
 use Rattle.std.specs.Prelude.{ℕ, List}
 use Rattle.adb_view.specs.Adb.{payload_of}
 use Rattle.adb_view.specs.Plain.{Plain}
@@ -7,7 +7,7 @@ use Rattle.adb_schema.specs.Soundness.{root_value}
 use Rattle.adb_view.specs.declared.tables.Which.TheVariants.{Package}
 use Rattle.pkg_core.specs.declared.contents.Contents.{Contents}
 
--- the bytes that hold the value of a package whose values were tested
+-- the bytes of the value of a package whose values were tested
 abbrev pub payload_of_contents : Contents → List ℕ
 payload_of_contents contents = payload_of contents.adb
 

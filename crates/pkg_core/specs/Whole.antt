@@ -1,6 +1,5 @@
--- The first failed test of a whole container, and what a good package holds.
--- The rules stand in `docs/formats.md`, "Tests of a container", for the order of the tests, and "The
--- other blocks".
+-- The first failed test of a whole container, and the contents of a good package. The rules are in
+-- `docs/formats.md`, "Tests of a container", for the order of the tests, and "The other blocks".
 use Rattle.std.specs.Prelude.{ℕ, ◌==◌, if◌then◌else◌, List, Option, Some, None, Result, Ok, Err}
 use Rattle.sha2.specs.Sha256.{sha256}
 use Rattle.base_core.specs.declared.cause.Cause.{Cause}
@@ -26,8 +25,8 @@ root_of_schema schema =
     else if schema == INTENT_WORD then Some Intent
     else None
 
--- the first failed test of what stands behind the first block: of a package the contents of its files,
--- of another container that it has no contents
+-- the first failed test of the blocks after the first: for a package the contents of its files, for
+-- another container that it has no contents
 abbrev pub behind_fault : Which → Plain → Reading → Option Cause
 behind_fault Package value r = contents_fault (expected_contents value) r
 behind_fault which value r = rest_fault which r
@@ -41,12 +40,12 @@ abbrev pub fault_by_schema : List ℕ → ℕ → Option Which → Option Cause
 fault_by_schema file schema None = Some (WrongSchema schema)
 fault_by_schema file schema (Some which) = whole_fault which file
 
--- the first failed test of a file, by what its header tells
+-- the first failed test of a file, by its header
 abbrev pub fault_by_header : List ℕ → Result ℕ Cause → Option Cause
 fault_by_header file (Err c) = Some c
 fault_by_header file (Ok schema) = fault_by_schema file schema (root_of_schema schema)
 
--- the first failed test of a file that is to be a container of one of the four schemas
+-- the first failed test of a file as a container of one of the four schemas
 unfoldable pub container_fault : List ℕ → Option Cause
 container_fault file = fault_by_header file (header_of file)
 
@@ -60,14 +59,14 @@ package_fault file = whole_fault Package file
 abbrev pub package_id : List ℕ → List ℕ
 package_id file = sha256 (payload_in file)
 
--- the files that the blocks of a package give: the first block has the value that tells which are
--- expected, and the blocks behind it their contents
+-- the files of a package's blocks: the value of the first block has the expected files, and the blocks
+-- after it their contents
 abbrev pub files_behind : Reading → FilesRead
 files_behind done = no_more
 files_behind (fault c) = refused c
 files_behind (more b at r) = files_by_blocks (expected_contents (root_value Package b.payload)) r
 
--- the files of a package, by what its header tells
+-- the files of a package, by its header
 abbrev pub files_by_header : List ℕ → Result ℕ Cause → FilesRead
 files_by_header file (Ok schema) = files_behind (reading_of (start_of schema file))
 files_by_header file (Err c) = refused c
@@ -81,7 +80,7 @@ pub record Packed : Type 0 where
   pub value : Plain
   pub contents : List Contents
 
--- what a package's file holds: its value, and the contents of its files
+-- the contents of a package's file: its value, and the contents of its files
 abbrev pub package_with_contents : List ℕ → Packed
 package_with_contents file =
     record {

@@ -1,7 +1,6 @@
-//! The tests of a container to its end, the digests of contents, and what follows of both for every
-//! package.
-//! The rules stand in `docs/formats.md`, "Tests of a container", for the order of the tests, and
-//! "The other blocks".
+//! The tests of a whole container, the digests of contents, and the laws about both. The rules are
+//! in `docs/formats.md`, "Tests of a container", for the order of the tests, and "The other
+//! blocks".
 
 ghost use Rattle.std.specs.Prelude.{◌≡◌, ◌≢◌, None, IfOk, IfErr, length, ℕ, List, Some};
 ghost use Rattle.std.specs.Option.{option_or};
@@ -32,13 +31,13 @@ use sha1::Sha1;
 use sha2::{Digest, Sha256, Sha512};
 use std::alloc::Global;
 
-/// Tests a container (apk-v3(5)) of any of the four schemas to its end: the file's header, its
-/// schema, the first block's framing, its head, its shape, its texts, names that stand twice, and
-/// the further blocks, in a package with the contents of its files.
+/// Tests all of a container (apk-v3(5)) of any of the four schemas. The tests are: the file's
+/// header, its schema, the first block's framing, its head, its shape, its texts, repeated names,
+/// and the further blocks, which in a package include the contents of its files.
 ///
 /// # Errors
 ///
-/// `Bad` with the cause of the first test that fails, or `Memory`. It is `WrongSchema` where the
+/// `Bad` with the cause of the first failed test, or `Memory`. The cause is `WrongSchema` if the
 /// schema is none of the four.
 #[tactic(auto, unfolding(crate::specs::Whole::container_fault))]
 pub fn verify(alloc: Global, bytes: &[u8]) -> Result<(), PackageFault>
@@ -52,8 +51,8 @@ pub fn verify(alloc: Global, bytes: &[u8]) -> Result<(), PackageFault>
     }
 }
 
-/// The table at the root of a container with this schema (apk-v3(5)); None where the schema is none
-/// of the four.
+/// The table at the root of a container with this schema (apk-v3(5)); None if the schema is none of
+/// the four.
 pub fn root_of_schema(schema: u32) -> Option<Which>
     ensures { result ≡ root_of_schema schema }
 {
@@ -66,7 +65,7 @@ pub fn root_of_schema(schema: u32) -> Option<Which>
     }
 }
 
-/// Tests a container that is to have this table at its root.
+/// Tests a container that must have this table at its root.
 fn verify_as(alloc: Global, bytes: &[u8], which: Which) -> Result<(), PackageFault>
     ensures bad { IfErr result (λ fault. IsFaultOf fault (whole_fault which bytes.now)) }
     ensures sound { IfOk result (λ _. whole_fault which bytes.now ≡ None) }
@@ -107,9 +106,9 @@ fn verify_other(alloc: Global, bytes: &[u8], which: Which) -> Result<(), Package
     Ok(())
 }
 
-/// Why bytes do not have this digest, if they do not. Its length tells the function: SHA-1, SHA-256
-/// or SHA-512 (FIPS 180-4). A digest of another length is not looked at; no file of a checked
-/// package that has contents has one.
+/// Why bytes do not have this digest, if they do not. Its length selects the function: SHA-1,
+/// SHA-256 or SHA-512 (FIPS 180-4). A digest of another length is ignored; no file with contents
+/// has one in a checked package.
 #[tactic(auto, unfolding(crate::specs::Contents::hash_fault))]
 pub(crate) fn hash_fault(hash: &[u8], bytes: &[u8]) -> Option<Cause>
     ensures { result ≡ hash_fault hash.now bytes.now }
@@ -122,8 +121,7 @@ pub(crate) fn hash_fault(hash: &[u8], bytes: &[u8]) -> Option<Cause>
     }
 }
 
-/// Why a SHA-1 (FIPS 180-4) is not the one that was found: `HashDiffers`, or None where they are
-/// equal.
+/// Why this SHA-1 (FIPS 180-4) is not the computed one: `HashDiffers`, or None if they are equal.
 pub fn sha1_fault(hash: &[u8], found: [u8; 20]) -> Option<Cause>
     // The length of a SHA-1.
     requires { length hash.now ≡ 20 }
@@ -140,8 +138,7 @@ pub fn sha1_fault(hash: &[u8], found: [u8; 20]) -> Option<Cause>
     })
 }
 
-/// Why a SHA-256 (FIPS 180-4) is not the one that was found: `HashDiffers`, or None where they are
-/// equal.
+/// Why this SHA-256 (FIPS 180-4) is not the computed one: `HashDiffers`, or None if they are equal.
 pub fn sha256_fault(hash: &[u8], found: [u8; 32]) -> Option<Cause>
     // The length of a SHA-256.
     requires { length hash.now ≡ 32 }
@@ -158,8 +155,7 @@ pub fn sha256_fault(hash: &[u8], found: [u8; 32]) -> Option<Cause>
     })
 }
 
-/// Why a SHA-512 (FIPS 180-4) is not the one that was found: `HashDiffers`, or None where they are
-/// equal.
+/// Why this SHA-512 (FIPS 180-4) is not the computed one: `HashDiffers`, or None if they are equal.
 pub fn sha512_fault(hash: &[u8], found: [u8; 64]) -> Option<Cause>
     // The length of a SHA-512.
     requires { length hash.now ≡ 64 }
@@ -176,37 +172,36 @@ pub fn sha512_fault(hash: &[u8], found: [u8; 64]) -> Option<Cause>
     })
 }
 
-/// Where no test of the blocks fails, they give the contents of each file that is expected, in
-/// order, and no others: each with the positions, the size and the digest of its file.
+/// If no test of the blocks fails, they give the contents of each expected file, in order, and no
+/// others: each with the positions, the size and the digest of its file.
 pub fn good_blocks_give_the_contents_of_each_file()
     ensures { (expected : List Expected) (r : Reading) → contents_fault expected r ≡ None
         → AreContentsOf expected (contents_in (files_by_blocks expected r)) }
 {}
 
-/// The fault of the blocks that is reported is the first: each block of contents in its turn is
-/// tested against the next file that is expected, then the framing behind them, and at the end that
-/// no file is left.
+/// The fault of the blocks that is reported is the first. Each block of contents is tested against
+/// the next expected file, then the framing after them, and finally that no file is left.
 pub fn the_first_fault_of_contents_is_reported()
     ensures { (expected : List Expected) (r : Reading) (c : Cause)
         → contents_fault expected r ≡ Some c → IsFirstContentsFault expected r c }
 {}
 
-/// The first failed test of a package is that of its values, and where they are good that of the
-/// blocks behind them.
+/// The first failed test of a package is one of its values, and if they are good one of the blocks
+/// after them.
 pub fn a_package_is_tested_by_its_values_and_then_its_files()
     ensures { (file : List ℕ)
         → package_fault file
         ≡ option_or (first_fault Tables.Package file) (fault_in (files_in_file file)) }
 {}
 
-/// A package in which no test fails has the contents of each of its files without target and with a
-/// size above 0, in order, and no others: their length is the file's size, and their SHA-1, SHA-256
+/// A package in which no test fails has the contents of each of its files that has no target and a
+/// size above 0, in order, and no others. Their length is the file's size, and their SHA-1, SHA-256
 /// or SHA-512 (FIPS 180-4) its digest.
 pub fn a_package_has_the_contents_of_its_files()
     ensures { (file : List ℕ) → package_fault file ≡ None
         → AreTrueTo (expected_contents (package_with_contents file).value)
         (package_with_contents file).contents }
 {
-    // A law that the proof needs; it computes nothing.
+    // A law that the proof needs; it has no effect at run time.
     the_first_bad_text_is_reported();
 }

@@ -1,6 +1,5 @@
-//! The values of a package whose front was read.
-//! The rules stand in `docs/formats.md`, "Tests of a container": the shape, the texts, and names
-//! that stand twice.
+//! The values of a package whose front was read. The rules are in `docs/formats.md`, "Tests of a
+//! container": the shape, the texts, and repeated names.
 
 ghost use Rattle.std.specs.Prelude.{◌≡◌, true, None, IfOk, IfErr, is_none};
 ghost use Rattle.adb_schema.specs.ReadFaults.{IsReadFault};
@@ -18,8 +17,8 @@ use adb_view::{Adb, Which, shape, values_of_few_visits_have_no_fault};
 use sha2::{Digest, Sha256};
 use std::alloc::Global;
 
-/// A package in a tree whose values are tested. They are lent from its front. Contracts see, by
-/// `Values` of `specs/`, the plain value and the bytes that hold it.
+/// A package in a tree whose values were tested. They are borrowed from its front. Contracts see,
+/// by `Values` of `specs/`, the plain value and its bytes.
 #[derive(Clone, Copy)]
 pub struct Contents<'a> {
     adb: Adb<'a>,
@@ -37,7 +36,7 @@ impl<'a> Contents<'a> {
     ghost use Rattle.sha2.specs.Sha256.{sha256};
 
     /// Tests the values of a package whose front was read, in this order: the head of the payload,
-    /// its shape, its texts, and names that stand twice.
+    /// its shape, its texts, and repeated names.
     ///
     /// # Errors
     ///
@@ -56,8 +55,8 @@ impl<'a> Contents<'a> {
         Ok(Contents { adb })
     }
 
-    /// The values of a package in a payload that passes all tests of one. They are not made again,
-    /// and no memory is taken.
+    /// The values of a package in a payload that passes all tests. They are not tested again, and
+    /// no memory is allocated.
     pub fn open(payload: &'a [u8]) -> Contents<'a>
         requires { payload_fault Tables.Package payload.now ≡ None }
         ensures value { value_of_contents result ≡ root_value Tables.Package payload.entry.now }
@@ -70,12 +69,12 @@ impl<'a> Contents<'a> {
         Contents { adb }
     }
 
-    /// Each text and number of a package keeps the rule of its field: a folder's name is a path,
-    /// and so is a file's behind it.
+    /// Each text and number of a package obeys the rule of its field: a folder's name is a path,
+    /// and so is a file's name after it.
     pub fn values_keep_their_rules(&self)
         ensures { KeepsRules Tables.Package (value_of_contents self.now) }
     {
-        // A law that the proof needs; it computes nothing.
+        // A law that the proof needs; it has no effect at run time.
         no_text_is_bad_where_each_keeps_its_rule();
     }
 
@@ -84,7 +83,7 @@ impl<'a> Contents<'a> {
         ensures sound { IsSoundValue Tables.Package (value_of_contents self.now) }
         ensures normal { IsNormal (value_of_contents self.now) }
     {
-        // Laws that the proof needs; they compute nothing.
+        // Laws that the proof needs; they have no effect at run time.
         bytes_are_small(self.adb.payload());
         tested_payloads_hold_sound_values();
     }
@@ -93,12 +92,12 @@ impl<'a> Contents<'a> {
     pub fn view(&self) -> PackageView<'a>
         ensures { package_value result ≡ value_of_contents self.now }
     {
-        // A law that the proof needs; it computes nothing.
+        // A law that the proof needs; it has no effect at run time.
         values_of_few_visits_have_no_fault();
         PackageView::of(self.adb, self.adb.root())
     }
 
-    /// The package's identity: the SHA-256 (FIPS 180-4) of the bytes that hold its values.
+    /// The package's identity: the SHA-256 (FIPS 180-4) of the bytes of its values.
     pub fn id(&self) -> [u8; 32]
         ensures { result ≡ sha256 (payload_of_contents self.now) }
     {
@@ -106,7 +105,7 @@ impl<'a> Contents<'a> {
     }
 }
 
-/// Tests the payload of a package in the order that `new` tells, and gives it opened.
+/// Tests the payload of a package in the order of `new`, and returns it opened.
 fn check_payload<'a>(alloc: Global, payload: &'a [u8]) -> Result<Adb<'a>, ReadFault>
     ensures bad { IfErr result
         (λ fault. IsReadFault fault (payload_fault Tables.Package payload.entry.now)) }

@@ -1,7 +1,6 @@
-//! A file of a package whose contents are handed in piece by piece, and what each piece is a part
-//! of.
-//! The rules stand in `docs/formats.md`, "The other blocks", the paragraph of pieces; the tests in
-//! the paragraph of blocks of contents above it.
+//! The check of one file of a package whose contents are taken in pieces. The rules are in
+//! `docs/formats.md`, "The other blocks", the paragraph of pieces; the tests in the paragraph of
+//! blocks of contents above it.
 
 ghost use Rattle.std.specs.Prelude.{◌≡◌, ◌<◌, ◌≤◌, ◌+◌, ◌-◌, ℕ, List, [], ◌∷◌, ◌++◌, length, take, None, IfNone, IfOk, IfSome};
 ghost use Rattle.adb_schema.specs.Soundness.{file_pair};
@@ -16,20 +15,20 @@ use crate::walk::{POSITIONS_LEN, Walk, Wanted};
 use adb_schema::file_pair;
 use base_core::Cause;
 
-/// The check of a file whose contents are handed in: which one is due, and how many of its bytes
-/// were taken. Contracts see, by `Taking` of `specs/`, which bytes these were.
+/// The check of one file whose contents are taken in pieces: the expected file, and how many of its
+/// bytes were taken. Contracts see, by `Taking` of `specs/`, which bytes these were.
 #[derive(Drop)]
 pub struct FileCheck<'a> {
-    /// The file that is due.
+    /// The expected file.
     wanted: Wanted<'a>,
     /// How many of its bytes were taken.
     done: u64,
-    /// What the bytes so far come to.
+    /// The digest of the bytes so far.
     hasher: Hasher,
 }
 
 impl<'a> FileCheck<'a> {
-    /// The check of a file of which no byte was taken.
+    /// The check of a file before its first byte.
     pub fn new(wanted: Wanted<'a>) -> FileCheck<'a>
         ensures taken { HasTaken result [] }
         ensures wanted { result.wanted ≡ wanted.entry }
@@ -42,7 +41,7 @@ impl<'a> FileCheck<'a> {
         }
     }
 
-    /// How many bytes the next piece has: 65,536, or what is left of the file.
+    /// The length of the next piece in bytes: 65,536, or the rest of the file.
     pub fn next_len(&self) -> usize
         ensures { result ≡ next_len self.now }
     {
@@ -50,24 +49,23 @@ impl<'a> FileCheck<'a> {
         left.min(PIECE_LEN as u64) as usize
     }
 
-    /// Takes the next piece, and gives which part of which file it is and, unless it is the last,
-    /// what is left of the file.
+    /// Takes the next piece. It returns which part of which file the piece is, and the check of the
+    /// rest of the file, unless the piece is the last one.
     ///
     /// # Errors
     ///
-    /// `HashDiffers`, behind the last piece, where all bytes together do not have the file's
-    /// digest.
+    /// `HashDiffers`, after the last piece, if all bytes together do not have the file's digest.
     #[tactic(auto, using(crate::proofs::Taken::more_left, crate::proofs::Taken::last_good, crate::proofs::Taken::last_bad))]
     pub fn take(self, bytes: &[u8]) -> Result<(Part, Option<FileCheck<'a>>), Cause>
         requires { length bytes.now ≡ next_len self }
-        // Of a file of which `so_far` was taken these bytes are the next piece, and `left` stays.
+        // If `so_far` was taken of a file, these bytes are the next piece, and `left` remains.
         ensures taken { (so_far left : List ℕ) (further : PiecesRead) → HasTaken self.entry so_far
             → length (so_far ++ (bytes.now ++ left)) ≡ self.entry.wanted.size
             → IsTaken self.entry so_far bytes.now left further result }
-        // Behind the last piece all bytes that were taken have the file's digest.
+        // After the last piece all bytes that were taken have the file's digest.
         ensures digest { (so_far : List ℕ) → HasTaken self.entry so_far → IfOk result (λ taken.
             IsTested self.entry.wanted.hash.now (so_far ++ bytes.now) taken.1) }
-        // The piece is a part of this file, and its bytes are taken off what is to come.
+        // The piece is a part of this file, and its length is subtracted from the rest.
         ensures part { IfOk result (IsPartOf self.entry) }
         ensures left { IfOk result (λ taken. IfSome taken.1 (λ further.
             file_bytes_left further ≡ file_bytes_left self.entry - length bytes.now)) }
@@ -109,13 +107,13 @@ fn part_of(wanted: Wanted<'_>, last: bool) -> Part
     }
 }
 
-/// Opens the file whose contents a block holds: the next one of the walk. The block's payload has
-/// so many bytes, and begins with these positions of a folder and of a file in it.
+/// Opens the file of a block of contents, which must be the next one of the walk. The block's
+/// payload has this length, and begins with these positions of a folder and of its file.
 ///
 /// # Errors
 ///
-/// First the positions are compared, then the size: `DataOrder`, with (0, 0) where no file is due,
-/// or `DataSize`.
+/// First the positions are compared, then the size: `DataOrder`, with (0, 0) if none is expected, or
+/// `DataSize`.
 pub fn open_file<'a>(
     walk: &mut Walk<'a>,
     len: u64,
@@ -144,8 +142,8 @@ pub fn open_file<'a>(
     }
 }
 
-/// Why contents are not those of a file, by what is known before their bytes: first the positions
-/// are compared, then the size.
+/// Why contents are not those of a file, as far as that is known before their bytes: first the
+/// positions are compared, then the size.
 fn position_or_size_fault(found: (u32, u32), size: u64, wanted: Wanted<'_>) -> Option<Cause>
     ensures exact { (payload : List ℕ) → length (contents_bytes payload) ≡ size
         → file_pair payload ≡ found
@@ -165,7 +163,7 @@ fn position_or_size_fault(found: (u32, u32), size: u64, wanted: Wanted<'_>) -> O
     None
 }
 
-/// How many bytes a piece has at most, which is what is held of a file's contents at once.
+/// The most bytes of a piece, so the most bytes of a file's contents in memory at once.
 pub const PIECE_LEN: usize = 65536;
 
 /// Which file a piece is a part of, by the position of its folder (`path`) and its position in the
@@ -181,7 +179,7 @@ pub struct Part {
 }
 
 /// The pieces of each file, joined in order, are its contents, and the first failed test is the
-/// same: what the blocks give in pieces is what they give as whole files.
+/// same: blocks read in pieces give the same result as blocks read as whole files.
 pub fn the_pieces_of_each_file_joined_are_its_contents()
     ensures { (expected : List Expected) (r : Reading)
         → files_joined (pieces_by_blocks expected r) [] ≡ files_by_blocks expected r }

@@ -1,5 +1,5 @@
-//! The front of a container in a tree: its header and its first block.
-//! The rules stand in `docs/formats.md`, "The other blocks", the paragraph of a front.
+//! The front of a container in a tree: its header and its first block. The rules are in
+//! `docs/formats.md`, "The other blocks", the paragraph of a front.
 
 ghost use Rattle.std.specs.Prelude.{◌≤◌};
 
@@ -16,7 +16,7 @@ pub enum FrontFault {
     /// The tree failed.
     #[error("the tree failed")]
     Disk,
-    /// There was no memory.
+    /// Out of memory.
     #[error("out of memory")]
     Memory,
 }
@@ -39,7 +39,7 @@ impl From<Disk> for FrontFault {
 
     ghost from_gives = { λ _ fault. fault ≡ DiskFault };
 
-    /// A failed call of the tree is a fault of it.
+    /// A failed call of the tree is a fault of the disk.
     fn from(_: Disk) -> FrontFault {
         FrontFault::Disk
     }
@@ -51,24 +51,24 @@ impl From<AllocError> for FrontFault {
 
     ghost from_gives = { λ _ fault. fault ≡ Memory };
 
-    /// Where no memory was given the front has none.
+    /// Running out of memory is a fault of its own.
     fn from(_: AllocError) -> FrontFault {
         FrontFault::Memory
     }
 }
 
-/// The front of a container that was read: its schema, the payload of its first block, the file's
-/// length in bytes, and the offset behind that block. Contracts see, by `Front` of `specs/`, the
-/// payload, the two numbers, and of which files it is the front.
+/// The front of a container: its schema, the payload of its first block, the file's length in
+/// bytes, and the offset after that block. Contracts see, by `Front` of `specs/`, the payload, the
+/// two numbers, and of which files it is the front.
 #[derive(Drop)]
 pub struct Front {
-    /// The schema that the file's header tells.
+    /// The schema in the file's header.
     pub(crate) schema: u32,
     /// The payload of the first block.
     pub(crate) payload: Vec<u8>,
     /// How many bytes the file has.
     pub(crate) len: u64,
-    /// The offset behind the first block and its padding.
+    /// The offset after the first block and its padding.
     pub(crate) at: u64,
     ghost within: { at ≤ len },
 }
@@ -91,7 +91,7 @@ impl Front {
         self.len
     }
 
-    /// The offset behind the first block and its padding.
+    /// The offset after the first block and its padding.
     pub fn end(&self) -> u64
         ensures exact { result ≡ front_end self.now }
         ensures within { result ≤ front_file_len self.now }

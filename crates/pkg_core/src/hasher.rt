@@ -1,5 +1,5 @@
-//! A digest that is taken piece by piece.
-//! The rules stand in `docs/formats.md`, "The other blocks", the digests.
+//! A digest that is computed in pieces. The rules are in `docs/formats.md`, "The other blocks", the
+//! digests.
 
 ghost use Rattle.std.specs.Prelude.{◌≡◌, ℕ, List, [], ◌++◌};
 ghost use Rattle.pkg_core.specs.Contents.{hash_fault};
@@ -10,8 +10,8 @@ use base_core::Cause;
 use sha1::Sha1;
 use sha2::{Digest, Sha256, Sha512};
 
-/// A hasher of the function that a digest's length tells: SHA-1, SHA-256 or SHA-512 (FIPS 180-4).
-/// A digest of another length is not looked at.
+/// A hasher of the function that a digest's length selects: SHA-1, SHA-256 or SHA-512 (FIPS 180-4).
+/// A digest of another length is ignored.
 #[derive(Drop)]
 pub enum Hasher {
     /// For a digest of 20 bytes.
@@ -25,8 +25,8 @@ pub enum Hasher {
 }
 
 impl Hasher {
-    /// A hasher whose digest is to be compared with this one, before the first byte. The lengths
-    /// are those of SHA-1, SHA-256 and SHA-512.
+    /// A hasher before the first byte, whose digest will be compared with this one. The lengths are
+    /// those of SHA-1, SHA-256 and SHA-512.
     #[tactic(auto, unfolding(crate::specs::Contents::hash_fault))]
     pub fn new(hash: &[u8]) -> Hasher
         ensures { HoldsFor result hash.now [] }

@@ -1,5 +1,5 @@
-//! The header of a block in a file of a tree.
-//! The rules stand in `docs/formats.md`, "Container", the paragraph of a block.
+//! The header of a block in a file of a tree. The rules are in `docs/formats.md`, "Container", the
+//! paragraph of a block.
 
 ghost use Rattle.std.specs.Prelude.{◌≡◌, ◌≤◌, ◌<◌, ◌+◌, ◌^◌, ℕ, [], ◌++◌, length, IfOk};
 ghost use Rattle.adb_block.specs.Frames.{HoldsHead, head_len};
@@ -9,11 +9,11 @@ use adb_block::head_len;
 use base_core::{Disk, Name, Tree};
 use std::marker::Model;
 
-/// What was read of a block's header, at most 16 bytes: a short header has 4, an extended one 16.
-/// Contracts see the bytes.
+/// The bytes read of a block's header: a short header has 4, an extended one 16. Contracts see the
+/// bytes.
 #[derive(Drop)]
 pub struct HeadBytes {
-    /// Room for an extended header; what was not read is 0.
+    /// Room for an extended header; unread bytes are 0.
     bytes: [u8; 16],
     /// How many bytes were read: 0, 4 or 16.
     len: usize,
@@ -37,12 +37,13 @@ impl HeadBytes {
         &self.bytes[..self.len]
     }
 
-    /// Reads the header of the block at an offset, from which on so many bytes are left. No byte
-    /// is read that does not belong to it; of one that is not whole at most the first four are.
+    /// Reads the header of the block at an offset, with this many bytes left in the file. It reads
+    /// no byte outside of the header. If the header is not complete, it reads at most the first
+    /// four bytes.
     ///
     /// # Errors
     ///
-    /// `Disk` where the tree failed.
+    /// `Disk` if the tree failed.
     #[tactic(auto, using(crate::proofs::Heads::holds_none, crate::proofs::Heads::holds_short, crate::proofs::Heads::holds_cut, crate::proofs::Heads::holds_both, crate::proofs::Heads::short_both, crate::proofs::SeenBytes::seen_both, crate::proofs::SeenBytes::seen_by_read, crate::proofs::SeenBytes::proper_where_long))]
     pub fn read<T: Tree>(tree: &mut T, name: &Name, at: u64, left: u64) -> Result<HeadBytes, Disk>
         // Offsets have 64 bits.
@@ -51,13 +52,13 @@ impl HeadBytes {
             → IsSeen (T.history tree.old) name.now file_len at head) }
         ensures holds { IfOk result (λ head. HoldsHead head left) }
         ensures short { IfOk result (λ head. length head ≤ head_len head) }
-        // The tree stays as it is; a failed tree is answered only where it failed, and no call is a
-        // misuse where the tree shows the file, as long as it was.
+        // The tree is unchanged. `Disk` is returned only if the tree failed, and no call is a
+        // misuse if the file still has its length.
         ensures tree { (file_len : ℕ) → at + left ≤ file_len
             → ReadsFile name.now file_len tree_fault (T.history tree.old) (T.history tree.new)
             (T.counts tree.old) (T.counts tree.new) result }
     {
-        // The first four bytes tell whether the header is a short one, or has twelve more.
+        // The first four bytes decide between a short header and one with twelve more bytes.
         if left < 4 {
             return Ok(no_head());
         }
@@ -73,7 +74,7 @@ impl HeadBytes {
     }
 }
 
-/// The header of which nothing is there.
+/// The header without bytes.
 fn no_head() -> HeadBytes
     ensures { result ≡ [] }
 {
@@ -83,7 +84,7 @@ fn no_head() -> HeadBytes
     }
 }
 
-/// The header of which four bytes were read: a short one, or the front of one that is not whole.
+/// The header after four bytes: a short one, or the front of an incomplete one.
 #[tactic(auto, using(crate::proofs::Heads::four_kept))]
 fn head_of_four(first: [u8; 4]) -> HeadBytes
     ensures { result ≡ first }

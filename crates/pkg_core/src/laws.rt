@@ -1,6 +1,5 @@
-//! What follows from the definitions, for every package.
-//! Each is a row of the README of this crate; the rules stand in `docs/formats.md`, "Tests of a
-//! container".
+//! Theorems about the definitions, for every package. Each is a row of the README of this crate;
+//! the rules are in `docs/formats.md`, "Tests of a container".
 ghost use Rattle.std.specs.Prelude.{◌≡◌, ◌≢◌, ◌<◌, ℕ, All, List, None, Some};
 ghost use Rattle.std.specs.Option.{option_or};
 ghost use Rattle.adb_block.specs.Reading.{reading_of};
@@ -21,9 +20,9 @@ use adb_fields::no_name_is_repeated_where_each_stands_once;
 use adb_schema::no_text_is_bad_where_each_keeps_its_rule;
 use adb_view::{values_are_normal, values_have_their_shape, values_of_few_visits_have_no_fault};
 
-/// The tests of a package's front, and then those of its values, are the tests that a package is
-/// read whole by: a failed test of the front is the first one of the file, and where the front is
-/// read the first one of the file is that of its values.
+/// The tests of a package's front, followed by those of its values, are the tests of a whole
+/// package. A failed test of the front is the first of the file. If the front is read, the first
+/// failed test of the file is that of its values.
 pub fn a_front_and_its_values_are_tested_as_a_whole_package()
     ensures front { (file : List ℕ) (cause : Cause) → front_fault PACKAGE_WORD file ≡ Some cause
         → first_fault Tables.Package file ≡ Some cause }
@@ -31,14 +30,14 @@ pub fn a_front_and_its_values_are_tested_as_a_whole_package()
         → first_fault Tables.Package file ≡ payload_fault Tables.Package (front_payload front) }
 {}
 
-/// The payload that a front holds is that of its file.
+/// The payload in a front is that of its file.
 pub fn a_front_holds_the_payload_of_its_file()
     ensures { (file : List ℕ) (front : Front) → IsFrontOf PACKAGE_WORD file front
         → payload_in file ≡ front_payload front }
 {}
 
-/// A file that has a package's front is tested by its values and then by the blocks behind them; a
-/// failed test of the front, but for its schema, is the first one of the file.
+/// A file with a package's front is tested by its values and then by the blocks after them. A
+/// failed test of the front, except for its schema, is the first of the file.
 pub fn a_package_is_tested_by_its_front_and_then_by_its_contents()
     ensures front { (file : List ℕ) (cause : Cause) → front_fault PACKAGE_WORD file ≡ Some cause
         → ((found : ℕ) → cause ≢ WrongSchema found) → container_fault file ≡ Some cause }
@@ -49,8 +48,8 @@ pub fn a_package_is_tested_by_its_front_and_then_by_its_contents()
         (reading_of (behind_front front file))) }
 {}
 
-/// What a payload that passes every test holds: a value that has the shape of its table, in which
-/// each text and number keeps the rule of its field and no name stands twice; of bytes, it is
+/// A payload that passes every test contains a value with the shape of its table, in which each
+/// text and number obeys the rule of its field and no name repeats. If it is read from bytes, it is
 /// normal.
 pub fn tested_payloads_hold_sound_values()
     ensures value { (which : Which) (payload : List ℕ) → payload_fault which payload ≡ None

@@ -1,24 +1,32 @@
 //! Packages (apk-package(5)) with the contents of their files, and the test of a whole container
-//! (apk-v3(5)): held whole, in pieces, or in a tree of files.
+//! (apk-v3(5)): in memory, in pieces, or from a tree of files.
 //!
-//! - Held whole: the bytes of a file come in. `Package` lends its values and the contents of its
-//!   files, one after the other, and `verify` tests a container of any schema to its end.
-//! - In pieces: nothing is read, no memory is taken, and a reader hands in the bytes. `BlockPlace`
-//!   goes on block by block. `open_file` compares the positions and the size that a block of
-//!   contents tells with the next file of a walk. `FileCheck` takes the file's bytes piece by piece,
-//!   tells which part of which file each is, and compares the digest before the last one is told.
-//! - In a tree: the name of a file comes in. `read_front` gives its `Front`, the header and the
-//!   first block, and `Contents` tests and lends the values that a package's front holds.
+//! - In memory: from the bytes of a file, `Package` returns its values and the contents of its
+//!   files in order, all borrowed. `verify` tests all of a container of any schema.
+//! - In pieces: nothing is read, no memory is allocated, and a reader passes the bytes.
+//!   `BlockPlace` advances block by block. `open_file` compares the positions and the size of a
+//!   block of contents with the next file of a walk. `FileCheck` takes the file's bytes piece by
+//!   piece and returns which part of which file each is. It compares the digest before it returns
+//!   the last one.
+//! - From a tree: `read_front` takes the name of a file and returns its `Front`, the header and the
+//!   first block. `Contents` tests and lends the values of a package's front.
 //!
-//! The contracts cite, of `specs/`: `Contents` (which files have contents, and what the blocks give
-//! of them), `Opened` (what a package that is read shows), `Whole` (the first failed test of a whole
-//! container), `Refusals` and `GoodContents` (what contents in which no test fails come to);
-//! `Pieces` (what the blocks of a package give in pieces), `Hashing` (what a hasher has taken),
-//! `Taking` (where a file stands) and `Places` (where a reader stands in the blocks); `Front` (the
-//! tests of a front, and of which files it is one), `Seen` (which bytes of a file were seen) and
-//! `Values` (what a package shows).
+//! The contracts cite these modules of `specs/`:
 //!
-//! The rules stand in `docs/formats.md`, "Tests of a container" and "The other blocks".
+//! - `Contents`: which files have contents, and which contents the blocks give;
+//! - `Opened`: the contents of a package that was read;
+//! - `Whole`: the first failed test of a whole container;
+//! - `Refusals` and `GoodContents`: the meaning of a refusal, and of contents in which no test
+//!   fails;
+//! - `Pieces`: which pieces the blocks of a package give;
+//! - `Hashing`: the bytes of a hasher;
+//! - `Taking`: the progress of a file's check;
+//! - `Places`: the position of a reader in the blocks;
+//! - `Front`: the tests of a front, and of which files it is one;
+//! - `Seen`: which bytes of a file were read;
+//! - `Values`: the values of a package.
+//!
+//! The rules are in `docs/formats.md`, "Tests of a container" and "The other blocks".
 #![tactic(auto)]
 
 mod checks;

@@ -1,5 +1,5 @@
-//! A package that is read: its values, and the contents of its files one after the other. The rules
-//! stand in `docs/formats.md`, "Tests of a container" and "The other blocks".
+//! A package in memory: its values, and the contents of its files in order. The rules are in
+//! `docs/formats.md`, "Tests of a container" and "The other blocks".
 
 ghost use Rattle.std.specs.Prelude.{◌≡◌, None, IfOk, IfErr};
 ghost use Rattle.sha2.specs.Sha256.{sha256};
@@ -24,7 +24,7 @@ pub enum PackageFault {
     /// The first test that failed.
     #[error("bad container")]
     Bad(Cause),
-    /// There was no memory.
+    /// Out of memory.
     #[error("out of memory")]
     Memory,
 }
@@ -47,7 +47,7 @@ impl From<ReadFault> for PackageFault {
 
     ghost from_gives = { λ read fault. fault ≡ fault_of_read read };
 
-    /// A failed test of the values is one of the package, and so is want of memory for them.
+    /// A failed test of the values is one of the package, and so is out of memory for them.
     fn from(fault: ReadFault) -> PackageFault {
         match fault {
             ReadFault::Bad(cause) => PackageFault::Bad(cause),
@@ -56,14 +56,14 @@ impl From<ReadFault> for PackageFault {
     }
 }
 
-/// A package whose values are tested, before its first file, between two or behind the last. All is
-/// lent from the file's bytes. Contracts see, by `Opened` of `specs/`, the plain value, the bytes
-/// that hold it, and the files that are left.
+/// A package whose values were tested, before its first file, between two or after the last.
+/// Everything is borrowed from the file's bytes. Contracts see, by `Opened` of `specs/`, the plain
+/// value, its bytes, and the files that are left.
 #[derive(Drop)]
 pub struct Package<'a> {
     /// The values.
     checked: Checked<'a>,
-    /// The payload of the first block, of which the id is taken.
+    /// The payload of the first block, whose digest is the id.
     payload: &'a [u8],
     /// The blocks and the files that are still to be read.
     rest: Rest<'a>,
@@ -80,18 +80,18 @@ impl<'a> Package<'a> {
     ghost use Rattle.pkg_core.specs.Refusals.{IsFaultOf};
 
     /// Reads the values of a package, and tests them in this order: the file's header, its schema,
-    /// the first block's framing, its head, its shape, its texts, and names that stand twice. What
-    /// stands behind the first block is read by `next_file`.
+    /// the first block's framing, its head, its shape, its texts, and repeated names. `next_file`
+    /// reads the further blocks.
     ///
     /// # Errors
     ///
     /// `Bad` with the cause of the first test that fails, or `Memory`.
     pub fn new(alloc: Global, bytes: &'a [u8]) -> Result<Package<'a>, PackageFault>
-        // It is refused for the first failed test of the values, and read where none fails.
+        // The error is the first failed test of the values; the package is read if none fails.
         ensures bad { IfErr result
             (λ fault. IsFaultOf fault (first_fault Tables.Package bytes.entry.now)) }
         ensures sound { IfOk result (λ _. first_fault Tables.Package bytes.entry.now ≡ None) }
-        // It shows the value, the id and the contents of the file that it is read from.
+        // It has the value, the id and the contents of the file from which it was read.
         ensures value { IfOk result
             (λ pkg. opened_value pkg ≡ root_value Tables.Package (payload_in bytes.entry.now)) }
         ensures payload { IfOk result (λ pkg. opened_payload pkg ≡ payload_in bytes.entry.now) }
@@ -109,12 +109,12 @@ impl<'a> Package<'a> {
         })
     }
 
-    /// Each text and number of a package keeps the rule of its field: a folder's name is a path,
-    /// and so is a file's behind it.
+    /// Each text and number of a package obeys the rule of its field: a folder's name is a path,
+    /// and so is a file's name after it.
     pub fn values_keep_their_rules(&self)
         ensures { KeepsRules Tables.Package (opened_value self.now) }
     {
-        // A law that the proof needs; it computes nothing.
+        // A law that the proof needs; it has no effect at run time.
         self.checked.values_keep_their_rules();
     }
 
@@ -125,22 +125,22 @@ impl<'a> Package<'a> {
         self.checked.package()
     }
 
-    /// The package's identity: the SHA-256 (FIPS 180-4) of the bytes that hold its values.
+    /// The package's identity: the SHA-256 (FIPS 180-4) of the bytes of its values.
     pub fn id(&self) -> [u8; 32]
         ensures { result ≡ sha256 (opened_payload self.now) }
     {
         Sha256::digest(self.payload)
     }
 
-    /// The contents of the next file: of those without target and with a size above 0, in the order
-    /// of folders and of the files in them. None comes exactly behind the last block.
+    /// The contents of the next file, in the order of folders and of the files in them. Files with
+    /// a target or with size 0 have none. The result is None if and only if no block is left.
     ///
     /// # Errors
     ///
     /// The first failed test, block by block: the framing of the block; contents of fewer than 8
-    /// bytes (`Truncated`); those of another file than the next one, or of none, and none where one
-    /// is left (`DataOrder`); another size (`DataSize`); another digest (`HashDiffers`). After an
-    /// error the same error comes again.
+    /// bytes (`Truncated`); contents of another file than the next one, or of none, or no contents
+    /// if a file is left (`DataOrder`); another size (`DataSize`); another digest (`HashDiffers`).
+    /// After an error the next call returns the same error.
     pub fn next_file(&mut self) -> Result<Option<FileContents<'a>>, Cause>
         ensures file { IsNextFile (opened_files self.old) result (opened_files self.new) }
         ensures value { opened_value self.new ≡ opened_value self.old }
@@ -159,7 +159,7 @@ impl<'a> Package<'a> {
     }
 }
 
-/// The payload of the first block, and the blocks behind it.
+/// The payload of the first block, and the blocks after it.
 #[tactic(auto, unfolding(adb_schema::specs::Soundness::first_fault, adb_schema::specs::Soundness::payload_in, crate::specs::Whole::files_in_file))]
 fn first_block<'a>(bytes: &'a [u8]) -> (&'a [u8], Blocks<'a>)
     requires { first_fault Tables.Package bytes.now ≡ None }

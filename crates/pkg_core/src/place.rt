@@ -1,5 +1,5 @@
-//! Where a reader stands in the blocks of a package, and what the next block comes to.
-//! The rules stand in `docs/formats.md`, "The other blocks"; the framing of a block in "Container".
+//! The position of a reader in the blocks of a package, and the tests of the next block. The rules
+//! are in `docs/formats.md`, "The other blocks"; the framing of a block in "Container".
 
 ghost use Rattle.std.specs.Prelude.{◌≡◌, ◌≤◌, ◌+◌, ◌-◌, ℕ, List, None, Some, Ok, length, drop, IfOk, IfSome, OnOk};
 ghost use Rattle.adb_block.specs.Framing.{ended};
@@ -13,14 +13,14 @@ use crate::walk::{POSITIONS_LEN, Walk};
 use adb_block::{BlockKind, Frame, padding_of};
 use base_core::Cause;
 
-/// Where a reader stands in the blocks of a package behind the first one: in a file of `len` bytes,
-/// behind a block of the kind `last`, at the offset of the next block; and the walk over the files
-/// whose contents are due.
+/// The position of a reader in the blocks of a package after the first one: in a file of `len`
+/// bytes, after a block of the kind `last`, at the offset of the next block; and the walk over the
+/// files whose contents are expected.
 #[derive(Clone, Copy)]
 pub struct BlockPlace<'a> {
     /// How many bytes the file has.
     pub len: u64,
-    /// The files whose contents are due.
+    /// The files whose contents are expected.
     pub walk: Walk<'a>,
     /// The kind of the block before.
     pub last: BlockKind,
@@ -28,46 +28,46 @@ pub struct BlockPlace<'a> {
     pub at: u64,
 }
 
-/// What a block behind the first one comes to.
+/// The result for a block after the first one.
 #[derive(Drop)]
 pub enum Step<'a> {
-    /// No block is left, and no file is due.
+    /// No block is left, and no file is expected.
     End,
-    /// The block holds no contents.
+    /// The block has no contents.
     Passed,
     /// The contents of the next file begin.
     Opened(FileCheck<'a>),
 }
 
 impl<'a> BlockPlace<'a> {
-    /// Goes on behind the block that stands there: `framing` is what its header frames (`frame_of`
-    /// of `adb_block`), and `positions` are the first eight bytes of its payload, which count only
-    /// where it has as many.
+    /// Advances over the next block: `framing` is the result of `frame_of` of `adb_block` for its
+    /// header, and `positions` are the first eight bytes of its payload, which count only if it has
+    /// as many.
     ///
     /// # Errors
     ///
-    /// `Truncated` where contents have fewer than eight bytes; those of `open_file`; and
-    /// `DataOrder` with (0, 0) where no block is left and a file is due.
+    /// `Truncated` if contents have fewer than eight bytes; the errors of `open_file`; and
+    /// `DataOrder` with (0, 0) if no block is left and a file is expected.
     pub fn step(
         &mut self,
         framing: Option<Frame>,
         positions: &[u8; POSITIONS_LEN],
     ) -> Result<Step<'a>, Cause>
-        // The place, and the block that stands there, lie within the file.
+        // The place, and the block there, are within the file.
         requires at { self.old.at ≤ self.old.len }
         requires fits { IfSome framing (λ frame. raw_size frame ≤ self.old.len - self.old.at) }
-        // For each file that is so long and has this block there.
+        // For each file of this length with this block there.
         ensures step { (file : List ℕ) → length file ≡ self.old.len
             → IsFramed (Ok framing) (drop self.old.at file) (step_at self.old file)
             → HasPositions framing positions.now self.old file
             → IsStepped framing self.old file result self.new }
-        // A reader stands behind the block then, unless a test failed.
+        // A reader follows the block then, unless a test failed.
         ensures len { self.new.len ≡ self.old.len }
         ensures behind { IfSome framing (λ frame. OnOk result (self.new.at
             ≡ self.old.at + whole_size frame (self.old.len - self.old.at))) }
         ensures within { self.new.at ≤ self.new.len }
-        // Of a file that is opened all bytes are to come; only contents open one, which is the next
-        // of the walk; and the end is told only where no block is left.
+        // All bytes of an opened file are still to be taken. Only contents open a file, which is
+        // the next of the walk. `End` is returned only if no block is left.
         ensures left { IfSome framing (λ frame. IfOk result (HasAllLeft frame)) }
         ensures kind { IfSome framing (λ frame. IfOk result (IsOfContents frame)) }
         ensures walk { IfOk result (λ step. WalksOn self.old.walk step self.new.walk) }
@@ -79,7 +79,7 @@ impl<'a> BlockPlace<'a> {
         }
     }
 
-    /// Ends the walk where no block is left: no file may be due then. The clauses are those of
+    /// Ends the walk if no block is left; then no file may be expected. The clauses are those of
     /// `step`.
     #[tactic(auto, using(crate::proofs::Placed::end_good, crate::proofs::Placed::end_bad))]
     fn end(&mut self) -> Result<Step<'a>, Cause>
@@ -96,8 +96,8 @@ impl<'a> BlockPlace<'a> {
         }
     }
 
-    /// Goes on behind a block that is there: one of contents opens a file, and another is passed.
-    /// The clauses are those of `step`.
+    /// Advances over a block: contents open a file, and any other block is passed. The clauses are
+    /// those of `step`.
     fn step_over(
         &mut self,
         frame: Frame,
@@ -126,7 +126,7 @@ impl<'a> BlockPlace<'a> {
         }
     }
 
-    /// Opens the file whose contents this block holds. The clauses are those of `step`.
+    /// Opens the file whose contents are in this block. The clauses are those of `step`.
     fn open(&mut self, frame: Frame, positions: &[u8; POSITIONS_LEN]) -> Result<Step<'a>, Cause>
         requires at { self.old.at ≤ self.old.len }
         requires fits { raw_size frame ≤ self.old.len - self.old.at }
@@ -155,7 +155,7 @@ impl<'a> BlockPlace<'a> {
         }
     }
 
-    /// Goes on behind a block and its padding, as much of it as is there.
+    /// Advances over a block and its padding, as far as the file has it.
     fn pass(&mut self, frame: Frame)
         requires at { self.old.at ≤ self.old.len }
         requires fits { raw_size frame ≤ self.old.len - self.old.at }

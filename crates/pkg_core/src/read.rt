@@ -1,6 +1,5 @@
-//! How the front of a container is read from a tree.
-//! The rules stand in `docs/formats.md`, "The other blocks", the paragraph of a front; the tests
-//! and their order in "Container", the table.
+//! The reader of a container's front in a tree. The rules are in `docs/formats.md`, "The other
+//! blocks", the paragraph of a front; the tests and their order in "Container", the table.
 
 ghost use Rattle.std.specs.Prelude.{◌≡◌, ◌≤◌, ◌+◌, ◌-◌, ℕ, List, Option, None, true, length, min, take, IfOk, IfErr, IfSome};
 ghost use Rattle.adb_block.specs.Framing.{next_step};
@@ -22,30 +21,30 @@ use base_core::{Cause, Name, Tree};
 use std::alloc::Global;
 use std::marker::Model;
 
-/// Reads the front of a container (apk-v3(5)): the file's header, its schema, which is to be this
-/// one, and the first block with the head of its payload. None comes exactly where the file is
-/// absent. No other part of the file is read, and the tree stays as it is, whatever the answer.
+/// Reads the front of a container (apk-v3(5)): the file's header, its schema, which must be this
+/// one, and the first block with the head of its payload. None if and only if the file is absent.
+/// No other part of the file is read, and the tree is unchanged, whatever the result.
 ///
 /// # Errors
 ///
-/// `Bad` with the cause of the first test that fails, `Disk` where the tree failed, or `Memory`.
+/// `Bad` with the cause of the first failed test, `Disk` if the tree failed, or `Memory`.
 pub fn read_front<T: Tree>(
     alloc: Global,
     tree: &mut T,
     name: &Name,
     schema: u32,
 ) -> Result<Option<Front>, FrontFault>
-    // The answer is that for some file, which is the one under the name where the tree tells it.
+    // The result is that for some file, which is the one under the name if the tree is observable.
     ensures front { (found : Option (List ℕ)) × IfObservable (T.history tree.old) (λ v.
         found ≡ files_of v name.now) × IsFrontRead schema found result }
-    // And what is held is the front of each file that is so long, and has the bytes that were seen.
+    // And it is the front of each file of this length that has the bytes that were read.
     ensures seen { IfOk result (λ found. IfSome found (λ front. (seen : List ℕ)
         × IsSeenIn (T.history tree.old) name.now (front_file_len front) 0 seen
         × (front_end front ≡ length seen)
         × ((file : List ℕ) → length file ≡ front_file_len front → HasAt file 0 seen
         → IsFrontOf schema file front))) }
-    // The tree stays as it is; a failed tree is answered only where it failed, and no call is a
-    // misuse where the tree tells its files.
+    // The tree is unchanged. `Disk` is returned only if the tree failed, and no call is a misuse if
+    // the tree is observable.
     ensures tree { OnlyReads DiskFault (T.history tree.old) (T.history tree.new)
         (T.counts tree.old) (T.counts tree.new) result }
 {
@@ -62,7 +61,7 @@ pub fn read_front<T: Tree>(
 /// see the bytes.
 #[derive(Drop)]
 struct Header {
-    /// `ADB.` and the schema; what was not read is 0.
+    /// `ADB.` and the schema; unread bytes are 0.
     bytes: [u8; 8],
     /// How many bytes were read.
     len: usize,
@@ -79,15 +78,15 @@ impl Model for Header {
 }
 
 impl Header {
-    /// Reads the first bytes of a file that has so many bytes.
+    /// Reads the first bytes of a file of this length.
     #[tactic(auto, using(crate::proofs::SeenBytes::seen_by_read, crate::proofs::SeenBytes::proper_where_long))]
     fn read<T: Tree>(tree: &mut T, name: &Name, len: u64) -> Result<Header, FrontFault>
         ensures len { IfOk result (λ header. length header ≡ min len 8) }
         ensures seen { IfOk result (λ header. (file_len : ℕ)
             → IsSeen (T.history tree.old) name.now file_len 0 header) }
         ensures disk { IfErr result (λ fault. fault ≡ DiskFault) }
-        // The tree stays as it is; a failed tree is answered only where it failed, and no call is a
-        // misuse where the tree shows the file, as long as it was.
+        // The tree is unchanged. `Disk` is returned only if the tree failed, and no call is a
+        // misuse if the file still has its length.
         ensures tree { ReadsFile name.now len DiskFault (T.history tree.old) (T.history tree.new)
             (T.counts tree.old) (T.counts tree.new) result }
     {
@@ -97,7 +96,7 @@ impl Header {
         Ok(Header { bytes, len: some })
     }
 
-    /// The schema that the header tells, or the first failed test.
+    /// The schema in the header, or the first failed test.
     fn schema(&self) -> Result<u32, Cause>
         ensures { result ≡ header_of self.now }
     {
@@ -106,7 +105,7 @@ impl Header {
     }
 }
 
-/// Reads so many bytes of a file, from an offset on.
+/// Reads this many bytes of a file, from an offset on.
 #[tactic(auto, using(crate::proofs::SeenBytes::seen_by_read, crate::proofs::SeenBytes::proper_where_long))]
 fn read_payload<T: Tree>(
     alloc: Global,
@@ -119,8 +118,8 @@ fn read_payload<T: Tree>(
     ensures seen { IfOk result (λ payload. (file_len : ℕ)
         → IsSeen (T.history tree.old) name.now file_len at payload.items) }
     ensures good { IfErr result (λ fault. IsNotBad fault) }
-    // The tree stays as it is; a failed tree is answered only where it failed, and no call is a
-    // misuse where the tree shows the file, as long as it was.
+    // The tree is unchanged. `Disk` is returned only if the tree failed, and no call is a misuse if
+    // the file still has its length.
     ensures tree { (file_len : ℕ) → at + len ≤ file_len → ReadsFile name.now file_len DiskFault
         (T.history tree.old) (T.history tree.new) (T.counts tree.old) (T.counts tree.new) result }
 {
@@ -129,8 +128,8 @@ fn read_payload<T: Tree>(
     Ok(payload)
 }
 
-/// Reads the front of a file that has so many bytes. The header of the first block stands at offset
-/// 8, behind the file's.
+/// Reads the front of a file of this length. The header of the first block is at offset 8, after
+/// the file's.
 fn read_present<T: Tree>(
     alloc: Global,
     tree: &mut T,
@@ -142,8 +141,8 @@ fn read_present<T: Tree>(
     ensures front { (seen : List ℕ) × IsSeenIn (T.history tree.old) name.now len 0 seen
         × ((file : List ℕ) → length file ≡ len → HasAt file 0 seen
         → IsPresentRead schema result (length seen) file) }
-    // The tree stays as it is; a failed tree is answered only where it failed, and no call is a
-    // misuse where the tree shows the file, as long as it was.
+    // The tree is unchanged. `Disk` is returned only if the tree failed, and no call is a misuse if
+    // the file still has its length.
     ensures tree { ReadsFile name.now len DiskFault (T.history tree.old) (T.history tree.new)
         (T.counts tree.old) (T.counts tree.new) result }
 {
@@ -152,7 +151,7 @@ fn read_present<T: Tree>(
     if found != schema {
         return Err(FrontFault::Bad(Cause::WrongSchema { found }));
     }
-    // The file's header has eight bytes, and the first block stands behind it.
+    // The file's header has eight bytes, and the first block follows it.
     let head = HeadBytes::read(tree, name, 8, len - 8)?;
     let framed = first_framed(len - 8, &head)?;
     let padding = padding_behind(framed, len - 8);
@@ -167,8 +166,8 @@ fn read_present<T: Tree>(
     })
 }
 
-/// What the header of the first block of a file frames, where so many bytes are left behind the
-/// file's own header, of eight bytes.
+/// The frame of a file's first block by its header, with this many bytes left after the file's own
+/// header of eight bytes.
 fn first_framed(left: u64, head: &HeadBytes) -> Result<Frame, Cause>
     requires holds { HoldsHead head.now left }
     requires short { length head.now ≤ head_len head.now }
@@ -180,13 +179,13 @@ fn first_framed(left: u64, head: &HeadBytes) -> Result<Frame, Cause>
 {
     match frame_of(None, 8, head.bytes(), left)? {
         Some(framed) => Ok(framed),
-        // A file that ends in front of its first block is a fault, and not the end.
+        // A file that ends before its first block is a fault, and not the end.
         None => unreachable!(),
     }
 }
 
-/// How many bytes of padding stand behind a block, as many as there are, where so many bytes are
-/// left from its header on.
+/// How many bytes of padding follow a block, as far as the file has them, with this many bytes left
+/// from its header on.
 fn padding_behind(framed: Frame, left: u64) -> u64
     requires { raw_size framed ≤ left }
     ensures { result ≡ min (padding_of (raw_size framed)) (left - raw_size framed) }

@@ -1,6 +1,5 @@
-//! The files of a package that have contents: the walk over them, and the blocks that hold their
-//! bytes.
-//! The rules stand in `docs/formats.md`, "The other blocks", the second paragraph.
+//! The files of a package that have contents: the walk over them, and the blocks with their bytes.
+//! The rules are in `docs/formats.md`, "The other blocks", the second paragraph.
 
 ghost use Rattle.std.specs.Prelude.{◌≡◌, ◌&&◌, ◌+◌, ◌-◌, ◌<◌, ◌≤◌, ◌^◌, drop, length, ◌==◌, [], Some, IfOk, option_map};
 ghost use Rattle.std.specs.Result.{result_err};
@@ -17,9 +16,9 @@ use adb_block::{BlockKind, Blocks};
 use adb_schema::{DirInfo, FileInfo, List, PackageView, file_pair};
 use base_core::Cause;
 
-/// Where a walk over the files of a package that have contents stands: behind so many folders, and
-/// behind so many files of the next one. Contracts see the files that are left, by `left_in` of
-/// `specs/`.
+/// A walk over the files of a package that have contents: its position, after this many folders,
+/// and after this many files of the next one. Contracts see the files that are left, by `left_in`
+/// of `specs/`.
 #[derive(Clone, Copy)]
 pub struct Walk<'a> {
     /// All folders of the package.
@@ -30,8 +29,8 @@ pub struct Walk<'a> {
     file: usize,
 }
 
-/// A file whose contents are due: the positions of its folder and of itself in it, which count from
-/// 1, its size in bytes, and its digest.
+/// A file whose contents are expected: the positions of its folder and of itself in it, which count
+/// from 1, its size in bytes, and its digest.
 #[derive(Clone, Copy)]
 pub struct Wanted<'a> {
     /// The position of its folder in the package.
@@ -40,7 +39,7 @@ pub struct Wanted<'a> {
     pub file: u32,
     /// Its size in bytes.
     pub size: u64,
-    /// The digest that its bytes are to have.
+    /// The digest that its bytes must have.
     pub hash: &'a [u8],
 }
 
@@ -60,7 +59,7 @@ impl<'a> Walk<'a> {
         }
     }
 
-    /// Goes on to the next file that has contents, or None behind the last.
+    /// Goes on to the next file that has contents, or None after the last.
     pub fn next(&mut self) -> Option<Wanted<'a>>
         ensures { TakesFirst (left_in self.old) result (left_in self.new) }
     {
@@ -77,7 +76,7 @@ impl<'a> Walk<'a> {
         None
     }
 
-    /// Goes on to the next file of the folder that has contents, or None behind the folder's last.
+    /// Goes on to the next file of the folder that has contents, or None after the folder's last.
     fn next_in(&mut self, files: List<'a, FileInfo<'a>>) -> Option<Wanted<'a>>
         // Positions have 32 bits.
         requires { self.old.folder + 1 < 2 ^ 32 }
@@ -104,8 +103,8 @@ impl<'a> Walk<'a> {
     }
 }
 
-/// The file of a package with these positions, where it has contents: at once, however many there
-/// are. None comes exactly where there is no such file, or it has no contents.
+/// The file of a package with these positions, if it has contents, in constant time. None if and
+/// only if there is no such file, or it has no contents.
 pub fn wanted_file<'a>(view: &PackageView<'a>, folder: u32, file: u32) -> Option<Wanted<'a>>
     ensures { option_map expected_of result ≡ expected_with_positions folder file
         (expected_contents (package_value view.now)) }
@@ -113,8 +112,8 @@ pub fn wanted_file<'a>(view: &PackageView<'a>, folder: u32, file: u32) -> Option
     wanted_in_folder(view.paths(), folder, file)
 }
 
-/// The file with this position in the folder with that one, where it has contents; None where there
-/// is no such file. Positions count from 1.
+/// The file at this position of the folder at that position, if it has contents; None if there is
+/// no such file. Positions count from 1.
 fn wanted_in_folder<'a>(
     folders: List<'a, DirInfo<'a>>,
     folder: u32,
@@ -133,8 +132,8 @@ fn wanted_in_folder<'a>(
     wanted_in(folders.get(i).files(), folder, file)
 }
 
-/// The file with this position among those of a folder, where it has contents; None where there is
-/// no such file. Positions count from 1.
+/// The file at this position of a folder, if it has contents; None if there is no such file.
+/// Positions count from 1.
 fn wanted_in<'a>(files: List<'a, FileInfo<'a>>, folder: u32, file: u32) -> Option<Wanted<'a>>
     ensures { option_map expected_of result ≡ expected_with_positions folder file
         (expected_files folder 1 (list_of (entries_in (list_value files.entry)))) }
@@ -165,12 +164,12 @@ fn has_contents(file: &FileInfo<'_>) -> bool
     file.target().is_empty() && file.size() > 0
 }
 
-/// The bytes in front of a file's own in its contents: the positions of its folder and of itself,
-/// four bytes each.
+/// The length of the positions in front of a file's bytes in its contents: those of its folder and
+/// of itself, four bytes each.
 pub const POSITIONS_LEN: usize = 8;
 
 /// The contents of a file, with the positions of its folder (`path`) and of itself in it, which
-/// count from 1. The bytes are lent.
+/// count from 1. The bytes are borrowed.
 #[derive(Clone, Copy)]
 pub struct FileContents<'a> {
     /// The position of its folder in the package.
@@ -191,7 +190,7 @@ pub(crate) struct Rest<'a> {
 impl<'a> Rest<'a> {
     ghost use Rattle.pkg_core.specs.Opened.{files_left, ReadsNext};
 
-    /// Reads on to the next contents, and tests them; None behind the last block.
+    /// Reads on to the next contents, and tests them; None after the last block.
     #[tactic(auto, unfolding(crate::specs::Contents::files_by_blocks))]
     pub(crate) fn next(&mut self) -> Result<Option<FileContents<'a>>, Cause>
         ensures { ReadsNext (files_left self.old) result (files_left self.new) }
@@ -212,7 +211,7 @@ impl<'a> Rest<'a> {
 impl<'a> Walk<'a> {
     ghost use Rattle.pkg_core.specs.Opened.{left_in, GivesContents};
 
-    /// Ends the walk where the blocks end: no file may be left then.
+    /// Ends the walk at the end of the blocks; then no file may be left.
     pub fn end(&mut self) -> Result<(), Cause>
         ensures exact { result_err result ≡ missing_fault (left_in self.old) }
         ensures end { IfOk result (λ _. left_in self.new ≡ []) }
@@ -226,7 +225,7 @@ impl<'a> Walk<'a> {
         }
     }
 
-    /// Tests a block of contents against the next file, and gives them.
+    /// Tests a block of contents against the next file, and returns them.
     pub(crate) fn give(&mut self, payload: &'a [u8], at: u64) -> Result<FileContents<'a>, Cause>
         ensures { GivesContents payload.entry.now at (left_in self.old) result (left_in self.new) }
     {

@@ -26,7 +26,7 @@ pub struct ToldChange {
     pub purge: bool,
 }
 
-/// Adds the plan of a change. The database after it goes out; no bytes where there is none.
+/// Adds the plan of a change. The database after it goes out; no bytes if there is none.
 pub(crate) fn add_plan(
     alloc: Global,
     tree: &mut MemoryTree,

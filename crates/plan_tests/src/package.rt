@@ -56,7 +56,7 @@ pub(crate) fn database_file(alloc: Global, rows: &[Words]) -> Result<Vec<u8>, Al
     container(alloc, writer, root, IDB_WORD)
 }
 
-/// The container of a root; one too large for a container counts as want of memory.
+/// The container of a root; one too large for a container counts as lack of memory.
 fn container(alloc: Global, writer: Writer, root: Val, schema: u32) -> Result<Vec<u8>, AllocError> {
     let Ok(payload) = writer.finish(root) else {
         return Err(AllocError);
@@ -82,7 +82,7 @@ fn write_package(alloc: Global, writer: &mut Writer, row: &Words) -> Result<Val,
     writer.obj(&fields)
 }
 
-/// The number that a word is; 0 where it is none.
+/// The number that a word is; 0 if it is none.
 fn number_in(word: &[u8]) -> u64 {
     u64::try_from(number_of(word).unwrap_or(0)).unwrap_or(0)
 }

@@ -1,6 +1,6 @@
--- A package's information by the names of its fields.
--- The fields and their names stand in `docs/formats.md`, "Schemas", table 3. Serves the law
--- `a_candidate_is_read_by_field_names`, by which no number of a field has to be trusted.
+-- A package's information by the names of its fields. The fields and their names are in
+-- `docs/formats.md`, "Schemas", table 3. Serves the law `a_candidate_is_read_by_field_names`, so that
+-- no number of a field has to be trusted.
 use Rattle.std.specs.Prelude.{ℕ, List, [], ◌∷◌, if◌then◌else◌}
 use Rattle.std.specs.Str.{bytes_eq}
 use Rattle.adb_view.specs.Plain.{Plain, null, Plains, none, more}
@@ -9,7 +9,7 @@ use Rattle.adb_view.specs.Values.{entries_in}
 use Rattle.adb_view.specs.declared.tables.Kind.{Kind}
 use Rattle.adb_view.specs.declared.tables.Which.TheVariants.{PkgInfo}
 
--- of values in the order of a table's fields, the value at the field of a name; Null where there is
+-- the value of the field with a name, among values in the order of a table's fields; Null if there is
 -- none
 abbrev pub value_under_name : List ℕ → List (List ℕ × Kind) → Plains → Plain
 value_under_name name [] values = null

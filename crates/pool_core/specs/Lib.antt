@@ -1,4 +1,4 @@
--- what only contracts and proofs use
+-- used by contracts and proofs only
 pub mod FieldNames
 pub mod World
 pub mod Marks

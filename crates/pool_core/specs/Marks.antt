@@ -1,7 +1,7 @@
--- Marks of candidates, one for each, and what entries of world do to candidates.
--- The rules stand in `docs/selection.md`: "What there is to choose from" (*barred*), and "Which
--- selection is taken", key 1 of the table (pinned). Serves the contracts of `src/marks.rt`, which
--- marks by one entry of world after the other what *is_barred_by* and *is_pinned* say of all.
+-- Marks of candidates, one for each, and the effects of entries of world on candidates. The rules are
+-- in `docs/selection.md`: "What there is to choose from" (*barred*), and "Which selection is taken",
+-- key 1 of the table (pinned). Serves the contracts of `src/marks.rt`, which sets marks by one entry of
+-- world after another. *is_barred_by* and *is_pinned* are about all entries.
 use Rattle.std.specs.Prelude.{ℕ, zero, suc, Bool, false, ◌&&◌, ◌||◌, List, [], ◌∷◌}
 use Rattle.std.specs.Option.{option_map_or}
 use Rattle.std.specs.List.{list_any}
@@ -11,8 +11,8 @@ use Rattle.pool_core.specs.declared.marks.Effect.{Effect}
 use Rattle.pool_core.specs.declared.marks.Effect.TheVariants.{Bar, Pin}
 use Rattle.candidate_core.specs.Candidates.{Candidate, meets_dependency}
 
--- whether an entry of world has an effect on a candidate: a conflict bars what meets it; an entry
--- with a tag pins the candidate of its name that is of that tag
+-- whether an entry of world has an effect on a candidate: a conflict bars the candidates that meet it;
+-- an entry with a tag pins the candidates of its name with that tag
 abbrev pub affects : Effect → Dependency → Candidate → Bool
 affects Bar d c = d.conflict && meets_dependency d c
 affects Pin d c =
@@ -23,14 +23,14 @@ affects Pin d c =
 abbrev pub is_affected : Effect → List Dependency → Candidate → Bool
 is_affected effect entries c = list_any (λ (d : Dependency). affects effect d c) entries
 
--- the marks, where those of the candidates that pass a test are set too; one mark stands for each
+-- the marks, with those of the candidates that pass a test set too; there is one mark for each
 -- candidate
 abbrev pub marks_with : (Candidate → Bool) → List Bool → List Candidate → List Bool
 marks_with test [] cs = []
 marks_with test (m ∷ ms) [] = m ∷ ms
 marks_with test (m ∷ ms) (c ∷ cs) = (m || test c) ∷ marks_with test ms cs
 
--- the marks, where that of the candidate at a place is set too if it passes a test
+-- the marks, with that of the candidate at a place set too if it passes a test
 abbrev pub mark_at : (Candidate → Bool) → ℕ → List Bool → List Candidate → List Bool
 mark_at test place [] cs = []
 mark_at test place (m ∷ ms) [] = m ∷ ms

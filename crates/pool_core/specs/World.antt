@@ -1,6 +1,6 @@
--- The entries of world, parted by what they do.
--- The rule stands in `docs/selection.md`, "What there is to choose from" (conflicts bar, tags allow).
--- Serves the contracts of `src/world_marks.rt`, which reads world once.
+-- The entries of world by their kinds. The rule is in `docs/selection.md`, "What there is to choose
+-- from" (conflicts bar, tags allow). Serves the contracts of `src/world_marks.rt`, which reads world
+-- once.
 use Rattle.std.specs.Prelude.{Bool, is_some, List}
 use Rattle.std.specs.List.{filter}
 use Rattle.dep_core.specs.Dependency.{Dependency}

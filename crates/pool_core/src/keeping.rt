@@ -1,7 +1,6 @@
-//! Which candidates are installed and stay before others in rank: those whose names the command
-//! does not upgrade. The names that it upgrades are put into order once, and each candidate is
-//! marked.
-//! The rule stands in `docs/selection.md`, "Which selection is taken", key 4 of the table.
+//! Which candidates are preferred in rank because they are installed and kept: those whose names
+//! the command does not upgrade. The names that it upgrades are sorted once, and each candidate is
+//! marked. The rule is in `docs/selection.md`, "Which selection is taken", key 4 of the table.
 ghost use Rattle.std.specs.Prelude.{◌≡◌, ◌&&◌, map, not, IfOk};
 ghost use Rattle.candidate_core.specs.Packages.{candidates_of_packages};
 ghost use Rattle.candidate_core.specs.Rank.{is_kept_installed, listed_names};
@@ -29,7 +28,7 @@ pub(crate) fn kept_marks(
     }
 }
 
-// The marks where the command upgrades every name (`is_upgraded`), or none.
+// The marks if the command upgrades every name (`is_upgraded`), or none.
 fn marks_with_all(
     alloc: Global,
     packages: &Packages<'_>,
@@ -45,7 +44,7 @@ fn marks_with_all(
     Ok(marks)
 }
 
-// The marks where the command upgrades the names of a list, in any order.
+// The marks if the command upgrades the names of a list, in any order.
 fn marks_with_listed(
     alloc: Global,
     packages: &Packages<'_>,
@@ -59,8 +58,8 @@ fn marks_with_listed(
     Ok(marks)
 }
 
-// The marks where the names that the command upgrades are in byte order, so that the name of each
-// candidate is looked up by halving.
+// The marks if the upgraded names are in byte order, so that the name of each candidate is found by
+// bisection.
 fn marks_with_sorted(
     alloc: Global,
     packages: &Packages<'_>,
@@ -76,7 +75,7 @@ fn marks_with_sorted(
     Ok(marks)
 }
 
-// Whether a candidate is installed, and its name is none of those that are upgraded.
+// Whether a candidate is installed, and its name is not upgraded.
 fn is_kept_beside(one: &Details<'_>, names: &SortedWords<'_>) -> bool
     ensures { result ≡ is_kept_installed (listed_names names.now) one.now }
 {

@@ -1,8 +1,7 @@
-//! What the definitions of candidates, ranks and options keep, each as the contract of a function
-//! that does nothing.
-//! The rules stand in `docs/selection.md`: "Which selection is taken" (the rank), and "What there
-//! is to choose from" (options, offers, and which package is the installed one). The fields of a
-//! candidate stand in `docs/formats.md`, "Schemas", table 3.
+//! Theorems about candidates, ranks and options, each proved as the contract of an empty function.
+//! The rules are in `docs/selection.md`: "Which selection is taken" (the rank), and "What there is
+//! to choose from" (options, offers, and which package is the installed one). The fields of a
+//! candidate are in `docs/formats.md`, "Schemas", table 3.
 ghost use Rattle.std.specs.Prelude.{◌≡◌, ◌<◌, Bool, true, false, ℕ, List, [], ◌∷◌, ◌++◌, length, Option, Some, slice_get, codes, if◌then◌else◌};
 ghost use Rattle.std.specs.Cmp.{IsTotalOrder};
 ghost use Rattle.std.specs.declared.cmp.Ordering.TheVariants.{Equal};
@@ -17,7 +16,7 @@ ghost use Rattle.candidate_core.specs.Options.{AreRising, IsBestFirst, IsIn, opt
 use version_core::order_is_total;
 
 /// The rank of a need is a strict total order on places: it is total and transitive, and no two
-/// places have one rank.
+/// places have the same rank.
 pub fn rank_is_total()
     ensures total { (pool : SealedPool) (need : Need) → IsTotalOrder (rank_cmp pool need) }
     ensures strict { (pool : SealedPool) (need : Need) (a b : ℕ) →
@@ -27,7 +26,7 @@ pub fn rank_is_total()
 }
 
 /// The options of a need are exactly the candidates that may be selected and meet it, each better
-/// than those behind it.
+/// than those after it.
 pub fn options_are_the_best_first()
     ensures those { (pool : SealedPool) (need : Need) (c : ℕ) → IsIn c (options_for pool need) →
         (is_eligible_at pool c ≡ true) × (meets_at pool c need ≡ true) }
@@ -50,15 +49,14 @@ pub fn offers_are_the_places()
         AreRising (places_offering name pool.candidates) }
 {}
 
-/// The offers of a need's name hold each candidate that meets the need.
+/// The offers of a need's name include each candidate that meets the need.
 pub fn offers_hold_what_meets()
     ensures { (pool : SealedPool) (need : Need) (c : ℕ) → meets_at pool c need ≡ true →
         IsIn c (places_offering (need_name need) pool.candidates) }
 {}
 
-/// Each part of a candidate is the value of the field of its name, as the names stand in
-/// `docs/formats.md`, "Schemas", table 3. So a definition that
-/// took the number of another field would break this law.
+/// Each part of a candidate is the value of the field with its name in `docs/formats.md`,
+/// "Schemas", table 3. A definition with the number of another field would break this law.
 pub fn a_candidate_is_read_by_field_names()
     ensures { (info : Plain) (repository : Option ℕ) (tag : Option (List ℕ)) (installed : Bool) →
         candidate_of info repository tag installed
@@ -71,8 +69,8 @@ pub fn a_candidate_is_read_by_field_names()
         (int_in (info_under_name (codes "provider-priority") info)) repository tag installed }
 {}
 
-/// An installed package is known in an index by its name, by the text of its version, and by its
-/// id, of which an index may keep a front alone. Without an id it is known in none.
+/// An installed package is recognized in an index by its name, by the text of its version, and by
+/// its id, of which an index may store only a front. Without an id it is recognized in none.
 pub fn an_installed_package_is_known_by_text_and_id()
     // The names of the two are the same.
     ensures name { (installed c : Candidate) → is_same_package installed c ≡ true →
@@ -92,9 +90,9 @@ pub fn an_installed_package_is_known_by_text_and_id()
     ensures front { (id rest : List ℕ) → 0 < length id → is_same_id id (id ++ rest) ≡ true }
 {}
 
-/// An installed package adds a candidate only where no index has it: then it stands last, and else
-/// the list keeps its length. Each place keeps its candidate, which counts as installed where it is
-/// the installed package.
+/// An installed package adds a candidate only if no index has it: then it is the last one, and else
+/// the length of the list is unchanged. Each place keeps its candidate, which is marked as
+/// installed if it is the installed package.
 pub fn installed_candidates_count_once()
     ensures once { (candidates : List Candidate) (installed : Candidate) →
         list_any (is_same_package installed) candidates ≡ true →

@@ -1,10 +1,9 @@
-//! The packages that a selection is made of: the candidates of indexes and of the database, the
-//! table of the names that they offer, and the options of a need in rank order. Views of indexes
-//! come in and stay borrowed; places in the list of candidates go out. The contracts cite `specs` of
-//! `candidate_core`: `Candidates` (the list, and what each candidate meets), `Rank` (the eleven
-//! keys) and `Options`.
-//! The rules stand in `docs/selection.md`, "What there is to choose from", and "Which selection is
-//! taken" (the table of keys, and why).
+//! The pool of the solver: the candidates of indexes and of the database, the table of the names
+//! that they offer, and the options of a need in rank order. Views of indexes are borrowed;
+//! candidates are returned as places in the list. The contracts cite `Candidates` (the list, and
+//! what each candidate meets), `Rank` (the eleven keys) and `Options` of `specs` of
+//! `candidate_core`. The rules are in `docs/selection.md`, "What there is to choose from", and
+//! "Which selection is taken" (the table of keys, and why).
 #![tactic(auto)]
 
 mod keeping;

@@ -1,8 +1,8 @@
-//! What world says of each candidate: whether it may be selected, and whether world pins it. An
-//! entry is tried only on the candidates that offer its name, so all marks take time in proportion
-//! to the candidates, the entries and the offers of their names.
-//! The rules stand in `docs/selection.md`: "What there is to choose from" (*allowed* and *barred*),
-//! and "Which selection is taken", key 1 of the table (what is pinned).
+//! The marks of candidates by world: whether each may be selected, and whether world pins it. An
+//! entry is tried only on the candidates that offer its name, so all marks take time linear in the
+//! candidates, the entries and the offers of their names. The rules are in `docs/selection.md`:
+//! "What there is to choose from" (*allowed* and *barred*), and "Which selection is taken", key 1
+//! of the table (pinned candidates).
 ghost use Rattle.std.specs.Prelude.{◌≡◌, ◌<◌, ◌&&◌, false, length, map, not, IfOk, OnOk, Some, slice_get};
 ghost use Rattle.std.specs.Option.{option_map_or};
 ghost use Rattle.std.specs.List.{list_any};
@@ -21,7 +21,7 @@ use candidate_core::{CandId, Details, KnownMatches, NeedRef, Packages, Table, is
 use dep_core::Dep;
 use std::alloc::{AllocError, Global};
 
-/// What an entry of world does to a candidate.
+/// The effect of an entry of world on a candidate.
 #[derive(Clone, Copy)]
 pub(crate) enum Effect {
     /// The entry bars the candidate: no selection has it.
@@ -31,7 +31,7 @@ pub(crate) enum Effect {
 }
 
 /// For each candidate, whether it may be selected. `tagged` are the entries of world that have a
-/// tag, and `conflicts` those that are conflicts; the others bear on neither.
+/// tag, and `conflicts` those that are conflicts; the others affect neither.
 pub(crate) fn eligible_marks(
     alloc: Global,
     packages: &Packages<'_>,
@@ -75,8 +75,8 @@ pub(crate) fn pinned_marks(
     Ok(marks)
 }
 
-// For each candidate, whether it is not allowed: it is not installed, and of a repository whose tag
-// world does not use.
+// For each candidate, whether it is not allowed: it is not installed, and from a repository whose
+// tag world does not use.
 fn disallowed_marks(
     alloc: Global,
     packages: &Packages<'_>,
@@ -105,7 +105,7 @@ fn no_marks(alloc: Global, packages: &Packages<'_>) -> Result<Vec<bool>, AllocEr
     Ok(marks)
 }
 
-// The opposite marks: one is set where its fellow is not.
+// The opposite of each mark.
 fn opposite_marks(alloc: Global, marks: &[bool]) -> Result<Vec<bool>, AllocError>
     ensures { IfOk result (λ others. others.items ≡ map not marks.now) }
 {
@@ -113,7 +113,7 @@ fn opposite_marks(alloc: Global, marks: &[bool]) -> Result<Vec<bool>, AllocError
 }
 
 // Sets the mark of each candidate on which one of some entries of world has an effect. Other marks
-// stay.
+// are unchanged.
 fn mark_affected(
     alloc: Global,
     marks: &mut Vec<bool>,
@@ -135,8 +135,8 @@ fn mark_affected(
 }
 
 // Sets the mark of each candidate on which an entry of world has an effect. `ids` are the places of
-// those that offer the entry's name: it has none on the others. A long version that many candidates
-// share is compared once with the entry's.
+// those that offer the entry's name: it has no effect on the others. A long version that many
+// candidates share is compared once with the entry's.
 fn mark_among(
     alloc: Global,
     marks: &mut Vec<bool>,
@@ -158,8 +158,8 @@ fn mark_among(
     Ok(())
 }
 
-// Sets the mark of the candidate at a place if the entry has this effect on the candidate. What is
-// learnt of long versions is kept.
+// Sets the mark of the candidate at a place if the entry has this effect on it. Results for long
+// versions are remembered.
 fn mark_one(
     marks: &mut Vec<bool>,
     packages: &Packages<'_>,
@@ -188,7 +188,7 @@ fn mark_one(
     Ok(())
 }
 
-// Whether an entry of world has this effect on a candidate, which stands at a place.
+// Whether an entry of world has this effect on a candidate, which is at a place.
 fn affects(
     effect: Effect,
     entry: &Dep<'_>,
@@ -212,8 +212,8 @@ fn affects(
     }
 }
 
-// Whether an entry of world bars a candidate, which stands at a place: the entry is a conflict, and
-// the candidate meets it.
+// Whether an entry of world bars the candidate at a place: the entry is a conflict, and the
+// candidate meets it.
 fn bars(
     entry: &Dep<'_>,
     one: &Details<'_>,
@@ -260,8 +260,8 @@ fn has_tag(dep: &Dep<'_>, tag: &[u8]) -> bool
     }
 }
 
-// Whether a candidate is allowed: installed, or of a repository without tag, or of one whose tag
-// one of the tagged entries of world has.
+// Whether a candidate is allowed: installed, or from a repository without tag, or from one whose
+// tag one of the tagged entries of world has.
 fn is_allowed(one: &Details<'_>, tagged: &[Dep<'_>]) -> bool
     ensures { result ≡ is_allowed (map dependency tagged.now) one.now }
 {
@@ -285,8 +285,8 @@ fn uses_tag(tagged: &[Dep<'_>], tag: &[u8]) -> bool
     any_has_tag(tagged, tag)
 }
 
-// Whether one of some entries has this tag; the clause speaks of the entries as the program has
-// them.
+// Whether one of some entries has this tag; the clause is about the entries as values of the
+// program.
 fn any_has_tag(tagged: &[Dep<'_>], tag: &[u8]) -> bool
     ensures { result ≡ list_any
         (λ dep. option_map_or (bytes_eq tag.now) (dependency dep).tag false) tagged.now }

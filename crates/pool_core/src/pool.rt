@@ -1,5 +1,5 @@
-//! A pool in the making: the candidates of indexes and of the database, until they are sealed.
-//! The rules stand in `docs/selection.md`, "What there is to choose from".
+//! A pool under construction: the candidates of indexes and of the database, until they are sealed.
+//! The rules are in `docs/selection.md`, "What there is to choose from".
 ghost use Rattle.std.specs.Prelude.{◌≡◌, ◌≤◌, ◌<◌, ◌+◌, [], ◌++◌, length, true, None, Some, IfOk, OnOk, OnErr, IfErr, option_copied};
 ghost use Rattle.adb_schema.specs.Views.{index_value, info_value};
 ghost use Rattle.adb_view.specs.Values.{count_of, entries_in, entry_in};
@@ -19,14 +19,14 @@ use dep_core::World;
 use std::alloc::{AllocError, Global};
 use std::marker::Model;
 
-/// Candidates in the making. Add all indexes before the first installed package: one that is added
-/// behind it stands behind it in the list, and its packages do not count as installed. After a
-/// refusal the pool is empty.
+/// Candidates under construction. Add all indexes before the first installed package: the packages
+/// of a later index come after it in the list, and are not marked as installed. After an error the
+/// pool is empty.
 #[derive(Drop)]
 pub struct Pool<'a> {
-    /// What memory comes from.
+    /// The allocator.
     alloc: Global,
-    /// The candidates so far; none before the first one is added, and after a refusal.
+    /// The candidates so far; None before the first one is added, and after an error.
     list: Option<CandidateList<'a>>,
 }
 
@@ -55,7 +55,7 @@ impl<'a> Pool<'a> {
         Pool { alloc, list: None }
     }
 
-    // The candidates so far, taken out.
+    // The candidates so far, taken out of the pool.
     fn take_list(&mut self) -> CandidateList<'a>
         ensures list { IsCandidateList result }
         ensures taken { candidates_of_packages result.packages ≡ self.old }
@@ -67,7 +67,7 @@ impl<'a> Pool<'a> {
         }
     }
 
-    // Keeps the candidates where all of `added` went well, and else drops them; answers `added`.
+    // Puts the candidates back if `added` succeeded, and else drops them; returns `added`.
     fn keep(
         &mut self,
         list: CandidateList<'a>,
@@ -88,10 +88,10 @@ impl<'a> Pool<'a> {
         }
     }
 
-    /// Adds the packages of a repository's index behind the others; repositories count from 1.
-    /// TooMany comes only where the list would pass its limit, and Ok only where it does not; want
-    /// of memory may stand for either. In the clauses, 1 is the index of `packages` among the
-    /// fields of an index, counted from 0 (2 in table 8 of `docs/formats.md`, "Schemas").
+    /// Appends the packages of a repository's index; repositories count from 1. TooMany is returned
+    /// only if the list would exceed its limit, and Ok only if it would not; out of memory is
+    /// possible in both cases. In the clauses, 1 is the index of `packages` among the fields of an
+    /// index, counted from 0 (2 in table 8 of `docs/formats.md`, "Schemas").
     pub fn add_index(
         &mut self,
         index: IndexView<'a>,
@@ -121,9 +121,9 @@ impl<'a> Pool<'a> {
         self.keep(list, added)
     }
 
-    /// Adds an installed package, or lets the candidates that are the same package count as
-    /// installed. It is of no repository and has no tag. TooMany comes only where the list would
-    /// pass its limit, and Ok only where it does not; want of memory may stand for either.
+    /// Adds an installed package, or marks the candidates that are the same package as installed.
+    /// It is from no repository and has no tag. TooMany is returned only if the list would exceed
+    /// its limit, and Ok only if it would not; out of memory is possible in both cases.
     pub fn add_installed(&mut self, info: PkgInfo<'a>) -> Result<(), PoolFault>
         ensures ok { OnOk result (self.new
             ≡ with_installed self.old (candidate_of (info_value info.entry) None None true)) }

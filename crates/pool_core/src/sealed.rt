@@ -1,8 +1,7 @@
-//! The candidates under a world: which of them may be selected, which offer a name, and the options
-//! of a need, best first.
-//! The rules stand in `docs/selection.md`: "What there is to choose from" (which candidates may be
-//! selected, and what meets a dependency), "What satisfies world", 4 (install-if), and "Which
-//! selection is taken" (the rank of options).
+//! The candidates with a world: which of them may be selected, which offer a name, and the options
+//! of a need, best first. The rules are in `docs/selection.md`: "What there is to choose from"
+//! (which candidates may be selected, and what meets a dependency), "What satisfies world", 4
+//! (install-if), and "Which selection is taken" (the rank of options).
 ghost use Rattle.std.specs.Prelude.{◌≡◌, ◌<◌, ◌==◌, ◌++◌, ◌∷◌, [], map, length, slice_get, All, Some, IfOk, OnOk, filter, not, if◌then◌else◌, false};
 ghost use Rattle.dep_core.specs.Meets.{dependency};
 ghost use Rattle.candidate_core.specs.Candidates.{has_usable_install_if, is_eligible};
@@ -30,8 +29,8 @@ use std::alloc::{AllocError, Global};
 use std::marker::Model;
 use version_core::order_is_total;
 
-/// The candidates under a world. What is asked of each candidate again and again is marked once. A
-/// list of marks has one for each candidate, in the order of the list.
+/// The candidates with a world. Properties of candidates that are needed often are computed once,
+/// as marks. A list of marks has one for each candidate, in the order of the list.
 #[derive(Drop)]
 pub struct Sealed<'a> {
     /// The packages that the candidates are.
@@ -48,7 +47,7 @@ pub struct Sealed<'a> {
     pinned: Vec<bool>,
     /// Whether each candidate is installed and the command does not upgrade its name.
     kept: Vec<bool>,
-    /// The places of the candidates whose install-if can come to apply, in rising order.
+    /// The places of the candidates whose install-if can apply, in rising order.
     install_ifs: Vec<CandId>,
 }
 
@@ -95,7 +94,7 @@ impl<'a> Sealed<'a> {
         self.packages.len() == 0
     }
 
-    /// A candidate, with all that its index, or the database, says of it.
+    /// A candidate, with all of its information in its index, or in the database.
     pub fn candidate(&self, id: CandId) -> Candidate<'a>
         requires { id < length self.now.candidates }
         ensures { slice_get self.now.candidates id ≡ Some (candidate_value result) }
@@ -103,7 +102,7 @@ impl<'a> Sealed<'a> {
         self.details(id).candidate()
     }
 
-    /// What is compared of the candidate at a place.
+    /// The details of the candidate at a place.
     pub fn details(&self, id: CandId) -> Details<'a>
         requires { id < length self.now.candidates }
         ensures { slice_get self.now.candidates id ≡ Some result }
@@ -111,7 +110,7 @@ impl<'a> Sealed<'a> {
         self.packages.get(id.place as usize)
     }
 
-    /// What is compared of the candidate at a place, if there is one.
+    /// The details of the candidate at a place, if there is one.
     pub fn at(&self, id: CandId) -> Option<Details<'a>>
         ensures { result ≡ candidate_at self.now id }
     {
@@ -129,15 +128,15 @@ impl<'a> Sealed<'a> {
         &self.packages
     }
 
-    /// The places of the candidates that are named so or have an entry of provides of that name
-    /// without conflict bit, in rising order and each once.
+    /// The places of the candidates that have the name or an entry of provides of that name without
+    /// conflict bit, in rising order and each once.
     pub fn offers(&self, name: &[u8]) -> &[CandId]
         ensures { result.now ≡ places_offering name.now self.now.candidates }
     {
         self.table.get(name)
     }
 
-    /// The places of the candidates whose install-if can come to apply, in rising order.
+    /// The places of the candidates whose install-if can apply, in rising order.
     pub fn install_ifs(&self) -> &[CandId]
         ensures { result.now
             ≡ places_from 0 (has_usable_install_if self.now.world) self.now.candidates }
@@ -145,8 +144,8 @@ impl<'a> Sealed<'a> {
         self.install_ifs.as_slice()
     }
 
-    /// The candidates that may be selected and meet the need, best first. It takes time in
-    /// proportion to k log k in the k candidates that offer the need's name.
+    /// The candidates that may be selected and meet the need, best first. For k candidates that
+    /// offer the need's name, it takes time linear in k log k.
     pub fn options(&self, alloc: Global, need: &Need<'_>) -> Result<Options, AllocError>
         ensures { IfOk result (λ options. options ≡ options_for self.now (need_of need.now)) }
     {
@@ -164,8 +163,8 @@ impl<'a> Sealed<'a> {
         self.options_among(alloc, need, &self.packages)
     }
 
-    // The options of a need. `packages` are the pool's own: the proof reads the texts of all
-    // versions from one value of them.
+    // The options of a need. `packages` are those of the pool: the proof needs that the texts of
+    // all versions are read from one value.
     fn options_among(
         &self,
         alloc: Global,
@@ -184,8 +183,8 @@ impl<'a> Sealed<'a> {
         self.ranked(alloc, need, &ids, packages, &known)
     }
 
-    // The options of a need, which have these places, best first. What each is ranked by is read
-    // once, and a long text of a version is compared once for all options that share it.
+    // The options of a need at these places, best first. The keys of each are read once, and a long
+    // text of a version is compared once for all options that share it.
     fn ranked(
         &self,
         alloc: Global,
@@ -210,7 +209,7 @@ impl<'a> Sealed<'a> {
         Ok(Options::of(ids))
     }
 
-    // What each of some candidates is ranked by.
+    // The keys of some candidates.
     fn rankings(
         &self,
         alloc: Global,
@@ -237,8 +236,7 @@ impl<'a> Sealed<'a> {
         Ok(rankings)
     }
 
-    // What the candidate at a place is ranked by. Its two versions have rank 0 until all are
-    // ranked.
+    // The keys of the candidate at a place. Its two versions have rank 0 until all are ranked.
     fn ranking(
         &self,
         need: &NeedRef<'_>,
@@ -270,8 +268,8 @@ impl<'a> Sealed<'a> {
         }
     }
 
-    // The places of the candidates that may be selected and meet a need, in rising order. What is
-    // learnt of long versions is kept.
+    // The places of the candidates that may be selected and meet a need, in rising order. Results
+    // for long versions are remembered.
     fn fitting(
         &self,
         alloc: Global,
@@ -292,7 +290,7 @@ impl<'a> Sealed<'a> {
         Ok(ids)
     }
 
-    // Those of some places that may be selected and meet a need.
+    // Those of some places whose candidates may be selected and meet a need.
     fn fitting_among(
         &self,
         alloc: Global,
@@ -370,7 +368,7 @@ impl<'a> Sealed<'a> {
     }
 }
 
-// Adds a place where its candidate fits.
+// Adds a place if its candidate fits.
 fn push_if_fitting(ids: &mut Vec<CandId>, id: CandId, fits: bool) -> Result<(), AllocError>
     ensures { OnOk result
         (ids.new.items ≡ ids.old.items ++ (if fits then id ∷ [] else [])) }

@@ -1,6 +1,6 @@
-//! Words in byte order, in which a word is found by halving.
-//! No document has a rule for them: the contract is that of `SortedWords::of` and `has`, as the
-//! README of this crate says. `keeping` looks up the names that a command upgrades.
+//! Words in byte order, among which a word is found by bisection. No document has a rule for them:
+//! the contracts are those of `SortedWords::of` and `has`, as the README of this crate says.
+//! `keeping` looks up the names that a command upgrades.
 ghost use Rattle.std.specs.Prelude.{◌≡◌, map, IfOk};
 ghost use Rattle.std.specs.List.{list_any};
 ghost use Rattle.std.specs.List.Sorted.{IsPermutation};
@@ -13,7 +13,7 @@ use std::marker::Model;
 /// The words of a list, in byte order.
 #[derive(Drop)]
 pub struct SortedWords<'a> {
-    /// The words, which stay borrowed.
+    /// The words, which are borrowed.
     words: Vec<&'a [u8]>,
 }
 
@@ -40,7 +40,7 @@ impl<'a> SortedWords<'a> {
         Ok(SortedWords { words: sorted })
     }
 
-    /// Whether a word is one of the list, in time in proportion to log n for n words.
+    /// Whether a word is one of the list, in time linear in log n for n words.
     pub fn has(&self, word: &[u8]) -> bool
         ensures { result ≡ list_any (bytes_eq word.now) self.now }
     {

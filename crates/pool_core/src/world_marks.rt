@@ -1,7 +1,7 @@
-//! What world says of each candidate: whether it may be selected, whether world pins its name to
-//! its tag, and which install-if can come to apply.
-//! The rules stand in `docs/selection.md`: "What there is to choose from" (which candidates may be
-//! selected), "What satisfies world", 4 (install-if), and "Which selection is taken", key 1 (pins).
+//! The effect of world on each candidate: whether it may be selected, whether world pins its name
+//! to its tag, and which install-if can apply. The rules are in `docs/selection.md`: "What there is
+//! to choose from" (which candidates may be selected), "What satisfies world", 4 (install-if), and
+//! "Which selection is taken", key 1 (pins).
 ghost use Rattle.std.specs.Prelude.{◌≡◌, ◌<◌, ◌^◌, ◌++◌, ◌∷◌, [], map, length, IfOk, OnOk, ◌&&◌, not, if◌then◌else◌};
 ghost use Rattle.dep_core.specs.Meets.{dependency};
 ghost use Rattle.candidate_core.specs.Candidates.{has_usable_install_if, is_eligible};
@@ -17,27 +17,27 @@ use candidate_core::{CandId, CandidateList, Details, Packages};
 use dep_core::{Dep, World};
 use std::alloc::{AllocError, Global};
 
-/// What an entry of world is that bears on each candidate; an entry can be both.
+/// The kinds of entries of world that affect candidates; an entry can be of both.
 #[derive(Clone, Copy)]
 enum EntryKind {
-    /// The entry is a conflict: it bars what meets it.
+    /// The entry is a conflict: it bars the candidates that meet it.
     Conflict,
     /// The entry has a tag: it allows the candidates of that tag, and pins its name to it.
     Tagged,
 }
 
-/// What world says of each candidate of a list.
+/// The effect of world on each candidate of a list.
 #[derive(Drop)]
 pub(crate) struct WorldMarks {
     /// Whether each candidate may be selected: it is allowed, and not barred.
     pub eligible: Vec<bool>,
     /// Whether world pins each candidate's name to its tag.
     pub pinned: Vec<bool>,
-    /// The places of the candidates whose install-if can come to apply, in rising order.
+    /// The places of the candidates whose install-if can apply, in rising order.
     pub install_ifs: Vec<CandId>,
 }
 
-/// Reads what world says of each candidate of a list.
+/// Computes the effect of world on each candidate of a list.
 pub(crate) fn marks_by_world(
     alloc: Global,
     list: &CandidateList<'_>,
@@ -80,7 +80,7 @@ fn entries_of_kind<'a>(
     Ok(deps)
 }
 
-// Adds an entry of world to a list where the entry is of a kind.
+// Adds an entry of world to a list if the entry is of a kind.
 fn push_if<'a>(deps: &mut Vec<Dep<'a>>, dep: Dep<'a>, kind: EntryKind) -> Result<(), AllocError>
     ensures { OnOk result (map dependency deps.new.items ≡ map dependency deps.old.items
         ++ (if is_entry_of_kind kind (dependency dep.entry) then dependency dep.entry ∷ []
@@ -102,7 +102,7 @@ fn is_entry_of_kind(kind: EntryKind, dep: &Dep<'_>) -> bool
     }
 }
 
-// The places, rising, of the candidates that may be selected, as their marks in `eligible` say, and
+// The places, rising, of the candidates that may be selected, by their marks in `eligible`, and
 // have an install-if that is not empty and has no conflict.
 fn install_ifs_among(
     alloc: Global,

@@ -3,5 +3,7 @@
 pub mod Numbers
 pub mod Texts
 pub mod Reports
+pub mod AuditReports
+pub mod QueryReports
 -- what only inner contracts and proofs use
 pub mod Pieces

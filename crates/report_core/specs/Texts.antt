@@ -11,7 +11,7 @@ use Rattle.base_core.specs.declared.cause.Digest.{Digest}
 use Rattle.base_core.specs.declared.cause.Digest.TheVariants.{Sha1, Sha256, Sha512}
 use Rattle.report_core.specs.Numbers.{HASHES_FIELD, TRIGGER_SCRIPT, PRE_INSTALL_SCRIPT, POST_INSTALL_SCRIPT, PRE_DEINSTALL_SCRIPT, POST_DEINSTALL_SCRIPT, PRE_UPGRADE_SCRIPT, POST_UPGRADE_SCRIPT}
 use Rattle.report_core.specs.declared.refusal.Refusal.{Refusal}
-use Rattle.report_core.specs.declared.refusal.Refusal.TheVariants.{Usage, IntentBad, FileMissing, FileBad, VersionBad, InfoBad, NoDatabase, DatabaseBad, WorldBad, RepositoriesBad, Untrusted, IndexMissing, IndexBad, TooMany, NotInstalled, Unsatisfied, PackageMissing, PackageBad, PackageDiffers, ScriptNeeded, Reserved, PathClash, Owned, TriggerNeeded, ResultTooLarge}
+use Rattle.report_core.specs.declared.refusal.Refusal.TheVariants.{Usage, IntentBad, FileMissing, FileBad, TextBad, VersionBad, InfoBad, NoDatabase, DatabaseBad, WorldBad, RepositoriesBad, Untrusted, IndexMissing, IndexBad, TooMany, NotInstalled, Unsatisfied, PackageMissing, PackageBad, PackageDiffers, ScriptNeeded, Reserved, PathClash, Owned, TriggerNeeded, ResultTooLarge}
 
 -- a number of 32 bits, a value's word or a schema, in eight lower-case hexadecimal digits
 abbrev pub hex_number : ℕ → List ℕ
@@ -91,6 +91,7 @@ refusal_text (Usage place) = codes "usage error at word " ++ decimal place
 refusal_text (IntentBad cause) = codes "lib/apk/intent: " ++ cause_text cause
 refusal_text (FileMissing place) = word_text place (codes "no such file")
 refusal_text (FileBad place cause) = word_text place (cause_text cause)
+refusal_text (TextBad place line) = word_text place (codes "bad line " ++ decimal line)
 refusal_text (VersionBad place) = word_text place (codes "invalid version")
 refusal_text (InfoBad place) = word_text place (codes "invalid package information")
 refusal_text NoDatabase = codes "no package database"

@@ -25,6 +25,12 @@ pub enum Refusal {
         place: u32,
         cause: Cause,
     },
+    /// The file that this word names is no dump text (adb(5)): its first line that no dump text has
+    /// after the lines before it, or the line after the last one if another must follow.
+    TextBad {
+        place: u32,
+        line: u64,
+    },
     /// This word is no version (apk-package(5)).
     VersionBad {
         place: u32,

@@ -137,6 +137,12 @@ pub(crate) fn sentence_of<'a>(refusal: &'a Refusal) -> Sentence<'a>
             three(Bytes(b"word "), Number(u64::from(*place)), Bytes(b": ")),
             *cause,
         ),
+        Refusal::TextBad { place, line } => plain(four(
+            Bytes(b"word "),
+            Number(u64::from(*place)),
+            Bytes(b": bad line "),
+            Number(*line),
+        )),
         Refusal::VersionBad { place } => at_word(*place, b"invalid version"),
         Refusal::InfoBad { place } => at_word(*place, b"invalid package information"),
         Refusal::NoDatabase => plain(one(Bytes(b"no package database"))),

@@ -1,4 +1,4 @@
--- The definitions of `root_names`. The head of each file says where its rule stands.
+-- The definitions of `root_names`. The head of each file names the section with its rule.
 
--- what the contract of `apk` says
+-- cited by the contract of `apk`
 pub mod RootNames

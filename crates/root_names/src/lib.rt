@@ -2,7 +2,7 @@
 //! text database of version 2, world and the list of repositories. `RootNames` of `specs/` has
 //! them.
 //!
-//! The rule stands in `docs/apk.8.md`, "FILES".
+//! The rule is in `docs/apk.8.md`, "FILES".
 #![tactic(auto)]
 
 ghost use Rattle.root_names.specs.RootNames.{database_name, repositories_name, text_database_name, world_name};
@@ -38,7 +38,7 @@ pub fn world_name(alloc: Global) -> Result<Name, AllocError>
     Name::of(alloc, WORLD_NAME)
 }
 
-/// The name of the list of repositories, `etc/apk/repositories`: where the indexes lie.
+/// The name of the list of repositories, `etc/apk/repositories`, which names the indexes.
 pub fn repositories_name(alloc: Global) -> Result<Name, AllocError>
     ensures { IfOk result (λ name. name ≡ repositories_name) }
 {

@@ -17,16 +17,22 @@ pub fn check_run<P: Program>(
     before: &MemoryTree,
     run: &Run,
 ) -> Result<(), RowFault> {
-    check_streams(alloc, step, run)?;
+    check_streams(alloc, program, step, run)?;
     check_counts(alloc, step, run)?;
     check_files(alloc, program, step, before, &run.tree)?;
     check_names(alloc, step, &run.tree)
 }
 
 /// Compares the streams and the status with those that are wanted.
-pub fn check_streams(alloc: Global, step: &Step, run: &Run) -> Result<(), RowFault> {
+pub fn check_streams<P: Program>(
+    alloc: Global,
+    program: &P,
+    step: &Step,
+    run: &Run,
+) -> Result<(), RowFault> {
     let line = step.line;
-    compare(alloc, line, b"standard output", run.out.bytes(), &step.out)?;
+    let out = bytes_of(alloc, program, &step.out)?;
+    compare(alloc, line, b"standard output", run.out.bytes(), &out)?;
     compare(alloc, line, b"standard error", run.err.bytes(), &step.err)?;
     let status = step.status.unwrap_or(0);
     compare_numbers(alloc, line, b"status", u64::from(run.status), status)
@@ -83,7 +89,10 @@ fn check_file<P: Program>(
     name: &Name,
 ) -> Result<(), RowFault> {
     let wanted = match wanted_file(step, name) {
-        Some(file) => bytes_of(alloc, program, &file.content)?,
+        Some(file) => match &file.content {
+            Some(content) => Some(bytes_of(alloc, program, content)?),
+            None => None,
+        },
         None => match before.file(name) {
             Some(bytes) => Some(Vec::from_slice(alloc, bytes)?),
             None => None,
@@ -165,7 +174,7 @@ pub trait Program {
     /// Finishes what a run that was stopped left undone. Answers false where that failed.
     fn recover(&self, alloc: Global, tree: &mut MemoryTree) -> bool;
 
-    /// The container of a dump text, or None where the text is none.
+    /// The container of a dump text, or None if the text is none.
     fn container_of(&self, alloc: Global, text: &[u8]) -> Result<Option<Vec<u8>>, AllocError>;
 }
 

@@ -18,14 +18,14 @@ pub enum RowFault {
 }
 
 impl From<AllocError> for RowFault {
-    // Want of memory, as the reason why a row fails.
+    // Lack of memory, as the reason why a row fails.
     fn from(_: AllocError) -> RowFault {
         RowFault::Memory
     }
 }
 
 impl<T: Drop> From<AllocFailed<T>> for RowFault {
-    // Want of memory, where what was to be kept comes back.
+    // Lack of memory, where what was to be kept comes back.
     fn from(_: AllocFailed<T>) -> RowFault {
         RowFault::Memory
     }

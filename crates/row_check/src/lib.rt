@@ -1,5 +1,5 @@
 //! What a row wants beside what is seen: the tree that it begins with, what a run left and printed,
-//! and what a crash may leave. The rules stand in `tests/rows.md`.
+//! and what a crash may leave. The rules are in `tests/rows.md`.
 //!
 //! Nothing is proved of what is compared: these are tests.
 #![tactic(auto)]
@@ -12,4 +12,4 @@ mod start;
 pub use check::{Program, Run, check_images, check_run, check_streams};
 pub use differences::{RowFault, add_number, compare, compare_numbers, differs, digits};
 pub use recovery::{Found, Sides, images_of};
-pub use start::{are_alike, copy_of, tree_of};
+pub use start::{are_alike, bytes_of, copy_of, tree_of};

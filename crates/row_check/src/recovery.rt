@@ -1,5 +1,5 @@
 //! What is left behind a crash: each image of a tree is recovered, twice, and then has the files
-//! that are wanted. The rules stand in `tests/rows.md`, "What goes wrong": the paragraphs on images
+//! that are wanted. The rules are in `tests/rows.md`, "What goes wrong": the paragraphs on images
 //! and on the two sides.
 use crate::check::Program;
 use crate::differences::{RowFault, differs, digits};

@@ -1,4 +1,4 @@
-//! Trees in memory: what a row begins with, and copies. The rules stand in `tests/rows.md`,
+//! Trees in memory: what a row begins with, and copies. The rules are in `tests/rows.md`,
 //! "Lines": `from`, `file`, and what a command line begins on.
 use crate::check::Program;
 use crate::differences::{RowFault, differs};
@@ -44,9 +44,10 @@ fn put<P: Program>(
     tree: &mut MemoryTree,
     file: &NamedFile,
 ) -> Result<(), RowFault> {
-    let Some(bytes) = bytes_of(alloc, program, &file.content)? else {
+    let Some(content) = &file.content else {
         return Ok(());
     };
+    let bytes = bytes_of(alloc, program, content)?;
     if !tree.can_put(&file.name) {
         let pieces: [&[u8]; 2] = [b"no file can stand at ", file.name.as_bytes()];
         return Err(differs(alloc, line, &pieces));
@@ -55,17 +56,16 @@ fn put<P: Program>(
     Ok(())
 }
 
-/// The bytes of what stands at a path, or None where nothing does.
-pub(crate) fn bytes_of<P: Program>(
+/// The bytes of a content. A dump text has those of the container that is written of it.
+pub fn bytes_of<P: Program>(
     alloc: Global,
     program: &P,
     content: &Content,
-) -> Result<Option<Vec<u8>>, RowFault> {
+) -> Result<Vec<u8>, RowFault> {
     match content {
-        Content::Absent => Ok(None),
-        Content::Bytes(bytes) => Ok(Some(Vec::from_slice(alloc, bytes)?)),
+        Content::Bytes(bytes) => Ok(Vec::from_slice(alloc, bytes)?),
         Content::Dump { text, line } => match program.container_of(alloc, text)? {
-            Some(bytes) => Ok(Some(bytes)),
+            Some(bytes) => Ok(bytes),
             None => Err(differs(alloc, *line, &[b"no dump text"])),
         },
     }

@@ -19,14 +19,14 @@ pub enum DumpFault {
 }
 
 impl From<AllocError> for DumpFault {
-    // Want of memory, as the reason why there is no container.
+    // Lack of memory, as the reason why there is no container.
     fn from(_: AllocError) -> DumpFault {
         DumpFault::Memory
     }
 }
 
 impl<T: Drop> From<AllocFailed<T>> for DumpFault {
-    // Want of memory, where what was to be kept comes back.
+    // Lack of memory, where what was to be kept comes back.
     fn from(_: AllocFailed<T>) -> DumpFault {
         DumpFault::Memory
     }

@@ -119,7 +119,7 @@ pub fn add_yes_or_no(text: &mut Vec<u8>, holds: bool) -> Result<(), AllocError> 
     text.extend_from_slice(if holds { b"yes" } else { b"no" })
 }
 
-/// Adds a word, and a space before it where it is not the first.
+/// Adds a word, and a space before it if it is not the first.
 pub fn add_word(text: &mut Vec<u8>, word: &[u8]) -> Result<(), AllocError> {
     if !text.is_empty() {
         text.push(b' ')?;

@@ -21,7 +21,7 @@ pub(crate) fn words_of(alloc: Global, question: &[u8]) -> Result<Words, AllocErr
     Ok(words)
 }
 
-/// The word at a place, counted from 0; no bytes where there is none.
+/// The word at a place, counted from 0; no bytes if there is none.
 pub fn word_at(words: &Words, i: usize) -> &[u8] {
     if i < words.len() {
         return words.word(i);
@@ -58,7 +58,7 @@ pub fn number_of(word: &[u8]) -> Option<u128> {
     }
 }
 
-/// The number that digits are in a base; none where one is no digit of the base, or the number has
+/// The number that digits are in a base; none if one is no digit of the base, or the number has
 /// more than 128 bits.
 fn number_in(digits: &[u8], base: u8) -> Option<u128> {
     if digits.is_empty() {

@@ -1,4 +1,4 @@
-//! Packages are added to the members of a change, where they are in order. The order is that of
+//! Packages are added to the members of a change, if they are in order. The order is that of
 //! names, as `docs/formats.md`, "The database after a change", has it.
 
 ghost use Rattle.adb_fields.specs.Repeated.{package_name};

@@ -1,4 +1,4 @@
-//! The rows of the search: what stands between two lines that begin a row, and the indexes that are
+//! The rows of the search: a row is the text between two lines that begin a row, and indexes are
 //! made of its packages. They serve the program `search_rows`, whose README has the form of a row.
 #![tactic(auto)]
 

@@ -1,9 +1,14 @@
-//! Payloads of indexes, from short texts. Packages stand between `;`, and their parts between
-//! spaces: `NAME=VERSION`, and `N*` before it for N such packages; `d:` and depends, `p:` and
-//! provides, `i:` and install-if, each list with `,` between dependencies; `k:` and the
-//! provider-priority; `h:` and the id, which is none behind a bare `h:`, and the same for all where
-//! no `h:` stands. The README of `search_rows` has the same form; the fields are those of
-//! `docs/formats.md`, "Schemas", table 3, where the numbers here count from 0.
+//! Payloads of indexes, from short texts. Packages are separated by `;`, and their parts by spaces:
+//!
+//! - `NAME=VERSION`, and `N*` before it for N such packages;
+//! - `d:` and depends, `p:` and provides, `i:` and install-if, each list with `,` between
+//!   dependencies;
+//! - `k:` and the provider-priority;
+//! - `h:` and the id, which is empty after a bare `h:`; all packages without an `h:` have the same
+//!   id.
+//!
+//! The README of `search_rows` has the same form; the fields are those of `docs/formats.md`,
+//! "Schemas", table 3, but the numbers here count from 0.
 use crate::row::number_of;
 use adb_view::Val;
 use adb_write::Writer;
@@ -22,7 +27,7 @@ enum Form {
     Bytes,
 }
 
-/// What a part begins with: the place of the field in the table of package information, counted
+/// The prefix of each part: the index of the field in the table of package information, counted
 /// from 0, and its form.
 const FIELDS: [(&[u8], (usize, Form)); 5] = [
     (b"d:", (14, Form::Dependencies)),
@@ -32,8 +37,8 @@ const FIELDS: [(&[u8], (usize, Form)); 5] = [
     (b"h:", (2, Form::Bytes)),
 ];
 
-/// The payload of an index with these packages. What is no part of a package is passed over, and
-/// an index that passes a limit has none.
+/// The payload of an index with these packages. Text that is no part of a package is skipped, and
+/// an index that exceeds a limit has none.
 pub(crate) fn index_payload(alloc: Global, text: &[u8]) -> Result<Vec<u8>, AllocError> {
     let mut writer = Writer::new(alloc);
     let mut packages = Vec::new(alloc);
@@ -69,8 +74,8 @@ fn add_packages(
     Ok(())
 }
 
-// The value of a package, of whose information the first 18 fields may be given, counted from 0: 0
-// is the name, 1 the version, 2 the id, which is the same 20 bytes where none is given.
+// The value of a package, from the first 18 fields of its information, counted from 0: 0 is the
+// name, 1 the version, 2 the id, which is the same 20 bytes if none is given.
 fn package_value(alloc: Global, writer: &mut Writer, part: &[u8]) -> Result<Val, AllocError> {
     let mut fields = [Val::of(0); 18];
     if part.is_empty() {
@@ -86,7 +91,7 @@ fn package_value(alloc: Global, writer: &mut Writer, part: &[u8]) -> Result<Val,
     writer.obj(&fields)
 }
 
-// Writes a field of a package; a word without a known front is its name and version.
+// Writes a field of a package; a word without a known prefix is its name and version.
 fn add_field(
     alloc: Global,
     writer: &mut Writer,
@@ -156,8 +161,7 @@ fn version_value(writer: &mut Writer, dep: &Dep<'_>) -> Result<Val, AllocError> 
 }
 
 // The match number of a dependency: its operator's bits, and 16 more for a conflict; 23 for a
-// conflict without version, and none where a name alone is asked for (`docs/formats.md`,
-// "Dependencies").
+// conflict without version, and none for a name alone (`docs/formats.md`, "Dependencies").
 fn matching_value(writer: &mut Writer, dep: &Dep<'_>) -> Result<Val, AllocError> {
     let bits = u64::from(dep.op.bits());
     let number = match (dep.conflict, dep.version.is_some()) {

@@ -1,13 +1,12 @@
-//! A row: the packages to choose from, world, and what a command upgrades. It borrows its text. The
-//! lines stand in the README of `search_rows`.
+//! A row: the packages to choose from, world, and the names that a command upgrades. It borrows its
+//! text. The lines are in the README of `search_rows`.
 use crate::package::index_payload;
 use std::alloc::{AllocError, Global};
 
 /// A repository of a row.
 #[derive(Drop)]
 pub struct Repository<'t> {
-    /// Its number; where the row says none, its position among the row's repositories, counted
-    /// from 1.
+    /// Its number; if the row has none, its position among the row's repositories, counted from 1.
     pub number: u64,
     /// The tag of the repository, if it has one.
     pub tag: Option<&'t [u8]>,
@@ -15,7 +14,7 @@ pub struct Repository<'t> {
     pub payload: Vec<u8>,
 }
 
-/// What stands between two lines that begin a row.
+/// The text between two lines that begin a row.
 #[derive(Drop)]
 pub struct Row<'t> {
     /// The name of the row.
@@ -28,7 +27,7 @@ pub struct Row<'t> {
     pub world: &'t [u8],
     /// The names that the command upgrades, or `all`.
     pub upgraded: &'t [u8],
-    /// How often an answer is computed.
+    /// How often a result is computed.
     pub times: u64,
 }
 
@@ -45,8 +44,8 @@ impl<'t> Row<'t> {
         }
     }
 
-    /// Adds a repository: its packages, before which its tag may stand behind `@`, or its number
-    /// behind `/`.
+    /// Adds a repository: its packages, before which its tag may follow `@`, or its number after
+    /// `/`.
     pub fn add_repository(&mut self, alloc: Global, text: &'t [u8]) -> Result<(), AllocError> {
         let next = (self.repositories.len() as u64).saturating_add(1);
         let (word, rest) = split_word(text);
@@ -71,7 +70,7 @@ impl<'t> Row<'t> {
     }
 }
 
-/// The first word of a line, and what stands behind the blank that ends it.
+/// The first word of a line, and the text after the blank that ends it.
 pub fn split_word<'t>(line: &'t [u8]) -> (&'t [u8], &'t [u8]) {
     match line.iter().position(|byte| *byte == b' ') {
         Some(at) => (&line[..at], &line[at + 1..]),
@@ -79,8 +78,8 @@ pub fn split_word<'t>(line: &'t [u8]) -> (&'t [u8], &'t [u8]) {
     }
 }
 
-/// The number that decimal digits spell; other bytes are passed over, and it stops to grow before
-/// it passes 64 bits.
+/// The number of decimal digits; other bytes are skipped, and it stops growing before it exceeds 64
+/// bits.
 pub fn number_of(text: &[u8]) -> u64 {
     let mut number = 0u64;
     for byte in text {

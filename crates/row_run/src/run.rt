@@ -60,7 +60,7 @@ fn planned_tree(alloc: Global, step: &Step, before: &MemoryTree) -> Result<Memor
     Ok(tree)
 }
 
-/// All that is wanted of a command line is seen, also where it is run again with what goes wrong.
+/// All that is wanted of a command line is seen, also if it is run again with what goes wrong.
 fn check_step<P: Program>(
     alloc: Global,
     program: &P,

@@ -1,9 +1,9 @@
 //! A command line with each of its calls failing in turn, cut off behind each of them, and with a
-//! stream that ends behind each number of bytes. The rules stand in `tests/rows.md`,
+//! stream that ends behind each number of bytes. The rules are in `tests/rows.md`,
 //! "What goes wrong", its table and what follows.
 use crate::run::{StreamEnds, run_once};
 use row_check::{
-    Found, Program, RowFault, Run, Sides, add_number, check_run, check_streams, compare,
+    Found, Program, RowFault, Run, Sides, add_number, bytes_of, check_run, check_streams, compare,
     compare_numbers, copy_of, differs, images_of,
 };
 use row_text::{Step, TreePlan};
@@ -213,7 +213,7 @@ impl<'a, P: Program> Swept<'a, P> {
         second: &Run,
     ) -> Result<(), RowFault> {
         if found.before {
-            check_streams(alloc, self.step, second)?;
+            check_streams(alloc, self.program, self.step, second)?;
         } else {
             self.check_again(alloc, call, second)?;
         }
@@ -236,11 +236,20 @@ impl<'a, P: Program> Swept<'a, P> {
     /// Lets a stream end behind each number of bytes in turn (`ends after each`). It has these
     /// bytes then, and the files are those of behind.
     fn end_each(&self, alloc: Global, is_out: bool) -> Result<(), RowFault> {
-        let whole = wanted_text(self.step, is_out);
+        let whole = self.wanted_text(alloc, is_out)?;
         for count in 0..whole.len() {
             self.end_after(alloc, is_out, &whole[..count])?;
         }
         Ok(())
+    }
+
+    /// What is wanted on standard output, or else on standard error.
+    fn wanted_text(&self, alloc: Global, is_out: bool) -> Result<Vec<u8>, RowFault> {
+        if is_out {
+            bytes_of(alloc, self.program, &self.step.out)
+        } else {
+            Ok(Vec::from_slice(alloc, &self.step.err)?)
+        }
     }
 
     /// Lets a stream end behind these bytes.
@@ -270,11 +279,6 @@ impl<'a, P: Program> Swept<'a, P> {
         self.sides
             .check_images(alloc, self.program, self.step, &cut.tree)
     }
-}
-
-/// What is wanted on standard output, or else on standard error.
-fn wanted_text(step: &Step, is_out: bool) -> &[u8] {
-    if is_out { &step.out } else { &step.err }
 }
 
 /// What a run printed on standard output, or else on standard error.

@@ -39,7 +39,7 @@ impl Reader {
         let form = form_of(kind)?;
         let file = NamedFile {
             name: name_of(self.alloc, path)?,
-            content: content(self.alloc, form, self.line),
+            content: Some(content(self.alloc, form, self.line)),
         };
         let Some(row) = &mut self.row else {
             return Err(Trouble::NoRow);
@@ -54,11 +54,13 @@ impl Reader {
         let (path, kind) = first_word(rest);
         let name = name_of(self.alloc, path)?;
         if kind == b"absent".as_slice() {
-            let content = Content::Absent;
-            return self.push_wanted(NamedFile { name, content });
+            return self.push_wanted(NamedFile {
+                name,
+                content: None,
+            });
         }
         let form = form_of(kind)?;
-        let content = content(self.alloc, form, self.line);
+        let content = Some(content(self.alloc, form, self.line));
         self.push_wanted(NamedFile { name, content })?;
         self.target = Target::Wanted(form);
         Ok(())
@@ -73,7 +75,7 @@ impl Reader {
         Ok(())
     }
 
-    /// Takes a line of the file that was named last, which stands behind `|`.
+    /// Takes a line, after `|`, of the file or of the output that was named last.
     pub(crate) fn add_piece(&mut self, piece: &[u8]) -> Result<(), Trouble> {
         match self.target {
             Target::Given(form) => {
@@ -87,6 +89,12 @@ impl Reader {
                     return Err(Trouble::OutOfPlace);
                 };
                 add_to_last(&mut step.files, form, piece)
+            }
+            Target::Printed(form) => {
+                let Some(step) = &mut self.step else {
+                    return Err(Trouble::OutOfPlace);
+                };
+                add_to(&mut step.out, form, piece)
             }
             _ => Err(Trouble::OutOfPlace),
         }
@@ -109,7 +117,7 @@ impl Reader {
                 None => Err(Trouble::OutOfPlace),
             },
             Target::Out => match &mut self.step {
-                Some(step) => cut(&mut step.out),
+                Some(step) => cut_content(&mut step.out),
                 None => Err(Trouble::OutOfPlace),
             },
             Target::Err => match &mut self.step {
@@ -137,7 +145,8 @@ fn form_of(word: &[u8]) -> Result<Form, Trouble> {
     }
 }
 
-/// A file of a form before its first line. A dump keeps the line at which it begins, for a fault.
+/// A content of a form before its first line. A dump keeps the line at which it begins, for a
+/// fault.
 fn content(alloc: Global, form: Form, line: u64) -> Content {
     match form {
         Form::Text | Form::Hex => Content::Bytes(Vec::new(alloc)),
@@ -148,17 +157,24 @@ fn content(alloc: Global, form: Form, line: u64) -> Content {
     }
 }
 
-/// Adds a line to the last file, in the file's form. A line behind no file, or behind one that is
+/// Adds a line to the last file, in the file's form. A line after no file, or after one that is
 /// to be absent, is out of place.
 fn add_to_last(files: &mut Vec<NamedFile>, form: Form, piece: &[u8]) -> Result<(), Trouble> {
     let Some(file) = files.last_mut() else {
         return Err(Trouble::OutOfPlace);
     };
-    match (&mut file.content, form) {
+    match &mut file.content {
+        Some(content) => add_to(content, form, piece),
+        None => Err(Trouble::OutOfPlace),
+    }
+}
+
+/// Adds a line to a content, in its form.
+fn add_to(content: &mut Content, form: Form, piece: &[u8]) -> Result<(), Trouble> {
+    match (content, form) {
         (Content::Bytes(bytes), Form::Hex) => add_hex(bytes, piece),
         (Content::Bytes(bytes), _) => add_line(bytes, piece),
         (Content::Dump { text, .. }, _) => add_line(text, piece),
-        (Content::Absent, _) => Err(Trouble::OutOfPlace),
     }
 }
 
@@ -175,8 +191,16 @@ fn cut_last(files: &mut Vec<NamedFile>) -> Result<(), Trouble> {
         return Err(Trouble::OutOfPlace);
     };
     match &mut file.content {
+        Some(content) => cut_content(content),
+        None => Err(Trouble::OutOfPlace),
+    }
+}
+
+/// Takes the last line end off a content of lines.
+fn cut_content(content: &mut Content) -> Result<(), Trouble> {
+    match content {
         Content::Bytes(bytes) => cut(bytes),
-        _ => Err(Trouble::OutOfPlace),
+        Content::Dump { .. } => Err(Trouble::OutOfPlace),
     }
 }
 
@@ -185,6 +209,47 @@ fn cut(text: &mut Vec<u8>) -> Result<(), Trouble> {
     match text.pop() {
         Some(_) => Ok(()),
         None => Err(Trouble::OutOfPlace),
+    }
+}
+
+/// Standard output.
+impl Reader {
+    /// Takes `out ..`: in which form the output of the command line before follows, or what
+    /// standard output takes of the next command line.
+    pub(crate) fn read_out(&mut self, rest: &[u8]) -> Result<(), Trouble> {
+        match value_named(&FORMS, rest) {
+            Some(Form::Hex) => self.print_hex(),
+            Some(Form::Dump) => self.print_dump(),
+            Some(Form::Text) | None => self.plan_out(rest),
+        }
+    }
+
+    /// Takes `out hex`: bytes of the output follow.
+    fn print_hex(&mut self) -> Result<(), Trouble> {
+        let Some(step) = &self.step else {
+            return Err(Trouble::NoCommand);
+        };
+        match &step.out {
+            Content::Bytes(_) => {
+                self.target = Target::Printed(Form::Hex);
+                Ok(())
+            }
+            Content::Dump { .. } => Err(Trouble::OutOfPlace),
+        }
+    }
+
+    /// Takes `out dump`: the dump text follows of the container that the whole output is.
+    fn print_dump(&mut self) -> Result<(), Trouble> {
+        let Some(step) = &mut self.step else {
+            return Err(Trouble::NoCommand);
+        };
+        match &step.out {
+            Content::Bytes(bytes) if bytes.is_empty() => {}
+            _ => return Err(Trouble::SaidTwice),
+        }
+        step.out = content(self.alloc, Form::Dump, self.line);
+        self.target = Target::Printed(Form::Dump);
+        Ok(())
     }
 }
 
@@ -240,7 +305,7 @@ impl Reader {
     }
 
     /// Takes `out ..`: what standard output takes of the next command line.
-    pub(crate) fn plan_out(&mut self, rest: &[u8]) -> Result<(), Trouble> {
+    fn plan_out(&mut self, rest: &[u8]) -> Result<(), Trouble> {
         self.plan.out = sink_plan(self.plan.out, rest)?;
         Ok(())
     }

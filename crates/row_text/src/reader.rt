@@ -2,7 +2,7 @@
 //! belongs to the row, the command line or the file that stands last before it. The lines stand in
 //! `tests/rows.md`, "Lines", and the faults in "A text that is none".
 use crate::parts::{add_line, name_of, number_at_most};
-use crate::row::{Fault, Row, SinkPlan, Step, TreePlan, Trouble};
+use crate::row::{Content, Fault, Row, SinkPlan, Step, TreePlan, Trouble};
 use crate::words::{number, words_of};
 use row_lines::value_named;
 use std::alloc::{AllocError, Global};
@@ -16,8 +16,10 @@ pub(crate) enum Target {
     Given(Form),
     /// A file that stands there afterwards.
     Wanted(Form),
-    /// Standard output of the command line.
+    /// Standard output of the command line, line by line.
     Out,
+    /// Standard output of the command line, by its form.
+    Printed(Form),
     /// Standard error of the command line.
     Err,
 }
@@ -193,7 +195,7 @@ impl Reader {
             Word::Names => self.add_names(rest),
             Word::Fail => self.plan_failures(rest),
             Word::Stop => self.plan_stops(rest),
-            Word::Out => self.plan_out(rest),
+            Word::Out => self.read_out(rest),
             Word::Err => self.plan_err(rest),
             Word::Reads => self.add_count(word, number_at_most(rest)),
             Word::Status | Word::Calls | Word::Writes => self.add_count(word, number(rest)),
@@ -302,7 +304,7 @@ impl Reader {
             tree,
             out_plan: out,
             err_plan: err,
-            out: Vec::new(self.alloc),
+            out: Content::Bytes(Vec::new(self.alloc)),
             err: Vec::new(self.alloc),
             status: None,
             files: Vec::new(self.alloc),
@@ -330,7 +332,10 @@ impl Reader {
             return Err(Trouble::NoCommand);
         };
         self.target = Target::Out;
-        add_line(&mut step.out, piece)
+        match &mut step.out {
+            Content::Bytes(bytes) => add_line(bytes, piece),
+            Content::Dump { .. } => Err(Trouble::OutOfPlace),
+        }
     }
 
     /// Adds a line that standard error is to have.

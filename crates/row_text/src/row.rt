@@ -18,21 +18,19 @@ pub struct Row {
     pub steps: Vec<Step>,
 }
 
-/// A path, and what stands there before a row or behind a command line.
+/// A path, and what is there before a row or after a command line.
 #[derive(Drop)]
 pub struct NamedFile {
     /// The path.
     pub name: Name,
-    /// What stands there.
-    pub content: Content,
+    /// The file's bytes; none if there is no file.
+    pub content: Option<Content>,
 }
 
-/// What stands at a path.
+/// The bytes of a file or of standard output.
 #[derive(Drop)]
 pub enum Content {
-    /// Nothing stands there.
-    Absent,
-    /// A file of these bytes.
+    /// These bytes.
     Bytes(Vec<u8>),
     /// The container of this dump text, which begins at this line.
     Dump { text: Vec<u8>, line: u64 },
@@ -51,21 +49,21 @@ pub struct Step {
     pub out_plan: SinkPlan,
     /// What standard error takes.
     pub err_plan: SinkPlan,
-    /// The bytes of standard output.
-    pub out: Vec<u8>,
+    /// What standard output has.
+    pub out: Content,
     /// The bytes of standard error.
     pub err: Vec<u8>,
-    /// The exit status: 0 where none is said.
+    /// The exit status: 0 if none is said.
     pub status: Option<u64>,
     /// What stands afterwards at these paths. All others are as they were before.
     pub files: Vec<NamedFile>,
-    /// All names that there are afterwards, where that is said.
+    /// All names that there are afterwards, if that is said.
     pub names: Option<Vec<Name>>,
-    /// How many calls the run makes of the tree, where that is said.
+    /// How many calls the run makes of the tree, if that is said.
     pub calls: Option<u64>,
-    /// How many of these calls write, where that is said.
+    /// How many of these calls write, if that is said.
     pub writes: Option<u64>,
-    /// How many bytes a call asks for at most, where that is said.
+    /// How many bytes a call asks for at most, if that is said.
     pub reads: Option<u64>,
 }
 
@@ -141,7 +139,7 @@ pub enum Trouble {
     BadHex,
     /// The dump text that begins here is none.
     BadDump,
-    /// It has no decimal number where one is due.
+    /// It has no decimal number if one is due.
     BadNumber,
     /// A quotation of the command line does not end.
     BadQuotation,
@@ -186,14 +184,14 @@ impl Trouble {
 }
 
 impl From<AllocError> for Trouble {
-    // Want of memory, as a fault of the text.
+    // Lack of memory, as a fault of the text.
     fn from(_: AllocError) -> Trouble {
         Trouble::Memory
     }
 }
 
 impl<T: Drop> From<AllocFailed<T>> for Trouble {
-    // Want of memory, where what was to be kept comes back.
+    // Lack of memory, where what was to be kept comes back.
     fn from(_: AllocFailed<T>) -> Trouble {
         Trouble::Memory
     }

@@ -2,7 +2,7 @@
 //! `tests/rows.md`, "A text that is none", and what is compared in "Lines" and "What goes wrong".
 //!
 //! Standard input has texts of rows, each behind a line `==== NAME`. Each is run with a program
-//! that mostly echoes: it prints each word on a line, and is refused where there is none. Some
+//! that mostly echoes: it prints each word on a line, and is refused if there is none. Some
 //! words make it do what no program should. A text whose last line is `\` has no end of its line
 //! before that.
 #![tactic(auto)]
@@ -113,7 +113,7 @@ fn put(alloc: Global, tree: &mut MemoryTree, name: &[u8]) -> Result<(), Disk> {
     }
 }
 
-/// Makes a file of one byte, where there is none.
+/// Makes a file of one byte, if there is none.
 fn make(alloc: Global, tree: &mut MemoryTree, name: &[u8]) -> Result<(), Disk> {
     let name = named(alloc, name)?;
     tree.remove(&name)?;

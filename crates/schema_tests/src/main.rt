@@ -1,7 +1,7 @@
-//! Answers questions to `adb_view`, `adb_fields`, `adb_schema`: words
-//! of a payload, the shape of payloads, the rules of texts, views, and whole containers. Its stored
-//! run has all rows; `tests/lines.md` describes their form, and the README of this crate has a row
-//! for each question. A payload stays from one row to the next.
+//! Answers questions about `adb_view`, `adb_fields` and `adb_schema`: words of a payload, the shape
+//! of payloads, the rules of texts, views, and whole containers. Its stored run has all rows;
+//! `tests/lines.md` describes their form, and the README of this crate has a row for each question.
+//! A payload is kept from one row to the next.
 #![tactic(auto)]
 
 mod payloads;
@@ -18,7 +18,7 @@ use std::process::ExitCode;
 use views::add_view;
 use words::{add_head, add_reads};
 
-/// What is asked; the README of this crate says what each question answers.
+/// The kinds of questions; the README of this crate has their answers.
 #[derive(Clone, Copy)]
 enum Question {
     /// `payload BYTES`.
@@ -61,13 +61,12 @@ const QUESTIONS: [(&[u8], Question); 10] = [
 /// The payload that rows speak of.
 #[derive(Drop)]
 struct CurrentPayload {
-    /// Its bytes; none before the first `payload`.
+    /// Its bytes; empty before the first `payload`.
     bytes: Vec<u8>,
 }
 
 impl Subject for CurrentPayload {
-    // Answers a question by its first word. `payload` keeps bytes, which the words that follow
-    // read.
+    // Answers a question by its first word. `payload` keeps bytes, which later words read.
     fn answer(
         &mut self,
         alloc: Global,

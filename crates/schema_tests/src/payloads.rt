@@ -1,12 +1,12 @@
-//! Payloads, from the words of a row, in no layout of the writer's. The words of values stand in
-//! `docs/formats.md`, "Values", and how a row writes a value in `tests/lines.md`.
+//! Payloads, from the words of a row, in another layout than the writer's. The words of values are
+//! in `docs/formats.md`, "Values"; how a row writes a value is in `tests/lines.md`.
 use crate::words::int_of;
 use adb_schema::Which;
 use base_core::Words;
 use row_lines::value_named;
 use std::alloc::{AllocError, Global};
 
-// The kind, in the top four bits of a word, of a blob whose length stands in two bytes.
+// The kind, in the top four bits of a word, of a blob whose length has two bytes.
 const TEXT: u32 = 0x9000_0000;
 
 // The kind of an array.
@@ -15,10 +15,10 @@ const ARRAY: u32 = 0xd000_0000;
 // The kind of an object.
 const OBJECT: u32 = 0xe000_0000;
 
-/// The kind of an integer that stands in its word; so many numbers are small enough for that.
+/// The kind of an integer in its word; all numbers of rows are small enough for that.
 const INT: u32 = 0x1000_0000;
 
-/// How many bytes stand before the first value: the head of a payload.
+/// The length of the head of a payload, before the first value.
 const HEAD: usize = 8;
 
 // The names of tables in rows; `rights` is an access list.
@@ -36,16 +36,16 @@ const TABLES: [(&[u8], Which); 10] = [
     (b"intent", Which::Intent),
 ];
 
-/// The table of a name; that of packages where it is none.
+/// The table of a name; that of packages if the name is unknown.
 pub(crate) fn table_of(name: &[u8]) -> Which {
     value_named(&TABLES, name).unwrap_or(Which::Package)
 }
 
-/// A payload that is being written: the values behind its head, the entries of the runs that are
-/// open, and the root's word.
+/// A payload under construction: the values after its head, the entries of the open runs, and the
+/// root's word.
 #[derive(Drop)]
 struct Payload {
-    /// The bytes behind the head.
+    /// The bytes after the head.
     values: Vec<u8>,
     /// The entries of the runs that are open, the innermost last.
     open: Vec<Vec<u32>>,
@@ -53,8 +53,8 @@ struct Payload {
     root: u32,
 }
 
-/// The payload of a value: `.` is null, `#` and a number an integer, `'` and bytes a text, what
-/// stands between `[` and `]` an array, and what stands between `{` and `}` an object.
+/// The payload of a value: `.` is null, `#` and a number an integer, `'` and bytes a text; `[` and
+/// `]` enclose an array, `{` and `}` an object.
 pub(crate) fn payload_of(
     alloc: Global,
     words: &Words,
@@ -76,8 +76,8 @@ pub(crate) fn payload_of(
 }
 
 impl Payload {
-    /// Adds what a word of a row stands for: `{` and `[` begin, `}` and `]` end, `'` is a text, `#`
-    /// an integer, and any other word NULL.
+    /// Adds a word of a row: `{` and `[` begin, `}` and `]` end, `'` is a text, `#` an integer, and
+    /// any other word NULL.
     fn add(&mut self, alloc: Global, word: &[u8]) -> Result<(), AllocError> {
         match word {
             [b'{'] | [b'['] => {
@@ -92,12 +92,12 @@ impl Payload {
         }
     }
 
-    /// The word of the value of this kind that is written next.
+    /// The word of the next value, if it is of this kind.
     fn next_word(&self, kind: u32) -> u32 {
         kind.wrapping_add((self.values.len() % 0x0100_0000 + HEAD) as u32)
     }
 
-    /// Writes a text with its length in two bytes, whatever its length is.
+    /// Writes a text with its length in two bytes, however long it is.
     fn add_text(&mut self, text: &[u8]) -> Result<(), AllocError> {
         let word = self.next_word(TEXT);
         let len = (text.len() % 65_536) as u16;
@@ -116,7 +116,7 @@ impl Payload {
         self.add_entry(word)
     }
 
-    /// Adds an entry to the run that was opened last; with none it is the root.
+    /// Adds an entry to the run that was opened last; if none is open it is the root.
     fn add_entry(&mut self, word: u32) -> Result<(), AllocError> {
         match self.open.pop() {
             Some(mut entries) => {
@@ -139,7 +139,7 @@ pub(crate) fn add_run(bytes: &mut Vec<u8>, entries: &[u32]) -> Result<(), AllocE
     Ok(())
 }
 
-/// A payload whose root is an object with these words, and behind it more bytes.
+/// A payload whose root is an object with these words, followed by more bytes.
 pub(crate) fn object_payload(
     alloc: Global,
     entries: &[u32],

@@ -1,6 +1,6 @@
-//! The tests of payloads and containers: which fault the shape walk reports and how many values it
-//! visits, the rules of texts and numbers, the first failed test, and names that stand twice. The
-//! rules stand in `docs/formats.md`, "Tests of a container", and the words of values in "Values".
+//! The tests of payloads and containers: the fault of the shape walk and its number of visits, the
+//! rules of texts and numbers, the first failed test, and repeated names. The rules are in
+//! `docs/formats.md`, "Tests of a container", and the words of values in "Values".
 
 use crate::payloads::{add_run, ints_of, object_payload, payload_of, table_of};
 use crate::words::{add_cause, add_outcome, int_of};
@@ -10,7 +10,7 @@ use base_core::{Cause, Words};
 use row_lines::{add_number, word_at};
 use std::alloc::{AllocError, Global};
 
-/// The root's word of the payloads below: an object that stands behind the head.
+/// The root's word of the payloads below: an object after the head.
 const ROOT: u32 = 0xe000_0008;
 
 /// The most values that a payload may have (`docs/formats.md`, "The shape").
@@ -23,7 +23,7 @@ fn fault_of(payload: &[u8], which: Which) -> Result<(), Cause> {
 }
 
 /// Adds the fault of the payload of `shape TABLE MORE WORD ..`: an object with these words, and
-/// more bytes behind it.
+/// more bytes after it.
 pub(crate) fn add_shape(
     alloc: Global,
     words: &Words,
@@ -35,7 +35,7 @@ pub(crate) fn add_shape(
     add_outcome(alloc, found, answer)
 }
 
-/// A word of another kind than the field's: a blob where an integer is due, else the integer 1.
+/// A word of another kind than the field's: a blob for an integer field, else the integer 1.
 fn of_another_kind(kind: Kind) -> u32 {
     match kind {
         Kind::Int => 0x8000_0008,
@@ -43,7 +43,7 @@ fn of_another_kind(kind: Kind) -> u32 {
     }
 }
 
-/// A word of the field's kind whose range leaves every payload here.
+/// A word of the field's kind whose range leaves every payload in these tests.
 fn outside(kind: Kind) -> u32 {
     match kind {
         Kind::Int => 0x3fff_fff0,
@@ -53,8 +53,8 @@ fn outside(kind: Kind) -> u32 {
     }
 }
 
-/// Adds for how many fields of a table both faults of a value are reported, where the fields before
-/// are null, and then the fault of words behind the last field, at which nothing looks.
+/// Adds for how many fields of a table both faults of a value are reported, with null in all fields
+/// before, and then the fault of words after the last field, which are ignored.
 pub(crate) fn add_faults(
     alloc: Global,
     table: &[u8],
@@ -70,7 +70,7 @@ pub(crate) fn add_faults(
         before.push(0)?;
     }
     add_number(alloc, answer, u128::from(told))?;
-    // The integer 1 behind the last field, and behind that a word that has no meaning.
+    // The integer 1 after the last field, followed by a word without a meaning.
     before.push(0x1000_0001)?;
     add_outcome(
         alloc,
@@ -79,7 +79,7 @@ pub(crate) fn add_faults(
     )
 }
 
-/// Whether both faults are reported of this field, behind these words.
+/// Whether both faults are reported of this field, after these words.
 fn has_both_faults(
     alloc: Global,
     before: &[u32],
@@ -96,7 +96,7 @@ fn has_both_faults(
     )
 }
 
-/// The fault of an object with these words and one behind them.
+/// The fault of an object with these words and one after them.
 fn fault_behind(
     alloc: Global,
     before: &[u32],
@@ -109,8 +109,8 @@ fn fault_behind(
     Ok(fault_of(&payload, which))
 }
 
-/// Adds how many values are visited once the words of `visits TABLE BEFORE WORD ..` are walked as
-/// fields of the table, behind so many visits, or the fault.
+/// Adds the number of visits of a walk over the words of `visits TABLE BEFORE WORD ..` as fields of
+/// the table, after BEFORE earlier visits, or the fault.
 pub(crate) fn add_visits(
     alloc: Global,
     words: &Words,
@@ -135,14 +135,14 @@ fn visits_of(payload: &[u8], which: Which, before: u32) -> Result<u32, Cause> {
     walk_fields(adb, fields_of(which), before, entries)
 }
 
-/// Adds the fault of a package of one folder of so many files, which stands at as many places.
+/// Adds the fault of a package with one folder of this many files, which occurs in as many places.
 pub(crate) fn add_many_files(
     alloc: Global,
     count: &[u8],
     answer: &mut Vec<u8>,
 ) -> Result<(), AllocError> {
     let count = int_of(count) % 65_536;
-    // At 20 a folder, at 36 its files, and behind them the folders.
+    // At 20 a folder, at 36 its files, and after them the folders.
     let mut more = Vec::new(alloc);
     more.extend_from_slice(b"\x04\0\0\0\0\0\0\0\0\0\0\0\x24\0\0\xd0")?;
     add_run(&mut more, &Vec::from_elem(alloc, 0u32, count as usize)?)?;
@@ -166,7 +166,7 @@ pub(crate) fn add_rule(
     add_outcome(alloc, cause_in(checked)?, answer)
 }
 
-/// Tests a payload: its shape, its texts, and names that stand twice.
+/// Tests a payload: its shape, its texts, and repeated names.
 fn check(alloc: Global, payload: &[u8], which: Which) -> Result<(), ReadFault> {
     let shaped = shape(Adb::new(payload)?, which)?;
     Checked::new(alloc, shaped)?;
@@ -183,7 +183,7 @@ pub(crate) fn add_container(
     add_outcome(alloc, cause_in(read)?, answer)
 }
 
-/// The cause of a refusal, if it is not want of memory, which is passed on.
+/// The cause of an error; running out of memory is passed on.
 fn cause_in<T: Drop>(found: Result<T, ReadFault>) -> Result<Result<(), Cause>, AllocError> {
     match found {
         Ok(_) => Ok(Ok(())),

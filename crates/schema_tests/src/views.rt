@@ -1,5 +1,5 @@
 //! Views: each field of each table, as `docs/formats.md` lists them in "Schemas". How the answers
-//! are written stands in `tests/lines.md`, `view`. Entries of lists count from 1.
+//! are written is in `tests/lines.md`, `view`. Entries of lists count from 1.
 use crate::payloads::{payload_of, table_of};
 use crate::words::add_cause;
 use adb_schema::{
@@ -11,8 +11,8 @@ use base_core::Words;
 use row_lines::{add_number, add_word, word_at};
 use std::alloc::{AllocError, Global};
 
-/// Adds each field of the value of `view TABLE VALUE`: of a list what of each entry tells it from
-/// others, between brackets; of an object inside another one its first field.
+/// Adds each field of the value of `view TABLE VALUE`. Of a list it adds a distinguishing field of
+/// each entry, in brackets; of an object inside another one its first field.
 pub(crate) fn add_view(
     alloc: Global,
     words: &Words,
@@ -103,7 +103,7 @@ fn add_file(alloc: Global, adb: Adb<'_>, answer: &mut Vec<u8>) -> Result<(), All
     add_int(alloc, file.unused(), answer)
 }
 
-// Adds the fields of a folder; of its files the names.
+// Adds the fields of a folder, with the names of its files.
 fn add_folder(alloc: Global, adb: Adb<'_>, answer: &mut Vec<u8>) -> Result<(), AllocError> {
     if let Err(cause) = shape(adb, Which::Dir) {
         return add_cause(alloc, cause, answer);
@@ -148,7 +148,7 @@ fn add_info(alloc: Global, adb: Adb<'_>, answer: &mut Vec<u8>) -> Result<(), All
     add_lists(alloc, &info, answer)
 }
 
-// Adds the lists of a package's information, and its fields behind them.
+// Adds the lists of a package's information, and its fields after them.
 fn add_lists(alloc: Global, info: &PkgInfo<'_>, answer: &mut Vec<u8>) -> Result<(), AllocError> {
     add_dependencies(info.depends(), answer)?;
     add_dependencies(info.provides(), answer)?;
@@ -181,7 +181,7 @@ fn add_scripts(alloc: Global, adb: Adb<'_>, answer: &mut Vec<u8>) -> Result<(), 
     Ok(())
 }
 
-// Adds the fields of a package; of its folders the names.
+// Adds the fields of a package, with the names of its folders.
 fn add_package(alloc: Global, adb: Adb<'_>, answer: &mut Vec<u8>) -> Result<(), AllocError> {
     if let Err(cause) = shape(adb, Which::Package) {
         return add_cause(alloc, cause, answer);
@@ -212,7 +212,7 @@ fn add_index(alloc: Global, adb: Adb<'_>, answer: &mut Vec<u8>) -> Result<(), Al
     }
 }
 
-// Adds what an index says of itself, and the names of its packages.
+// Adds the fields of an index, with the names of its packages.
 fn add_index_fields(index: IndexView<'_>, answer: &mut Vec<u8>) -> Result<(), AllocError> {
     add_word(answer, index.description())?;
     add_word(answer, b"[")?;

@@ -1,5 +1,5 @@
-//! Words of a payload: what each of the four readers answers. The rules stand in `docs/formats.md`,
-//! "Values": what each asks for, and which faults there are.
+//! Words of a payload: the results of the four readers. The rules are in `docs/formats.md`,
+//! "Values".
 use adb_view::{Adb, Arr, Val};
 use base_core::Cause;
 use row_lines::{add_number, add_word, number_of};
@@ -15,7 +15,7 @@ pub(crate) fn add_cause(
     add_word(answer, text.as_bytes())
 }
 
-/// Adds `ok`, or the cause of a refusal.
+/// Adds `ok`, or the cause of an error.
 pub(crate) fn add_outcome(
     alloc: Global,
     found: Result<(), Cause>,
@@ -27,7 +27,7 @@ pub(crate) fn add_outcome(
     }
 }
 
-/// The number that a word is; 0 where it is none.
+/// The number of a word; 0 if it is no number.
 pub(crate) fn int_of(word: &[u8]) -> u32 {
     number_of(word)
         .and_then(|number| u32::try_from(number).ok())
@@ -64,7 +64,7 @@ fn add_value(alloc: Global, value: Val, answer: &mut Vec<u8>) -> Result<(), Allo
     add_word(answer, text.as_bytes())
 }
 
-/// Adds what each of the four readers answers to a word, but that it is of another kind.
+/// Adds the results of the four readers for a word, except that it is of another kind.
 pub(crate) fn add_reads(
     alloc: Global,
     payload: &[u8],
@@ -92,7 +92,7 @@ pub(crate) fn add_reads(
     add_runs(alloc, adb, value, answer)
 }
 
-/// Adds what the readers of arrays and objects answer. An object has its first two fields besides.
+/// Adds the results of the readers of arrays and objects, with the first two fields of an object.
 fn add_runs(
     alloc: Global,
     adb: Adb<'_>,

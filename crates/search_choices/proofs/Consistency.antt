@@ -78,7 +78,7 @@ pub record IsStep (old new : Choices) (t : List ℕ) : Type 0 where
   pub choices : choices_of new ≡ t
   pub install_ifs : new.install_ifs ≡ old.install_ifs
 
--- consistent again, where all is as a list of choices has it
+-- consistent again, if all is as a list of choices has it
 pub consistent_by : (old new : Choices) (t : List ℕ) → IsStep old new t
     → AreInstallIfs (pool_of old) (install_ifs_of old) old.install_ifs.waiting
     → ((c : ℕ) → IsIn c t → c < length (pool_of old).candidates)
@@ -250,7 +250,7 @@ in_rest d ds q h = step d.conflict (filter (λ (e : Dependency). not e.conflict)
     step true us h = h
     step false us h = inr h
 
--- the first dependency, where it is no conflict, is a need of the list
+-- the first dependency, if it is no conflict, is a need of the list
 first_in : (d : Dependency) (ds : List Dependency) → d.conflict ≡ false → IsIn (entry d) (positive_needs (d ∷ ds))
 first_in d ds none = step d.conflict (filter (λ (e : Dependency). not e.conflict) ds) none
   where
@@ -265,7 +265,7 @@ raised_in by n (d ∷ ds) r h = elim (in_raised by n d ds r h) [
   | inr g ↦ let k = raised_in by (suc n) ds r g in (k.0, in_rest d ds (entry r.0) k.1)
 ]
 
--- what is raised stands at its index
+-- what is raised is at its index
 raised_at : (by : Option ℕ) (n : ℕ) (deps : List Dependency) (r : RaisedDepValue) → IsIn r (raised_from by n deps) → (k : ℕ) × (r.2 ≡ n + k) × (slice_get deps k ≡ Some r.0)
 raised_at by n [] r h = absurd h
 raised_at by n (d ∷ ds) r h = elim (in_raised by n d ds r h) [

@@ -1,6 +1,6 @@
--- What a search keeps true of its choices, of the queue and the cursors, and of its turns.
--- No rule of a document: serves the contracts of `src/choices.rt` and `src/search.rt` of
--- `solve_core`; how the search works says `docs/selection.md`, "How the search works".
+-- The invariants of a search: of its choices, of the queue and the cursors, and of its turns. No rule
+-- of a document: serves the contracts of `src/choices.rt` and `src/search.rt` of `solve_core`. The
+-- search is described in `docs/selection.md`, "How the search works".
 use Rattle.std.specs.Prelude.{◌≡◌, ◌<◌, length, ℕ, List, [], ◌∷◌, ◌++◌}
 use Rattle.candidate_core.specs.Rank.{SealedPool}
 use Rattle.candidate_core.specs.Options.{IsIn}
@@ -20,11 +20,11 @@ pool_of chosen = chosen.pool.now
 abbrev pub choices_of : Choices → List ℕ
 choices_of chosen = chosen.choices
 
--- the candidates of the pool whose install-if can come to apply, in byte order of their names
+-- the candidates of the pool whose install-if can apply, in byte order of their names
 abbrev pub install_ifs_of : Choices → List ℕ
 install_ifs_of chosen = chosen.install_ifs.by_name.items
 
--- behind the choices `u`: the checkpoints tell where the queue and the cursors stood before each
+-- after the choices `u`: the checkpoints have the state of the queue and the cursors before each
 -- further choice
 abbrev pub AreCheckpoints : SealedPool → List ℕ → List ℕ → List ℕ → List Checkpoint → Type 0
 AreCheckpoints pool install_ifs u [] [] = Unit {0}
@@ -35,9 +35,9 @@ AreCheckpoints pool install_ifs u (c ∷ cs) (b ∷ bs) =
     × AreUnasked pool u install_ifs b.asking_cursor
     × AreCheckpoints pool install_ifs (u ++ c ∷ []) cs bs
 
--- the queue is that of the choices, what stands in front of its cursor is met, what stands in front
--- of the cursor of the install-ifs does not ask, the conflicts of the choices are listed, each at its
--- index, and each choice can be taken back to its checkpoint
+-- the queue is that of the choices. Every dependency before its cursor is met, and no candidate before
+-- the cursor of the install-ifs asks. The conflicts of the choices are listed, each at its index, and
+-- each choice can be taken back to its checkpoint
 pub record IsConsistent (chosen : Choices) : Type 0 where
   pub within : (c : ℕ) → IsIn c (choices_of chosen) → c < length (pool_of chosen).candidates
   pub queue : chosen.queue.items ≡ queue_of (pool_of chosen) (choices_of chosen)

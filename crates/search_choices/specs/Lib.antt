@@ -1,5 +1,5 @@
--- The definitions of this crate, whose rules stand in `docs/selection.md`, "What satisfies
--- world", "Which selection is taken", and "How the search works".
+-- The definitions of this crate, whose rules are in `docs/selection.md`, "What satisfies world", "Which
+-- selection is taken", and "How the search works".
 
--- what the contracts of this crate's calls say
+-- cited by the contracts of this crate's calls
 pub mod Choices

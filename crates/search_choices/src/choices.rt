@@ -1,6 +1,6 @@
-//! The choices so far: what they raise, and the first need that none of them meets.
-//! The rules stand in `docs/selection.md`: "Which selection is taken" (the order in which needs are
-//! met), and "What satisfies world", 4 (install-if).
+//! The choices so far, the needs that they raise, and the first need that none of them meets. The
+//! rules are in `docs/selection.md`: "Which selection is taken" (the order in which needs are met),
+//! and "What satisfies world", 4 (install-if).
 ghost use Rattle.std.specs.Prelude.{◌≡◌, ◌≤◌, ℕ, List, [], ◌∷◌, ◌++◌, ◌<◌, ◌^◌, length, IfSome, false, true, IfOk, OnOk, MatchOption, MatchBool, None, Some, ◌+◌, option_copied, slice_get, option_to_list};
 ghost use Rattle.std.specs.List.{find};
 ghost use Rattle.dep_core.specs.Dependency.{Dependency};
@@ -30,13 +30,17 @@ use search_tables::{
 use std::alloc::{AllocError, Global};
 use std::marker::Model;
 
-/// The choices so far; the queue of the dependencies that they and world raise, with a cursor in
-/// front of which each is met; the install-ifs in byte order of names, with a cursor in front of
-/// which none asks; the conflicts of the choices; and, for each choice, where the queue and the
-/// cursors stood before it.
+/// The state of the choices:
+///
+/// - the choices so far;
+/// - the queue of the dependencies that they and world raise, and a cursor; every dependency before
+///   it is met;
+/// - the install-ifs in byte order of names, and a cursor; no candidate before it asks;
+/// - the conflicts of the choices;
+/// - for each choice, the state of the queue and the cursors before it.
 #[derive(Drop)]
 pub struct Choices<'p> {
-    /// What memory comes from.
+    /// The allocator.
     alloc: Global,
     /// The candidates, under their world.
     pool: &'p Sealed<'p>,
@@ -46,13 +50,13 @@ pub struct Choices<'p> {
     queue: Vec<RaisedDep<'p>>,
     /// How many of the queue are known to be met, from the front.
     cursor: usize,
-    /// The candidates whose install-if can come to apply, in byte order of their names.
+    /// The candidates whose install-if can apply, in byte order of their names.
     install_ifs: InstallIfs<'p>,
     /// How many of the install-ifs are known not to ask, from the front: a rank.
     asking_cursor: usize,
     /// The conflicts of the choices, by their names.
     conflicts: Conflicts<'p>,
-    /// Where the queue and the cursors stood before each choice.
+    /// The state of the queue and the cursors before each choice.
     checkpoints: Vec<Checkpoint>,
 }
 
@@ -84,7 +88,7 @@ impl<'p> Choices<'p> {
         })
     }
 
-    /// Makes a choice. After a refusal the choices may only be dropped.
+    /// Makes a choice. After an error the choices may only be dropped.
     pub fn push(&mut self, id: CandId) -> Result<(), AllocError>
         requires consistent { IsConsistent self.old }
         requires within { id < length (pool_of self.old).candidates }
@@ -104,7 +108,7 @@ impl<'p> Choices<'p> {
         self.conflicts.add(&depends, id)?;
         self.checkpoints.push(before)?;
         self.choices.push(id)?;
-        // Only what waits for a name of the new choice can ask now that did not before.
+        // Only candidates that wait for a name of the new choice may begin to ask.
         self.asking_cursor = self.least_rank_asking(&details);
         Ok(())
     }
@@ -118,7 +122,7 @@ impl<'p> Choices<'p> {
             choices_of self.new ≡ rest }
     {
         if let Some(before) = self.checkpoints.pop() {
-            // The conflicts go first, while the set still has the choice that they are of.
+            // The conflicts are removed first, while the set still has their choice.
             self.take_conflicts_away();
             self.choices.pop();
             self.queue.truncate(before.queue_len);
@@ -144,8 +148,8 @@ impl<'p> Choices<'p> {
         }
     }
 
-    /// The frame of the first need that no choice meets; none where each need is met. The call
-    /// moves the cursors alone. What is learnt of long versions is kept.
+    /// The frame of the first need that no choice meets; None if each need is met. The call only
+    /// moves the cursors. Results for long versions are remembered.
     pub fn next_frame(
         &mut self,
         matches: &mut PackageMatches<'_>,
@@ -155,7 +159,7 @@ impl<'p> Choices<'p> {
         ensures consistent { IsConsistent self.new }
         ensures pool { pool_of self.new ≡ pool_of self.old }
         ensures choices { choices_of self.new ≡ choices_of self.old }
-        // The options that are left are fewer than a digit of the measure counts (*base* of
+        // The options that are left are fewer than the base of the measure's digits (*base* of
         // `Measure`).
         ensures few { IfOk result (λ found. IfSome found (λ frame. length frame.1 < 2 ^ 64)) }
         ensures frame { IfOk result (λ found. MatchOption found (next_need (pool_of self.old)
@@ -195,7 +199,7 @@ impl<'p> Choices<'p> {
         Ok(())
     }
 
-    // Whether the queue has a dependency at the cursor, and a choice meets that.
+    // Whether the queue has a dependency at the cursor that a choice meets.
     fn is_front_met(&self, matches: &mut PackageMatches<'_>) -> Result<bool, AllocError>
         requires consistent { IsConsistent self.now }
         requires matches { AreMatchesAmong (pool_of self.now).candidates matches.old }
@@ -212,8 +216,8 @@ impl<'p> Choices<'p> {
         }
     }
 
-    // Whether a choice meets a raised dependency. A long version is compared once with each of those
-    // that choices have, but for one that an entry of world names.
+    // Whether a choice meets a raised dependency. A long version is compared once with each of
+    // those of choices, except for one in an entry of world.
     fn is_raised_met(
         &self,
         raised: &RaisedDep<'p>,
@@ -250,8 +254,8 @@ impl<'p> Choices<'p> {
         self.queue.get(self.cursor)
     }
 
-    // The frame of the byte-least name whose install-if applies and that no choice has. It is asked
-    // for only where each raised dependency is met.
+    // The frame of the byte-least name whose install-if applies and that no choice has. It is
+    // called only if each raised dependency is met.
     fn frame_asked(&mut self) -> Result<Option<Frame>, AllocError>
         requires consistent { IsConsistent self.old }
         requires met { find (is_unmet_dep (pool_of self.old) (choices_of self.old)) (queue_of
@@ -290,7 +294,7 @@ impl<'p> Choices<'p> {
         }
     }
 
-    // Whether there is a candidate at the cursor of the install-ifs, and it does not ask.
+    // Whether there is a candidate at the cursor of the install-ifs that does not ask.
     fn is_front_unasked(&self) -> bool
         requires { IsConsistent self.now }
         ensures { MatchBool result ((self.now.asking_cursor + 1
@@ -306,9 +310,9 @@ impl<'p> Choices<'p> {
         }
     }
 
-    // The frame of the name of a candidate that asks, of which the name is the byte-least one. It
-    // is asked for only where each raised dependency is met. The need is raised by the choices that
-    // meet the entries of the install-if.
+    // The frame of the name of a candidate that asks, which is the byte-least such name. It is
+    // called only if each raised dependency is met. The choices that meet the entries of the
+    // install-if raise the need.
     fn frame_named(&self, id: CandId) -> Result<Frame, AllocError>
         requires met { find (is_unmet_dep (pool_of self.now) (choices_of self.now)) (queue_of
             (pool_of self.now) (choices_of self.now)) ≡ None }
@@ -326,7 +330,7 @@ impl<'p> Choices<'p> {
         Ok(Frame::new(self.alloc, options.into_ids(), by))
     }
 
-    // Whether the candidate of a rank asks; there is none where no candidate has the rank.
+    // Whether the candidate of a rank asks; false if no candidate has the rank.
     fn rank_asks(&self, rank: usize) -> bool
         ensures { result ≡ rank_asks (pool_of self.now) (choices_of self.now)
             (install_ifs_of self.now) rank }
@@ -337,9 +341,9 @@ impl<'p> Choices<'p> {
         }
     }
 
-    // Where the cursor of the install-ifs is to stand once the candidate is chosen: where it
-    // stands, or at the least rank in front of it that asks now and waits for a name which the
-    // candidate offers. A new choice can let only those ask that wait for one of its names.
+    // The cursor of the install-ifs after the candidate is chosen. It is unchanged, or the least
+    // rank before it that now asks and waits for a name which the candidate offers. A new choice
+    // can make only those ask that wait for one of its names.
     fn least_rank_asking(&self, details: &Details<'_>) -> usize
         ensures less { result ≤ self.now.asking_cursor }
         ensures unasked { (name : List ℕ) (rank : ℕ) → offers_name name details.now ≡ true →
@@ -351,7 +355,7 @@ impl<'p> Choices<'p> {
         self.least_rank_provided(&details.provides(), own)
     }
 
-    // The cursor, or the least rank in front of it that asks and waits for the name of one of these
+    // The cursor, or the least rank before it that asks and waits for the name of one of these
     // entries of provides.
     fn least_rank_provided(&self, provides: &Deps<'_>, cursor: usize) -> usize
         ensures less { result ≤ cursor }
@@ -367,7 +371,7 @@ impl<'p> Choices<'p> {
         least
     }
 
-    // The cursor, or the least rank in front of it that asks and waits for a name.
+    // The cursor, or the least rank before it that asks and waits for a name.
     fn least_rank_waiting(&self, name: &[u8], cursor: usize) -> usize
         ensures less { result ≤ cursor }
         ensures unasked { (rank : ℕ) →
@@ -382,7 +386,7 @@ impl<'p> Choices<'p> {
         least
     }
 
-    // The lesser of two ranks, of which the first counts only where its candidate asks.
+    // The lesser of two ranks, of which the first counts only if its candidate asks.
     fn lesser_rank(&self, rank: usize, least: usize) -> usize
         ensures less { result ≤ least }
         ensures unasked { rank < result → rank_asks (pool_of self.now) (choices_of self.now)
@@ -394,7 +398,7 @@ impl<'p> Choices<'p> {
         least
     }
 
-    /// The choices, in the order chosen, as the answer of the search.
+    /// The choices, in the order chosen, as the result of the search.
     pub fn trace(&self, alloc: Global) -> Result<Trace, AllocError>
         ensures { IfOk result (λ trace. trace ≡ choices_of self.now) }
     {
@@ -403,7 +407,7 @@ impl<'p> Choices<'p> {
 }
 
 // The frame of a raised dependency: all its options are left, and the choice that has the
-// dependency raised it; an entry of world is raised by none.
+// dependency raised it; no choice raises an entry of world.
 fn frame_of(alloc: Global, pool: &Sealed<'_>, raised: &RaisedDep<'_>) -> Result<Frame, AllocError>
     ensures few { IfOk result (λ frame. length frame.1 < 2 ^ 64) }
     ensures value { IfOk result (λ frame. frame ≡ (

@@ -1,7 +1,7 @@
-//! The choices of a search: what they raise, the first need that none of them meets, and what
-//! excludes a further candidate.
+//! The choices of a search: the needs that they raise, the first need that none of them meets, and
+//! the choice that excludes a further candidate.
 //!
-//! The rules stand in `docs/selection.md`, "What satisfies world", and "How the search works".
+//! The rules are in `docs/selection.md`, "What satisfies world", and "How the search works".
 //!
 //! The contracts cite `Choices` of `specs/`, and `Selection` of `search_tables`.
 #![tactic(auto)]

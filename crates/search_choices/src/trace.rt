@@ -1,4 +1,4 @@
-//! The choices of a search, as they are handed out.
+//! The choices of a search, as they are returned.
 ghost use Rattle.std.specs.Prelude.{◌≡◌, ◌<◌, IfOk, Some, length, slice_get};
 
 use pool_core::CandId;

@@ -1,5 +1,5 @@
-//! What is asked of a row, and the answers as texts. The questions and answers stand in the README
-//! of this crate; what is right of them in `docs/selection.md`.
+//! The questions of a row, and their answers as texts. They are listed in the README of this crate;
+//! the rules for right answers are in `docs/selection.md`.
 ghost use Rattle.std.specs.Prelude.{◌≡◌, IfOk};
 
 use adb_schema::{Checked, IndexView, Which, shape};
@@ -12,32 +12,32 @@ use row_packages::{Row, split_word};
 use solve_core::{Trace, solve};
 use std::alloc::{AllocError, AllocFailed, Global};
 
-/// The most names that a command upgrades in a row; more are answered `no row`.
+/// The most names that a command upgrades in a row; with more the answer is `no row`.
 const MOST_NAMES: usize = 1000;
 
-/// What is answered where a text of the row is not read, or a question is unknown.
+/// The answer if a text of the row cannot be read, or a question is unknown.
 const NO_ROW: &[u8] = b"no row";
 
 /// Why a row has no answer.
 #[derive(Clone, Copy)]
 enum RowFault {
-    /// There was no memory.
+    /// Out of memory.
     Memory,
-    /// The pool has too many candidates; the count is the one that is reported.
+    /// The pool has too many candidates; this is the reported count.
     TooMany(u64),
     /// A text of the row is not read, or a question is unknown.
     Text,
 }
 
 impl From<AllocError> for RowFault {
-    // Want of memory, as the reason why a row has no answer.
+    // Out of memory, as the reason why a row has no answer.
     fn from(_: AllocError) -> RowFault {
         RowFault::Memory
     }
 }
 
 impl<T: Drop> From<AllocFailed<T>> for RowFault {
-    // Want of memory, where what was to be kept comes back.
+    // Out of memory, in calls that return the value that was not stored.
     fn from(_: AllocFailed<T>) -> RowFault {
         RowFault::Memory
     }
@@ -53,7 +53,7 @@ impl From<PoolFault> for RowFault {
     }
 }
 
-/// What a question asks for; the README of this crate has a row for each.
+/// The kinds of questions; the README of this crate has a row for each.
 #[derive(Clone, Copy)]
 enum Question {
     /// `bytes`.
@@ -89,32 +89,32 @@ const QUESTIONS: [(&[u8], Question); 9] = [
     (b"count", Question::Count),
 ];
 
-/// What a question asks for, and the name or the dependency that stands behind it.
+/// A question: its kind, and the name or the dependency that follows it.
 #[derive(Clone, Copy)]
 struct Query<'q> {
-    /// What is asked for.
+    /// The kind of the question.
     question: Question,
-    /// The name or the dependency that stands behind the question's word.
+    /// The name or the dependency that follows the question's word.
     rest: &'q [u8],
 }
 
-/// What a command asks for: its world, and the names that it upgrades.
+/// The command of a row: its world, and the names that it upgrades.
 #[derive(Clone, Copy)]
 struct Command<'a> {
-    /// World, as the row gives it.
+    /// World, as the row has it.
     world: &'a World,
     /// The names that it upgrades.
     upgrade: Upgrade<'a>,
 }
 
-/// The answer of a question, as often as the row says, or what stands in its way.
+/// The answer to a question, computed as often as the row says, or why there is none.
 pub(crate) fn answer(alloc: Global, row: &Row<'_>, query: &[u8]) -> Result<Vec<u8>, AllocError> {
     let mut text = Vec::new(alloc);
     add_answer(alloc, row, query, &mut text)?;
     Ok(text)
 }
 
-// Adds the answer, or what stands in its way.
+// Adds the answer, or why there is none.
 fn add_answer(
     alloc: Global,
     row: &Row<'_>,
@@ -132,7 +132,7 @@ fn add_answer(
     }
 }
 
-// Reads the question, world and the names that are upgraded, and answers.
+// Reads the question, world and the upgraded names, and adds the answer.
 fn add_to_answer(
     alloc: Global,
     row: &Row<'_>,
@@ -169,7 +169,7 @@ fn add_last_answer(
     Ok(())
 }
 
-// Adds the answer, over the pool unless none is asked for.
+// Adds the answer, which is computed over the pool unless the question needs none.
 fn add_one_answer(
     alloc: Global,
     row: &Row<'_>,
@@ -211,7 +211,7 @@ fn byte_count(row: &Row<'_>) -> u64 {
     count
 }
 
-// How many packages the repositories have, whose indexes are tested.
+// How many packages the repositories have, after their indexes were tested.
 fn package_count(alloc: Global, row: &Row<'_>) -> Result<u64, RowFault> {
     let mut count = 0u64;
     for repository in &row.repositories {
@@ -224,7 +224,7 @@ fn package_count(alloc: Global, row: &Row<'_>) -> Result<u64, RowFault> {
     Ok(count)
 }
 
-// Adds how many candidates a pool has, and a second one that stands beside it.
+// Adds how many candidates a pool has, and those of a second one that exists beside it.
 fn add_two_counts(
     alloc: Global,
     row: &Row<'_>,
@@ -304,7 +304,7 @@ fn add_installed<'a>(
     Ok(())
 }
 
-// The view of a payload of an index; none where a test fails.
+// The view of a payload of an index; None if a test fails.
 fn view_of<'a>(alloc: Global, payload: &'a [u8]) -> Option<IndexView<'a>> {
     let adb = Adb::new(payload).ok()?;
     let shaped = shape(adb, Which::Index).ok()?;
@@ -337,7 +337,7 @@ fn upgrade_of<'a>(text: &[u8], words: &'a Words) -> Upgrade<'a> {
 
 // ---- answers of the pool
 
-// Adds what is asked of a sealed pool.
+// Adds the answer to a question about a sealed pool.
 fn add_answer_of_pool(
     alloc: Global,
     pool: &Sealed<'_>,
@@ -381,7 +381,7 @@ fn add_options(
     add_candidates(alloc, pool, &options, text)
 }
 
-// Adds the choices of the first selection, or `none`.
+// Adds the choices of the preferred solution, or `none`.
 fn add_selection(
     alloc: Global,
     pool: &Sealed<'_>,
@@ -396,7 +396,7 @@ fn add_selection(
     }
 }
 
-// Adds how many choices the first selection has, or `none`.
+// Adds how many choices the preferred solution has, or `none`.
 fn add_selection_count(
     alloc: Global,
     pool: &Sealed<'_>,
@@ -437,8 +437,8 @@ fn add_candidates(
     Ok(())
 }
 
-// Adds the name and the version of a candidate, and behind `/` the number of its repository unless
-// that is 1; 0 stands for an installed package of none.
+// Adds the name and the version of a candidate, and after `/` the number of its repository unless
+// that is 1; 0 is an installed package of no repository.
 fn add_candidate(
     alloc: Global,
     pool: &Sealed<'_>,

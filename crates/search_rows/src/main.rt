@@ -1,5 +1,5 @@
-//! Runs the rows of the search that stand on standard input, and prints what fails and a count.
-//! `README.md` describes their form. It ends with 0 where no row failed, else with 1.
+//! Runs the rows of the search on standard input, and prints failures and a count. `README.md`
+//! describes their form. The exit status is 0 if no row failed, else 1.
 #![tactic(auto)]
 
 mod answer;
@@ -9,7 +9,7 @@ use std::io;
 use std::io::{Read, Write};
 use std::process::ExitCode;
 
-// Runs the rows of standard input; the status is 1 where one fails.
+// Runs the rows of standard input; the status is 1 if one fails.
 fn main(rt: HostRuntime) -> io::Result<ExitCode> {
     let alloc = rt.alloc();
     let mut text = Vec::new(alloc);

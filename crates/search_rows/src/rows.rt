@@ -1,11 +1,11 @@
-//! All rows of a text, and what is printed of them. The lines stand in the README of this crate.
+//! All rows of a text, and the printed report. The lines are in the README of this crate.
 use crate::answer::answer;
 use row_lines::value_named;
 use row_packages::{Row, number_of, split_word};
 use std::alloc::{AllocError, Global};
 
-/// Runs all rows of a text, adds a line for each answer that is not the wanted one, and one with
-/// counts. Answers whether none failed.
+/// Runs all rows of a text. It adds a line for each answer that is not the expected one, and one
+/// with counts, and returns whether none failed.
 pub(crate) fn run_rows(
     alloc: Global,
     text: &[u8],
@@ -23,7 +23,7 @@ pub(crate) fn run_rows(
     Ok(run.failed == 0)
 }
 
-/// What a line is, by the word that it begins with; the README of this crate has a row for each.
+/// The kinds of lines, by their first word; the README of this crate has a row for each.
 #[derive(Clone, Copy)]
 enum Line {
     /// a blank line, `#`.
@@ -63,19 +63,19 @@ const LINES: [(&[u8], Line); 11] = [
     (b"?", Line::Printed),
 ];
 
-/// Where a run over rows stands.
+/// The state of a run over rows.
 #[derive(Drop)]
 struct Run<'t> {
     alloc: Global,
     /// The row that has begun.
     row: Row<'t>,
-    /// The question that waits for its answer.
+    /// The question without an answer so far.
     query: Option<&'t [u8]>,
     /// How many rows have begun.
     rows: u64,
     /// How many answers were computed.
     answers: u64,
-    /// How many of them differ from the wanted ones, or are out of place.
+    /// How many of them differ from the expected ones, or are out of place.
     failed: u64,
 }
 
@@ -110,7 +110,7 @@ impl<'t> Run<'t> {
         }
     }
 
-    // Takes what else a line says of the row.
+    // Takes the other lines of a row.
     fn set(&mut self, kind: Line, rest: &'t [u8]) {
         match kind {
             Line::World => self.row.world = rest,
@@ -135,7 +135,7 @@ impl<'t> Run<'t> {
         Ok(())
     }
 
-    // A question without a wanted answer fails.
+    // A question without an expected answer fails.
     fn end_row(&mut self, report: &mut Vec<u8>) -> Result<(), AllocError> {
         match self.query.take() {
             None => Ok(()),
@@ -143,7 +143,8 @@ impl<'t> Run<'t> {
         }
     }
 
-    // Compares the answer of the last question with the wanted one; prints it where none is wanted.
+    // Compares the answer to the last question with the expected one; prints it if none is
+    // expected.
     fn end_question(
         &mut self,
         wanted: Option<&[u8]>,
@@ -169,7 +170,7 @@ impl<'t> Run<'t> {
         report.extend_from_slice(b"\n")
     }
 
-    // Reports what failed and why.
+    // Reports a failure and its reason.
     fn fail(&mut self, what: &[u8], why: &[u8], report: &mut Vec<u8>) -> Result<(), AllocError> {
         self.failed = self.failed.saturating_add(1);
         self.add_line(

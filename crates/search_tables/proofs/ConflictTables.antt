@@ -110,7 +110,7 @@ taken_away d by front old new conflict was is name =
           ap (map without_index) there ∙ (was name ∙ (ap (λ (z : List Listed). front name ++ z) none ∙ append-nil (front name)))
     ]
 
--- where it is none, nothing changes
+-- if it is none, nothing changes
 pub stays : (d : Dependency) (by : ℕ) (front : List ℕ → List Listed) (old : List (List ℕ × List ListedValue)) → d.conflict ≡ false → ((name : List ℕ) → conflicts_in old name ≡ front name ++ conflicts_named name by (d ∷ [])) → (name : List ℕ) → conflicts_in old name ≡ front name
 stays d by front old none was name = was name ∙ (ap (λ (z : List Listed). front name ++ z) (none_named name by d none) ∙ append-nil (front name))
 
@@ -120,7 +120,7 @@ front_of_last name by deps i d start items here is =
     is ∙ (ap (λ (z : List Listed). start ++ z) (ap (conflicts_named name by) (take_one_more deps i d here) ∙ named_more name by (take i deps) (d ∷ []))
     ∙ sym (append_assoc start (conflicts_named name by (take i deps)) (conflicts_named name by (d ∷ []))))
 
--- where none is left to be taken away
+-- if none is left to be taken away
 pub nothing_left : (name : List ℕ) (by : ℕ) (deps : List Dependency) (i : ℕ) (start items : List Listed) → i ≡ 0 → items ≡ start ++ conflicts_named name by (take i deps) → items ≡ start
 nothing_left name by deps i start items none is =
     is ∙ (ap (λ (z : List Dependency). start ++ conflicts_named name by z) (ap (λ (k : ℕ). take k deps) none ∙ take_none deps) ∙ append-nil start)
@@ -147,7 +147,7 @@ module _ {X Y : Type 0} (p : Y → Bool) (f : X → Y) where
   none_yet [] = refl
   none_yet (x ∷ xs) = refl
 
-  -- one that passes behind some that do not
+  -- one that passes after some that do not
   pub first_at : (xs : List X) (i : ℕ) (x : X) → slice_get xs i ≡ Some x → find p (map f (take i xs)) ≡ None → p (f x) ≡ true → find p (map f xs) ≡ Some (f x)
   first_at [] zero x h none passes = absurd (cc)
   first_at [] (suc i) x h none passes = absurd (cc)

@@ -1,4 +1,5 @@
--- What excludes a further candidate, and that nothing does where each name and each conflict of it is free.
+-- What excludes a further candidate, and that nothing does if each name and each conflict of it is
+-- free.
 use Rattle.std.proofs.Common.{◌≡◌, inl, inr, ℕ, Bool, true, false, List, [], ◌∷◌, refl, sym, subst, ap, ◌∙◌}
 use Rattle.std.specs.Prelude.{Option, Some, None, not, ◌&&◌, ◌||◌, ◌==◌, ◌⊎◌, is_some, MatchOption, find}
 use Rattle.std.specs.Option.{option_map, option_map_or}
@@ -103,7 +104,7 @@ module _ (pool : SealedPool) (t : List ℕ) (id : ℕ) (details : Candidate) whe
       some_of None e = absurd (cc)
       some_of (Some c) e = (c, refl, cc)
 
-  -- where none is found, it meets no conflict of this name
+  -- if none is found, it meets no conflict of this name
   pub none_against : (conflicts : Conflicts) (name : List ℕ) → AreListed pool t conflicts → ((k : ℕ) → option_map (λ (c : Listed). c.0) (find (λ (c : Listed). meets_dependency c.1 details) (conflicts_in conflicts.by_name name)) ≡ Some k → ⊥) → (k : ℕ) (d : Dependency) → IsIn k t → IsIn d (depends_at pool k) → d.conflict ≡ true → d.name ≡ name → meets_dependency d details ≡ false
   none_against conflicts name listed never k d there has conflict is =
       let items = conflicts_in conflicts.by_name name in
@@ -131,7 +132,7 @@ module _ (pool : SealedPool) (t : List ℕ) (id : ℕ) (details : Candidate) whe
       let out : conflicts_with pool id k ≡ true = one_any (λ (e : Dependency). e.conflict && is_at pool (meets_dependency e) k) (depends_at pool id) d mine (rw conflict meets) in
       excludes_back once k there (true_or (conflicts_with pool id k) (share_a_name pool id k) (inl out))
 
-  -- no choice excludes it where all its names are free, and no choice meets a conflict of it
+  -- no choice excludes it if all its names are free, and no choice meets a conflict of it
   pub no_excluder : candidate_at pool id ≡ Some details
       → IsFreeAt pool t details details.name true
       → ((p : Dependency) → IsIn p details.provides → p.conflict ≡ false → IsFreeAt pool t details p.name (is_some p.version))

@@ -37,7 +37,7 @@ abbrev pub Sorted : (ℕ → ℕ → Type 0) → List ℕ → Type 0
 Sorted R [] = Unit {0}
 Sorted R (x ∷ xs) = ((y : ℕ) → In y xs → R x y) × Sorted R xs
 
--- of a sorted list, what stands behind a member is after it
+-- of a sorted list, what follows a member is after it
 pub sorted_split : (R : ℕ → ℕ → Type 0) (xs ys : List ℕ) (c o : ℕ) → Sorted R (xs ++ c ∷ ys) → In o (xs ++ c ∷ ys) → In o xs ⊎ ((o ≡ c) ⊎ R c o)
 sorted_split R [] ys c o sorted (inl e) = inr (inl e)
 sorted_split R [] ys c o sorted (inr h) = inr (inr (sorted.0 o h))
@@ -216,7 +216,7 @@ module _ {Need : Type 0} {next : List ℕ → Option Need} {Needs : List ℕ →
       let fit = F.only top.0 c (subst (λ (z : List ℕ). In c z) (sym top.2) (in_right c xs (c ∷ ys) (inl refl))) in
       F.clean_snoc t c clean fit.0 (λ h. (F.next_some t top.0 top.1).1 (c, h, fit.1)) free
 
-  -- where all options are dead, the choices are
+  -- if all options are dead, the choices are
   pub open_spent : (t xs : List ℕ) → Open t (xs, []) → Dead t
   open_spent t xs top =
       let all = subst (λ (z : List ℕ). AllDead t z) (sym (top.2 ∙ append-nil xs)) top.3 in

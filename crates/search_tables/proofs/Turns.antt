@@ -24,7 +24,7 @@ module _ (pool : SealedPool) (facts : PoolFacts pool) where
   options_firsts [] = refl
   options_firsts (p ∷ ps) = ap (λ (z : List ℕ). p.0 ∷ z) (options_firsts ps)
 
-  -- an option passed over is dead with the choices before the frame
+  -- an option skipped is dead with the choices before the frame
   pub reasons_dead : (t : List ℕ) (ps : List (ℕ × List ℕ)) → AreRuledOut pool t ps → law.AllDead facts t (options_in ps)
   reasons_dead t ps why o h =
       law.why_dead facts t ps (reasons_why t ps why) o (subst (λ (z : List ℕ). IsIn o z) (options_firsts ps) h)
@@ -56,7 +56,7 @@ module _ (pool : SealedPool) where
       let rest = turns_less (u ++ turn.1 ∷ []) turns f c taken.1 in
       ((taken.0, rest.0), subst (λ (z : List ℕ). IsFrameTaking pool z f c) (append_assoc u (turn.1 ∷ []) (choices_in turns)) rest.1)
 
-  -- an option is passed over with a reason
+  -- an option is skipped with a reason
   options-append : (ps : List (ℕ × List ℕ)) (o : ℕ) (others left : List ℕ) → options_in ps ++ o ∷ left ≡ options_in (ps ++ (o, others) ∷ []) ++ left
   options-append [] o others left = refl
   options-append (p ∷ ps) o others left = ap (λ (z : List ℕ). p.0 ∷ z) (options-append ps o others left)
@@ -80,7 +80,7 @@ module _ (pool : SealedPool) where
   reason_of_more : (t u : List ℕ) (c : ℕ) (others : List ℕ) → AreMembers t u → RulesOut pool t c others → RulesOut pool u c others
   reason_of_more t u c others sub reason = record { within = λ o h. sub o (reason.within o h); dead = reason.dead }
 
-  -- what was passed over at an earlier turn is still passed over
+  -- what was skipped at an earlier turn is still skipped
   pub passed_before : (u : List ℕ) (turns : List (FrameValue × ℕ)) (j i : ℕ) (turn : FrameValue × ℕ) (p : ℕ × List ℕ) → AreTurnsFrom pool u turns → slice_get turns j ≡ Some turn → slice_get turn.0.0 i ≡ Some p → RulesOut pool (u ++ choices_in turns) p.0 p.1
   passed_before u [] zero i turn p taken h g = absurd (cc)
   passed_before u [] (suc j) i turn p taken h g = absurd (cc)

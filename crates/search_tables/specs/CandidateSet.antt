@@ -5,7 +5,7 @@ use Rattle.std.specs.Bool.{MatchBool}
 use Rattle.candidate_core.specs.Options.{IsIn}
 use Rattle.search_tables.specs.Selection.{AreDistinct}
 
--- the marks tell of each place whether it is one of the list, and the list has each candidate once
+-- each mark says whether its place is in the list, and the list has each candidate once
 pub record AreMarks (marks : List Bool) (ids : List ℕ) : Type 0 where
   pub told : (c : ℕ) → MatchBool (slice_index_or marks c false) (IsIn c ids) (IsIn c ids →
       ⊥)

@@ -1,6 +1,5 @@
--- The conflicts of the choices, by their names.
--- The rule stands in `docs/selection.md`, "What satisfies world", 2. Serves the contracts of
--- `src/conflicts.rt`.
+-- The conflicts of the choices, by their names. The rule is in `docs/selection.md`, "What satisfies
+-- world", 2. Serves the contracts of `src/conflicts.rt`.
 use Rattle.std.specs.Prelude.{◌≡◌, ℕ, ◌&&◌, List, map, Some, slice_get}
 use Rattle.std.specs.List.{filter, flat_map}
 use Rattle.std.specs.Str.{bytes_eq}
@@ -44,7 +43,7 @@ abbrev pub IsConflictOf : List Candidate → ListedValue → Type 0
 IsConflictOf candidates listed = (c : Candidate) → slice_get candidates listed.0 ≡ Some c
     → slice_get c.depends listed.2 ≡ Some listed.1
 
--- each conflict that a table lists is one of its candidate, at its index
+-- each conflict in a table is one of its candidate, at its index
 abbrev pub AreConflictsOf : List Candidate → List (List ℕ × List ListedValue) → Type 0
 AreConflictsOf candidates table = (name : List ℕ) (listed : ListedValue)
     → IsIn listed (items_of table name) → IsConflictOf candidates listed

@@ -1,7 +1,6 @@
--- What excludes a further candidate.
--- The rules stand in `docs/selection.md`, "What satisfies world", 2 and 3, and are said of pairs by
--- *exclude_each_other* of `Selection`. Serves the contracts of `src/choices/excluders.rt` of
--- `search_choices`.
+-- What excludes a further candidate. The rules are in `docs/selection.md`, "What satisfies world", 2
+-- and 3, and *exclude_each_other* of `Selection` has them for pairs. Serves the contracts of
+-- `src/choices/excluders.rt` of `search_choices`.
 use Rattle.std.specs.Prelude.{◌≡◌, ℕ, Bool, true, false, List}
 use Rattle.dep_core.specs.Dependency.{Dependency}
 use Rattle.candidate_core.specs.Candidates.{Candidate, meets_dependency, occupies_name}
@@ -11,7 +10,7 @@ use Rattle.search_tables.specs.Conflicts.{conflicts_among, conflicts_in}
 use Rattle.search_tables.specs.Selection.{depends_at, exclude_each_other}
 use Rattle.search_tables.specs.declared.conflicts.Conflicts.{Conflicts}
 
--- the table has for each name just the conflicts of the choices
+-- the table has for each name exactly the conflicts of the choices
 abbrev pub AreListed : SealedPool → List ℕ → Conflicts → Type 0
 AreListed pool chosen conflicts =
     (name : List ℕ) → conflicts_in conflicts.by_name name ≡ conflicts_among pool chosen name
@@ -20,8 +19,8 @@ AreListed pool chosen conflicts =
 abbrev pub IsExcluder : SealedPool → List ℕ → ℕ → ℕ → Type 0
 IsExcluder pool chosen id k = IsIn k chosen × (exclude_each_other pool k id ≡ true)
 
--- the choices leave a candidate alone at a name: it meets no conflict of that name that a choice
--- has, and, where `is_occupied`, no choice occupies the name
+-- no choice excludes a candidate by a name: the candidate meets no conflict of that name that a choice
+-- has, and, if `is_occupied`, no choice occupies the name
 abbrev pub IsFreeAt : SealedPool → List ℕ → Candidate → List ℕ → Bool → Type 0
 IsFreeAt pool chosen details name is_occupied =
     ((k : ℕ) (d : Dependency) → IsIn k chosen → IsIn d (depends_at pool k) →

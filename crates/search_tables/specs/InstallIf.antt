@@ -1,7 +1,6 @@
--- Which candidates ask by their install-if for a name that no choice has, and the least of these
--- names.
--- The rules stand in `docs/selection.md`: "What satisfies world", 4, and "Which selection is taken"
--- (in byte order). Serves the contracts of `src/needs.rt` and `src/install_ifs.rt`.
+-- Which candidates ask by their install-if for a name that no choice has, and the least of these names.
+-- The rules are in `docs/selection.md`: "What satisfies world", 4, and "Which selection is taken" (in
+-- byte order). Serves the contracts of `src/needs.rt` and `src/install_ifs.rt`.
 use Rattle.std.specs.Prelude.{◌≡◌, ◌≤◌, ◌<◌, ℕ, Bool, true, false, ◌&&◌, List, [], get_or, length, slice_get, Some}
 use Rattle.std.specs.Option.{option_map_or}
 use Rattle.std.specs.List.{list_all}
@@ -26,24 +25,24 @@ asks_for_name pool chosen c = all_met pool chosen c.install_if
 abbrev pub asks_at : SealedPool → List ℕ → ℕ → Bool
 asks_at pool chosen k = is_at pool (asks_for_name pool chosen) k
 
--- whether the candidate at a place has an install-if that can come to apply
+-- whether the candidate at a place has an install-if that can apply
 abbrev pub is_usable_at : SealedPool → ℕ → Bool
 is_usable_at pool k = is_at pool (has_usable_install_if pool.world) k
 
--- the name of the candidate at a place; no text, where there is none
+-- the name of the candidate at a place; empty if there is none
 abbrev pub name_at : SealedPool → ℕ → List ℕ
 name_at pool k = option_map_or (λ (c : Candidate). c.name) (candidate_at pool k) []
 
--- the install-if of the candidate at a place; no entries, where there is none
+-- the install-if of the candidate at a place; no entries, if there is none
 abbrev pub install_if_at : SealedPool → ℕ → List Dependency
 install_if_at pool k = option_map_or (λ (c : Candidate). c.install_if) (candidate_at pool k) []
 
--- whether the name of the first candidate comes before that of the second, in byte order
+-- whether the name of the first candidate is less than that of the second, in byte order
 abbrev pub has_lesser_name : SealedPool → ℕ → ℕ → Bool
 has_lesser_name pool a b = is_lt (bytes_cmp (name_at pool a) (name_at pool b))
 
--- the candidates whose install-if can come to apply, in byte order of their names; and a table that
--- leads from the name of each entry of an install-if to the rank of its candidate
+-- the candidates whose install-if can apply, in byte order of their names; and a table that has for the
+-- name of each entry of an install-if the rank of its candidate
 pub record AreInstallIfs (pool : SealedPool) (by_name : List ℕ) (waiting : List (List ℕ × List ℕ)) :
     Type 0 where
   pub those : (k : ℕ) → IsIn k by_name → is_usable_at pool k ≡ true
@@ -55,7 +54,7 @@ pub record AreInstallIfs (pool : SealedPool) (by_name : List ℕ) (waiting : Lis
       (rank k : ℕ) (d : Dependency) → slice_get by_name rank ≡ Some k →
       IsIn d (install_if_at pool k) → IsIn rank (items_of waiting d.name)
 
--- whether the candidate asks that stands at this place of the list by name (its rank there)
+-- whether the candidate at this place of the list by name (its rank there) asks
 abbrev pub rank_asks : SealedPool → List ℕ → List ℕ → ℕ → Bool
 rank_asks pool chosen by_name rank =
     option_map_or (λ (k : ℕ). asks_at pool chosen k) (slice_get by_name rank) false
@@ -65,8 +64,7 @@ abbrev pub AreUnasked : SealedPool → List ℕ → List ℕ → ℕ → Type 0
 AreUnasked pool chosen by_name count =
     (rank : ℕ) → rank < count → rank_asks pool chosen by_name rank ≡ false
 
--- the candidate asks, its install-if can come to apply, and no such candidate that asks has a
--- lesser name
+-- the candidate asks, its install-if can apply, and no such candidate that asks has a lesser name
 pub record IsLeastAsking (pool : SealedPool) (chosen : List ℕ) (k : ℕ) : Type 0 where
   pub usable : is_usable_at pool k ≡ true
   pub asks : asks_at pool chosen k ≡ true
@@ -74,6 +72,6 @@ pub record IsLeastAsking (pool : SealedPool) (chosen : List ℕ) (k : ℕ) : Typ
       (o : ℕ) → is_usable_at pool o ≡ true → asks_at pool chosen o ≡ true →
       has_lesser_name pool o k ≡ false
 
--- no candidate asks whose install-if can come to apply
+-- no candidate asks whose install-if can apply
 abbrev pub IsNoneAsking : SealedPool → List ℕ → Type 0
 IsNoneAsking pool chosen = (o : ℕ) → is_usable_at pool o ≡ true → asks_at pool chosen o ≡ false

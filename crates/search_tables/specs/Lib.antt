@@ -1,9 +1,9 @@
--- The definitions of this crate, whose rules stand in `docs/selection.md`, "What satisfies
--- world", "Which selection is taken", and "How the search works".
+-- The definitions of this crate, whose rules are in `docs/selection.md`, "What satisfies world", "Which
+-- selection is taken", and "How the search works".
 
--- what the contract of `apk` says
+-- cited by the contract of `apk`
 pub mod Selection
--- what only serves proofs
+-- used by proofs only
 pub mod Reasons
 pub mod Queue
 pub mod NameTable

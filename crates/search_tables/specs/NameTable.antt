@@ -10,7 +10,7 @@ abbrev pub names_and_items :
     {X : Type 0} → List (Bor (List ℕ) × Vec X Global) → List (List ℕ × List X)
 names_and_items {X} entries = map (λ (e : Bor (List ℕ) × Vec X Global). (e.0.now, e.1.items)) entries
 
--- the items of the first entry with this name; none where there is none
+-- the items of the first entry with this name; none if there is none
 abbrev pub items_of : {X : Type 0} → List (List ℕ × List X) → List ℕ → List X
 items_of [] name = []
 items_of (e ∷ es) name = if bytes_eq name e.0 then e.1 else items_of es name

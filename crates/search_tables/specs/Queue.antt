@@ -1,7 +1,6 @@
--- The dependencies that are raised, each with the choice that has it.
--- The rule stands in `docs/selection.md`, "Which selection is taken": first the entries of world,
--- then the dependencies of each choice in the order chosen. Serves the contracts of `src/queue.rt`
--- and `src/choices.rt` of `search_choices`.
+-- The raised dependencies, each with the choice that has it. The rule is in `docs/selection.md`, "Which
+-- selection is taken": first the entries of world, then the dependencies of each choice in the order
+-- chosen. Serves the contracts of `src/queue.rt` and `src/choices.rt` of `search_choices`.
 use Rattle.std.specs.Prelude.{◌≡◌, ◌≤◌, ℕ, suc, Bool, if◌then◌else◌, List, [], ◌∷◌, ◌++◌, length, take, Option, Some, None}
 use Rattle.std.specs.List.{find, flat_map}
 use Rattle.dep_core.specs.Dependency.{Dependency}
@@ -9,23 +8,23 @@ use Rattle.candidate_core.specs.Candidates.{entry}
 use Rattle.candidate_core.specs.Rank.{SealedPool}
 use Rattle.search_tables.specs.Selection.{depends_at, is_unmet}
 
--- a dependency, the choice that has it, and its index among those of the choice; one of world's has
--- no choice, and its index among the entries of world
+-- a dependency, the choice that has it, and its index among those of the choice; a dependency of world
+-- has no choice, and its index among the entries of world
 abbrev pub RaisedDepValue : Type 0
 RaisedDepValue = Dependency × Option ℕ × ℕ
 
--- the dependencies of a list that are no conflicts, each with the choice that raised it, or with
--- none for world, and with its index, where the first of the list has the index `n`
+-- the dependencies of a list that are no conflicts, each with the choice that raised it, or with none
+-- for world, and with its index, if the first of the list has the index `n`
 abbrev pub raised_from : Option ℕ → ℕ → List Dependency → List RaisedDepValue
 raised_from by n [] = []
 raised_from by n (d ∷ ds) =
     if d.conflict then raised_from by (suc n) ds else (d, by, n) ∷ raised_from by (suc n) ds
 
--- the same, where the first has the index 0
+-- the same, if the first has the index 0
 abbrev pub raised_deps : Option ℕ → List Dependency → List RaisedDepValue
 raised_deps by deps = raised_from by 0 deps
 
--- what the choice at a place raises
+-- the dependencies that the choice at a place raises
 abbrev pub raised_deps_at : SealedPool → ℕ → List RaisedDepValue
 raised_deps_at pool c = raised_deps (Some c) (depends_at pool c)
 
@@ -33,11 +32,11 @@ raised_deps_at pool c = raised_deps (Some c) (depends_at pool c)
 abbrev pub queue_of : SealedPool → List ℕ → List RaisedDepValue
 queue_of pool chosen = raised_deps None pool.world ++ flat_map (raised_deps_at pool) chosen
 
--- whether no choice meets a dependency that is raised
+-- whether no choice meets a raised dependency
 abbrev pub is_unmet_dep : SealedPool → List ℕ → RaisedDepValue → Bool
 is_unmet_dep pool chosen r = is_unmet pool chosen (entry r.0)
 
--- the first `at` of the queue are there, and each of them is met
+-- the queue has at least `at` dependencies, and the first `at` of them are met
 abbrev pub AreMet : SealedPool → List ℕ → ℕ → Type 0
 AreMet pool chosen at = (at ≤ length (queue_of pool chosen))
     × (find (is_unmet_dep pool chosen) (take at (queue_of pool chosen)) ≡ None)

@@ -1,23 +1,21 @@
--- Why options are ruled out, and what a search keeps. A reason is a list of candidates that no
--- satisfying selection holds whole.
--- The rule stands in `docs/selection.md`, "How the search works"; the words in `docs/names.md`,
--- "Choosing packages". Serves the contracts of `src/frame.rt`, and in `solve_core` those
--- of `src/search.rt`.
+-- Why options are ruled out, and the state of a search. A reason is a list of candidates that no
+-- satisfying selection contains together. The rule is in `docs/selection.md`, "How the search works";
+-- the words in `docs/names.md`, "Choosing packages". Serves the contracts of `src/frame.rt`, and in
+-- `solve_core` those of `src/search.rt`.
 use Rattle.std.specs.Prelude.{◌≡◌, ℕ, true, List, [], ◌∷◌, ◌++◌, Some, None}
 use Rattle.candidate_core.specs.Candidates.{Need}
 use Rattle.candidate_core.specs.Rank.{SealedPool, is_better, is_eligible_at, meets_at}
 use Rattle.candidate_core.specs.Options.{IsBestFirst, IsIn, options_for}
 use Rattle.search_tables.specs.Selection.{AreMembers, AreDistinct, exclude_each_other, needs, next_need}
 
--- candidates that are compatible: each may be selected, none stands twice, and no two exclude each
+-- candidates that are compatible: each may be selected, none occurs twice, and no two exclude each
 -- other
 abbrev pub AreCompatible : SealedPool → List ℕ → Type 0
 AreCompatible pool chosen =
     AreDistinct chosen × ((c : ℕ) → IsIn c chosen → is_eligible_at pool c ≡ true)
     × ((a b : ℕ) → IsIn a chosen → IsIn b chosen → exclude_each_other pool a b ≡ true → ⊥)
 
--- a selection that satisfies world, as the search knows it: compatible, and no need is left to be
--- met
+-- a selection that satisfies world, as the search finds it: compatible, and no need is left to be met
 abbrev pub IsSolution : SealedPool → List ℕ → Type 0
 IsSolution pool selection = AreCompatible pool selection × (next_need pool selection ≡ None)
 
@@ -26,13 +24,13 @@ abbrev pub IsReason : SealedPool → List ℕ → Type 0
 IsReason pool reason = (selection : List ℕ) → IsSolution pool selection →
     AreMembers reason selection → ⊥
 
--- why a candidate cannot join some choices: a reason that it makes up with others of them
+-- why a candidate cannot join some choices: it and some of them form a reason
 pub record RulesOut (pool : SealedPool) (chosen : List ℕ) (c : ℕ) (others : List ℕ) : Type 0 where
   pub within : AreMembers others chosen
   pub dead : IsReason pool (c ∷ others)
 
--- a frame, in this order: the options that are ruled out, each with the other members of its
--- reason; the options that are left; the choices that raised its need
+-- a frame, in this order: the ruled-out options, each with the other members of its reason; the options
+-- that are left; the choices that raised its need
 abbrev pub FrameValue : Type 0
 FrameValue = List (ℕ × List ℕ) × List ℕ × List ℕ
 
@@ -46,20 +44,20 @@ abbrev pub AreRuledOut : SealedPool → List ℕ → List (ℕ × List ℕ) → 
 AreRuledOut pool chosen [] = Unit {0}
 AreRuledOut pool chosen (p ∷ ps) = RulesOut pool chosen p.0 p.1 × AreRuledOut pool chosen ps
 
--- the frame is that of the next need behind some choices: what is ruled out and what is left are
--- the options of the need in their order
+-- the frame is that of the next need after some choices: its ruled-out options and those that are left
+-- are the options of the need in their order
 abbrev pub IsFrameOf : SealedPool → List ℕ → FrameValue → Type 0
 IsFrameOf pool chosen f =
     (need : Need) × (next_need pool chosen ≡ Some need) × (options_for pool need ≡ options_in f.0
     ++ f.1)
     × AreMembers f.2 chosen × IsIn need (needs pool f.2) × AreRuledOut pool chosen f.0
 
--- the frame is that of the next need behind some choices, and the option `c` is taken from it
+-- the frame is that of the next need after some choices, and the option `c` is taken from it
 abbrev pub IsFrameTaking : SealedPool → List ℕ → FrameValue → ℕ → Type 0
 IsFrameTaking pool chosen f c = IsFrameOf pool chosen (f.0, c ∷ f.1, f.2)
 
--- behind some choices: the turns are those at which the further choices were made, one behind the
--- other
+-- after some choices: the further choices were made at these turns, which are decisions of the search,
+-- in this order
 abbrev pub AreTurnsFrom : SealedPool → List ℕ → List (FrameValue × ℕ) → Type 0
 AreTurnsFrom pool chosen [] = Unit {0}
 AreTurnsFrom pool chosen (turn ∷ turns) =
@@ -70,7 +68,7 @@ abbrev pub choices_in : List (FrameValue × ℕ) → List ℕ
 choices_in [] = []
 choices_in (turn ∷ turns) = turn.1 ∷ choices_in turns
 
--- the frame is that of the next need behind some choices, and no option of it is left
+-- the frame is that of the next need after some choices, and no option of it is left
 abbrev pub IsSpentFrame : SealedPool → List ℕ → FrameValue → Type 0
 IsSpentFrame pool chosen f = IsFrameOf pool chosen f × (f.1 ≡ [])
 
@@ -79,17 +77,17 @@ abbrev pub others_in : List (ℕ × List ℕ) → List ℕ
 others_in [] = []
 others_in (p ∷ ps) = p.1 ++ others_in ps
 
--- the reason of a dead end: the choices that raised the need, and the other members of the reasons
--- of all its options
+-- the reason of a dead end, a need without options: the choices that raised the need, and the other
+-- members of the reasons of all its options
 abbrev pub dead_end_reason : FrameValue → List ℕ
 dead_end_reason f = f.2 ++ others_in f.0
 
--- the two lists have the same members, in whatever order, and however often
+-- the two lists have the same members, in any order and number
 abbrev pub HasSameMembers : List ℕ → List ℕ → Type 0
 HasSameMembers xs ys = AreMembers xs ys × AreMembers ys xs
 
--- what a pool promises of the options of a need: they are exactly the candidates that may be
--- selected and meet it, each better than those behind it
+-- the promise of a pool about the options of a need: they are exactly the candidates that may be
+-- selected and meet it, each better than those after it
 pub record HasOptions (pool : SealedPool) (need : Need) : Type 0 where
   pub those : (c : ℕ) → IsIn c (options_for pool need) → (is_eligible_at pool c ≡ true)
       × (meets_at pool c need ≡ true)

@@ -1,5 +1,5 @@
--- Selections that satisfy a world, the walk of one, and the first of them.
--- The rules stand in `docs/selection.md`, "What satisfies world", and "Which selection is taken".
+-- Selections that satisfy a world, the walk of one, and the preferred one. The rules are in
+-- `docs/selection.md`, "What satisfies world", and "Which selection is taken".
 use Rattle.std.specs.Prelude.{◌≡◌, ◌≢◌, ℕ, ◌==◌, Bool, true, false, not, ◌&&◌, ◌||◌, if◌then◌else◌, List, [], ◌∷◌, ◌++◌, map, Option, Some, None, is_some, ◌⊎◌}
 use Rattle.std.specs.Option.{option_map, option_map_or, option_or}
 use Rattle.std.specs.List.{filter, find, flat_map, list_all, list_any}
@@ -24,12 +24,12 @@ is_unmet pool chosen need = not (is_met pool chosen need)
 abbrev pub positive_needs : List Dependency → List Need
 positive_needs deps = map entry (filter (λ (d : Dependency). not d.conflict) deps)
 
--- the dependencies of the candidate at a place, conflicts too; none where no candidate is there
+-- the dependencies of the candidate at a place, conflicts too; none if no candidate is there
 abbrev pub depends_at : SealedPool → ℕ → List Dependency
 depends_at pool c = option_map_or (λ (k : Candidate). k.depends) (candidate_at pool c) []
 
--- what world and the choices raise: the entries of world, then the dependencies of each choice in
--- the order chosen
+-- the needs that world and the choices raise: the entries of world, then the dependencies of each
+-- choice in the order chosen
 abbrev pub raised_needs : SealedPool → List ℕ → List Need
 raised_needs pool chosen =
     positive_needs pool.world ++ flat_map (λ c. positive_needs (depends_at pool c)) chosen
@@ -45,7 +45,7 @@ abbrev pub names_by_install_if : SealedPool → List ℕ → List (List ℕ)
 names_by_install_if pool chosen =
     map (λ (c : Candidate). c.name) (filter (install_if_applies pool chosen) pool.candidates)
 
--- what world and the choices raise in all, met or not
+-- all needs that world and the choices raise, met or not
 abbrev pub needs : SealedPool → List ℕ → List Need
 needs pool chosen = raised_needs pool chosen ++ map named (names_by_install_if pool chosen)
 
@@ -59,8 +59,8 @@ abbrev pub least_name : List (List ℕ) → Option (List ℕ)
 least_name [] = None
 least_name (name ∷ names) = Some (lesser_name name (least_name names))
 
--- the first need that no choice meets: of what is raised in its order, else the byte-least of the
--- names whose install-if applies
+-- the first need that no choice meets: the first of the raised ones in their order, else the byte-least
+-- of the names whose install-if applies
 unfoldable pub next_need : SealedPool → List ℕ → Option Need
 next_need pool chosen =
     option_or (find (is_unmet pool chosen) (raised_needs pool chosen))
@@ -82,7 +82,7 @@ occupied_names c =
     c.name ∷ map (λ (p : Dependency). p.name)
     (filter (λ (p : Dependency). not p.conflict && is_some p.version) c.provides)
 
--- the names that the candidate at a place occupies; none where no candidate is there
+-- the names that the candidate at a place occupies; none if no candidate is there
 abbrev pub occupied_names_at : SealedPool → ℕ → List (List ℕ)
 occupied_names_at pool c = option_map_or occupied_names (candidate_at pool c) []
 
@@ -92,8 +92,7 @@ abbrev pub share_a_name : SealedPool → ℕ → ℕ → Bool
 share_a_name pool a b =
     list_any (λ name. is_at pool (occupies_name name) b) (occupied_names_at pool a)
 
--- whether one candidate keeps the other out: by a conflict that it has, or by a name that both
--- occupy
+-- whether one candidate excludes the other: by a conflict that it has, or by a name that both occupy
 abbrev pub keeps_out : SealedPool → ℕ → ℕ → Bool
 keeps_out pool a b = conflicts_with pool a b || share_a_name pool a b
 
@@ -103,9 +102,9 @@ exclude_each_other pool a b = not (a == b) && (keeps_out pool a b || keeps_out p
 
 -- ---- satisfying selections
 
--- a selection satisfies the world: its members are different and may be selected; each entry of
--- world and each dependency of a member is met; no conflict of a member is met by another; each
--- name is occupied by one member at most; and each name whose install-if applies is a member's
+-- a selection satisfies the world. Its members are different and may be selected. Each entry of world
+-- and each dependency of a member is met, and no conflict of a member is met by another. Each name is
+-- occupied by at most one member, and each name whose install-if applies is a member's
 pub record IsSatisfying (pool : SealedPool) (selection : List ℕ) : Type 0 where
   pub once : AreDistinct selection
   pub eligible : (c : ℕ) → IsIn c selection → is_eligible_at pool c ≡ true
@@ -126,15 +125,15 @@ pub record IsSatisfying (pool : SealedPool) (selection : List ℕ) : Type 0 wher
 
 -- ---- the walk of a selection
 
--- the member of a selection is the best ranked that meets the need
+-- the member of a selection is the best in rank that meets the need
 abbrev pub IsBestMember : SealedPool → List ℕ → Need → ℕ → Type 0
 IsBestMember pool selection need c =
     IsIn c selection × (meets_at pool c need ≡ true)
     × ((o : ℕ) → IsIn o selection → meets_at pool o need ≡ true →
     (o ≡ c) ⊎ (is_better pool need c o ≡ true))
 
--- behind some choices: the rest of the walk of a selection, which has the best ranked member for
--- each next need, until there is none
+-- after some choices: the rest of the walk of a selection, which has the best member in rank for each
+-- next need, until there is none
 abbrev pub IsWalkFrom : SealedPool → List ℕ → List ℕ → List ℕ → Type 0
 IsWalkFrom pool selection chosen [] = next_need pool chosen ≡ None
 IsWalkFrom pool selection chosen (c ∷ rest) =
@@ -145,8 +144,8 @@ IsWalkFrom pool selection chosen (c ∷ rest) =
 abbrev pub IsWalk : SealedPool → List ℕ → List ℕ → Type 0
 IsWalk pool selection walk = IsWalkFrom pool selection [] walk
 
--- behind some choices: of the rests of two walks the first has the better rank at the first place
--- where they differ, for the need there
+-- after some choices: the rest of one walk is preferred to that of another if it has the better rank at
+-- the first place where they differ, for the need there
 abbrev pub ComesBeforeFrom : SealedPool → List ℕ → List ℕ → List ℕ → Type 0
 ComesBeforeFrom pool chosen [] other = ⊥
 ComesBeforeFrom pool chosen (c ∷ rest) [] = ⊥
@@ -154,11 +153,11 @@ ComesBeforeFrom pool chosen (c ∷ rest) (d ∷ other) =
     ((need : Need) × (next_need pool chosen ≡ Some need) × (is_better pool need c d ≡ true))
     ⊎ ((c ≡ d) × ComesBeforeFrom pool (chosen ++ c ∷ []) rest other)
 
--- of two walks the first comes before the other, from the first need on
+-- one walk is preferred to another, from the first need on
 abbrev pub ComesBefore : SealedPool → List ℕ → List ℕ → Type 0
 ComesBefore pool walk other = ComesBeforeFrom pool [] walk other
 
--- the first selection: it satisfies the world, is its own walk, and comes before the walk of each
+-- the preferred solution: it satisfies the world, is its own walk, and is preferred to the walk of each
 -- other satisfying selection
 pub record IsFirstSelection (pool : SealedPool) (trace : List ℕ) : Type 0 where
   pub satisfies : IsSatisfying pool trace

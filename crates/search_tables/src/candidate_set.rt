@@ -1,7 +1,6 @@
-//! A list of candidates, each once, that answers at once whether it has one.
-//! No rule of a document: the choices and the reason of a dead end are such lists
-//! (`docs/selection.md`, "How the search works"), and are asked again and again whether they have a
-//! candidate.
+//! A list of candidates, each once, with a membership test in constant time. No rule of a document:
+//! the choices and the reason of a dead end are such lists (`docs/selection.md`, "How the search
+//! works"), and the search tests them often.
 ghost use Rattle.std.specs.Prelude.{◌≡◌, ◌<◌, ◌^◌, ℕ, List, [], ◌∷◌, ◌++◌, false, length, MatchBool, OnOk, Some, vec_len, slice_index_or};
 ghost use Rattle.candidate_core.specs.Options.{IsIn};
 ghost use Rattle.search_tables.specs.Reasons.{HasSameMembers};
@@ -10,14 +9,14 @@ use pool_core::CandId;
 use std::alloc::{AllocError, Global};
 use std::marker::Model;
 
-/// Candidates in the order in which they came, each once, and a mark for each place in the list of
-/// all candidates, which is set where it is one of them.
+/// Candidates in the order in which they were added, each once, and a mark for each place in the
+/// list of all candidates, which is set if its candidate is in the set.
 #[derive(Drop)]
 pub struct CandidateSet {
     /// The places of the candidates, in the order in which they came.
     ids: Vec<CandId>,
     /// For each place in the list of all candidates, up to the greatest that was ever in the set,
-    /// whether the set has it.
+    /// whether it is in the set.
     marks: Vec<bool>,
 }
 
@@ -55,7 +54,7 @@ impl CandidateSet {
         }
     }
 
-    /// Puts a candidate behind the others of the set, unless the set has it.
+    /// Puts a candidate after the others of the set, unless the set has it.
     pub fn add(&mut self, id: CandId) -> Result<(), AllocError>
         ensures { OnOk result (HasSameMembers self.new (self.old ++ id ∷ [])) }
     {
@@ -66,7 +65,7 @@ impl CandidateSet {
         Ok(())
     }
 
-    /// Puts those of some candidates behind the others that the set has not.
+    /// Appends those of some candidates that are not in the set.
     pub fn add_all(&mut self, ids: &[CandId]) -> Result<(), AllocError>
         ensures { OnOk result (HasSameMembers self.new (self.old ++ ids.now)) }
     {
@@ -76,8 +75,7 @@ impl CandidateSet {
         Ok(())
     }
 
-    /// Puts a candidate behind the others, which the set does not have. A refused call changes
-    /// nothing.
+    /// Appends a candidate that is not in the set. A call that fails changes nothing.
     pub fn push(&mut self, id: CandId) -> Result<(), AllocError>
         requires { IsIn id self.old → ⊥ }
         ensures { OnOk result (self.new ≡ self.old ++ id ∷ []) }
@@ -89,8 +87,8 @@ impl CandidateSet {
         Ok(())
     }
 
-    /// Takes all candidates out of the set. The marks stay long, so that a set which is used again
-    /// makes none anew.
+    /// Removes all candidates. The marks keep their length, so that a set which is reused allocates
+    /// none.
     pub fn clear(&mut self)
         ensures { self.new ≡ [] }
     {
@@ -99,7 +97,7 @@ impl CandidateSet {
         }
     }
 
-    /// Takes the last candidate out of the set; an empty set stays empty.
+    /// Removes the last candidate; an empty set is unchanged.
     pub fn pop(&mut self)
         ensures last { (rest : List ℕ) (last : ℕ) → self.old ≡ rest ++ last ∷ [] →
             self.new ≡ rest }
@@ -114,7 +112,7 @@ impl CandidateSet {
         }
     }
 
-    /// The last candidate of the set; none of an empty set.
+    /// The last candidate of the set; None if it is empty.
     pub fn last(&self) -> Option<CandId>
         ensures { (rest : List ℕ) (last : ℕ) → self.now ≡ rest ++ last ∷ [] →
             result ≡ Some last }

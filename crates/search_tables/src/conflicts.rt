@@ -1,7 +1,6 @@
-//! The conflicts of the choices by their names, and the choice among those that have a conflict
-//! which a further candidate meets.
-//! The rule stands in `docs/selection.md`, "What satisfies world", 2: no conflict of a selected
-//! package is met by another one.
+//! The conflicts of the choices by their names, and the search for a choice whose conflict a
+//! further candidate meets. The rule is in `docs/selection.md`, "What satisfies world", 2: no
+//! conflict of a selected package is met by another one.
 ghost use Rattle.std.specs.Prelude.{◌≡◌, ◌<◌, ◌∷◌, ◌++◌, ℕ, List, [], IfOk, OnOk, Some, find, length, slice_get};
 ghost use Rattle.std.specs.Option.{option_map};
 ghost use Rattle.dep_core.specs.Dependency.{Dependency};
@@ -17,7 +16,7 @@ use pool_core::{CandId, Deps, PackageDep, PackageMatches};
 use std::alloc::{AllocError, Global};
 use std::marker::Model;
 
-/// A conflict, and where the choice that has it has it.
+/// A conflict, its choice, and its index among the dependencies of that.
 #[derive(Drop)]
 pub struct ListedConflict<'p> {
     /// The choice that has the conflict.
@@ -46,7 +45,7 @@ impl<'p> ListedConflict<'p> {
         self.by
     }
 
-    // Whether a candidate meets the conflict. What is learnt of long versions is kept.
+    // Whether a candidate meets the conflict. Results for long versions are remembered.
     fn is_met_by(&self, id: CandId, matches: &mut PackageMatches<'_>) -> Result<bool, AllocError>
         requires within { id < length (candidates_of_packages matches.old.packages.now) }
         requires listed { IsConflictOf (candidates_of_packages matches.old.packages.now) self.now }
@@ -84,7 +83,7 @@ impl<'p> Conflicts<'p> {
         }
     }
 
-    /// Adds the conflicts that are among a candidate's dependencies, behind the others of their
+    /// Adds the conflicts that are among a candidate's dependencies, after the others of their
     /// names.
     pub fn add(&mut self, depends: &Deps<'p>, by: CandId) -> Result<(), AllocError>
         ensures conflicts { OnOk result ((name : List ℕ) → conflicts_in self.new.by_name name
@@ -117,8 +116,8 @@ impl<'p> Conflicts<'p> {
         Ok(())
     }
 
-    /// Takes the conflicts of the candidate out that was added last. In the clause, `front` is what
-    /// the list had for each name before that candidate was added.
+    /// Removes the conflicts of the candidate that was added last. In the clause, `front` is the
+    /// list for each name before that candidate was added.
     pub fn take_away(&mut self, depends: &Deps<'_>)
         ensures conflicts { (by : ℕ) (front : List ℕ → List (ℕ × Dependency)) →
             ((name : List ℕ) → conflicts_in self.old.by_name name
@@ -149,12 +148,12 @@ impl<'p> Conflicts<'p> {
         }
     }
 
-    /// The first choice that has a conflict of a name which a candidate meets. What is learnt of
-    /// long versions is kept.
+    /// The first choice with a conflict of a name that a candidate meets. Results for long versions
+    /// are remembered.
     ///
     /// # Errors
     ///
-    /// Want of memory.
+    /// Out of memory.
     pub fn choice_against(
         &self,
         name: &[u8],

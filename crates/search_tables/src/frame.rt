@@ -1,13 +1,14 @@
-//! A need under way: the options that are ruled out, each with its reason, and those that are left.
-//! What a reason is, and when an option is ruled out, stands in `docs/selection.md`, "How the
-//! search works"; the words *frame* and *turn* in `docs/names.md`, "Choosing packages".
+//! The frame of one need in the search: the options that are ruled out, each with its reason, and
+//! those that are left. Reasons, and when an option is ruled out, are defined in
+//! `docs/selection.md`, "How the search works"; the words *frame* and *turn* in `docs/names.md`,
+//! "Choosing packages".
 ghost use Rattle.std.specs.Prelude.{◌≡◌, [], ◌∷◌, ◌++◌, map, length, ◌<◌, ◌^◌, MatchOption, OnOk, IfSome, Some, slice_get};
 
 use pool_core::CandId;
 use std::alloc::{AllocError, Global};
 use std::marker::Model;
 
-/// An option that is ruled out, and why: no satisfying selection holds it and all of the others.
+/// An option that is ruled out, and why: no satisfying selection contains it and all of the others.
 #[derive(Drop)]
 pub struct RuledOutOption {
     /// The option.
@@ -40,12 +41,11 @@ impl RuledOutOption {
     }
 }
 
-/// A need that is to be met: its options, of which those in front are ruled out or taken, each that
-/// is ruled out with its reason; and the choices that raised the need.
+/// A need to be met: its options, of which the first ones are ruled out or taken, each ruled-out
+/// option with its reason; and the choices that raised the need.
 #[derive(Drop)]
 pub struct Frame {
-    /// The options that are ruled out, in the order in which they were, each with the other members
-    /// of its reason.
+    /// The options that are ruled out, in that order, each with the other members of its reason.
     ruled_out: Vec<RuledOutOption>,
     /// All options of the need, best first.
     options: Vec<CandId>,
@@ -61,7 +61,8 @@ impl Model for Frame {
 
     ghost Value = { List (ℕ × List ℕ) × List ℕ × List ℕ };
 
-    // In this order: what is ruled out, what is left, what raised the need.
+    // In this order: the ruled-out options, the options that are left, the choices that raised the
+    // need.
     ghost view = { λ f. (f.ruled_out.items, drop f.next f.options.items, f.by.items) };
 }
 
@@ -79,7 +80,7 @@ impl Frame {
         }
     }
 
-    /// Takes the best option that is left, if one is.
+    /// Takes the best option that is left, if there is one.
     pub fn take_next(&mut self) -> Option<CandId>
         ensures ruled_out { self.new.0 ≡ self.old.0 }
         ensures left { MatchOption result ((self.old.1 ≡ []) × (self.new.1
@@ -94,7 +95,7 @@ impl Frame {
         Some(id)
     }
 
-    /// Rules the option out that was taken last, with the other members of the reason against it.
+    /// Rules out the option that was taken last, with the other members of the reason against it.
     pub fn rule_out(&mut self, option: CandId, others: Vec<CandId>) -> Result<(), AllocError>
         ensures { OnOk result (self.new ≡ (
           self.old.0 ++
@@ -121,7 +122,7 @@ impl Frame {
         self.ruled_out.as_slice()
     }
 
-    /// The option that was ruled out at an index, counted from 0, if there are so many.
+    /// The option that was ruled out at an index, counted from 0, if there is one.
     pub fn ruled_out_at(&self, i: usize) -> Option<&RuledOutOption>
         ensures { IfSome result (λ ruled_out. slice_get self.now.0 i ≡ Some ruled_out.now) }
     {

@@ -1,9 +1,8 @@
-//! Which choice meets a dependency of a candidate: a conflict of a further one, or what a choice
-//! raised.
-//! The rules stand in `docs/selection.md`: "What satisfies world", 1 (dependencies are met) and 2 (no
-//! conflict of a selected package is met by another one), and "What there is to choose from" (what
-//! meets a dependency).
-//! That long versions are compared once saves time alone.
+//! The search for a choice that meets a dependency of a candidate: a conflict of a further one, or
+//! a dependency that a choice raised. The rules are in `docs/selection.md`: "What satisfies world",
+//! 1 (dependencies are met) and 2 (no conflict of a selected package is met by another one), and
+//! "What there is to choose from" (what meets a dependency). Comparing long versions only once
+//! saves time.
 ghost use Rattle.std.specs.Prelude.{◌≡◌, ℕ, false, true, IfOk, MatchBool, MatchOption, OnOk};
 ghost use Rattle.dep_core.specs.Meets.{dependency};
 ghost use Rattle.candidate_core.specs.Candidates.{entry};
@@ -18,13 +17,13 @@ use candidate_core::is_long;
 use pool_core::{CandId, NeedRef, PackageDep, PackageMatches, Sealed};
 use std::alloc::AllocError;
 
-/// A choice that meets a dependency of a candidate, be that a conflict or not. It is looked for among
-/// all choices where these are fewer than the candidates that offer the dependency's name. What is
-/// learnt of long versions is kept.
+/// A choice that meets a dependency of a candidate, whether that is a conflict or not. All choices
+/// are searched if they are fewer than the candidates that offer the dependency's name. Results for
+/// long versions are remembered.
 ///
 /// # Errors
 ///
-/// Want of memory.
+/// Out of memory.
 pub fn choice_meeting_held(
     pool: &Sealed<'_>,
     choices: &CandidateSet,
@@ -49,12 +48,12 @@ pub fn choice_meeting_held(
     choice_among(pool, choices, offers, held, matches)
 }
 
-/// Whether a choice meets a dependency of a candidate. Where the dependency names no long version, the
-/// latest choice is tried first. What is learnt of long versions is kept.
+/// Whether a choice meets a dependency of a candidate. If the dependency has no long version, the
+/// latest choice is tried first. Results for long versions are remembered.
 ///
 /// # Errors
 ///
-/// Want of memory.
+/// Out of memory.
 pub fn is_held_met(
     pool: &Sealed<'_>,
     choices: &CandidateSet,

@@ -1,6 +1,6 @@
-//! The candidates whose install-if can come to apply, and which of them wait for a name.
-//! The rules stand in `docs/selection.md`: "What satisfies world", 4 (when an install-if applies),
-//! and "Which selection is taken" (names are asked for in byte order).
+//! The candidates whose install-if can apply, and the names that each of them waits for. The rules
+//! are in `docs/selection.md`: "What satisfies world", 4 (when an install-if applies), and "Which
+//! selection is taken" (names are needed in byte order).
 ghost use Rattle.std.specs.Prelude.{◌≡◌, ◌≤◌, ◌<◌, ℕ, List, length, get_or, true, false, IfOk, OnOk, slice_get};
 ghost use Rattle.dep_core.specs.Dependency.{Dependency};
 ghost use Rattle.candidate_core.specs.Options.{AreMembers, IsIn};
@@ -13,8 +13,8 @@ use pool_core::{CandId, Deps, Sealed};
 use std::alloc::{AllocError, Global};
 use std::cmp::Ordering;
 
-/// The candidates whose install-if can come to apply, in byte order of their names, and, for each
-/// name, the ranks in this order of those that have an entry of it.
+/// The candidates whose install-if can apply, in byte order of their names, and, for each name, the
+/// ranks in this order of those that have an entry of it.
 #[derive(Drop)]
 pub struct InstallIfs<'p> {
     /// The candidates, in byte order of their names; the place here, counted from 0, is the rank of
@@ -25,7 +25,7 @@ pub struct InstallIfs<'p> {
 }
 
 impl<'p> InstallIfs<'p> {
-    /// The candidates of a pool whose install-if can come to apply.
+    /// The candidates of a pool whose install-if can apply.
     pub fn new(alloc: Global, pool: &'p Sealed<'p>) -> Result<InstallIfs<'p>, AllocError>
         ensures { IfOk result (λ found. AreInstallIfs pool.entry.now found.by_name.items
             found.waiting) }
@@ -38,7 +38,7 @@ impl<'p> InstallIfs<'p> {
         Ok(InstallIfs { by_name, waiting })
     }
 
-    /// The candidate of a rank, counted from 0, if there are so many.
+    /// The candidate of a rank, counted from 0, if there is one.
     pub fn at(&self, rank: usize) -> Option<CandId>
         ensures { result ≡ slice_get self.now.by_name.items rank }
     {
@@ -53,7 +53,7 @@ impl<'p> InstallIfs<'p> {
     }
 }
 
-// The candidates whose install-if can come to apply, in byte order of their names.
+// The candidates whose install-if can apply, in byte order of their names.
 fn in_byte_order(alloc: Global, pool: &Sealed<'_>) -> Result<Vec<CandId>, AllocError>
     ensures those { IfOk result (λ ids. (k : ℕ) → IsIn k ids.items →
         is_usable_at pool.now k ≡ true) }
@@ -74,7 +74,7 @@ fn by_names(pool: &Sealed<'_>, a: CandId, b: CandId) -> Ordering
     name_at(pool, a).cmp(&name_at(pool, b))
 }
 
-// The name of the candidate at a place; empty where there is none.
+// The name of the candidate at a place; empty if there is none.
 fn name_at<'a>(pool: &'a Sealed<'_>, id: CandId) -> &'a [u8]
     ensures { result.now ≡ name_at pool.entry.now id }
 {
@@ -84,7 +84,7 @@ fn name_at<'a>(pool: &'a Sealed<'_>, id: CandId) -> &'a [u8]
     }
 }
 
-// Puts the rank of a candidate behind those of the name of each entry of its install-if.
+// Appends the rank of a candidate to those of the name of each entry of its install-if.
 fn add_install_if<'p>(
     waiting: &mut NameTable<'p, usize>,
     pool: &'p Sealed<'p>,
@@ -103,7 +103,7 @@ fn add_install_if<'p>(
     Ok(())
 }
 
-// Adds a rank behind those of the name of each of some dependencies.
+// Appends a rank to those of the name of each of some dependencies.
 fn add_entries<'p>(
     waiting: &mut NameTable<'p, usize>,
     deps: &Deps<'p>,

@@ -1,11 +1,11 @@
-//! What a search for a selection keeps and asks: sets of candidates, the conflicts of the choices and
-//! the install-ifs by their names, the queue of the dependencies that are raised, and the frame of a
-//! need with the options that are ruled out.
+//! The tables of the search for a selection: sets of candidates, the conflicts of the choices and
+//! the install-ifs by their names, the queue of raised dependencies, and the frame of a need with
+//! its ruled-out options.
 //!
-//! The rules stand in `docs/selection.md`, "What satisfies world", "Which selection is taken", and
+//! The rules are in `docs/selection.md`, "What satisfies world", "Which selection is taken", and
 //! "How the search works".
 //!
-//! The contracts cite `Selection` (what satisfies a world, and which selection comes first),
+//! The contracts cite `Selection` (what satisfies a world, and which selection is preferred),
 //! `InstallIf`, `Conflicts`, `Queue` and `Reasons` (why options are ruled out) of `specs/`.
 #![tactic(auto)]
 

@@ -1,5 +1,5 @@
-//! Items by name, each name's in the order in which they were added. It borrows the names.
-//! No rule of a document: `conflicts` keeps the conflicts of the choices in such a table, and
+//! Items by name, those of each name in the order in which they were added. It borrows the names.
+//! No rule of a document: `conflicts` stores the conflicts of the choices in such a table, and
 //! `install_ifs` the ranks that wait for a name.
 ghost use Rattle.std.specs.Prelude.{◌≡◌, ℕ, List, [], ◌∷◌, ◌++◌, OnOk, if◌then◌else◌};
 ghost use Rattle.std.specs.Str.{bytes_eq};
@@ -12,7 +12,7 @@ use std::marker::Model;
 /// The items of each name.
 #[derive(Drop)]
 pub struct NameTable<'p, T> {
-    /// What memory comes from.
+    /// The allocator.
     alloc: Global,
     /// The items of each name, the earliest first.
     by_name: IndexMap<&'p [u8], Vec<T>>,
@@ -38,7 +38,7 @@ impl<'p, T: Drop> NameTable<'p, T> {
         }
     }
 
-    /// The items of a name; none where no item of the name was added.
+    /// The items of a name; none if no item of the name was added.
     pub fn get(&self, name: &[u8]) -> &[T]
         ensures { result.now ≡ items_of self.now name.now }
     {
@@ -48,7 +48,7 @@ impl<'p, T: Drop> NameTable<'p, T> {
         }
     }
 
-    /// Adds an item behind those of a name; other names keep theirs.
+    /// Appends an item to those of a name; other names are unchanged.
     pub fn add(&mut self, name: &'p [u8], item: T) -> Result<(), AllocError>
         ensures { OnOk result ((other : List ℕ) → items_of self.new other
             ≡ items_of self.old other
@@ -68,7 +68,7 @@ impl<'p, T: Drop> NameTable<'p, T> {
         }
     }
 
-    /// Takes the last item of a name out, if there is one; other names keep theirs.
+    /// Removes the last item of a name, if there is one; other names are unchanged.
     pub fn pop(&mut self, name: &[u8])
         ensures { (other : List ℕ) → items_of self.new other
             ≡ (if bytes_eq other name.now then without_last (items_of self.old other)

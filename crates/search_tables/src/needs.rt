@@ -1,6 +1,6 @@
-//! Which choices meet a need, which install-if applies, and which choice occupies a name.
-//! The rules stand in `docs/selection.md`: "What there is to choose from" (what meets a
-//! dependency), and "What satisfies world", 3 (occupied names) and 4 (install-if).
+//! The tests whether choices meet a need, whether an install-if applies, and whether a choice
+//! occupies a name. The rules are in `docs/selection.md`: "What there is to choose from" (what
+//! meets a dependency), and "What satisfies world", 3 (occupied names) and 4 (install-if).
 ghost use Rattle.std.specs.Prelude.{◌≡◌, ℕ, false, true, MatchBool, MatchOption, IfOk, OnOk};
 ghost use Rattle.dep_core.specs.Meets.{dependency};
 ghost use Rattle.candidate_core.specs.Candidates.{entry, meets_need, need_name, occupies_name};
@@ -15,8 +15,8 @@ use dep_core::Dep;
 use pool_core::{CandId, Deps, Details, NeedRef, Sealed};
 use std::alloc::{AllocError, Global};
 
-/// A choice that meets a need. It is looked for among all choices where these are fewer than the
-/// candidates that offer the need's name.
+/// A choice that meets a need. All choices are searched if they are fewer than the candidates that
+/// offer the need's name.
 pub fn choice_meeting(
     pool: &Sealed<'_>,
     choices: &CandidateSet,
@@ -44,8 +44,8 @@ fn offers_for<'a>(pool: &'a Sealed<'_>, need: &NeedRef<'_>) -> &'a [CandId]
     }
 }
 
-// A choice among some candidates that meets a need: the first of them, though no contract says
-// which.
+// The first choice among some candidates that meets a need; no contract promises that it is the
+// first.
 fn choice_among(
     pool: &Sealed<'_>,
     choices: &CandidateSet,
@@ -91,8 +91,8 @@ fn meets(pool: &Sealed<'_>, id: CandId, need: &NeedRef<'_>) -> bool
     }
 }
 
-// Whether a candidate meets a need, by what is known of it: a name that an install-if asks for is
-// met by the candidate's own name alone.
+// Whether a candidate meets a need, by its details: the name of an install-if is met only by a
+// candidate of that name.
 fn meets_need(details: &Details<'_>, need: &NeedRef<'_>) -> bool
     ensures { result ≡ meets_need (need_by need.now) details.now }
 {
@@ -102,7 +102,7 @@ fn meets_need(details: &Details<'_>, need: &NeedRef<'_>) -> bool
     }
 }
 
-// Whether a choice meets a need; `is_met_by_latest_or_other` answers the same.
+// Whether a choice meets a need; `is_met_by_latest_or_other` has the same result.
 fn is_met(pool: &Sealed<'_>, choices: &CandidateSet, need: &NeedRef<'_>) -> bool
     ensures { result ≡ is_met pool.now choices.now (need_by need.now) }
 {
@@ -123,7 +123,7 @@ pub fn is_met_by_latest_or_other(
     is_met(pool, choices, need)
 }
 
-// Whether the latest choice meets the need. That it does not says nothing of the others.
+// Whether the latest choice meets the need. If not, another one may.
 fn latest_meets(pool: &Sealed<'_>, choices: &[CandId], need: &NeedRef<'_>) -> bool
     ensures { result ≡ true → is_met pool.now choices.now (need_by need.now) ≡ true }
 {
@@ -133,8 +133,8 @@ fn latest_meets(pool: &Sealed<'_>, choices: &[CandId], need: &NeedRef<'_>) -> bo
     }
 }
 
-/// Whether the candidate at a place asks: each entry of its install-if is met, and no choice has
-/// its name.
+/// Whether the candidate at a place asks for its name: each entry of its install-if is met, and no
+/// choice has its name.
 pub fn asks_for_name(pool: &Sealed<'_>, choices: &CandidateSet, id: CandId) -> bool
     ensures { result ≡ asks_at pool.now choices.now id }
 {
@@ -144,8 +144,8 @@ pub fn asks_for_name(pool: &Sealed<'_>, choices: &CandidateSet, id: CandId) -> b
     }
 }
 
-// Whether a candidate asks, by what is known of it: each entry of its install-if is met, and no
-// choice has its name.
+// Whether a candidate asks, by its details: each entry of its install-if is met, and no choice has
+// its name.
 fn wants(pool: &Sealed<'_>, choices: &CandidateSet, details: &Details<'_>) -> bool
     ensures { result ≡ asks_for_name pool.now choices.now details.now }
 {
@@ -174,8 +174,8 @@ fn is_dep_met(pool: &Sealed<'_>, choices: &CandidateSet, dep: &Dep<'_>) -> bool
     is_met(pool, choices, &NeedRef::Entry(dep))
 }
 
-/// Of each of some dependencies that a choice meets, one choice that does. Where they all are met,
-/// they are met by these choices alone: so these raised the need of an install-if.
+/// For each of some dependencies that a choice meets, one choice that does. If all are met, these
+/// choices alone meet them: so they raised the need of an install-if.
 pub fn raisers(
     alloc: Global,
     pool: &Sealed<'_>,
@@ -215,8 +215,8 @@ fn push_met(
     }
 }
 
-/// A choice that occupies a name. It is looked for among all choices where these are fewer than
-/// the candidates that offer the name.
+/// A choice that occupies a name. All choices are searched if they are fewer than the candidates
+/// that offer the name.
 pub fn occupant(pool: &Sealed<'_>, choices: &CandidateSet, name: &[u8]) -> Option<CandId>
     ensures { MatchOption result ((k : ℕ) → IsIn k choices.now →
         is_at pool.now (occupies_name name.now) k ≡ false) (λ id. IsIn id choices.now

@@ -1,6 +1,6 @@
-//! The dependencies that world and the choices raise, in the order in which they are to be met.
-//! The rule stands in `docs/selection.md`, "Which selection is taken": first the entries of world,
-//! then the dependencies of each choice in the order chosen; conflicts are no needs.
+//! The queue of the dependencies that world and the choices raise, in the order in which they must
+//! be met. The rule is in `docs/selection.md`, "Which selection is taken": first the entries of
+//! world, then the dependencies of each choice in the order chosen; conflicts are no needs.
 ghost use Rattle.std.specs.Prelude.{◌≡◌, ◌∷◌, ◌++◌, [], OnOk, None, Some};
 ghost use Rattle.dep_core.specs.Meets.{dependency};
 ghost use Rattle.search_tables.specs.Queue.{raised_deps, raised_from};
@@ -10,16 +10,16 @@ use pool_core::{CandId, Deps};
 use std::alloc::AllocError;
 use std::marker::Model;
 
-/// A dependency that has to be met, the choice that has it, if it is none of world's, and where that
-/// has it.
+/// A dependency that must be met, the choice that has it, if it is not one of world, and its index
+/// there.
 #[derive(Drop)]
 pub struct RaisedDep<'p> {
     /// The dependency, which is no conflict.
     dep: Dep<'p>,
-    /// The choice that has the dependency; none for an entry of world.
+    /// The choice that has the dependency; None for an entry of world.
     by: Option<CandId>,
-    /// The index of the dependency among those of the choice, or among the entries of world, counted
-    /// from 0.
+    /// The index of the dependency among those of the choice, or among the entries of world,
+    /// counted from 0.
     index: usize,
 }
 
@@ -40,15 +40,15 @@ impl<'p> RaisedDep<'p> {
         &self.dep
     }
 
-    /// The choice that has the dependency; none for an entry of world.
+    /// The choice that has the dependency; None for an entry of world.
     pub fn by(&self) -> Option<CandId>
         ensures { result ≡ self.now.1 }
     {
         self.by
     }
 
-    /// The index of the dependency among those of the choice, or among the entries of world, counted
-    /// from 0.
+    /// The index of the dependency among those of the choice, or among the entries of world,
+    /// counted from 0.
     pub fn index(&self) -> usize
         ensures { result ≡ self.now.2 }
     {
@@ -56,18 +56,18 @@ impl<'p> RaisedDep<'p> {
     }
 }
 
-/// Where the queue and the cursors stood before a choice.
+/// The state of the queue and the cursors before a choice.
 #[derive(Clone, Copy)]
 pub struct Checkpoint {
     /// How many dependencies the queue had.
     pub queue_len: usize,
-    /// Where the cursor of the queue stood.
+    /// The cursor of the queue.
     pub cursor: usize,
-    /// Where the cursor of the install-ifs stood.
+    /// The cursor of the install-ifs.
     pub asking_cursor: usize,
 }
 
-/// Queues what world asks for: its entries that are no conflicts.
+/// Queues the entries of world that are no conflicts.
 pub fn queue_world<'p>(queue: &mut Vec<RaisedDep<'p>>, world: &'p World) -> Result<(), AllocError>
     ensures { OnOk result (queue.new.items ≡ queue.old.items
         ++ raised_deps None world.entry.now) }
@@ -93,8 +93,8 @@ pub fn queue_all<'p>(
     Ok(())
 }
 
-// Puts a dependency behind the others of the queue, unless it is a conflict; `by` is the choice
-// that has it, at an index.
+// Appends a dependency to the queue, unless it is a conflict; `by` is the choice that has it, at an
+// index.
 fn queue_one<'p>(
     queue: &mut Vec<RaisedDep<'p>>,
     dep: Dep<'p>,

@@ -42,7 +42,7 @@ module _ (pool : SealedPool) (facts : PoolFacts pool) where
     | inr b ↦ elim b [ inl e ↦ inl e | inr bad ↦ absurd bad ]
   ])
 
-  -- the options of a need, one after the other
+  -- the options of a need, in sequence
   over_options : (t : List ℕ) (q : Need) → next_need pool t ≡ Some q → AreCompatible pool t → law.Led facts [] t
       → ((y : ℕ) → is_eligible_at pool y ≡ true → (IsIn y t → ⊥) → AreCompatible pool (t ++ y ∷ []) → law.Led facts [] (t ++ y ∷ []) → Found ⊎ law.Dead facts (t ++ y ∷ []))
       → (xs ys : List ℕ) → options_for pool q ≡ xs ++ ys → law.AllDead facts t xs → Found ⊎ law.Dead facts t
@@ -63,7 +63,7 @@ module _ (pool : SealedPool) (facts : PoolFacts pool) where
         ]) (law.dead_apart facts bad.0 y bad.2))
       ]
 
-  -- behind some choices, where R holds each other candidate that may be selected
+  -- after some choices, where R holds each other candidate that may be selected
   explore : (fuel : ℕ) (R t : List ℕ) → length R ≤ fuel → ((c : ℕ) → is_eligible_at pool c ≡ true → IsIn c t ⊎ IsIn c R) → AreCompatible pool t → law.Led facts [] t → Found ⊎ law.Dead facts t
   explore zero R t len parts clean led = elim (none_or_some (next_need pool t)) [
     | inl e ↦ inl (t, law.first_of_led facts t led clean e)

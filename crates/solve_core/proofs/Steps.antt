@@ -135,7 +135,7 @@ sub_filter c (x ∷ xs) o h = elim (eqb_tells x c) [
   ])
 ]
 
--- a choice that is to blame is passed over at its frame, with the rest of the blame
+-- a choice that is to blame is skipped at its frame, with the rest of the blame
 pub hit_reason : (pool : SealedPool) (members rest all others : List ℕ) (c : ℕ) → AreMembers members all → all ≡ rest ++ c ∷ [] → IsReason pool members → others ≡ filter (λ id. not (id == c)) members → RulesOut pool rest c others
 hit_reason pool members rest all others c sub is dead e = record {
   within = λ o h.

@@ -109,7 +109,7 @@ not_heavier_top : (b r e d : ℕ) (ds : List ℕ) → e ≤ d → weight b (leng
 not_heavier_top b r e d ds less =
     omega (arith, weight_front b (suc r) ds (e ∷ []), weight_front b (suc r) ds (d ∷ []), weight_cons b r e [], weight_cons b r d [], mul-le-mul_right (power b r) less)
 
--- options passed over at the top make nothing heavier
+-- options skipped at the top make nothing heavier
 pub not_heavier : (turns : List (FrameValue × ℕ)) (f g : FrameValue) → length turns + 2 ≤ rooms → length f.1 ≤ length g.1 → weight_of turns f ≤ weight_of turns g
 unfolding weight_of
 not_heavier turns f g few less =

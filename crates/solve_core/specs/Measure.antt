@@ -1,8 +1,7 @@
--- What falls at each step of a search: a number with a digit for each frame, the lowest frame's
--- first.
--- No rule of a document: serves the proof that `solve` ends ("and it ends": `docs/selection.md`,
--- "How the search works"). An option that is taken or ruled out makes its frame's digit smaller,
--- and what is put behind it counts less.
+-- The measure of a search, which falls at each step: a number with a digit for each frame, the lowest
+-- frame's first. No rule of a document: serves the proof that `solve` ends ("and it ends":
+-- `docs/selection.md`, "How the search works"). An option that is taken or ruled out makes its frame's
+-- digit smaller, and the digits after it have less weight.
 use Rattle.std.specs.Prelude.{ℕ, zero, suc, ◌+◌, ◌*◌, ◌^◌, List, [], ◌∷◌, ◌++◌, length}
 use Rattle.search_tables.specs.Reasons.{FrameValue}
 
@@ -20,11 +19,11 @@ base = 2 ^ 64 + 2
 unfoldable pub rooms : ℕ
 rooms = 2 ^ 64
 
--- the digit of a frame: one more than its options that are left
+-- the digit of a frame: the number of its options that are left, plus one
 abbrev pub digit : FrameValue → ℕ
 digit f = suc (length f.1)
 
--- the number that digits are to a base, the first of `room` digits counting most
+-- the number with these digits in a base, the first of `room` digits having the most weight
 unfoldable pub weight : ℕ → ℕ → List ℕ → ℕ
 weight b room [] = 0
 weight b zero (d ∷ ds) = 0

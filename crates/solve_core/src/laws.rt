@@ -1,7 +1,6 @@
-//! What the definitions of selections and walks keep, each as the contract of a function that does
-//! nothing.
-//! The rules stand in `docs/selection.md`, "Which selection is taken": "the selection that is taken
-//! is the *first* one" and what follows there.
+//! Theorems about selections and walks, each proved as the contract of an empty function. The rules
+//! are in `docs/selection.md`, "Which selection is taken": "the selection that is taken is the
+//! *first* one" and the text after it.
 ghost use Rattle.std.specs.Prelude.{◌≡◌, ◌⊎◌, ℕ, true, List, [], ◌∷◌, ◌++◌, Some};
 ghost use Rattle.candidate_core.specs.Candidates.{Need};
 ghost use Rattle.candidate_core.specs.Rank.{SealedPool, is_better, meets_at};
@@ -32,8 +31,8 @@ pub fn each_selection_has_one_walk()
     rank_is_total();
 }
 
-/// The walks of satisfying selections stand in one order: of two different ones one comes before
-/// the other, at a place where both choose, and not the other way round; and it is transitive.
+/// The walks of satisfying selections have one order. Of two different ones, one is preferred to
+/// the other, at a place where both choose, and not the other way round. The order is transitive.
 pub fn walks_stand_in_one_order()
     ensures one_of { (pool : SealedPool) (selection other walk second : List ℕ) →
         IsSatisfying pool selection → IsSatisfying pool other →
@@ -57,8 +56,8 @@ pub fn the_first_selection_is_unique()
     rank_is_total();
 }
 
-/// Where any selection satisfies the world, there is a first one: the search may answer that there
-/// is none only where none satisfies.
+/// If any selection satisfies the world, there is a preferred one: the search may report that there
+/// is none only if none satisfies.
 pub fn a_first_selection_exists()
     ensures { (pool : SealedPool) (selection : List ℕ) →
         IsSatisfying pool selection → (trace : List ℕ) × IsFirstSelection pool trace }
@@ -67,7 +66,7 @@ pub fn a_first_selection_exists()
     rank_is_total();
 }
 
-/// Each choice of the first selection is the best ranked candidate with which, and with the choices
+/// Each choice of the preferred solution is the best in rank with which, and with the choices
 /// before it, the world can still be satisfied.
 pub fn each_choice_is_the_best_that_can_be_completed()
     ensures { (pool : SealedPool) (front rest selection : List ℕ) (c o : ℕ) (need : Need) →

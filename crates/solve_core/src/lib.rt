@@ -1,9 +1,9 @@
-//! The first preferred selection of a world: `solve` answers it in the order of its walk, or that
-//! no selection satisfies the world. A sealed pool comes in, places of candidates go out. The
+//! The solver: `solve` returns the preferred solution of a world in the order of its walk, or that
+//! no selection satisfies the world. It takes a sealed pool and returns places of candidates. The
 //! contract cites `Selection` of `search_tables`: what satisfies, the walk of a selection, which of
-//! two walks comes before, and the first selection.
-//! The rules stand in `docs/selection.md`, "What satisfies world", and "Which selection is taken";
-//! "How the search works" there says how the first selection is found.
+//! two walks is preferred, and the preferred solution (*first selection*). The rules are in
+//! `docs/selection.md`, "What satisfies world", and "Which selection is taken"; "How the search
+//! works" there describes how it is found.
 #![tactic(auto)]
 
 mod laws;

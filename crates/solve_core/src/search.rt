@@ -1,5 +1,5 @@
-//! The search: it takes options, rules options out, and steps back at a dead end.
-//! The rule stands in `docs/selection.md`, "How the search works".
+//! The search: it takes options, rules options out, and backtracks at a dead end. The rule is in
+//! `docs/selection.md`, "How the search works".
 ghost use Rattle.std.specs.Prelude.{◌≡◌, ◌<◌, ◌^◌, ◌≤◌, ◌==◌, not, filter, ℕ, [], ◌∷◌, ◌++◌, false, true, length, IfOk, OnOk, IfSome, MatchOption, None, Some, slice_get};
 ghost use Rattle.candidate_core.specs.Options.{IsIn};
 ghost use Rattle.candidate_core.specs.PackageMatches.{AreMatchesAmong};
@@ -16,7 +16,8 @@ use search_tables::{CandidateSet, Frame, RuledOutOption};
 use std::alloc::{AllocError, Global};
 use std::marker::Model;
 
-/// A need that was met: its frame, and the choice that was taken from it.
+/// A decision of the search: the frame of a need that was met, and the choice that was taken from
+/// it.
 #[derive(Drop)]
 pub(crate) struct Turn {
     /// The frame of the need.
@@ -35,8 +36,8 @@ impl Model for Turn {
 }
 
 impl Turn {
-    // The option that was ruled out at an index of this turn's frame, counted from 0, if there are
-    // so many.
+    // The option that was ruled out at an index of this turn's frame, counted from 0, if there is
+    // one.
     fn ruled_out_at(&self, i: usize) -> Option<&RuledOutOption>
         ensures { IfSome result (λ ruled_out. slice_get self.now.0.0 i ≡ Some ruled_out.now) }
     {
@@ -44,8 +45,8 @@ impl Turn {
     }
 }
 
-/// Where an option may be ruled out: the turn, and the index among those that are ruled out there.
-/// It is looked at again before it is used, so it may be stale.
+/// Where an option may be ruled out: the turn, and the index among the ruled-out options there. It
+/// is checked before it is used, so it may be stale.
 #[derive(Clone, Copy)]
 struct Hint {
     /// The number of the turn, counted from 0; the latest one's frame may still be under way.
@@ -57,18 +58,18 @@ struct Hint {
 /// A search under way, with the set in which the reason of each dead end is made.
 #[derive(Drop)]
 pub(crate) struct Search<'p> {
-    /// What memory comes from.
+    /// The allocator.
     alloc: Global,
-    /// The choices so far, and what they raise.
+    /// The choices so far, and the needs that they raise.
     chosen: Choices<'p>,
     /// The turns so far, one for each choice.
     turns: Vec<Turn>,
     /// For each place in the list of candidates, up to the greatest that was ruled out, where that
     /// candidate was ruled out last.
     hints: Vec<Option<Hint>>,
-    /// The members of the reason of the latest dead end; the set is used again for the next one.
+    /// The members of the reason of the latest dead end; the set is reused for the next one.
     reason: CandidateSet,
-    /// What is known of the long versions that dependencies of candidates name.
+    /// The remembered results for the long versions in dependencies of candidates.
     matches: PackageMatches<'p>,
 }
 
@@ -98,7 +99,7 @@ impl<'p> Search<'p> {
         })
     }
 
-    /// The frame of the first need that no choice meets; none where each need is met.
+    /// The frame of the first need that no choice meets; None if each need is met.
     pub(crate) fn next_frame(&mut self) -> Result<Option<Frame>, AllocError>
         requires search { IsSearch self.old.chosen self.old.turns.items }
         requires matches { AreMatchesAmong (pool_of self.old.chosen).candidates self.old.matches }
@@ -107,7 +108,7 @@ impl<'p> Search<'p> {
         ensures turns { self.new.turns.items ≡ self.old.turns.items }
         ensures matches { OnOk result
             (AreMatchesAmong (pool_of self.old.chosen).candidates self.new.matches) }
-        // The options that are left are fewer than a digit of the measure counts (*base* of
+        // The options that are left are fewer than the base of the measure's digits (*base* of
         // `Measure`).
         ensures few { IfOk result (λ found. IfSome found (λ frame. length frame.1 < 2 ^ 64)) }
         ensures frame { IfOk result (λ found. MatchOption found (next_need
@@ -119,7 +120,7 @@ impl<'p> Search<'p> {
         Ok(found)
     }
 
-    /// The choices, in the order chosen, as the answer of the search.
+    /// The choices, in the order chosen, as the result of the search.
     pub(crate) fn trace(&self, alloc: Global) -> Result<Trace, AllocError>
         ensures { IfOk result (λ trace. trace ≡ choices_of self.now.chosen) }
     {
@@ -127,8 +128,8 @@ impl<'p> Search<'p> {
         Ok(trace)
     }
 
-    // The reason against an option, which is no choice yet, if there is one. (A choice would
-    // exclude itself by the names that it occupies.) What is learnt of long versions is kept.
+    // The reason against an option that is not yet a choice, if there is one. (A choice would
+    // exclude itself by the names that it occupies.) Results for long versions are remembered.
     fn reason_against(&mut self, id: CandId) -> Result<Option<Vec<CandId>>, AllocError>
         requires search { IsSearch self.old.chosen self.old.turns.items }
         requires within { id < length (pool_of self.old.chosen).candidates }
@@ -159,7 +160,7 @@ impl<'p> Search<'p> {
         }
     }
 
-    // The turn of a number, counted from 0, if there are so many.
+    // The turn with a number, counted from 0, if there is one.
     fn turn_at(&self, i: usize) -> Option<&Turn>
         ensures { IfSome result (λ turn. slice_get self.now.turns.items i ≡ Some turn.now) }
     {
@@ -170,9 +171,9 @@ impl<'p> Search<'p> {
         }
     }
 
-    // The other members of the reason with which an option is ruled out at an earlier turn: what
-    // ruled it out there rules it out here, as long as that turn stands. The hint may be stale, so
-    // what it leads to is compared with the option.
+    // The other members of the reason with which an option is ruled out at an earlier turn. As long
+    // as that turn exists, they rule it out here too. The hint may be stale, so its option is
+    // compared with this one.
     fn ruled_out_with(&self, id: CandId) -> Option<&[CandId]>
         requires { IsSearch self.now.chosen self.now.turns.items }
         ensures { IfSome result (λ others. RulesOut (pool_of self.now.chosen)
@@ -187,8 +188,8 @@ impl<'p> Search<'p> {
         Some(ruled_out.others())
     }
 
-    /// Takes options of a frame and rules them out, until one goes with all choices, which is
-    /// answered; none where no option is left.
+    /// Takes options of a frame and rules them out, until one is compatible with all choices, which
+    /// is returned; None if no option is left.
     pub(crate) fn next_option(&mut self, top: &mut Frame) -> Result<Option<CandId>, AllocError>
         requires search { IsSearch self.old.chosen self.old.turns.items }
         requires open_now { IsFrameOf (pool_of self.old.chosen)
@@ -223,7 +224,7 @@ impl<'p> Search<'p> {
         Ok(None)
     }
 
-    /// Makes an option the next choice, and keeps its frame as a turn. After a refusal the search
+    /// Makes an option the next choice, and stores its frame as a turn. After an error the search
     /// may only be dropped.
     pub(crate) fn choose(&mut self, frame: Frame, choice: CandId) -> Result<(), AllocError>
         requires search { IsSearch self.old.chosen self.old.turns.items }
@@ -242,9 +243,9 @@ impl<'p> Search<'p> {
         Ok(())
     }
 
-    /// Steps back from a dead end to the latest choice in its reason, and rules that choice out
-    /// with the rest of the reason. The answer is its frame; none where the reason has no choice,
-    /// so that no selection satisfies world.
+    /// Backtracks from a dead end to the latest choice in its reason, and rules that choice out
+    /// with the rest of the reason. It returns the choice's frame; None if the reason has no
+    /// choice, so that no selection satisfies world.
     pub(crate) fn step_back(&mut self, spent: Frame) -> Result<Option<Frame>, AllocError>
         requires search { IsSearch self.old.chosen self.old.turns.items }
         requires spent { IsSpentFrame (pool_of self.old.chosen) (choices_of self.old.chosen) spent }
@@ -265,8 +266,8 @@ impl<'p> Search<'p> {
         self.step_back_for_reason()
     }
 
-    // Steps back to the latest choice in the reason that the search has kept, and rules that choice
-    // out. The turns above it go.
+    // Backtracks to the latest choice in the stored reason, and rules that choice out. The turns
+    // above it are dropped.
     fn step_back_for_reason(&mut self) -> Result<Option<Frame>, AllocError>
         requires search { IsSearch self.old.chosen self.old.turns.items }
         requires within { AreMembers self.old.reason (choices_of self.old.chosen) }
@@ -282,7 +283,7 @@ impl<'p> Search<'p> {
             spent)) }
     {
         while let Some(turn) = self.turns.pop() {
-            // Each turn has its choice: both go.
+            // Each turn has its choice: both are removed.
             self.chosen.pop();
             let Turn { mut frame, choice } = turn;
             // This is the latest choice of the reason: the others rule it out.
@@ -301,8 +302,8 @@ impl<'p> Search<'p> {
     }
 }
 
-// Remembers where an option is ruled out, in place of what was remembered of it. No contract speaks
-// of hints: a wrong one costs time alone.
+// Remembers where an option is ruled out, in place of an earlier entry. No contract mentions hints:
+// a wrong one only costs time.
 fn remember(hints: &mut Vec<Option<Hint>>, id: CandId, hint: Hint) -> Result<(), AllocError> {
     let place = id.place as usize;
     while hints.len() <= place {
@@ -313,7 +314,7 @@ fn remember(hints: &mut Vec<Option<Hint>>, id: CandId, hint: Hint) -> Result<(),
 }
 
 // The reason of a dead end: the choices that raised the need, and the other members of the reasons
-// of its options. It is made in a set that was used before, so that no marks are made anew.
+// of its options. It is made in a reused set, so that no marks are allocated.
 fn reason_of(used: CandidateSet, spent: &Frame) -> Result<CandidateSet, AllocError>
     ensures { IfOk result (λ members. HasSameMembers members (dead_end_reason spent.now)) }
 {

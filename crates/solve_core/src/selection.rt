@@ -1,6 +1,6 @@
-//! The first selection of a world, as a list of choices, or that no selection satisfies it.
-//! The rules stand in `docs/selection.md`: "What satisfies world", "Which selection is taken", and
-//! "How the search works" for the loop.
+//! The preferred solution of a world, as a list of choices, or that no selection satisfies it. The
+//! rules are in `docs/selection.md`: "What satisfies world", "Which selection is taken", and "How
+//! the search works" for the loop.
 ghost use Rattle.std.specs.Prelude.{◌≡◌, ◌<◌, Some, IfOk, length, slice_get, [], List, ℕ, MatchOption};
 ghost use Rattle.candidate_core.specs.Candidates.{Need};
 ghost use Rattle.candidate_core.specs.PackageMatches.{AreMatchesAmong};
@@ -15,17 +15,16 @@ use pool_core::{CandId, Sealed, options_are_the_best_first};
 use search_choices::Trace;
 use std::alloc::{AllocError, Global};
 
-/// What a pool promises of the options of each need: they are those that may be selected and meet
-/// it, best first. A law, which proofs of this crate call.
+/// The promise of a pool about the options of each need: they are those that may be selected and
+/// meet it, best first. A law that proofs of this crate call.
 pub(crate) fn options_are_as_promised()
     ensures { (pool : SealedPool) (need : Need) → HasOptions pool need }
 {
     options_are_the_best_first();
 }
 
-/// The first preferred selection of the world that the pool was sealed with, in the order of its
-/// walk. None comes only where no selection satisfies it, and want of memory may stand for either
-/// answer.
+/// The preferred solution of the world that the pool was sealed with, in the order of its walk.
+/// None is returned only if no selection satisfies it; out of memory is possible in both cases.
 pub fn solve(alloc: Global, pool: &Sealed<'_>, world: &World) -> Result<Option<Trace>, AllocError>
     requires { world.now ≡ pool.now.world }
     ensures { IfOk result (λ found. MatchOption found
@@ -36,9 +35,9 @@ pub fn solve(alloc: Global, pool: &Sealed<'_>, world: &World) -> Result<Option<T
     first_selection(alloc, &mut search)
 }
 
-// The first selection, by a search without choices: it takes an option of the topmost frame, or
-// steps back where none is left. The search is borrowed, so that nothing of it has to be given back
-// where the loop ends early.
+// The preferred solution, by a search that begins without choices. It takes an option of the
+// topmost frame, or backtracks if none is left. The search is borrowed, so that nothing needs to be
+// freed if the loop ends early.
 fn first_selection(alloc: Global, search: &mut Search<'_>) -> Result<Option<Trace>, AllocError>
     requires search { IsSearch search.old.chosen search.old.turns.items }
     requires matches { AreMatchesAmong (pool_of search.old.chosen).candidates search.old.matches }

@@ -16,7 +16,7 @@ pub start_is : (h : History) (v : TreeState) → HasNow h (λ w. w ≡ v) → (r
 start_is [] v is = absurd is
 start_is (w ∷ rest) v is = (rest, ap (λ (u : TreeState). u ∷ rest) is)
 
--- what is said of the newest state holds of it, where there is one
+-- what is said of the newest state holds of it, if there is one
 pub now_of : (h : History) (P Q : TreeState → Type 0) → HasNow h P → IfObservable h Q → HasNow h Q
 now_of [] P Q p q = absurd p
 now_of (v ∷ h) P Q p q = q

@@ -1,5 +1,5 @@
 //! Recoveries of trees that no change of this program leaves, and of changes that are partly done.
-//! The rules stand in `docs/crash-safety.md`, "Recovery", the table of what it finds.
+//! The rules are in `docs/crash-safety.md`, "Recovery", the table of what it finds.
 use crate::changing::{StagedChange, add_reached, change_named, run_change};
 use crate::trees::{add_count, add_tree, long_at, put, text_of, tree_of};
 use base_core::Words;

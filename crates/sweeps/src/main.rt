@@ -1,5 +1,5 @@
 //! Answers questions to `journal_core`, `journal_recovery` and `file_replacement`: what a change by
-//! a stage leaves where it is cut off or a call fails, and what a recovery makes of it; which
+//! a stage leaves if it is cut off or a call fails, and what a recovery makes of it; which
 //! intents are refused; and a file that is replaced again and again while the names are never
 //! synced. Its stored run has all rows; `tests/lines.md` describes their form. The README of this
 //! crate has a row for each question.

@@ -24,7 +24,7 @@ const MOST: u64 = 65_536;
 
 /// Answers `many WRITES WAITING`: whether an intent of so many writes is read back, name by name,
 /// and what a recovery makes of it, where the last so many files wait and the others were moved
-/// before: how many calls of it write, and how many of the files then stand under their names.
+/// before: how many calls of it write, and how many of the files then are under their names.
 pub(crate) fn add_many(
     alloc: Global,
     words: &Words,

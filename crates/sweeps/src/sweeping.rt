@@ -1,5 +1,5 @@
 //! A change that is cut off behind a call, or whose call fails, and the recovery of each image. The
-//! rules stand in `docs/crash-safety.md`, "A change of several files" and "Recovery".
+//! rules are in `docs/crash-safety.md`, "A change of several files" and "Recovery".
 use crate::changing::{Reached, StagedChange, add_reached, change_named, run_change};
 use crate::trees::{add_count, long_at, text_of, tree_of};
 use base_core::Words;

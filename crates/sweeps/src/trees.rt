@@ -5,7 +5,7 @@ use row_lines::{add_named, add_number, add_word, number_of, word_at};
 use std::alloc::{AllocError, Global};
 use tree_memory::MemoryTree;
 
-/// The number that the word at a place is; 0 where it is none.
+/// The number that the word at a place is; 0 if it is none.
 pub(crate) fn long_at(words: &Words, i: usize) -> u64 {
     number_of(word_at(words, i))
         .and_then(|number| u64::try_from(number).ok())

@@ -60,7 +60,7 @@ more_is_more plan is = either (is_ahead (listed_on plan.listed)) (is_some (optio
 
 -- ---- a call that begins
 
--- a call was counted, and fails at once if it has to, or where that is planned
+-- a call was counted, and fails at once if it has to, or if that is planned
 pub record IsBegun (b : Bool) (writes : ℕ) (old new : Calls) : Type 0 where
   pub plan : new.plan ≡ one_on old.plan
   pub tally : new.tally ≡ with_begun_call b (is_next old.plan) (record old.tally { writes = writes })
@@ -122,7 +122,7 @@ module _ (b : Bool) (writes : ℕ) (old new : Calls) (h : IsBegun b writes old n
 no_true : (b : Bool) → b ≡ false → b ≡ true → ⊥
 no_true b off at = cc (off, at)
 
--- a call that is never a misuse fails where that is planned
+-- a call that is never a misuse fails if that is planned
 pub planned_cause : (writes : ℕ) (old new : Calls) → IsBegun true writes old new → goes_on true (is_next old.plan) ≡ false → HasCause (counts_by old) (counts_by new)
 planned_cause writes old new h stays = ⊎_elim (λ m. absurd (no_true true m.cannot refl))
     (λ p. record { fault = omega (arith, ap (λ (u : Tally). u.faults) p.tally); reason = inl (next_is_more old.plan p.next) })

@@ -196,7 +196,7 @@ lookup-remove es i name table named q =
 pub table-remove : (es : List NameAndFile) (i : ℕ) → i < length es → IsTable es → IsTable (remove es i)
 table-remove es i within table = all_pairs_remove (λ (a b : NameAndFile). slice_cmp nat_cmp a.name b.name ≡ Less) es i within table
 
--- a name that is absent is no news where it is taken away
+-- a name that is absent is no news if it is taken away
 pub lookup_without : (es : List NameAndFile) (name q : List ℕ) → lookup es name ≡ None → lookup es q ≡ drop_name (lookup es) name q
 lookup_without es name q none = by (bytes_eq q name) refl
   where

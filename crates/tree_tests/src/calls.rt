@@ -1,5 +1,5 @@
 //! Calls of a tree in memory that read a part or write: which are a misuse, and what then stands in
-//! the tree. The rules stand in `docs/crash-safety.md`, "What each call does" and
+//! the tree. The rules are in `docs/crash-safety.md`, "What each call does" and
 //! "Misuses, faults and counts".
 use crate::trees::{add_tree, long_at, name_at};
 use base_core::{Name, Tree, Words};

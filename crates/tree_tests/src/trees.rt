@@ -1,5 +1,5 @@
 //! Names, a sink in memory, and a tree in memory: what is put and read, which calls are to fail,
-//! and what a crash leaves. The rules stand in `docs/crash-safety.md`, "A tree at one moment",
+//! and what a crash leaves. The rules are in `docs/crash-safety.md`, "A tree at one moment",
 //! "What a crash leaves" and "Misuses, faults and counts".
 
 use base_core::{Name, Names, Sink, Tree, Words, read_all, write_all};
@@ -93,7 +93,7 @@ pub(crate) fn plan_failures(
     tree.fail_at(&calls)
 }
 
-/// Adds how many calls were made, which of them wrote, failed, and failed for want of memory, the
+/// Adds how many calls were made, which of them wrote, failed, and failed for lack of memory, the
 /// longest read, and how many maps of names there are.
 pub(crate) fn add_counts(
     alloc: Global,
@@ -207,12 +207,12 @@ pub(crate) fn add_is_name(
     }
 }
 
-/// The name that the word at a place is; none where it is no name.
+/// The name that the word at a place is; none if it is no name.
 pub(crate) fn name_at(alloc: Global, words: &Words, i: usize) -> Result<Option<Name>, AllocError> {
     Name::read(alloc, word_at(words, i))
 }
 
-/// The number that the word at a place is; 0 where it is none.
+/// The number that the word at a place is; 0 if it is none.
 pub(crate) fn long_at(words: &Words, i: usize) -> u64 {
     number_of(word_at(words, i))
         .and_then(|number| u64::try_from(number).ok())

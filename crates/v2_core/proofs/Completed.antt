@@ -23,7 +23,7 @@ pub record Completed (n : ℕ) (r : Record) (front : List (List ℕ)) : Type 0 w
   pub records : List Record
   pub is_read : records_from n r (front ++ more) ≡ Ok records
 
--- ---- a name and a version are added where they are lacking
+-- ---- a name and a version are added if they are lacking
 
 name_line : (name : List ℕ) → is_package_name name ≡ true → record_line_of (80 ∷ 58 ∷ name) ≡ Some (info_line Fields.Name (text name ∷ []))
 unfolding record_line_by field_of_letter

@@ -34,7 +34,7 @@ last_by change xs ys n false x y d h l is c new =
     let last : suc (n - 1) ≡ length xs = omega (arith, h, l) in
     sym (last_kept change xs (n - 1) x d last is (sym c))
 
--- what is made of a value, where there is one
+-- what is made of a value, if there is one
 pub made_of : {A B : Type 0} (f : A → B) (b : Bool) (x : A) (o : Option A) → cond b (Some x) None ≡ o → cond b (Some (f x)) None ≡ option_map f o
 made_of f true x o h = ap (option_map f) h
 made_of f false x o h = ap (option_map f) h

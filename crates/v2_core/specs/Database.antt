@@ -1,5 +1,5 @@
 -- The installed database that records say (apk-v3(5)).
--- The rules stand in `docs/formats.md`, "Text database of version 2", the column "Goes to" and the
+-- The rules are in `docs/formats.md`, "Text database of version 2", the column "Goes to" and the
 -- paragraph of what the records say; the order of fields in "Schemas", tables 2 to 5, 7 and 9.
 use Rattle.std.specs.Prelude.{ℕ, List, [], ◌∷◌, map, Option, Some, None, if◌then◌else◌}
 use Rattle.std.specs.List.{find, flat_map}
@@ -36,7 +36,7 @@ value_of_line (Some line) = value_of_first line.values
 abbrev pub single_value : InfoField → List InfoLine → Plain
 single_value f info = value_of_line (find (is_line_of f) info)
 
--- the values of a line where it is of the field, else none
+-- the values of a line if it is of the field, else none
 abbrev pub values_for : InfoField → InfoLine → List FieldValue
 values_for f line = if is_line_of f line then line.values else []
 

@@ -1,5 +1,5 @@
 -- Which line of a text is reported.
--- The rule stands in `docs/formats.md`, "Text database of version 2": the first bad line of the whole
+-- The rule is in `docs/formats.md`, "Text database of version 2": the first bad line of the whole
 -- text is reported.
 use Rattle.std.specs.Prelude.{◌≡◌, ℕ, ◌<◌, List, [], ◌∷◌, ◌++◌, length, take, Result, Ok, Err}
 use Rattle.v2_core.specs.Reading.{records_from}

@@ -1,6 +1,6 @@
 -- What `read_v2` makes of a text: the payload of the installed database that it says, or why there
 -- is none.
--- The rules stand in `docs/formats.md`, "Text database of version 2", the last paragraphs: the order of
+-- The rules are in `docs/formats.md`, "Text database of version 2", the last paragraphs: the order of
 -- bad lines, limits and tests.
 use Rattle.std.specs.Prelude.{◌≡◌, ℕ, ⊤, List, Option, Some, None, Result, Ok, Err}
 use Rattle.base_core.specs.declared.cause.Cause.{Cause}
@@ -40,7 +40,7 @@ payload_if_sound (Err fault) = Err fault
 unfoldable pub payload_of_text : List ℕ → Result (List ℕ) V2Fault
 payload_of_text text = payload_if_sound (written_payload (records_of text))
 
--- a fault is the one that this answer has; want of memory may come at any text
+-- a fault is the one that this answer has; lack of memory may come at any text
 abbrev pub IsV2Fault : V2Fault → Result (List ℕ) V2Fault → Type 0
 IsV2Fault Memory answer = ⊤
 IsV2Fault (Bad cause) answer = answer ≡ Err (Bad cause)

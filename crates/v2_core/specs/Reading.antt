@@ -1,5 +1,5 @@
 -- The records of a text, or its first bad line.
--- The rules stand in `docs/formats.md`, "Text database of version 2", the first paragraph and the one
+-- The rules are in `docs/formats.md`, "Text database of version 2", the first paragraph and the one
 -- of bad lines.
 use Rattle.std.specs.Prelude.{ℕ, ◌+◌, ◌==◌, if◌then◌else◌, List, [], ◌∷◌, ◌++◌, length, Option, option_and_then, Result, Ok, Err}
 use Rattle.std.specs.Option.{option_map_or}
@@ -7,7 +7,7 @@ use Rattle.dep_core.specs.World.{lines_of}
 use Rattle.v2_lines.specs.Lines.{record_line_of}
 use Rattle.v2_core.specs.Records.{Record, empty_record, lacks_needed_line, with_record_line}
 
--- a record with one more line of a text; None where the line is bad
+-- a record with one more line of a text; None if the line is bad
 abbrev pub with_text : Record → List ℕ → Option Record
 with_text r line = option_and_then (with_record_line r) (record_line_of line)
 

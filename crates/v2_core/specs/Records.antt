@@ -1,6 +1,6 @@
 -- A record of a text database: what its lines say of one package, of its folders and of their
 -- files.
--- The rules stand in `docs/formats.md`, "Text database of version 2", the table and the two paragraphs
+-- The rules are in `docs/formats.md`, "Text database of version 2", the table and the two paragraphs
 -- behind it.
 use Rattle.std.specs.Prelude.{ℕ, Bool, true, false, not, ◌&&◌, ◌||◌, ◌==◌, if◌then◌else◌, List, [], ◌∷◌, ◌++◌, Option, Some, None, option_map, is_some}
 use Rattle.std.specs.List.{list_any}
@@ -56,7 +56,7 @@ file_by name access hash = record { name = name; access = access; hash = hash }
 abbrev pub folder_by : List ℕ → Option Access → List ListedFile → ListedFolder
 folder_by name access files = record { name = name; access = access; files = files }
 
--- ---- one more line; None where the line may not stand there
+-- ---- one more line; None if the line may not stand there
 
 -- whether a line is of a field
 abbrev pub is_line_of : InfoField → InfoLine → Bool
@@ -73,7 +73,7 @@ with_info f values info =
     if not (adds_to_list f) && has_line_of f info then None
     else Some (info ++ info_by f values ∷ [])
 
--- a list with its last element changed; None where there is none, or the change is not possible
+-- a list with its last element changed; None if there is none, or the change is not possible
 abbrev pub with_last_changed : {A : Type 0} → (A → Option A) → List A → Option (List A)
 with_last_changed change [] = None
 with_last_changed change (x ∷ []) = option_map (λ y. y ∷ []) (change x)
@@ -104,12 +104,12 @@ abbrev pub folder_with_file : List ℕ → ListedFolder → Option ListedFolder
 folder_with_file name folder =
     Some (folder_with_files folder (folder.files ++ file_by name None None ∷ []))
 
--- a folder with its last file changed; None where there is none, or the change is not possible
+-- a folder with its last file changed; None if there is none, or the change is not possible
 abbrev pub folder_with_last : (ListedFile → Option ListedFile) → ListedFolder → Option ListedFolder
 folder_with_last change folder =
     option_map (folder_with_files folder) (with_last_changed change folder.files)
 
--- folders and their files with what one more line says of them; None where it may not stand there
+-- folders and their files with what one more line says of them; None if it may not stand there
 abbrev pub with_path_line : RecordLine → List ListedFolder → Option (List ListedFolder)
 with_path_line (info_line f values) folders = Some folders
 with_path_line (folder_line name) folders = Some (folders ++ folder_by name None [] ∷ [])
@@ -121,19 +121,19 @@ with_path_line (file_hash_line hash) folders =
     with_last_changed (folder_with_last (file_with_hash hash)) folders
 with_path_line other_line folders = Some folders
 
--- the information with what one more line says of it; None where it may not stand there
+-- the information with what one more line says of it; None if it may not stand there
 abbrev pub with_info_line : RecordLine → List InfoLine → Option (List InfoLine)
 with_info_line (info_line f values) info = with_info f values info
 with_info_line line info = Some info
 
--- the record of the information and the folders behind one more line; None where the line may not stand
+-- the record of the information and the folders behind one more line; None if the line may not stand
 -- for one of them
 abbrev pub record_of_parts : Option (List InfoLine) → Option (List ListedFolder) → Option Record
 record_of_parts None folders = None
 record_of_parts (Some info) None = None
 record_of_parts (Some info) (Some folders) = Some (record_by true info folders)
 
--- a record with what one more line says; None where the line may not stand there
+-- a record with what one more line says; None if the line may not stand there
 abbrev pub with_record_line : Record → RecordLine → Option Record
 with_record_line r line =
     record_of_parts (with_info_line line r.info) (with_path_line line r.folders)

@@ -1,6 +1,6 @@
 -- The text that records have: each record's lines in the order of its parts, and an empty line
 -- behind it.
--- The rules stand in `docs/formats.md`, "Text database of version 2". Serves the law
+-- The rules are in `docs/formats.md`, "Text database of version 2". Serves the law
 -- `the_text_of_records_is_read_back`.
 use Rattle.std.specs.Prelude.{◌≡◌, ℕ, Bool, true, false, not, ◌&&◌, ◌||◌, ⊤, List, [], ◌∷◌, ◌++◌, map, Option, Some, None}
 use Rattle.std.specs.List.{flat_map, list_all}
@@ -25,7 +25,7 @@ abbrev pub file_lines : ListedFile → List RecordLine
 file_lines file =
     file_line file.name ∷ (access_lines file_access_line file.access ++ hash_lines file.hash)
 
--- the lines of a folder: its name, then its access, where that is known, then its files
+-- the lines of a folder: its name, then its access, if that is known, then its files
 abbrev pub folder_lines : ListedFolder → List RecordLine
 folder_lines folder =
     folder_line folder.name

@@ -20,7 +20,7 @@ abbrev pub draft_with_database : Result (List Record) ℕ → DraftState → Res
 draft_with_database (Ok records) d = Ok (draft_with (value_of_records records) d)
 draft_with_database (Err line) d = Err line
 
--- the fault of a text is that of its first bad line, or want of memory; a limit is told only at the end
+-- the fault of a text is that of its first bad line, or lack of memory; a limit is told only at the end
 -- of the text
 abbrev pub IsLineFault : V2Fault → Result (List Record) ℕ → Type 0
 IsLineFault (Bad cause) read = (line : ℕ) × (cause ≡ TextLine line) × (read ≡ Err line)

@@ -4,7 +4,7 @@
 //!
 //! The contracts cite `Payload` (what comes out), `Reading` (the records of a text), `Records` and
 //! `Database` (the value of records) of `specs/`, and what the lines say, which `v2_lines` defines.
-//! The rules stand in `docs/formats.md`, "Text database of version 2".
+//! The rules are in `docs/formats.md`, "Text database of version 2".
 #![tactic(auto)]
 
 mod read;

@@ -1,6 +1,6 @@
 //! Reads a text line by line, and writes each package at the end of its record; or tells why a text
 //! database is not taken over.
-//! The rules stand in `docs/formats.md`, "Text database of version 2".
+//! The rules are in `docs/formats.md`, "Text database of version 2".
 
 ghost use Rattle.std.specs.Prelude.{◌≡◌, ◌<◌, ◌-◌, ◌∷◌, IfErr, IfOk, List, None, OnOk, Ok, Result, ℕ, Err};
 ghost use Rattle.base_core.specs.declared.cause.Cause.TheVariants.{TextLine};

@@ -1,6 +1,6 @@
 //! A record of a text database: what its lines say of one package, of its folders and of their
 //! files.
-//! The rules stand in `docs/formats.md`, "Text database of version 2", the table and the two
+//! The rules are in `docs/formats.md`, "Text database of version 2", the table and the two
 //! paragraphs behind it.
 ghost use Rattle.std.specs.List.{find, list_any};
 ghost use Rattle.std.specs.Option.{option_map};

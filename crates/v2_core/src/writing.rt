@@ -1,5 +1,5 @@
 //! Writes the package that a record says, as an installed database has it (apk-v3(5)).
-//! The rules stand in `docs/formats.md`, "Text database of version 2", the column "Goes to"; the
+//! The rules are in `docs/formats.md`, "Text database of version 2", the column "Goes to"; the
 //! order of fields in "Schemas", tables 2 to 5 and 7.
 ghost use Rattle.adb_values.specs.Drafts.{draft_with, draft_with_all};
 ghost use Rattle.dep_core.specs.Meets.{dependency};
@@ -110,7 +110,7 @@ fn write_column(draft: &mut Draft, info: &[InfoLine<'_>], column: Column) -> Res
     }
 }
 
-// Writes what the line of a field says, or NULL where there is none.
+// Writes what the line of a field says, or NULL if there is none.
 fn write_once(draft: &mut Draft, info: &[InfoLine<'_>], field: InfoField) -> Result<(), AllocError>
     ensures { OnOk result (draft.new ≡ draft_with (single_value field info.now) draft.old) }
 {

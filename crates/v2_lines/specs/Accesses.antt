@@ -1,5 +1,5 @@
 -- Whose a file or a folder is, and its mode: `uid:gid:mode`.
--- The rules stand in `docs/formats.md`, "Text database of version 2", the rows M and a and the
+-- The rules are in `docs/formats.md`, "Text database of version 2", the rows M and a and the
 -- paragraph behind the table.
 use Rattle.std.specs.Prelude.{ℕ, ◌^◌, ◌==◌, nat_lt, nat_le, Bool, not, ◌&&◌, if◌then◌else◌, List, length, Option, Some, None, option_map}
 use Rattle.std.specs.Char.{is_ascii_digit}
@@ -23,11 +23,11 @@ access_by user group mode = record { user = user; group = group; mode = mode }
 abbrev pub access_view : AccessSlices → Access
 access_view a = access_by a.user.now a.group.now a.mode
 
--- what stands before the first colon; all where there is none
+-- what stands before the first colon; all if there is none
 abbrev pub before_colon : List ℕ → List ℕ
 before_colon text = before_first (λ b. b == COLON) text
 
--- what stands behind the first colon; nothing where there is none
+-- what stands behind the first colon; nothing if there is none
 abbrev pub behind_colon : List ℕ → List ℕ
 behind_colon text = after_first (λ b. b == COLON) text
 
@@ -43,7 +43,7 @@ is_octal_digit b = nat_le 48 b && nat_le b 55
 abbrev pub is_octal : List ℕ → Bool
 is_octal text = not (length text == 0) && list_all is_octal_digit text
 
--- the number that octal digits are; None where they are none, or it has more than 64 bits
+-- the number that octal digits are; None if they are none, or it has more than 64 bits
 abbrev pub octal_number : List ℕ → Option ℕ
 octal_number digits =
     if is_octal digits && nat_lt (digits_value 8 digits) (2 ^ 64) then Some (digits_value 8 digits)

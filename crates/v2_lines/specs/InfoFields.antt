@@ -1,5 +1,5 @@
 -- The fields of a package that lines of a text database give, and what a value of each has to be.
--- The rules stand in `docs/formats.md`, "Text database of version 2", the table, from C to the row D,
+-- The rules are in `docs/formats.md`, "Text database of version 2", the table, from C to the row D,
 -- p, r, i.
 use Rattle.std.specs.Prelude.{ℕ, ◌==◌, Bool, true, false, List, [], ◌∷◌, Option}
 use Rattle.std.specs.List.{find}

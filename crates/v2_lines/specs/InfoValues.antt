@@ -1,5 +1,5 @@
 -- What the value of a line says of its field.
--- The rules stand in `docs/formats.md`, "Text database of version 2", the column of values.
+-- The rules are in `docs/formats.md`, "Text database of version 2", the column of values.
 use Rattle.std.specs.Prelude.{ℕ, ◌==◌, Bool, true, ◌&&◌, if◌then◌else◌, List, [], ◌∷◌, ◌++◌, length, Option, Some, None, option_map, Result, Ok, Err}
 use Rattle.base64.specs.Engines.{standard}
 use Rattle.base64.specs.GeneralPurpose.{decode_of as base64_bytes}
@@ -12,7 +12,7 @@ use Rattle.make_info.specs.Fields.{FieldValue, text, number, decimal_number, nee
 use Rattle.v2_lines.specs.declared.field.Grammar.{Grammar}
 use Rattle.v2_lines.specs.declared.field.Grammar.TheVariants as Grammars
 
--- bytes that were decoded, where they are 20, as many as a SHA-1 has
+-- bytes that were decoded, if they are 20, as many as a SHA-1 has
 abbrev pub twenty_bytes : Result (List ℕ) DecodeError → Option (List ℕ)
 twenty_bytes (Ok bytes) = if length bytes == 20 then Some bytes else None
 twenty_bytes (Err e) = None
@@ -38,7 +38,7 @@ abbrev pub commit_values : Result (List ℕ) FromHexError → List FieldValue
 commit_values (Ok bytes) = one_text bytes
 commit_values (Err e) = []
 
--- the values that a text is under a grammar; None where it is outside of it
+-- the values that a text is under a grammar; None if it is outside of it
 abbrev pub values_by_grammar : Grammar → List ℕ → Option (List FieldValue)
 values_by_grammar Grammars.Sha1Text value = option_map one_text (sha1_of value)
 values_by_grammar Grammars.PackageName value = text_if (is_package_name value) value

@@ -1,5 +1,5 @@
 -- What a line of a text database says.
--- The rules stand in `docs/formats.md`, "Text database of version 2", the table; a letter that is not
+-- The rules are in `docs/formats.md`, "Text database of version 2", the table; a letter that is not
 -- listed is passed over by the paragraph above it.
 use Rattle.std.specs.Prelude.{ℕ, ◌==◌, if◌then◌else◌, List, [], ◌∷◌, Option, Some, None, option_map}
 use Rattle.adb_schema.specs.Rules.{is_folder_name, is_one_part}
@@ -35,7 +35,7 @@ abbrev pub info_line_by : Option InfoField → List ℕ → Option RecordLine
 info_line_by None value = Some other_line
 info_line_by (Some f) value = option_map (info_line f) (values_by_grammar (grammar_of f) value)
 
--- what a line with this letter and this value says; None where the value is outside of the letter's
+-- what a line with this letter and this value says; None if the value is outside of the letter's
 -- grammar
 unfoldable pub record_line_by : ℕ → List ℕ → Option RecordLine
 record_line_by letter value =
@@ -46,7 +46,7 @@ record_line_by letter value =
     if letter == FILE_HASH then option_map file_hash_line (sha1_of value) else
     info_line_by (field_of_letter letter) value
 
--- what a line says, which is a letter, a colon and a value; None where it is bad
+-- what a line says, which is a letter, a colon and a value; None if it is bad
 abbrev pub record_line_of : List ℕ → Option RecordLine
 record_line_of [] = None
 record_line_of (letter ∷ []) = None

@@ -1,5 +1,5 @@
 //! Who may do what with a file or a folder: `uid:gid:mode`.
-//! The rules stand in `docs/formats.md`, "Text database of version 2", the rows M and a and the
+//! The rules are in `docs/formats.md`, "Text database of version 2", the rows M and a and the
 //! paragraph behind the table.
 ghost use Rattle.std.specs.List.{list_all};
 ghost use Rattle.std.specs.Option.{option_map};
@@ -23,7 +23,7 @@ pub struct Access<'a> {
     pub mode: u64,
 }
 
-/// Reads `uid:gid:mode`. Parts behind the third are passed over. None comes exactly where the text
+/// Reads `uid:gid:mode`. Parts behind the third are passed over. None comes exactly when the text
 /// is no access.
 pub(crate) fn read_access(text: &[u8]) -> Option<Access<'_>>
     ensures { option_map access_view result ≡ access_in text.now }
@@ -46,7 +46,7 @@ fn colon_in(text: &[u8]) -> Option<usize>
     text.iter().position(|byte| *byte == COLON)
 }
 
-// What stands before the first colon; all where there is none.
+// What stands before the first colon; all if there is none.
 fn before_colon(text: &[u8]) -> &[u8]
     ensures { result.now ≡ before_colon text.now }
 {
@@ -56,7 +56,7 @@ fn before_colon(text: &[u8]) -> &[u8]
     }
 }
 
-// What stands behind the first colon; nothing where there is none.
+// What stands behind the first colon; nothing if there is none.
 fn behind_colon(text: &[u8]) -> &[u8]
     ensures { result.now ≡ behind_colon text.now }
 {

@@ -1,5 +1,5 @@
 //! The fields of a package that lines of a text database give, by the letters of the lines.
-//! The rules stand in `docs/formats.md`, "Text database of version 2", the table, from C to the row
+//! The rules are in `docs/formats.md`, "Text database of version 2", the table, from C to the row
 //! D, p, r, i.
 ghost use Rattle.std.specs.Prelude.{◌≡◌, ◌==◌};
 ghost use Rattle.v2_lines.specs.InfoFields.{info_field_among, field_of_letter, grammar_of, adds_to_list, letter_of};

@@ -3,7 +3,7 @@
 //!
 //! The contracts cite `InfoFields` (the letters, and what a value of each has to be), `InfoValues`,
 //! `Accesses` and `Lines` of `specs/`.
-//! The rules stand in `docs/formats.md`, "Text database of version 2", the table.
+//! The rules are in `docs/formats.md`, "Text database of version 2", the table.
 #![tactic(auto)]
 
 mod access;

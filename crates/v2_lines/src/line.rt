@@ -1,5 +1,5 @@
 //! A line of a text database: a letter, a colon and a value.
-//! The rules stand in `docs/formats.md`, "Text database of version 2", the table and the paragraph
+//! The rules are in `docs/formats.md`, "Text database of version 2", the table and the paragraph
 //! above it.
 ghost use Rattle.adb_schema.specs.Rules.{is_folder_name, is_one_part};
 ghost use Rattle.std.specs.List.{list_any};

@@ -1,5 +1,5 @@
 //! The values of lines: hashes, numbers, and lists of dependencies.
-//! The rules stand in `docs/formats.md`, "Text database of version 2", the column of values.
+//! The rules are in `docs/formats.md`, "Text database of version 2", the column of values.
 ghost use Rattle.dep_core.specs.Meets.{dependency};
 ghost use Rattle.hex.specs.Hex.{decode_of};
 ghost use Rattle.base64.specs.Engines.{standard};

@@ -69,7 +69,7 @@ fn repeated_text(alloc: Global, words: &Words) -> Result<Vec<u8>, AllocError> {
     Ok(text)
 }
 
-/// The number that a word is; 0 where it is none.
+/// The number that a word is; 0 if it is none.
 fn count_of(word: &[u8]) -> u32 {
     number_of(word)
         .and_then(|number| u32::try_from(number).ok())

@@ -1,4 +1,4 @@
-//! What is read of a text database: the dump of what it says, or why it is refused. The rules stand
+//! What is read of a text database: the dump of what it says, or why it is refused. The rules are
 //! in `docs/formats.md`, "Text database of version 2".
 
 ghost use Rattle.std.specs.Prelude.{◌≡◌, IfOk};
@@ -34,7 +34,7 @@ fn add_dump(alloc: Global, payload: &[u8], answer: &mut Vec<u8>) -> Result<(), A
 }
 
 /// Adds the number of the first bad line, another fault as its variant and its fields, or nothing
-/// for want of memory, which is passed on.
+/// for lack of memory, which is passed on.
 fn add_fault(alloc: Global, fault: V2Fault, answer: &mut Vec<u8>) -> Result<(), AllocError> {
     match fault {
         V2Fault::Bad(Cause::TextLine { line }) => {

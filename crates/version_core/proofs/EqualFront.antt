@@ -1,4 +1,4 @@
--- Two versions that are equal up to a mark compare by what stands from the mark on, and match by it.
+-- Two versions that are equal up to a mark compare by what is from the mark on, and match by it.
 use Rattle.std.proofs.Common.{◌≡◌, ℕ, zero, suc, ◌+◌, ◌-◌, ◌<◌, ◌≤◌, Bool, true, false, ◌&&◌, ◌||◌, cond, eqb, ltb, List, [], ◌∷◌, ◌++◌, take, drop, get_or, length, Option, Some, None, refl, ap, sym, ◌∙◌, subst, arith}
 use Rattle.std.specs.Prelude.{not}
 use Rattle.std.specs.Char.{is_ascii_digit, is_ascii_lowercase}
@@ -47,7 +47,7 @@ no_hex m h = by_mark (λ m. is_hex_digit m ≡ false) m h refl refl refl refl
 no_r : (m : ℕ) → is_token_mark m ≡ true → eqb m 114 ≡ false
 no_r m h = by_mark (λ m. eqb m 114 ≡ false) m h refl refl refl refl
 
--- ---- no token goes over a mark behind its first byte
+-- ---- no token goes over a mark after its first byte
 
 run_front : (q : ℕ → Bool) (a : List ℕ) (m : ℕ) (x : List ℕ) → q m ≡ false → take_while q (a ++ m ∷ x) ≡ take_while q a
 run_front q [] m x h = take_while-cons q m x ∙ ap (λ b. cond b (m ∷ take_while q x) []) h
@@ -111,7 +111,7 @@ bool_by false f = refl
 pub goes_on : (last : Option Class) (b : ℕ) (rest : List ℕ) → IsGood last 0 (b ∷ rest) → is_last (lexeme_at last (b ∷ rest)).token.class ≡ false
 goes_on last b rest good = bool_by _ (λ h. sym (stray_first last (b ∷ rest) (no_end last b rest) h) ∙ good)
 
--- the tokens behind a token, where it begins a text of which so much stands behind its first byte
+-- the tokens after a token, if it begins a text of which so much follows its first byte
 abbrev tokens_by : List ℕ → Lexeme → List Token
 tokens_by rest found = found.token ∷ cond (is_last found.token.class) [] (tokens_behind (Some found.token.class) (found.width - 1) rest)
 
@@ -124,18 +124,18 @@ good_behind rest found false false e h = h
 abbrev pub PassesEqual : {X : Type 0} → (List Token → List Token → X) → Type 0
 PassesEqual make = (token : Token) (ts us : List Token) → is_last token.class ≡ false → make (token ∷ ts) (token ∷ us) ≡ make ts us
 
--- what is made of the tokens of two texts behind a token of some class
+-- what is made of the tokens of two texts after a token of some class
 abbrev made_at : {X : Type 0} → (List Token → List Token → X) → Option Class → ℕ → List ℕ → List ℕ → X
 made_at make last inside left right = make (tokens_behind last inside left) (tokens_behind last inside right)
 
 module _ {X : Type 0} (make : List Token → List Token → X) (passes : PassesEqual make) where
-  -- of two texts that begin with one token the same is made as of what stands behind it
+  -- of two texts that begin with one token the same is made as of what follows it
   same_token : (found : Lexeme) (x y : List ℕ) → is_last found.token.class ≡ false → make (tokens_by x found) (tokens_by y found) ≡ made_at make (Some found.token.class) (found.width - 1) x y
   same_token found x y h =
       ap (λ b. make (found.token ∷ cond b [] (tokens_behind (Some found.token.class) (found.width - 1) x)) (found.token ∷ cond b [] (tokens_behind (Some found.token.class) (found.width - 1) y))) h
       ∙ passes found.token (tokens_behind (Some found.token.class) (found.width - 1) x) (tokens_behind (Some found.token.class) (found.width - 1) y) h
 
-  -- the same with an equal front, behind which both go on with a mark
+  -- the same with an equal front, after which both go on with a mark
   made_behind : (last : Option Class) (inside : ℕ) (a : List ℕ) (m : ℕ) (x y : List ℕ) → is_token_mark m ≡ true → inside ≤ length a → IsGood last inside (a ++ m ∷ x) → IsGood last inside (a ++ m ∷ y) → made_at make last inside (a ++ m ∷ x) (a ++ m ∷ y) ≡ made_at make (Some Component) 0 (m ∷ x) (m ∷ y)
   made_behind last zero [] m x y mark room left right = λ i.
       make (tokens_by x (mark_lexeme last m x mark (goes_on last m x left) i)) (tokens_by y (mark_lexeme last m y mark (goes_on last m y right) i))
@@ -244,7 +244,7 @@ hash_tokens digits rest plain good =
 
 -- ---- what the code passes over
 
--- a text with the mark at which it is cut, and what stands up to the place that was compared
+-- a text with the mark at which it is cut, and what is up to the place that was compared
 pub record IsCut (text front : List ℕ) (len at m : ℕ) (plain : List ℕ) : Type 0 where
   pub whole : text ≡ take at front ++ m ∷ (plain ++ drop len text)
   pub rest : drop at text ≡ m ∷ (plain ++ drop len text)
@@ -258,7 +258,7 @@ cut_text text front len at m plain e h =
       rest = ap (drop at) (sym joined) ∙ drop-append-le at front (drop len text) some ∙ ap (λ d. d ++ drop len text) h;
     }
 
--- the mark and what stands behind it in a front
+-- the mark and what follows it in a front
 pub with_mark : (P : Type 0) (text : List ℕ) → begins_with_mark text ≡ true → ((m : ℕ) (rest : List ℕ) → text ≡ m ∷ rest → is_token_mark m ≡ true → P) → P
 with_mark P [] h f = absurd (false≢true h)
 with_mark P (m ∷ rest) h f = f m rest refl h

@@ -42,7 +42,7 @@ run_front q (x ∷ xs) (suc n) m k e fits = run_front_by (q x) refl m (run_front
         let there = later m j refl (omega arith) in
         rw some (omega (arith, here, there))
 
--- where no byte of a cut text belongs to the run, none of the text does
+-- if no byte of a cut text belongs to the run, none of the text does
 run_none : (q : ℕ → Bool) (xs : List ℕ) (n m : ℕ) → 0 < n → length (take_while q (take n xs)) ≡ 0 → length (take_while q (take m xs)) ≡ 0
 run_none q [] n zero some none = refl
 run_none q [] n (suc m) some none = refl
@@ -85,7 +85,7 @@ tokens_on : (class : Class) (k j : ℕ) (xs : List ℕ) → tokens_behind (Some 
 tokens_on class k j xs =
     tokens_behind-drop (Some class) (k + j) xs ∙ ap (tokens_behind (Some class) 0) (sym (drop-drop j k xs)) ∙ sym (tokens_behind-drop (Some class) j (drop k xs))
 
--- what follows a place may follow behind some more digits, and the other way round
+-- what follows a place may follow after some more digits, and the other way round
 pub digits_follow : (bytes : List ℕ) (place : Place) (n end k : ℕ) → k ≡ unread_len (Some place.class) (take n (drop place.at bytes)) → place.at + k ≤ end → can_follow bytes place end ≡ can_follow bytes (record { at = place.at + k; class = place.class }) end
 digits_follow bytes place n end k e fits =
     let xs : List ℕ = slice_range bytes place.at end in
@@ -100,7 +100,7 @@ unread_fits class xs n = unread_fits_by (is_hash class)
     unread_fits_by true = run_fits is_hex_digit xs n
     unread_fits_by false = omega arith
 
--- behind some of the bytes that are before the end, all of them digits
+-- after some of the bytes that are before the end, all of them digits
 pub comes_on : (bytes : List ℕ) (place : Place) (end len k : ℕ) → place.at + len ≤ end → k ≡ unread_len (Some place.class) (slice_range bytes place.at (place.at + len)) → 0 < k → IsNextPlace bytes end place (record { at = place.at + k; class = place.class })
 comes_on bytes place end len k fits is some =
     let n : ℕ = (place.at + len) - place.at in
@@ -115,7 +115,7 @@ comes_on bytes place end len k fits is some =
       };
     }
 
--- where none of them is a digit, none is that follows
+-- if none of them is a digit, none is that follows
 pub no_digit_on : (bytes : List ℕ) (place : Place) (end len k : ℕ) → 0 < len → k ≡ unread_len (Some place.class) (slice_range bytes place.at (place.at + len)) → k ≡ 0 → unread_len (Some place.class) (slice_range bytes place.at end) ≡ 0
 no_digit_on bytes place end len k some is none =
     unread_none place.class (drop place.at bytes) ((place.at + len) - place.at) (end - place.at) (omega arith) (sym is ∙ none)
@@ -192,7 +192,8 @@ no_digits : (ds : List ℕ) → ds ≡ [] → is_hash (hash_lexeme ds).token.cla
 unfolding hash_lexeme
 no_digits ds none marked = false≢true (sym (ap (λ xs. is_hash (cond (ltb 0 (length xs)) (lexeme (text_token Classes.Hash xs) (1 + length xs)) stray_lexeme).token.class) none) ∙ marked)
 
--- what stands behind the mark and the first digit of a hash may follow there exactly where the whole is in the grammar
+-- what follows the mark and the first digit of a hash may follow there exactly if the whole is in the
+-- grammar
 hash_first : (last : Class) (b d : ℕ) (rest : List ℕ) → next_lexeme last (b ∷ d ∷ rest) ≡ hash_lexeme (leading_hex_digits (d ∷ rest)) → is_hex_digit d ≡ true → are_in_grammar (tokens_behind (Some last) 0 (b ∷ d ∷ rest)) ≡ are_in_grammar (tokens_behind (Some Classes.Hash) (unread_len (Some Classes.Hash) rest) rest)
 unfolding hash_lexeme
 hash_first last b d rest is digit =
@@ -206,7 +207,7 @@ hash_first last b d rest is digit =
     ∙ ap (λ xs. are_in_grammar (tokens_behind (Some Classes.Hash) 0 xs)) (sym (drop-drop (length ds) 2 (b ∷ d ∷ rest)))
     ∙ ap are_in_grammar (sym (tokens_behind-drop (Some Classes.Hash) (length ds) rest))
 
--- a text that is cut behind a mark and a digit at least
+-- a text that is cut after a mark and a digit at least
 pub hash_follow : (last : Class) (xs : List ℕ) (n m : ℕ) → is_hash (next_lexeme last (take n xs)).token.class ≡ true → 2 ≤ m → are_in_grammar (tokens_behind (Some last) 0 (take m xs)) ≡ are_in_grammar (tokens_behind (Some Classes.Hash) (unread_len (Some Classes.Hash) (drop 2 (take m xs))) (drop 2 (take m xs)))
 unfolding next_lexeme
 hash_follow last [] zero m marked fits = absurd (false≢true marked)

@@ -9,7 +9,7 @@ use Rattle.version_core.specs.Token.{Lexeme, lexeme, text_token, stray_lexeme, b
 use Rattle.version_core.specs.Reading.{AreDigits, hex_digit_at, is_hash, lexeme_view, plain_view, token_view}
 use Rattle.version_core.proofs.Runs.{all_hex, any_hex}
 
--- but for a hash, all bytes of a lexeme are passed over at once
+-- except for a hash, all bytes of a lexeme are skipped at once
 pub view_plain : (text : List ℕ) (found : LexemeAt) (whole : Lexeme) → plain_view found ≡ whole → is_hash found.token.class ≡ false → lexeme_view text found ≡ whole
 view_plain text found whole e plain = rw (plain, add-zero found.advance) e
 

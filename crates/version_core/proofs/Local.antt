@@ -1,4 +1,4 @@
--- The first token of a text is the same wherever the text is cut behind it.
+-- The first token of a text is the same wherever the text is cut after it.
 use Rattle.std.proofs.Common.{◌≡◌, ℕ, zero, suc, ◌+◌, ◌<◌, ◌≤◌, Bool, true, false, ◌&&◌, cond, eqb, ltb, List, [], ◌∷◌, take, length, Option, Some, None, refl, ap, sym, ◌∙◌, arith, ◌-◌, drop}
 use Rattle.std.specs.Char.{is_ascii_digit, is_ascii_lowercase}
 use Rattle.std.specs.Str.Parse.{digits_value}
@@ -47,7 +47,7 @@ run_local q (x ∷ xs) (suc n) m ends fits = run_local_by (q x) refl m (run_loca
 
 -- ---- lexemes
 
--- the second is the first, if the first is a token that ends before n and not behind m
+-- the second is the first, if the first is a token that ends before n and not after m
 abbrev IsLocal : ℕ → ℕ → Lexeme → Lexeme → Type 0
 IsLocal n m found other = is_last found.token.class ≡ false → found.width < n → found.width ≤ m → other ≡ found
 
@@ -86,7 +86,7 @@ hash_width : (ds : List ℕ) → is_last (hash_lexeme ds).token.class ≡ false 
 unfolding hash_lexeme
 hash_width ds h = hash_width_by (ltb 0 (length ds)) _ (1 + length ds) refl h
 
--- a lexeme of the run that a text begins with, whose bytes are counted behind a mark
+-- a lexeme of the run that a text begins with, whose bytes are counted after a mark
 local_by : (q : ℕ → Bool) (make : List ℕ → Lexeme) (mark : ℕ) → ((ds : List ℕ) → is_last (make ds).token.class ≡ false → (make ds).width ≡ mark + length ds)
     → (xs : List ℕ) (n m : ℕ) → IsLocal (mark + n) (mark + m) (make (take_while q (take n xs))) (make (take_while q (take m xs)))
 local_by q make mark width xs n m token ends fits =
@@ -125,7 +125,7 @@ next_local last b rest n m =
     (cond_local (suc n) (suc m) (eqb b 126 && is_before_hash last) (hash_lexeme (leading_hex_digits (take n rest))) _ (hash_lexeme (leading_hex_digits (take m rest))) _ (one _ _ (local_by is_hex_digit hash_lexeme 1 hash_width rest n m))
     (cond_local (suc n) (suc m) (eqb b 45 && is_before_revision last) (revision_lexeme (take n rest)) stray_lexeme (revision_lexeme (take m rest)) stray_lexeme (revision_local rest n m) (stray_local (suc n) (suc m)))))))
 
--- behind a token of some class
+-- after a token of some class
 pub token_local : (last : Class) (xs : List ℕ) (n m : ℕ) → IsLocal n m (next_lexeme last (take n xs)) (next_lexeme last (take m xs))
 token_local last [] zero zero token ends fits = refl
 token_local last [] zero (suc m) token ends fits = refl

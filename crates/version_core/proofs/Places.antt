@@ -26,7 +26,7 @@ leads_on bytes a b c f g = record {
   same = λ end past. let q = g.forth in f.same end (omega arith) ∙ g.same end past;
 }
 
--- ---- behind a token
+-- ---- after a token
 
 no_last : (class : Class) → is_last class ≡ false → is_stray class ≡ false
 no_last Classes.Stray h = h
@@ -53,7 +53,8 @@ follow_by bytes place end n e = ap (λ u. are_in_grammar (tokens_behind (Some pl
 no_hash_unread : (class : Class) (rest : List ℕ) → is_hash class ≡ false → unread_len (Some class) rest ≡ 0
 no_hash_unread class rest h = ap (λ b. cond b (length (leading_hex_digits rest)) 0) h
 
--- what stands in a range is in the grammar exactly where what stands behind its first token, no hash, may follow there
+-- what is in a range is in the grammar exactly if what follows its first token, no hash, may follow
+-- there
 behind_first : (bytes : List ℕ) (last : Option Class) (at end : ℕ) (found : Lexeme) → lexeme_at last (slice_range bytes at end) ≡ found → is_last found.token.class ≡ false → is_hash found.token.class ≡ false → at + found.width ≤ end
     → are_in_grammar (tokens_behind last 0 (slice_range bytes at end)) ≡ can_follow bytes (record { at = at + found.width; class = found.token.class }) end
 behind_first bytes last at end found is token plain fits =
@@ -151,7 +152,7 @@ first_plain : (text : List ℕ) → is_hash (lexeme_at None text).token.class �
 unfolding number_lexeme
 first_plain text = component_by (is_number (leading_digits text)) (lexeme (number_token Classes.Component _) _) refl
 
--- how many bytes of the token that begins a text are passed over at first: of a hash its mark and a digit
+-- how many bytes of the token that begins a text are skipped at first: of a hash its mark and a digit
 passed_plain : (found : Lexeme) → is_hash found.token.class ≡ false → passed_len found ≡ found.width
 passed_plain found h = ap (λ b. cond b 2 found.width) h
 
@@ -243,7 +244,7 @@ comes_behind bytes place end len class order within none is passed h =
     let one = subst (λ (n : ℕ). IsNextPlace bytes end place (record { at = place.at + n; class = found.token.class })) (sym passed) there in
     subst (λ (c : Class). IsNextPlace bytes end place (record { at = place.at + len; class = c })) (sym is) one
 
--- behind some more digits of a hash
+-- after some more digits of a hash
 pub comes_behind_digits : (bytes : List ℕ) (place : Place) (end n len : ℕ) → n ≤ end - place.at → len ≡ unread_len (Some place.class) (take n (drop place.at bytes)) → len ≤ n → 0 < len → place.at < end → IsNextPlace bytes end place (record { at = place.at + len; class = place.class })
 comes_behind_digits bytes place end n len most is few some order = record {
   forth = omega arith;

@@ -65,7 +65,7 @@ hash_goes_on : (text ds : List ℕ) → GoesOn text (hash_lexeme ds) → ltb 0 (
 unfolding hash_lexeme
 hash_goes_on text ds h = sound_or_stray text (ltb 0 (length ds)) (lexeme (text_token Hash ds) (1 + length ds)) h
 
--- what stands behind a lexeme is sound too
+-- what follows a lexeme is sound too
 sound_behind : (text behind : List ℕ) (found : Lexeme) (token : Token) (width : ℕ) → found ≡ lexeme token width → is_last token.class ≡ false → drop width text ≡ behind → GoesOn text found → are_in_grammar (tokens_behind (Some token.class) 0 behind) ≡ true
 sound_behind text behind found token width e h d sound =
     let here : are_in_grammar (token ∷ after text (lexeme token width)) ≡ true = subst (GoesOn text) e sound in
@@ -73,7 +73,7 @@ sound_behind text behind found token width e h d sound =
     subst (λ b. are_in_grammar (cond b [] (tokens_behind (Some token.class) 0 behind)) ≡ true) h
     (subst (λ t. are_in_grammar (cond (is_last token.class) [] (tokens_behind (Some token.class) 0 t)) ≡ true) d rest)
 
--- ---- the end of a version, behind a token of some class
+-- ---- the end of a version, after a token of some class
 
 abbrev tail_text : List (List ℕ) → Option ℕ → Option (List ℕ) → List SuffixPart → Option (List ℕ) → Option (List ℕ) → List ℕ
 tail_text later letter number suffixes hash revision =
@@ -386,7 +386,7 @@ hash_case n shorter last b rest few guard sound =
     subst (IsTail last)
     (λ i. same_byte b 126 (first_true (eqb b 126) (is_before_hash last) guard) i ∷ sym (split_run is_hex_digit rest) i) tail
 
--- behind the `-`
+-- after the `-`
 revision_by : (n : ℕ) → Shorter n → (last : Class) (b : ℕ) (rest : List ℕ) → length rest ≤ n → b ≡ 45 → is_before_revision last ≡ true → GoesOn (b ∷ rest) (revision_lexeme rest) → IsTail last (b ∷ rest)
 unfolding revision_lexeme
 revision_by n shorter last b [] few dash guard sound = absurd (false≢true sound)

@@ -1,5 +1,5 @@
--- Outside of a hash a version has few bytes in a row of which none begins a token wherever it
--- stands. So a version that has more of them in front of a place is within its hash there.
+-- Outside of a hash a version has few bytes in a row of which none begins a token wherever it occurs.
+-- So a version that has more of them in front of a place is within its hash there.
 use Rattle.std.proofs.Common.{◌≡◌, ℕ, zero, suc, ◌+◌, ◌-◌, ◌<◌, ◌≤◌, Bool, true, false, ◌&&◌, cond, eqb, ltb, List, [], ◌∷◌, ◌++◌, take, drop, get_or, length, Option, Some, None, refl, ap, sym, ◌∙◌, subst, arith}
 use Rattle.std.specs.Prelude.{codes, is_some, not}
 use Rattle.std.specs.Char.{is_ascii_digit, is_ascii_lowercase}
@@ -133,7 +133,7 @@ unmarked_short last b rest bare =
 
 -- ---- bytes in a row
 
--- behind a token, of which `inside` bytes still follow
+-- after a token, of which `inside` bytes still follow
 few_unmarked : (last : Class) (inside : ℕ) (p x : List ℕ) → is_unmarked p ≡ true → IsGood (Some last) inside (p ++ x) → length p ≤ inside + room last
 few_unmarked last inside [] x bare good = omega arith
 few_unmarked last (suc inside) (b ∷ p) x bare good =
@@ -148,7 +148,7 @@ few_unmarked last zero (b ∷ p) x bare good =
     (good_behind (p ++ x) found (is_stray found.token.class) (is_last found.token.class) token good) in
     omega (arith, short, some, more)
 
--- behind the first byte of a token
+-- after the first byte of a token
 few_behind : (last : Option Class) (b : ℕ) (p x : List ℕ) (most : ℕ) → is_unmarked p ≡ true → IsShort most (lexeme_at last (b ∷ (p ++ x))) → IsGood last 0 (b ∷ (p ++ x)) → length p < most
 few_behind last b p x most bare short good =
     let found = lexeme_at last (b ∷ (p ++ x)) in
@@ -166,7 +166,7 @@ few_at_front (b ∷ p) x bare good =
     let few : length p < 19 = few_behind None b p x 19 (and_right (not (is_token_mark b)) (is_unmarked p) bare) (number_short Component 0 (leading_digits (b ∷ (p ++ x)))) good in
     omega (arith, few)
 
--- more of them stand behind the mark of a hash alone
+-- more of them stand after the mark of a hash alone
 many_behind : (m : ℕ) (p x : List ℕ) → is_token_mark m ≡ true → is_unmarked p ≡ true → 23 < length p → IsGood (Some Component) 0 (m ∷ (p ++ x)) → m ≡ 126
 unfolding next_lexeme
 many_behind m p x mark bare many =
@@ -192,14 +192,14 @@ by_last_mark P (b ∷ rest) none some =
     let next : suc at + 1 ≡ suc (at + 1) = omega arith in
     some (suc at) (record { mark = found.mark; last = ap (λ n. is_unmarked (drop n (b ∷ rest))) next ∙ found.last }))
 
--- no mark stands in a text without one
+-- no mark is in a text without one
 none_in : {P : Type 0} (text : List ℕ) (at : ℕ) → is_unmarked text ≡ true → begins_with_mark (drop at text) ≡ true → P
 none_in [] zero bare mark = absurd (false≢true mark)
 none_in [] (suc at) bare mark = absurd (false≢true mark)
 none_in (b ∷ rest) zero bare mark = absurd (false≢true (sym (ap not mark) ∙ and_left (not (is_token_mark b)) (is_unmarked rest) bare))
 none_in (b ∷ rest) (suc at) bare mark = none_in rest at (and_right (not (is_token_mark b)) (is_unmarked rest) bare) mark
 
--- a mark stands in front of an end without one
+-- a mark is in front of an end without one
 before_end_by : (text : List ℕ) (at end : ℕ) (before : Bool) → ltb at end ≡ before → is_unmarked (drop end text) ≡ true → begins_with_mark (drop at text) ≡ true → at < end
 before_end_by text at end true h bare mark = grind (arith, nat_tests)
 before_end_by text at end false h bare mark =
@@ -212,7 +212,7 @@ before_end text at end = before_end_by text at end (ltb at end) refl
 
 -- ---- what two versions begin with
 
--- what stands at the last mark of the front that two versions have in common
+-- what is at the last mark of the front that two versions have in common
 tilde_at : (left : List ℕ) (len at : ℕ) → IsLastMark (take len left) at → HasUnmarkedEnd (take len left) → is_version left ≡ true → get_or left at 0 ≡ 126
 tilde_at left len at found end one =
     let front = take len left in

@@ -89,17 +89,17 @@ pub lexeme_at_within : (last : Option Class) (text : List ℕ) → IsWithin text
 lexeme_at_within None text = number_within text Component 0 (leading_digits text) (omega (arith, length-take_while is_ascii_digit text))
 lexeme_at_within (Some last) text = next_within last text
 
--- the bytes that belong to the token before are passed over
+-- the bytes that belong to the token before are skipped
 pub tokens_behind-drop : (last : Option Class) (inside : ℕ) (text : List ℕ) → tokens_behind last inside text ≡ tokens_behind last 0 (drop inside text)
 tokens_behind-drop last zero text = refl
 tokens_behind-drop last (suc inside) [] = refl
 tokens_behind-drop last (suc inside) (b ∷ rest) = tokens_behind-drop last inside rest
 
--- the tokens behind a lexeme
+-- the tokens after a lexeme
 abbrev pub after : List ℕ → Lexeme → List Token
 after text found = cond (is_last found.token.class) [] (tokens_behind (Some found.token.class) 0 (drop found.width text))
 
--- what stands at the end is the last
+-- what is at the end is the last
 last_at_end : (last : Option Class) → is_last (lexeme_at last []).token.class ≡ true
 unfolding number_lexeme next_lexeme
 last_at_end None = refl
@@ -118,7 +118,7 @@ after_by false found c rest some =
 end_by : (b : Bool) (x : Token) (ts : List Token) → b ≡ true → x ∷ [] ≡ x ∷ cond b [] ts
 end_by b x ts h = rw h refl
 
--- the tokens of a text are its first, and those behind that
+-- the tokens of a text are its first, and those after that
 pub tokens_behind-step : (last : Option Class) (text : List ℕ) → tokens_behind last 0 text ≡ (lexeme_at last text).token ∷ after text (lexeme_at last text)
 tokens_behind-step last [] =
     let found = lexeme_at last [] in
@@ -127,7 +127,7 @@ tokens_behind-step last (b ∷ rest) =
     let found = lexeme_at last (b ∷ rest) in
     ap (λ ts. found.token ∷ ts) (after_by (is_last found.token.class) found b rest (lexeme_at_within last (b ∷ rest)).some)
 
--- what is left behind a lexeme that was read
+-- what is left after a lexeme that was read
 pub advance_within : (last : Option Class) (text : List ℕ) (found : LexemeAt) → lexeme_view text found ≡ lexeme_at last text → found.advance ≤ length text
 advance_within last text found e =
     let within = (lexeme_at_within last text).most in

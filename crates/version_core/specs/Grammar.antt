@@ -1,8 +1,8 @@
 -- The grammar of a version, after apk-package(5):
--- `number{.number}{letter}{_suffix{number}}{~hash}{-r#}`. Here it is told as the parts of a version
--- and how they are spelled, and which tokens they have. The rules stand in `docs/formats.md`,
--- "Versions": of the grammar the paragraph "A version is a number", of the tokens "A version is
--- compared by its tokens". Byte values: 46 `.`, 95 `_`, 126 `~`, 45 `-`, 114 `r`.
+-- `number{.number}{letter}{_suffix{number}}{~hash}{-r#}`. It is defined here by the parts of a version:
+-- how they are spelled, and which tokens they have. The rules are in `docs/formats.md`, "Versions": of
+-- the grammar the paragraph "A version is a number", of the tokens "A version is compared by its
+-- tokens". Byte values: 46 `.`, 95 `_`, 126 `~`, 45 `-`, 114 `r`.
 use Rattle.std.specs.Prelude.{◌≡◌, ◌==◌, ℕ, Bool, true, false, ◌&&◌, ◌||◌, nat_lt, List, [], ◌∷◌, ◌++◌, length, Option, Some, None, is_some, if◌then◌else◌}
 use Rattle.std.specs.Char.{is_ascii_digit, is_ascii_lowercase}
 use Rattle.std.specs.List.{list_all}
@@ -10,21 +10,21 @@ use Rattle.std.specs.Str.Parse.{digits_value}
 use Rattle.version_core.specs.declared.token.Class.TheVariants.{End, Revision, Hash, SuffixNumber, Letter, ZeroComponent, Component}
 use Rattle.version_core.specs.Token.{Token, bare_token, number_token, text_token, begins_with_zero, is_hex_digit, is_number, suffix_lexeme, suffix_rank}
 
--- a suffix of a version: its word, and the digits of its number where it has one
+-- a suffix of a version: its word, and the digits of its number if it has one
 pub record SuffixPart : Type 0 where
   -- one of the words, such as `rc`
   pub name : List ℕ
-  -- the digits behind the word
+  -- the digits after the word
   pub number : Option (List ℕ)
 
--- the parts of a version: the digits of its first component and of each later one, and what may
--- follow them: a letter, suffixes, the digits of a hash and those of a revision
+-- the parts of a version: the digits of its first component and of each later one, then what may follow
+-- them (a letter, suffixes, the digits of a hash and those of a revision)
 pub record Parts : Type 0 where
   -- the digits of the first component
   pub first : List ℕ
   -- the digits of each later component
   pub later : List (List ℕ)
-  -- the letter behind them
+  -- the letter after them
   pub letter : Option ℕ
   -- the suffixes in their order
   pub suffixes : List SuffixPart
@@ -33,7 +33,7 @@ pub record Parts : Type 0 where
   -- the digits of the revision
   pub revision : Option (List ℕ)
 
--- whether a part that may be left out passes a test, or is left out
+-- whether an optional part is absent or passes a test
 abbrev pub if_some : {X : Type 0} → (X → Bool) → Option X → Bool
 if_some test None = true
 if_some test (Some x) = test x
@@ -46,33 +46,33 @@ is_numeral digits = is_number digits && list_all is_ascii_digit digits
 abbrev pub is_hash_text : List ℕ → Bool
 is_hash_text digits = nat_lt 0 (length digits) && list_all is_hex_digit digits
 
--- a suffix is known by its word, and has a number or none
+-- whether a suffix has a known word, and a number or none
 abbrev pub is_suffix_part : SuffixPart → Bool
 is_suffix_part suffix = is_some (suffix_rank suffix.name) && if_some is_numeral suffix.number
 
--- whether each part is one of its kind, so that the parts are those of a version
+-- whether each part follows the grammar, so that the parts are those of a version
 abbrev pub are_parts : Parts → Bool
 are_parts parts =
     is_numeral parts.first && (list_all is_numeral parts.later
     && (if_some is_ascii_lowercase parts.letter && (list_all is_suffix_part parts.suffixes
     && (if_some is_hash_text parts.hash && if_some is_numeral parts.revision))))
 
--- the text of the components behind the first: `.` before each
+-- the text of the components after the first: `.` before each
 abbrev pub later_text : List (List ℕ) → List ℕ
 later_text [] = []
 later_text (digits ∷ later) = 46 ∷ (digits ++ later_text later)
 
--- the text of the letter behind the components, which is empty where there is none
+-- the text of the letter after the components, which is empty if there is none
 abbrev pub letter_text : Option ℕ → List ℕ
 letter_text None = []
 letter_text (Some letter) = letter ∷ []
 
--- the text of a suffix's number, which is empty where there is none
+-- the text of a suffix's number, which is empty if there is none
 abbrev pub number_text : Option (List ℕ) → List ℕ
 number_text None = []
 number_text (Some digits) = digits
 
--- the text of the suffixes: `_` before each, and its number behind it
+-- the text of the suffixes: `_` before each, and its number after it
 abbrev pub suffixes_text : List SuffixPart → List ℕ
 suffixes_text [] = []
 suffixes_text (suffix ∷ rest) =
@@ -94,13 +94,13 @@ spelling parts =
     parts.first ++ (later_text parts.later ++ (letter_text parts.letter
     ++ (suffixes_text parts.suffixes ++ (hash_text parts.hash ++ revision_text parts.revision))))
 
--- the token of a component behind the first, which is compared as text where it begins with 0
+-- the token of a component after the first, which is compared as text if it begins with 0
 abbrev pub component_token : List ℕ → Token
 component_token digits =
     if begins_with_zero digits then text_token ZeroComponent digits
     else number_token Component (digits_value 10 digits)
 
--- the tokens of the components behind the first
+-- the tokens of the components after the first
 abbrev pub later_tokens : List (List ℕ) → List Token
 later_tokens [] = []
 later_tokens (digits ∷ later) = component_token digits ∷ later_tokens later
@@ -115,7 +115,7 @@ abbrev pub number_tokens : Option (List ℕ) → List Token
 number_tokens None = []
 number_tokens (Some digits) = number_token SuffixNumber (digits_value 10 digits) ∷ []
 
--- the tokens of the suffixes: of each its own, and that of its number
+-- the tokens of the suffixes: the token of each, and that of its number
 abbrev pub suffix_tokens : List SuffixPart → List Token
 suffix_tokens [] = []
 suffix_tokens (suffix ∷ rest) =
@@ -131,14 +131,14 @@ abbrev pub revision_tokens : Option (List ℕ) → List Token
 revision_tokens None = []
 revision_tokens (Some digits) = number_token Revision (digits_value 10 digits) ∷ []
 
--- the tokens of a version that has these parts, with that of its end
+-- the tokens of a version with these parts, the end included
 abbrev pub tokens_of : Parts → List Token
 tokens_of parts =
     number_token Component (digits_value 10 parts.first)
     ∷ (later_tokens parts.later ++ (letter_tokens parts.letter ++ (suffix_tokens parts.suffixes
     ++ (hash_tokens parts.hash ++ (revision_tokens parts.revision ++ bare_token End ∷ [])))))
 
--- a text is spelled after the grammar: there are parts of a version that it spells
+-- a text is spelled after the grammar: some parts of a version spell it
 pub record IsSpelled (text : List ℕ) : Type 0 where
   pub parts : Parts
   pub sound : are_parts parts ≡ true
@@ -146,7 +146,7 @@ pub record IsSpelled (text : List ℕ) : Type 0 where
 
 -- ---- the bytes of a version
 
--- whether a byte may stand in a version: digits, lower-case letters, `.`, `_`, `~`, `-`
+-- whether a byte may occur in a version: digits, lower-case letters, `.`, `_`, `~`, `-`
 abbrev pub is_version_byte : ℕ → Bool
 is_version_byte b =
     is_ascii_digit b

@@ -1,11 +1,11 @@
--- The definitions of `version_core`. The head of each file says where its rule stands.
+-- The definitions of `version_core`. The head of each file names the section with its rule.
 
--- what the contract of `apk` says
+-- cited by the contract of `apk`
 pub mod Token
 pub mod Order
 pub mod Op
 pub mod Matching
--- what only inner contracts and proofs use
+-- used by inner contracts and proofs only
 pub mod Grammar
 pub mod Reading
 pub mod Overlapping

@@ -1,4 +1,4 @@
--- Which versions an operator of a dependency takes (apk-package(5), "depend"). The rule stands in
+-- Which versions an operator of a dependency accepts (apk-package(5), "depend"). The rule is in
 -- `docs/formats.md`, "Versions" ("An operator has four bits").
 use Rattle.std.specs.Prelude.{ℕ, ◌==◌, Bool, true, false, ◌&&◌, ◌||◌, not, if◌then◌else◌, List, [], ◌∷◌, length, take, Option, Some, None, bit_and}
 use Rattle.std.specs.Str.{bytes_eq}
@@ -9,11 +9,11 @@ use Rattle.version_core.specs.Op.{EQUAL, LESS, GREATER, FUZZY, is_op}
 use Rattle.version_core.specs.Order.{is_last, token_cmp, tokens, version_cmp}
 use Rattle.version_core.specs.Token.{Token}
 
--- the operator with these match bits, if they are those of one
+-- the operator with these match bits, if they are those of an operator
 abbrev pub op_of : ℕ → Option ℕ
 op_of bits = if is_op bits then Some bits else None
 
--- whether an operator asks for the relation of this match bit
+-- whether an operator accepts the relation of this match bit
 abbrev pub has_bit : ℕ → ℕ → Bool
 has_bit bits bit = not (bit_and bits bit == 0)
 
@@ -26,16 +26,15 @@ abbrev pub is_zero_component : Class → Bool
 is_zero_component ZeroComponent = true
 is_zero_component _ = false
 
--- whether a token may stand where a fuzzy match wants another: they are equal, where a component
--- that is a text is first cut to the length of the wanted one
+-- whether a found token fits a wanted one in a fuzzy match: they are equal, after a component that is
+-- compared as text is cut to the wanted one's length
 unfoldable pub fits : Token → Token → Bool
 fits wanted found =
     if is_zero_component wanted.class && is_zero_component found.class
     then begins_with wanted.text found.text else
     is_eq (token_cmp found wanted)
 
--- whether each wanted token, up to the end of the wanted version, fits the one that stands at its
--- place
+-- whether each wanted token, up to the end of the wanted version, fits the found token at its place
 abbrev pub all_fit : List Token → List Token → Bool
 all_fit [] found = true
 all_fit (w ∷ ws) [] = is_last w.class
@@ -45,8 +44,8 @@ all_fit (w ∷ ws) (f ∷ fs) = is_last w.class || (fits w f && all_fit ws fs)
 unfoldable pub is_fuzzy_match : List ℕ → List ℕ → Bool
 is_fuzzy_match found wanted = all_fit (tokens wanted) (tokens found)
 
--- whether an operator takes a version: one of its match bits holds for the version that is found
--- against the wanted one
+-- whether an operator accepts a version: one of its match bits holds for the found version against the
+-- wanted one
 unfoldable pub matches : ℕ → List ℕ → List ℕ → Bool
 matches bits found wanted =
     (has_bit bits EQUAL && is_eq (version_cmp found wanted))

@@ -1,5 +1,5 @@
--- The operators of a dependency, as their match bits. The rule stands in `docs/formats.md`,
--- "Versions" ("An operator has four bits"); how each operator is spelled, in "Dependencies".
+-- The operators of a dependency, as their match bits. The rule is in `docs/formats.md`, "Versions" ("An
+-- operator has four bits"); how each operator is spelled, in "Dependencies".
 use Rattle.std.specs.Prelude.{ℕ, ◌==◌, Bool, ◌&&◌, not, nat_lt}
 
 -- ---- the match bits, by the result of a comparison with the wanted version
@@ -20,7 +20,7 @@ GREATER = 4
 abbrev pub FUZZY : ℕ
 FUZZY = 8
 
--- whether four bits are an operator: less or greater may stand only with equal (so neither 6, which
--- is 2 and 4, nor 14, which is 2, 4 and 8)
+-- whether four bits are an operator: less or greater only together with equal (so neither 6, which is 2
+-- and 4, nor 14, which is 2, 4 and 8)
 abbrev pub is_op : ℕ → Bool
 is_op bits = nat_lt bits 16 && not (bits == 6) && not (bits == 14)

@@ -1,5 +1,5 @@
--- The order of versions, after apk-package(5): by tokens, and the first that differ decide. The
--- rule stands in `docs/formats.md`, "Versions" ("A version is compared by its tokens").
+-- The order of versions, after apk-package(5): they are compared by tokens, and the first that differ
+-- decide. The rule is in `docs/formats.md`, "Versions" ("A version is compared by its tokens").
 use Rattle.std.specs.Prelude.{ℕ, suc, zero, ◌-◌, Bool, true, false, not, if◌then◌else◌, List, [], ◌∷◌, Option, Some, None}
 use Rattle.std.specs.List.{list_all}
 use Rattle.std.specs.Ordering.{nat_cmp, on, then_cmp}
@@ -9,17 +9,17 @@ use Rattle.version_core.specs.declared.token.Class.{Class}
 use Rattle.version_core.specs.declared.token.Class.TheVariants.{Stray, PreRelease, End, Revision, Hash, SuffixNumber, Suffix, Letter, ZeroComponent, Component}
 use Rattle.version_core.specs.Token.{Token, lexeme_at}
 
--- whether a token is the one for bytes that no token may be
+-- whether a token is the one for bytes outside the grammar
 abbrev pub is_stray : Class → Bool
 is_stray Stray = true
 is_stray _ = false
 
--- whether no token comes behind one of this class: behind the end, and behind what is no token
+-- whether no token follows one of this class, which is the end or stray
 abbrev pub is_last : Class → Bool
 is_last End = true
 is_last class = is_stray class
 
--- the tokens of a text behind a token of some class (None: at the front of a version), where
+-- the tokens of a text after a token of some class (None: at the front of a version), if its first
 -- `inside` bytes still belong to that token
 abbrev pub tokens_behind : Option Class → ℕ → List ℕ → List Token
 tokens_behind last inside [] = (lexeme_at last []).token ∷ []
@@ -30,12 +30,11 @@ tokens_behind last zero (b ∷ rest) =
     ∷ (if is_last found.token.class then []
     else tokens_behind (Some found.token.class) (found.width - 1) rest)
 
--- the tokens of a text, the end included; at what stands outside the grammar they stop with a stray
--- one
+-- the tokens of a text, the end included; at bytes outside the grammar they stop with a stray one
 unfoldable pub tokens : List ℕ → List Token
 tokens text = tokens_behind None 0 text
 
--- whether tokens are those of a version: none of them is stray
+-- whether none of the tokens is stray, so that they are those of a version
 abbrev pub are_in_grammar : List Token → Bool
 are_in_grammar found = list_all (λ token. not (is_stray token.class)) found
 
@@ -43,7 +42,7 @@ are_in_grammar found = list_all (λ token. not (is_stray token.class)) found
 unfoldable pub is_version : List ℕ → Bool
 is_version text = are_in_grammar (tokens text)
 
--- the place of a class in the order of classes, from the least, 0, to the greatest
+-- the rank of a class in the order of classes, from 0 for the least
 abbrev pub class_rank : Class → ℕ
 class_rank Stray = 0
 class_rank PreRelease = 1
@@ -56,8 +55,7 @@ class_rank Letter = 7
 class_rank ZeroComponent = 8
 class_rank Component = 9
 
--- the order of two tokens: by the rank of their classes, and by their value where the classes are
--- one
+-- the order of two tokens: by the rank of their classes, and by their value if the classes are equal
 abbrev pub token_cmp : Token → Token → Ordering
 token_cmp =
     then_cmp (on (λ token. class_rank token.class) nat_cmp)

@@ -1,6 +1,6 @@
--- What the tokens stand for that the code reads one by one, and how much of a text it has passed
--- over. Serves the contracts of `src/lexeme.rt`, `src/token.rt`, `src/order.rt` and `src/fuzzy.rt`;
--- the rules stand in `docs/formats.md`, "Versions".
+-- The tokens that the code reads one by one, as those of the definitions, and how much of a text it has
+-- skipped. Serves the contracts of `src/lexeme.rt`, `src/token.rt`, `src/order.rt` and `src/fuzzy.rt`;
+-- the rules are in `docs/formats.md`, "Versions".
 use Rattle.std.specs.Prelude.{◌≡◌, ℕ, ◌+◌, ◌-◌, ◌≤◌, ◌==◌, ◌&&◌, ◌||◌, Bool, true, false, not, if◌then◌else◌, List, [], ◌∷◌, length, take, drop, slice_get, slice_index, slice_index_or, EachIndex, IsTrue, Option, Some, None}
 use Rattle.std.specs.Char.{is_ascii_digit}
 use Rattle.std.specs.List.{list_all}
@@ -18,7 +18,7 @@ use Rattle.version_core.specs.Token.{Token, Lexeme, lexeme, is_hex_digit, leadin
 use Rattle.version_core.specs.Matching.{all_fit}
 use Rattle.version_core.specs.Order.{token_cmp, tokens_behind}
 
--- the token that a token of the code stands for: its text ends before the first byte that is no
+-- the token that a token of the code represents: its text ends before the first byte that is no
 -- hexadecimal digit
 abbrev pub token_view : TokenAt → Token
 token_view token =
@@ -29,8 +29,8 @@ abbrev pub is_hash : Class → Bool
 is_hash Hash = true
 is_hash _ = false
 
--- how many bytes of the rest still belong to the token that was taken last: of a hash its digits,
--- of any other token none
+-- how many bytes of the rest still belong to the token that was taken last: the digits of a hash, and
+-- none of any other token
 abbrev pub unread_len : Option Class → List ℕ → ℕ
 unread_len None rest = 0
 unread_len (Some class) rest = if is_hash class then length (leading_hex_digits rest) else 0
@@ -39,12 +39,12 @@ unread_len (Some class) rest = if is_hash class then length (leading_hex_digits 
 abbrev pub tokens_left : Tokens → List Token
 tokens_left left = tokens_behind left.last (unread_len left.last left.rest.now) left.rest.now
 
--- the lexeme of the code that is no hash: the reader passes over all of its bytes at once
+-- the lexeme of the code for a token that is no hash: the reader skips all of its bytes at once
 abbrev pub plain_view : LexemeAt → Lexeme
 plain_view found = lexeme (token_view found.token) found.advance
 
--- the lexeme of the code that a text begins with; of a hash the reader passes over the mark alone,
--- and its digits are the rest of its width
+-- the lexeme of the code at the front of a text. The reader skips only the mark of a hash; its digits
+-- are the rest of its width
 abbrev pub lexeme_view : List ℕ → LexemeAt → Lexeme
 lexeme_view text found =
     lexeme (token_view found.token)
@@ -63,34 +63,34 @@ hex_digit_by (Some byte) = if is_hex_digit byte then Some byte else None
 abbrev pub hex_digit_at : List ℕ → ℕ → Option ℕ
 hex_digit_at text at = hex_digit_by (slice_get text at)
 
--- how many bytes a reader has before it, without those of the hash that it has taken
+-- how many bytes a reader has before it, without those of a hash that it has taken
 abbrev pub bytes_left : Tokens → ℕ
 bytes_left left = length (drop (unread_len left.last left.rest.now) left.rest.now)
 
--- whether a byte begins a token wherever it stands in a version: `.`, `_`, `~` or `-`
+-- whether a byte begins a token wherever it occurs in a version: `.`, `_`, `~` or `-`
 abbrev pub is_token_mark : ℕ → Bool
 is_token_mark b = (b == 46) || (b == 95) || (b == 126) || (b == 45)
 
--- whether the first byte of a text begins a token wherever it stands
+-- whether the first byte of a text begins a token wherever it occurs
 abbrev pub begins_with_mark : List ℕ → Bool
 begins_with_mark [] = false
 begins_with_mark (b ∷ rest) = is_token_mark b
 
--- whether no byte of a text begins a token wherever it stands
+-- whether no byte of a text begins a token wherever it occurs
 abbrev pub is_unmarked : List ℕ → Bool
 is_unmarked text = list_all (λ b. not (is_token_mark b)) text
 
--- the last byte of a text that begins a token wherever it stands has this index
+-- the last byte of a text that begins a token wherever it occurs has this index
 pub record IsLastMark (text : List ℕ) (at : ℕ) : Type 0 where
   pub mark : begins_with_mark (drop at text) ≡ true
   pub last : is_unmarked (drop (at + 1) text) ≡ true
 
--- how many bytes of a version stand in a row at most of which none begins a token wherever it
--- stands, but in a hash: the word `alpha` and 18 digits
+-- the most bytes of a version in a row, outside of a hash, that begin no token wherever they occur: the
+-- word `alpha` and 18 digits
 abbrev pub MOST_UNMARKED : ℕ
 MOST_UNMARKED = 23
 
--- none of the last bytes of a text, one more than that, begins a token wherever it stands
+-- none of the last `MOST_UNMARKED` + 1 bytes of a text begins a token wherever it occurs
 abbrev pub HasUnmarkedEnd : List ℕ → Type 0
 HasUnmarkedEnd text = is_unmarked (drop (length text - (MOST_UNMARKED + 1)) text) ≡ true
 
@@ -99,7 +99,7 @@ pub record AreEqualUpTo (left right : List ℕ) (len : ℕ) : Type 0 where
   pub within : (len ≤ length left) × (len ≤ length right)
   pub same : take len left ≡ take len right
 
--- two texts are equal up to a place, in front of which the last mark stands at this offset
+-- two texts are equal up to a place, and the last mark before it is at this offset
 pub record ArePartedAtMark (left right : List ℕ) (at : ℕ) : Type 0 where
   pub len : ℕ
   pub equal : AreEqualUpTo left right len
@@ -112,21 +112,21 @@ pub record ArePartedInHash (left right : List ℕ) (len : ℕ) : Type 0 where
   pub last : IsLastMark (take len left) at
   pub tilde : slice_index_or left at 0 ≡ 126
 
--- two texts are equal before the place from which on they are read
+-- two texts are equal before the place from which they are read
 abbrev pub ArePartedBy : List ℕ → List ℕ → Parting → Type 0
 ArePartedBy left right AtFront = Unit {0}
 ArePartedBy left right (AtMark at) = ArePartedAtMark left right at
 ArePartedBy left right (InHash len) = ArePartedInHash left right len
 
--- the order of two versions by what is left of them from a place within the hash of both on
+-- the order of two versions by their rests from a place within the hash of both on
 abbrev pub hash_cmp : List ℕ → List ℕ → Ordering
 hash_cmp left right =
     ordering_then (slice_cmp nat_cmp (leading_hex_digits left) (leading_hex_digits right))
     (slice_cmp token_cmp (tokens_behind (Some Hash) (length (leading_hex_digits left)) left)
     (tokens_behind (Some Hash) (length (leading_hex_digits right)) right))
 
--- whether a version matches a wanted one fuzzily, by what is left of them from a place within the
--- hash of both on
+-- whether a version matches a wanted one fuzzily, by their rests from a place within the hash of both
+-- on
 abbrev pub hash_fits : List ℕ → List ℕ → Bool
 hash_fits wanted found =
     is_eq (slice_cmp nat_cmp (leading_hex_digits found) (leading_hex_digits wanted))

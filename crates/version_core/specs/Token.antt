@@ -1,6 +1,6 @@
--- The tokens that a version's text is made of, after apk-package(5). The rule stands in
--- `docs/formats.md`, "Versions" ("A version is a number"). Byte values: 46 `.`, 48 `0`, 95 `_`, 97
--- to 102 `a` to `f`, 114 `r`, 126 `~`, 45 `-`.
+-- The tokens of a version's text, after apk-package(5). The rule is in `docs/formats.md`, "Versions"
+-- ("A version is a number"). Byte values: 46 `.`, 48 `0`, 95 `_`, 97 to 102 `a` to `f`, 114 `r`, 126
+-- `~`, 45 `-`.
 use Rattle.std.specs.Prelude.{ℕ, ◌+◌, ◌==◌, Bool, true, false, ◌&&◌, ◌||◌, nat_lt, nat_le, if◌then◌else◌, List, [], ◌∷◌, length, codes, Option, Some, None}
 use Rattle.std.specs.Char.{is_ascii_digit, is_ascii_lowercase}
 use Rattle.std.specs.List.{take_while}
@@ -9,17 +9,17 @@ use Rattle.std.specs.Str.Parse.{digits_value}
 use Rattle.version_core.specs.declared.token.Class.{Class}
 use Rattle.version_core.specs.declared.token.Class.TheVariants.{Stray, PreRelease, End, Revision, Hash, SuffixNumber, Suffix, Letter, ZeroComponent, Component}
 
--- a part of a version as it is compared: of which class it is, and its value, a number or a text
--- (the other of the two is 0 or empty)
+-- a part of a version as it is compared: its class, and its value, a number or a text (the other of the
+-- two is 0 or empty)
 pub record Token : Type 0 where
-  -- of which class it is
+  -- its class
   pub class : Class
   -- its value as a number, else 0
   pub number : ℕ
   -- its value as a text, else empty
   pub text : List ℕ
 
--- a token that is its class alone, as the end is
+-- a token that has no value besides its class, as the end
 abbrev pub bare_token : Class → Token
 bare_token class = record { class = class; number = 0; text = [] }
 
@@ -38,11 +38,11 @@ pub record Lexeme : Type 0 where
   -- how many bytes spell it, its mark counted
   pub width : ℕ
 
--- the lexeme of a token and of how many bytes spell it
+-- the lexeme of a token and its width
 abbrev pub lexeme : Token → ℕ → Lexeme
 lexeme token width = record { token = token; width = width }
 
--- the lexeme where no token of the grammar stands
+-- the lexeme for bytes that are no token of the grammar
 abbrev pub stray_lexeme : Lexeme
 stray_lexeme = lexeme (bare_token Stray) 0
 
@@ -62,7 +62,7 @@ leading_hex_digits text = take_while is_hex_digit text
 abbrev pub leading_letters : List ℕ → List ℕ
 leading_letters text = take_while is_ascii_lowercase text
 
--- how many digits a number may have (own), so that each number fits into 64 bits
+-- the most digits that a number may have (own), so that each number fits into 64 bits
 abbrev pub MOST_DIGITS : ℕ
 MOST_DIGITS = 18
 
@@ -70,7 +70,7 @@ MOST_DIGITS = 18
 abbrev pub is_number : List ℕ → Bool
 is_number digits = nat_lt 0 (length digits) && nat_le (length digits) MOST_DIGITS
 
--- the lexeme of a number of this class; `mark` is how many bytes stand before its digits
+-- the lexeme of a number of this class; `mark` is how many bytes precede its digits
 unfoldable pub number_lexeme : Class → ℕ → List ℕ → Lexeme
 number_lexeme class mark digits =
     if is_number digits
@@ -82,15 +82,15 @@ abbrev pub begins_with_zero : List ℕ → Bool
 begins_with_zero [] = false
 begins_with_zero (b ∷ rest) = b == 48
 
--- the lexeme of a component behind the first, compared as text where it begins with 0, else as a
--- number; its mark is `.`
+-- the lexeme of a component after the first, compared as text if it begins with 0, else as a number;
+-- its mark is `.`
 unfoldable pub component_lexeme : List ℕ → Lexeme
 component_lexeme digits =
     if is_number digits && begins_with_zero digits
     then lexeme (text_token ZeroComponent digits) (1 + length digits)
     else number_lexeme Component 1 digits
 
--- the rank of a suffix in the order of suffixes, the first with 0
+-- the rank of a suffix in the order of suffixes, from 0
 unfoldable pub suffix_rank : List ℕ → Option ℕ
 suffix_rank word =
     if bytes_eq word (codes "alpha") then Some 0 else
@@ -108,52 +108,52 @@ suffix_rank word =
 abbrev pub suffix_class : ℕ → Class
 suffix_class rank = if nat_lt rank 4 then PreRelease else Suffix
 
--- the lexeme of a suffix with this rank, which is stray where its word has none
+-- the lexeme of a suffix with this rank, which is stray if its word has none
 abbrev pub suffix_lexeme_by : List ℕ → Option ℕ → Lexeme
 suffix_lexeme_by word None = stray_lexeme
 suffix_lexeme_by word (Some rank) =
     lexeme (number_token (suffix_class rank) rank) (1 + length word)
 
--- the lexeme of a suffix by its word; one byte more than the word is its mark
+-- the lexeme of a suffix by its word, whose mark is one byte more
 abbrev pub suffix_lexeme : List ℕ → Lexeme
 suffix_lexeme word = suffix_lexeme_by word (suffix_rank word)
 
--- the lexeme of a hash by the digits behind its mark; without a digit it is stray
+-- the lexeme of a hash by the digits after its mark; without a digit it is stray
 unfoldable pub hash_lexeme : List ℕ → Lexeme
 hash_lexeme digits =
     if nat_lt 0 (length digits) then lexeme (text_token Hash digits) (1 + length digits)
     else stray_lexeme
 
--- the lexeme of a revision by what stands behind its `-`: an `r` and a number
+-- the lexeme of a revision by the text after its `-`: an `r` and a number
 unfoldable pub revision_lexeme : List ℕ → Lexeme
 revision_lexeme [] = stray_lexeme
 revision_lexeme (b ∷ rest) =
     if b == 114 then number_lexeme Revision 2 (leading_digits rest) else stray_lexeme
 
--- whether a token is a component, so that another one or a letter may stand behind it
+-- whether a token is a component, so that another one or a letter may follow
 abbrev pub is_component : Class → Bool
 is_component ZeroComponent = true
 is_component Component = true
 is_component _ = false
 
--- whether a token is a suffix, so that a number without a mark may stand behind it
+-- whether a token is a suffix, so that a number without a mark may follow
 abbrev pub is_suffix : Class → Bool
 is_suffix PreRelease = true
 is_suffix Suffix = true
 is_suffix _ = false
 
--- whether a suffix or a hash may stand behind a token
+-- whether a suffix or a hash may follow a token
 abbrev pub is_before_hash : Class → Bool
 is_before_hash Letter = true
 is_before_hash SuffixNumber = true
 is_before_hash class = is_component class || is_suffix class
 
--- whether a revision may stand behind a token
+-- whether a revision may follow a token
 abbrev pub is_before_revision : Class → Bool
 is_before_revision Hash = true
 is_before_revision class = is_before_hash class
 
--- the lexeme that a text begins with which stands behind a token of class `last`
+-- the lexeme at the front of a text that follows a token of class `last`
 unfoldable pub next_lexeme : Class → List ℕ → Lexeme
 next_lexeme last [] = lexeme (bare_token End) 0
 next_lexeme last (b ∷ rest) =
@@ -166,8 +166,8 @@ next_lexeme last (b ∷ rest) =
     if (b == 45) && is_before_revision last then revision_lexeme rest else
     stray_lexeme
 
--- the lexeme that a text begins with: at the front of a version (None) its first component, else by
--- the class of the token before it
+-- the lexeme at the front of a text. At the front of a version (None) it is the first component; else
+-- the class of the token before it decides
 abbrev pub lexeme_at : Option Class → List ℕ → Lexeme
 lexeme_at None text = number_lexeme Component 0 (leading_digits text)
 lexeme_at (Some last) text = next_lexeme last text

@@ -1,6 +1,6 @@
-//! The fuzzy match: whether a version begins with the tokens of a wanted one. What both begin with
-//! is passed over as plain bytes, as in a comparison. The rule stands in `docs/formats.md`,
-//! "Versions", below "An operator has four bits".
+//! The fuzzy match: whether a version begins with the tokens of a wanted one. Their common front is
+//! skipped as plain bytes, as in a comparison. The rule is in `docs/formats.md`, "Versions", below
+//! "An operator has four bits".
 
 ghost use Rattle.std.specs.Prelude.{◌≡◌, IsTrue};
 ghost use Rattle.version_core.specs.Matching.{all_fit, is_fuzzy_match};
@@ -24,7 +24,8 @@ pub fn is_fuzzy_match(found: &[u8], wanted: &[u8]) -> bool
     }
 }
 
-/// The same of two versions from a place within the hash of both on, up to which they are equal.
+/// As `is_fuzzy_match`, for the rests of two versions that are equal up to a place within the hash
+/// of both.
 fn fits_within_hash(wanted: &[u8], found: &[u8]) -> bool
     ensures { result ≡ hash_fits wanted.now found.now }
 {
@@ -35,7 +36,7 @@ fn fits_within_hash(wanted: &[u8], found: &[u8]) -> bool
     all_fit(Tokens::behind(class, wanted), Tokens::behind(class, found))
 }
 
-/// Whether each token that is left of a wanted text, up to its end, fits the one at its place.
+/// Whether each token left of the wanted text, up to its end, fits the found token at its place.
 fn all_fit(wanted: Tokens<'_>, found: Tokens<'_>) -> bool
     ensures { result ≡ all_fit (tokens_left wanted.entry) (tokens_left found.entry) }
 {

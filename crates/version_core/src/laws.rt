@@ -1,5 +1,5 @@
-//! What follows from the definitions, for all texts and versions: the body of a law is empty, and
-//! its contract is proved. What a version is and how two compare stands in `docs/formats.md`,
+//! Theorems about the definitions, for all texts and versions. Each is proved as the contract of an
+//! empty function. What a version is and how two compare is defined in `docs/formats.md`,
 //! "Versions"; the README of this crate lists the laws.
 
 ghost use Rattle.std.specs.Prelude.{◌≡◌, ◌∷◌, ◌↔◌, [], ℕ, List, count_by, true};
@@ -11,7 +11,7 @@ ghost use Rattle.std.specs.List.{list_all};
 ghost use Rattle.version_core.specs.Order.{is_version, tokens, version_cmp};
 ghost use Rattle.version_core.specs.Matching.{is_fuzzy_match, matches};
 
-/// The order is total: of two texts one comes first or both are equal, and it is transitive.
+/// The order is total and transitive: of two texts one is less, or both are equal.
 pub fn order_is_total()
     ensures { IsTotalOrder version_cmp }
 {}
@@ -21,7 +21,7 @@ pub fn order_is_reflexive()
     ensures { (version : List ℕ) → version_cmp version version ≡ Equal }
 {}
 
-/// Two texts are equal in the order exactly where their tokens are.
+/// Two texts are equal in the order if and only if their tokens are equal.
 pub fn equal_versions_have_equal_tokens()
     ensures { (left right : List ℕ)
         → (version_cmp left right ≡ Equal) ↔ (tokens left ≡ tokens right) }
@@ -34,13 +34,13 @@ pub fn one_of_three_matches()
         ∷ []) ≡ 1 }
 {}
 
-/// What is equal in the order matches fuzzily.
+/// Texts that are equal in the order match fuzzily.
 pub fn equal_versions_match_fuzzily()
     ensures { (found wanted : List ℕ)
         → version_cmp found wanted ≡ Equal → is_fuzzy_match found wanted ≡ true }
 {}
 
-/// What is spelled after the grammar is a version, and is read as the tokens of its parts.
+/// Parts that follow the grammar spell a version, and it is read as the tokens of its parts.
 pub fn spelled_is_read()
     ensures version { (parts : Parts)
         → are_parts parts ≡ true → is_version (spelling parts) ≡ true }
@@ -48,7 +48,7 @@ pub fn spelled_is_read()
         → are_parts parts ≡ true → tokens (spelling parts) ≡ tokens_of parts }
 {}
 
-/// A version is spelled after the grammar.
+/// Every version is spelled from parts that follow the grammar.
 pub fn read_is_spelled()
     ensures { (text : List ℕ) → is_version text ≡ true → IsSpelled text }
 {}

@@ -1,7 +1,7 @@
-//! The token that begins a text, and how many of its bytes its reader passes over. The grammar that
-//! the tokens follow stands in `docs/formats.md`, "Versions" ("A version is a number"). In the
-//! clauses `plain` says that a token is no hash, so that its reader moves on by all of its bytes at
-//! once. `digits` and `few` say that bytes are digits, and few enough for 64 bits.
+//! The token at the front of a text, and how many bytes its reader skips. The grammar of the tokens
+//! is in `docs/formats.md`, "Versions" ("A version is a number"). In the clauses `plain` says that
+//! a token is no hash, so the reader skips all of its bytes at once. `digits` and `few` say that
+//! bytes are digits, and few enough for 64 bits.
 
 ghost use Rattle.std.specs.Prelude.{◌≡◌, ◌≤◌, ◌<◌, false, length, drop, position, not};
 ghost use Rattle.std.specs.Char.{is_ascii_digit, is_ascii_lowercase};
@@ -15,16 +15,16 @@ ghost use Rattle.version_core.specs.Reading.{AreDigits, hex_digit_at, is_hash, l
 use crate::token::{Class, TokenAt};
 use std::cmp::Ordering;
 
-/// How many digits a number may have, so that it fits into 64 bits (a limit of this project's).
+/// The most digits that a number may have, so that it fits into 64 bits (a limit of this project).
 const MOST_DIGITS: usize = 18;
 
-/// A token, and by how many bytes its reader moves on: by all of its bytes, but of a hash by the
-/// mark alone, so that a long hash is read where it is compared.
+/// A token, and how many bytes its reader skips: all of its bytes, but only the mark of a hash. So
+/// a long hash is read only when it is compared.
 #[derive(Clone, Copy)]
 pub struct Lexeme<'a> {
     /// The token that was read.
     pub token: TokenAt<'a>,
-    /// By how many bytes its reader moves on.
+    /// How many bytes the reader skips.
     pub advance: usize,
 }
 
@@ -41,8 +41,7 @@ fn lexeme_of_number<'a>(class: Class, number: u64, advance: usize) -> Lexeme<'a>
     Lexeme { token, advance }
 }
 
-/// The lexeme of a token that is compared as text; `advance` is by how many bytes its reader moves
-/// on.
+/// The lexeme of a token that is compared as text; `advance` is how many bytes its reader skips.
 fn lexeme_of_text(class: Class, text: &[u8], advance: usize) -> Lexeme<'_>
     ensures token { plain_view result
         ≡ lexeme (text_token class (leading_hex_digits text.now)) advance }
@@ -57,7 +56,7 @@ fn lexeme_of_text(class: Class, text: &[u8], advance: usize) -> Lexeme<'_>
     Lexeme { token, advance }
 }
 
-/// The lexeme where no token of the grammar stands.
+/// The lexeme for bytes that are no token of the grammar.
 fn stray_lexeme<'a>() -> Lexeme<'a>
     ensures token { plain_view result ≡ stray_lexeme }
     ensures class { result.token.class ≡ Class.Stray }
@@ -65,8 +64,8 @@ fn stray_lexeme<'a>() -> Lexeme<'a>
     lexeme_of_number(Class::Stray, 0, 0)
 }
 
-/// The lexeme that a text begins with: at the front of a version (None) its first component, else
-/// by the class of the token before it.
+/// The lexeme at the front of a text. At the front of a version (None) it is the first component;
+/// else the class of the token before it decides.
 pub fn lexeme_at<'a>(last: Option<Class>, text: &'a [u8]) -> Lexeme<'a>
     ensures { lexeme_view text.entry.now result ≡ lexeme_at last text.entry.now }
 {
@@ -76,8 +75,8 @@ pub fn lexeme_at<'a>(last: Option<Class>, text: &'a [u8]) -> Lexeme<'a>
     }
 }
 
-/// The class of the token that a text begins with, and how many of its bytes are passed over at
-/// first: all, but of a hash the mark and a digit.
+/// The class of the first token of a text, and how many of its bytes are skipped at first: all, but
+/// of a hash only the mark and one digit.
 pub fn first_token(last: Option<Class>, text: &[u8]) -> (Class, usize)
     ensures class { result.0 ≡ (lexeme_at last text.now).token.class }
     ensures len { result.1 ≡ passed_len (lexeme_at last text.now) }
@@ -90,7 +89,7 @@ pub fn first_token(last: Option<Class>, text: &[u8]) -> (Class, usize)
     (class, lexeme.advance)
 }
 
-/// The lexeme that a text begins with which stands behind a token of the class `last`.
+/// The lexeme at the front of a text that follows a token of class `last`.
 #[tactic(auto, unfolding(crate::specs::Token::next_lexeme))]
 fn next_lexeme<'a>(last: Class, text: &'a [u8]) -> Lexeme<'a>
     ensures { lexeme_view text.entry.now result ≡ next_lexeme last text.entry.now }
@@ -124,7 +123,7 @@ fn number(class: Class, mark: usize, digits: &[u8]) -> Lexeme<'_>
     lexeme_of_number(class, value_of(digits), mark + digits.len())
 }
 
-/// The lexeme of a component behind the first, compared as text where it begins with 0, else as a
+/// The lexeme of a component after the first. It is compared as text if it begins with 0, else as a
 /// number.
 #[tactic(auto, using(crate::proofs::Lexemes::component_lexeme_zero), unfolding(crate::specs::Token::component_lexeme))]
 fn component(digits: &[u8]) -> Lexeme<'_>
@@ -156,7 +155,7 @@ fn suffix(word: &[u8]) -> Lexeme<'_>
     }
 }
 
-/// The rank of a suffix in the order of suffixes, the first with 0.
+/// The rank of a suffix in the order of suffixes, from 0.
 #[tactic(auto, unfolding(crate::specs::Token::suffix_rank))]
 fn suffix_rank(word: &[u8]) -> Option<u64>
     ensures { result ≡ suffix_rank word.now }
@@ -175,7 +174,7 @@ fn suffix_rank(word: &[u8]) -> Option<u64>
     }
 }
 
-/// The class of a suffix with this rank: the first four make pre-releases.
+/// The class of the suffix of this rank: the first four make pre-releases.
 fn suffix_class(rank: u64) -> Class
     ensures { result ≡ suffix_class rank }
 {
@@ -199,7 +198,7 @@ fn hash(text: &[u8]) -> Lexeme<'_>
     lexeme_of_text(Class::Hash, digits, 1)
 }
 
-/// The lexeme of a revision; the text is what stands behind its `-`.
+/// The lexeme of a revision; the text begins after its `-`.
 #[tactic(auto, unfolding(crate::specs::Token::revision_lexeme))]
 fn revision(text: &[u8]) -> Lexeme<'_>
     ensures token { plain_view result ≡ revision_lexeme text.now }
@@ -211,7 +210,7 @@ fn revision(text: &[u8]) -> Lexeme<'_>
     }
 }
 
-/// The number that decimal digits represent; 18 of them stay below 2^64.
+/// The value of decimal digits; 18 of them stay below 2^64.
 fn value_of(digits: &[u8]) -> u64
     requires digits { AreDigits digits.now }
     requires few { length digits.now ≤ MOST_DIGITS }
@@ -236,7 +235,7 @@ fn leading_digits(text: &[u8]) -> &[u8]
     }
 }
 
-/// Where the first byte stands that is no decimal digit.
+/// The index of the first byte that is not a decimal digit.
 fn digits_end(text: &[u8]) -> Option<usize>
     ensures { result ≡ position (λ b. not (is_ascii_digit b)) text.now }
 {
@@ -254,7 +253,7 @@ fn leading_letters(text: &[u8]) -> &[u8]
     }
 }
 
-/// Where the first byte stands that is no lowercase letter.
+/// The index of the first byte that is not a lowercase letter.
 fn letters_end(text: &[u8]) -> Option<usize>
     ensures { result ≡ position (λ b. not (is_ascii_lowercase b)) text.now }
 {
@@ -272,7 +271,7 @@ pub fn leading_hex_digits(text: &[u8]) -> &[u8]
     }
 }
 
-/// Where the first byte stands that is no hexadecimal digit.
+/// The index of the first byte that is not a hexadecimal digit.
 fn hex_digits_end(text: &[u8]) -> Option<usize>
     ensures { result ≡ position (λ b. not (is_hex_digit b)) text.now }
 {
@@ -286,8 +285,8 @@ fn is_hex_digit(byte: u8) -> bool
     matches!(byte, b'0'..=b'9' | b'a'..=b'f')
 }
 
-/// The order of the hexadecimal digits that two texts begin with. It reads both no further than to
-/// the first place at which they differ.
+/// The order of the hexadecimal digits that two texts begin with. It reads both only up to the
+/// first difference.
 pub fn compare_hex_digits(left: &[u8], right: &[u8]) -> Ordering
     ensures { result
         ≡ slice_cmp nat_cmp (leading_hex_digits left.now) (leading_hex_digits right.now) }
@@ -310,7 +309,7 @@ fn hex_digit_at(text: &[u8], at: usize) -> Option<u8>
     text.get(at).copied().filter(|byte| is_hex_digit(*byte))
 }
 
-/// What stands behind the first bytes of a text.
+/// The text after its first `count` bytes.
 pub fn behind(text: &[u8], count: usize) -> &[u8]
     requires { count ≤ length text.now }
     ensures { result.now ≡ drop count text.now }

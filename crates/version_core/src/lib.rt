@@ -1,12 +1,12 @@
 //! The versions of packages, after apk-package(5): which texts are versions, how two of them
-//! compare, and which versions an operator takes. Texts come in as borrowed bytes, and orders and
-//! answers go out; only `OverlappingVersions`, which reads many versions that share bytes, takes
-//! memory. A version is seen as its text. The contracts cite `is_version` and `version_cmp` of
-//! `specs/Order.antt` and `matches` of `specs/Matching.antt`, which stand on the tokens of
-//! `specs/Token.antt`; `specs/Grammar.antt` says the grammar once more as texts are spelled, and
-//! the functions of `laws` say what the definitions keep.
+//! compare, and which versions an operator accepts. Texts are borrowed bytes. Only
+//! `OverlappingVersions`, which reads many versions that share bytes, allocates memory. The
+//! contracts cite `is_version` and `version_cmp` of `specs/Order.antt` and `matches` of
+//! `specs/Matching.antt`. These rest on the tokens of `specs/Token.antt`. `specs/Grammar.antt`
+//! defines the grammar a second time, by how texts are spelled, and the laws in `laws` relate the
+//! two.
 //!
-//! The rules stand in `docs/formats.md`, "Versions".
+//! The rules are in `docs/formats.md`, "Versions".
 #![tactic(auto)]
 
 mod fuzzy;

@@ -1,7 +1,7 @@
-//! The order of two versions, and from where on two are read. What both begin with is passed over
-//! as plain bytes, whole blocks first, and the tokens are read from the last mark in it on. That
-//! mark is not looked for in a hash: outside of it marks stand near each other. The rule stands in
-//! `docs/formats.md`, "Versions" ("A version is compared by its tokens").
+//! The order of two versions. Their common front is skipped as plain bytes, whole blocks first, and
+//! the tokens are read from the last mark in it on. No mark is searched within a hash; outside of a
+//! hash marks are near each other. The rule is in `docs/formats.md`, "Versions" ("A version is
+//! compared by its tokens").
 
 ghost use Rattle.std.specs.Prelude.{◌≡◌, ◌≤◌, ◌<◌, IsTrue, IfSome, IfNone, Some, length, take, drop};
 ghost use Rattle.std.specs.Cmp.Lexicographic.{slice_cmp};
@@ -13,20 +13,19 @@ use crate::lexeme::{behind, compare_hex_digits};
 use crate::token::{Class, Tokens};
 use std::cmp::Ordering;
 
-/// How many bytes are compared at once, by one comparison of slices; another number gives the same
-/// order.
+/// How many bytes one comparison of slices compares; the order does not depend on it.
 const BYTES_PER_COMPARISON: usize = 128;
 
-/// How many bytes of a version stand in a row at most of which none begins a token wherever it
-/// stands, but in a hash: the word `alpha` behind its mark, and the 18 digits of its number.
+/// The most bytes in a row, outside of a hash, none of which is a mark: the word `alpha` after its
+/// mark, and the 18 digits of its number.
 const MOST_UNMARKED: usize = 23;
 
-/// Where two versions are read from on, which are equal before.
+/// The place from which two versions are read; they are equal before it.
 #[derive(Clone, Copy)]
 pub enum Parting {
     /// At the front of both.
     AtFront,
-    /// At a mark, which has this offset in both.
+    /// At a mark at this offset in both.
     AtMark(usize),
     /// Within the hash of both, at this offset.
     InHash(usize),
@@ -47,7 +46,7 @@ pub fn compare(left: &[u8], right: &[u8]) -> Ordering
     }
 }
 
-/// Where two versions are to be read from on. What both begin with is passed over.
+/// The place from which two versions have to be read. Their common front is skipped.
 pub fn parting_of(left: &[u8], right: &[u8]) -> Parting
     requires { IsTrue (is_version left.now) }
     ensures { ArePartedBy left.now right.now result }
@@ -62,8 +61,8 @@ pub fn parting_of(left: &[u8], right: &[u8]) -> Parting
     Parting::AtMark(at)
 }
 
-/// The same where both begin with the same `len` bytes, of which the last ones have no mark: then
-/// they are few, or end within the hash of both.
+/// As `parting_of`, if both begin with the same `len` bytes and the last of these have no mark.
+/// Then these bytes are few, or they end within the hash of both.
 fn parting_without_mark(left: &[u8], right: &[u8], len: usize) -> Parting
     requires version { IsTrue (is_version left.now) }
     requires equal { AreEqualUpTo left.now right.now len }
@@ -76,7 +75,7 @@ fn parting_without_mark(left: &[u8], right: &[u8], len: usize) -> Parting
     Parting::InHash(len)
 }
 
-/// The tokens of a version from a mark on. Which token stands before makes no difference.
+/// The tokens of a version from a mark on. They do not depend on the token before the mark.
 pub fn tokens_from_mark(text: &[u8], at: usize) -> Tokens<'_>
     requires { at ≤ length text.now }
     ensures { tokens_left result
@@ -85,7 +84,7 @@ pub fn tokens_from_mark(text: &[u8], at: usize) -> Tokens<'_>
     Tokens::behind(Class::Component, behind(text, at))
 }
 
-/// The order of two versions from a place within the hash of both on, up to which they are equal.
+/// The order of two versions that are equal up to a place within the hash of both.
 fn compare_within_hash(left: &[u8], right: &[u8]) -> Ordering
     ensures { result ≡ hash_cmp left.now right.now }
 {
@@ -97,7 +96,7 @@ fn compare_within_hash(left: &[u8], right: &[u8]) -> Ordering
     compare_tokens(Tokens::behind(class, left), Tokens::behind(class, right))
 }
 
-/// The order of the tokens that are left of two texts: the first that differ decide.
+/// The order of the tokens that two readers have not taken yet: the first that differ decide.
 fn compare_tokens(left: Tokens<'_>, right: Tokens<'_>) -> Ordering
     ensures { result ≡ slice_cmp token_cmp (tokens_left left.entry) (tokens_left right.entry) }
 {
@@ -112,7 +111,7 @@ fn compare_tokens(left: Tokens<'_>, right: Tokens<'_>) -> Ordering
     }
 }
 
-/// How many bytes two texts begin with in common.
+/// The length of the common front of two texts.
 fn equal_len(left: &[u8], right: &[u8]) -> usize
     ensures { AreEqualUpTo left.now right.now result }
 {
@@ -124,8 +123,8 @@ fn equal_len(left: &[u8], right: &[u8]) -> usize
     len
 }
 
-/// How many of these bytes stand in whole blocks that are equal, from the front on. Comparing
-/// slices is faster than byte after byte.
+/// How many bytes of the common front are in whole equal blocks. Comparing slices is faster than
+/// comparing byte by byte.
 fn equal_blocks(left: &[u8], right: &[u8]) -> usize
     ensures { AreEqualUpTo left.now right.now result }
 {
@@ -139,8 +138,8 @@ fn equal_blocks(left: &[u8], right: &[u8]) -> usize
     len
 }
 
-/// The place of the last byte that begins a token wherever it stands; None where none of the last
-/// bytes does, which are one more than a version has in a row outside of a hash.
+/// The index of the last mark, a byte that begins a token wherever it occurs. None if none of the
+/// last `MOST_UNMARKED` + 1 bytes is a mark.
 fn last_mark(text: &[u8]) -> Option<usize>
     ensures some { IfSome result (IsLastMark text.now) }
     ensures none { IfNone result (HasUnmarkedEnd text.now) }
@@ -156,7 +155,7 @@ fn last_mark(text: &[u8]) -> Option<usize>
     None
 }
 
-/// Whether a byte begins a token wherever it stands.
+/// Whether a byte begins a token wherever it occurs.
 fn is_token_mark(byte: u8) -> bool
     ensures { result ≡ is_token_mark byte }
 {

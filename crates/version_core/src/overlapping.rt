@@ -1,9 +1,10 @@
-//! Versions that stand in the same bytes and may overlap. Where one has passed, another goes on in
-//! leaps. The contract is that of `OverlappingVersions::is_version`, as the README of this crate
-//! says; what a version is stands in `docs/formats.md`, "Versions". It serves the tests of texts
-//! that overlap in a payload (`adb_schema`), so that these take no quadratic time. In the clauses
-//! `order` and `within` say that offsets rise and lie in the bytes, `bytes` that these stay the
-//! same, `some` and `none` what is known where a place is found and where none is.
+//! Many versions in the same bytes, which may overlap. A version that reaches bytes which an
+//! earlier one has passed skips over them in leaps, so that the tests of overlapping texts in a
+//! payload (`adb_schema`) take linear time. The contract is that of
+//! `OverlappingVersions::is_version`; what a version is is defined in `docs/formats.md`,
+//! "Versions". In the clauses `order` and `within` say that offsets rise and are within the bytes,
+//! and `bytes` that the bytes stay the same. `some` and `none` say what is known if a place is
+//! found, and if none is.
 
 ghost use Rattle.std.specs.Prelude.{◌≡◌, ◌<◌, ◌≤◌, false, length, slice_range, IfOk, IfSome, IfNone, Some};
 ghost use Rattle.version_core.specs.Order.{is_version};
@@ -15,11 +16,11 @@ use crate::token::Class;
 use std::alloc::{AllocError, Global};
 use std::marker::Model;
 
-/// How many bytes share one leap: with more of them leaps take less memory, and more bytes are read
-/// between two.
+/// How many bytes share one leap. With larger blocks the leaps take less memory, and more bytes are
+/// read between two of them.
 const BYTES_PER_LEAP: usize = 256;
 
-/// A place behind a token of a version or between the digits of its hash, and the class of that
+/// A place after a token of a version or between the digits of its hash, and the class of that
 /// token.
 #[derive(Clone, Copy)]
 struct Place {
@@ -29,8 +30,8 @@ struct Place {
     class: Class,
 }
 
-/// A way over one block that a version has gone: a place in it, and one behind it to which that
-/// leads.
+/// A known way across one block: a place in the block, and a later one to which a version gets from
+/// there.
 #[derive(Clone, Copy)]
 struct Leap {
     /// Where the leap begins.
@@ -39,13 +40,12 @@ struct Leap {
     to: Place,
 }
 
-/// Bytes that versions stand in, and for each block of them the leap over it, once a version has
-/// passed it.
+/// Bytes that contain versions, and a leap for each block that a version has passed.
 #[derive(Drop)]
 pub struct OverlappingVersions<'a> {
-    /// The bytes in which the versions stand.
+    /// The bytes that contain the versions.
     bytes: &'a [u8],
-    /// A leap for each block of the bytes; one that leads nowhere where none is known.
+    /// A leap for each block of the bytes; an unknown one leads nowhere.
     leaps: Vec<Leap>,
 }
 
@@ -62,7 +62,7 @@ impl<'a> Model for OverlappingVersions<'a> {
 }
 
 impl<'a> OverlappingVersions<'a> {
-    /// The bytes, in which no version was looked for yet.
+    /// The bytes, before the first version is looked for.
     pub fn new(alloc: Global, bytes: &'a [u8]) -> OverlappingVersions<'a>
         ensures { result ≡ bytes.entry.now }
     {
@@ -72,8 +72,9 @@ impl<'a> OverlappingVersions<'a> {
         }
     }
 
-    /// Whether the bytes between two offsets are a version. Where an earlier version has passed it
-    /// takes a leap for each 256 bytes. The first call takes memory, an eighth of all the bytes.
+    /// Whether the bytes between two offsets are a version. Over bytes that an earlier version has
+    /// passed it takes one leap per 256 bytes. The first call allocates memory, an eighth of the
+    /// size of the bytes.
     pub fn is_version(&mut self, from: usize, end: usize) -> Result<bool, AllocError>
         requires order { from ≤ end }
         requires within { end ≤ length self.old }
@@ -87,7 +88,7 @@ impl<'a> OverlappingVersions<'a> {
         }
     }
 
-    /// Whether what stands between a place and an end may be all that follows in a version there.
+    /// Whether the bytes between a place and an end may be the rest of a version.
     fn is_passed(&mut self, first: Place, end: usize) -> bool
         requires order { first.at ≤ end }
         requires within { end ≤ length self.old }
@@ -106,8 +107,8 @@ impl<'a> OverlappingVersions<'a> {
         true
     }
 
-    /// The place to which a version comes from a place before its end: as far as an earlier version
-    /// leads, or else behind one token. None where no token of a version follows.
+    /// The next place of a version after a place before its end: as far as an earlier version
+    /// leads, or else after one token. None if no token of a version follows.
     fn next_place(&self, place: Place, end: usize) -> Option<Place>
         requires order { place.at < end }
         requires within { end ≤ length self.now }
@@ -120,14 +121,13 @@ impl<'a> OverlappingVersions<'a> {
         }
     }
 
-    /// The place to which an earlier version leads from this one, if it leads on and not past the
-    /// end.
+    /// The place to which an earlier version leads from here, if it is later and not past the end.
     fn leap(&self, place: Place, end: usize) -> Option<Place>
         ensures { IfSome result (IsNextPlace self.now end place) }
     {
         let leap = self.leaps.get(place.at / BYTES_PER_LEAP)?;
         let Leap { from, to } = *leap;
-        // The leap over this block begins elsewhere, or behind a token of another class.
+        // The leap over this block begins at another place, or after a token of another class.
         if from.at != place.at || from.class != place.class {
             return None;
         }
@@ -138,8 +138,8 @@ impl<'a> OverlappingVersions<'a> {
         Some(to)
     }
 
-    /// Keeps the leap from one place to another where this lies in another block, and answers from
-    /// where the next leap goes.
+    /// Records the leap from one place to another if the second is in another block, and returns
+    /// the place where the next leap begins.
     fn pass(&mut self, begun: Place, place: Place) -> Place
         requires { IsLeap self.old begun place }
         ensures leads { IsLeap self.old result place }
@@ -152,7 +152,7 @@ impl<'a> OverlappingVersions<'a> {
         place
     }
 
-    /// Keeps a leap, in place of one over the same block.
+    /// Records a leap, in place of any other over the same block.
     fn remember(&mut self, from: Place, to: Place)
         requires { IsLeap self.old from to }
         ensures { self.new ≡ self.old }
@@ -163,7 +163,7 @@ impl<'a> OverlappingVersions<'a> {
         }
     }
 
-    /// Makes room for the leap over each block, once.
+    /// Allocates a leap for each block, once.
     fn make_leaps(&mut self) -> Result<(), AllocError>
         ensures { self.new ≡ self.old }
     {
@@ -183,7 +183,7 @@ impl<'a> OverlappingVersions<'a> {
     }
 }
 
-/// The place behind the first token of a version between two offsets; None where no version begins
+/// The place after the first token of a version between two offsets; None if no version begins
 /// there.
 fn first_place(bytes: &[u8], from: usize, end: usize) -> Option<Place>
     requires order { from ≤ end }
@@ -202,7 +202,7 @@ fn first_place(bytes: &[u8], from: usize, end: usize) -> Option<Place>
     })
 }
 
-/// The place behind the next token, or behind some more digits of a hash, at most a block of them.
+/// The place after the next token, or after some more digits of a hash, at most a block of them.
 fn place_behind(bytes: &[u8], place: Place, end: usize) -> Option<Place>
     requires order { place.at < end }
     requires within { end ≤ length bytes.now }
@@ -220,7 +220,7 @@ fn place_behind(bytes: &[u8], place: Place, end: usize) -> Option<Place>
     place_behind_token(bytes, place, end)
 }
 
-/// How many digits a text begins with that belong to a hash before it.
+/// How many digits at the front of a text belong to a hash before it.
 fn unread_digits(class: Class, text: &[u8]) -> usize
     ensures { result ≡ unread_len (Some class) text.now }
 {
@@ -230,7 +230,7 @@ fn unread_digits(class: Class, text: &[u8]) -> usize
     leading_hex_digits(text).len()
 }
 
-/// The place behind the next token, where no digit of a hash is left before it.
+/// The place after the next token, if no digit of a hash is left before it.
 fn place_behind_token(bytes: &[u8], place: Place, end: usize) -> Option<Place>
     requires order { place.at < end }
     requires within { end ≤ length bytes.now }

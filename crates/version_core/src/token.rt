@@ -1,6 +1,6 @@
-//! The classes of tokens, the order of tokens, and the tokens of a text one after the other. The
-//! rules stand in `docs/formats.md`, "Versions": the classes and their order below "A version is
-//! compared by its tokens", what a fuzzy match allows below "An operator has four bits".
+//! The classes of tokens, the order of tokens, and the tokens of a text in sequence. The rules are
+//! in `docs/formats.md`, "Versions": the classes and their order below "A version is compared by
+//! its tokens", what a fuzzy match allows below "An operator has four bits".
 
 ghost use Rattle.std.specs.Prelude.{◌≡◌, ◌<◌, Some, false, [], ◌∷◌, drop, if◌then◌else◌};
 ghost use Rattle.version_core.specs.Token.{is_before_hash, is_before_revision, is_component, is_suffix};
@@ -14,21 +14,21 @@ use std::cmp::Ordering;
 /// The kinds of tokens, in their order from the least to the greatest.
 #[derive(Clone, Copy, Debug, PartialEq, Eq)]
 pub enum Class {
-    /// What stands outside the grammar.
+    /// Bytes outside the grammar.
     Stray,
     /// One of the first four suffixes, such as `_rc`.
     PreRelease,
     /// The end of the text.
     End,
-    /// The number behind `-r`.
+    /// The number after `-r`.
     Revision,
-    /// The hexadecimal digits behind `~`.
+    /// The hexadecimal digits after `~`.
     Hash,
     /// The number of a suffix.
     SuffixNumber,
     /// One of the other five suffixes, such as `_p`.
     Suffix,
-    /// The letter behind the components.
+    /// The letter after the components.
     Letter,
     /// A later component that begins with `0`, which is compared as text.
     ZeroComponent,
@@ -37,14 +37,14 @@ pub enum Class {
 }
 
 impl Class {
-    /// The place of the class in the order of classes, the first with 0.
+    /// The rank of the class in the order of classes, from 0.
     fn rank(self) -> u8
         ensures { result ≡ class_rank self }
     {
         self as u8
     }
 
-    /// Whether no token comes behind one of this class.
+    /// Whether no token follows one of this class.
     pub fn is_last(self) -> bool
         ensures { result ≡ is_last self }
     {
@@ -86,21 +86,21 @@ impl Class {
     }
 }
 
-/// A token of a version: its class, and its value, a number or a text. Of the slice `text` only the
-/// hexadecimal digits that it begins with are the value; it may go on behind them, so that a hash
-/// is not read to its end before it is compared.
+/// A token of a version: its class, and its value, a number or a text. Only the hexadecimal digits
+/// at the front of the slice `text` are the value; the slice may go on after them. So a hash is not
+/// read to its end before it is compared.
 #[derive(Clone, Copy)]
 pub struct TokenAt<'a> {
-    /// Of which class the token is.
+    /// The class of the token.
     pub class: Class,
-    /// Its value as a number; 0 where it is compared as text.
+    /// Its value as a number; 0 if it is compared as text.
     pub number: u64,
-    /// Its value as a text; empty where it is compared as a number.
+    /// Its value as a text; empty if it is compared as a number.
     pub text: &'a [u8],
 }
 
 impl TokenAt<'_> {
-    /// The order of two tokens, in the time that the shorter takes.
+    /// The order of two tokens, in time linear in the shorter.
     pub fn compare(&self, other: &TokenAt<'_>) -> Ordering
         ensures { result ≡ token_cmp (token_view self.now) (token_view other.now) }
     {
@@ -110,7 +110,7 @@ impl TokenAt<'_> {
         by_class.then(by_number).then(by_text)
     }
 
-    /// Whether a token may stand where a fuzzy match wants this one.
+    /// Whether a found token fits this wanted one in a fuzzy match.
     #[tactic(auto, unfolding(crate::specs::Matching::fits))]
     pub fn fits(&self, found: &TokenAt<'_>) -> bool
         ensures { result ≡ fits (token_view self.now) (token_view found.now) }
@@ -126,9 +126,9 @@ impl TokenAt<'_> {
 /// The tokens of a text, read from the front.
 #[derive(Clone, Copy)]
 pub struct Tokens<'a> {
-    // What is not passed over yet: of a hash that was taken last, its digits too.
+    // The bytes that are not skipped yet; the digits of a hash that was taken last are among them.
     rest: &'a [u8],
-    // The class of the token that was taken last; none at the front.
+    // The class of the token that was taken last; None at the front.
     last: Option<Class>,
 }
 
@@ -144,7 +144,7 @@ impl<'a> Tokens<'a> {
         }
     }
 
-    /// The tokens of what stands behind a token of some class, or between the digits of a hash.
+    /// The tokens of the text after a token of some class, or between the digits of a hash.
     pub fn behind(class: Class, rest: &'a [u8]) -> Tokens<'a>
         ensures { tokens_left result
             ≡ tokens_behind (Some class) (unread_len (Some class) rest.entry.now) rest.entry.now }
@@ -155,7 +155,8 @@ impl<'a> Tokens<'a> {
         }
     }
 
-    /// Takes the next token. Behind the last one, the end or a stray one, nothing is to be taken.
+    /// Takes the next token. No token may be taken after the last one, which is the end or a stray
+    /// one.
     pub fn next(&mut self) -> TokenAt<'a>
         ensures tokens { tokens_left self.old
             ≡ token_view result ∷ (if is_last result.class then [] else tokens_left self.new) }
@@ -168,7 +169,7 @@ impl<'a> Tokens<'a> {
         lexeme.token
     }
 
-    /// What stands behind the token that was taken last, also behind the digits of a hash.
+    /// The text after the token that was taken last, and after all digits if that is a hash.
     fn unread_text(&self) -> &'a [u8]
         ensures { result.now ≡ drop (unread_len self.now.last self.now.rest.now) self.now.rest.now }
     {

@@ -1,4 +1,4 @@
-//! Versions and the operators that they are matched with. The rules stand in `docs/formats.md`,
+//! Versions, and the operators that they are matched against. The rules are in `docs/formats.md`,
 //! "Versions"; the operators and their match bits below "An operator has four bits".
 
 ghost use Rattle.std.specs.Prelude.{◌≡◌, IfSome, IsTrue, is_some};
@@ -46,8 +46,8 @@ impl Model for Op {
 }
 
 impl Op {
-    /// The operator of these bits. None comes exactly for 6 and 14, which would be less or greater
-    /// without equal, and above 15.
+    /// The operator of these bits. None if the bits are 6 or 14 (less or greater without equal) or
+    /// above 15.
     pub fn of(bits: u8) -> Option<Op>
         ensures { result ≡ op_of bits }
     {
@@ -92,7 +92,7 @@ impl<'a> Model for Version<'a> {
 }
 
 impl<'a> Version<'a> {
-    /// The version that the text is. None comes exactly where it is none.
+    /// The version that the text denotes. None if and only if the text is not a version.
     pub fn read(text: &'a [u8]) -> Option<Version<'a>>
         ensures when { is_some result ≡ is_version text.entry.now }
         ensures value { IfSome result (λ version. version ≡ text.entry.now) }
@@ -104,7 +104,7 @@ impl<'a> Version<'a> {
         }
     }
 
-    /// The version that a text is which is known to be one; the text is not read again.
+    /// The version of a text that is known to be one; the text is not read again.
     pub fn of(text: &'a [u8]) -> Version<'a>
         requires { IsTrue (is_version text.now) }
         ensures { result ≡ text.entry.now }
@@ -121,8 +121,8 @@ impl<'a> Version<'a> {
     }
 
     /// The order of two versions: the first tokens that differ decide. Versions that are equal here
-    /// may have different texts, as `01` and `1`. It takes time in proportion to the shorter text;
-    /// what both begin with is compared at the speed of plain bytes.
+    /// may have different texts, as `01` and `1`. It takes time linear in the shorter text; the
+    /// common front is compared at the speed of plain bytes.
     pub fn compare(&self, other: &Version<'_>) -> Ordering
         ensures { result ≡ version_cmp self.now other.now }
     {
@@ -130,7 +130,7 @@ impl<'a> Version<'a> {
     }
 
     /// Whether one of the operator's bits holds for this version against the wanted one. An
-    /// operator without bits matches nothing. It takes time in proportion to the shorter text.
+    /// operator without bits matches nothing. It takes time linear in the shorter text.
     #[tactic(auto, unfolding(crate::specs::Matching::matches))]
     pub fn matches(&self, op: Op, wanted: &Version<'_>) -> bool
         ensures { result ≡ matches op self.now wanted.now }

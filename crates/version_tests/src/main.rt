@@ -1,4 +1,4 @@
-//! Answers questions to `version_core` and `dep_core`: versions and their order, dependencies,
+//! Answers questions about `version_core` and `dep_core`: versions and their order, dependencies,
 //! worlds and lists of repositories. Its stored run has all rows; `tests/lines.md` describes their
 //! form. The README of this crate has a row for each question.
 #![tactic(auto)]
@@ -14,7 +14,7 @@ use std::process::ExitCode;
 use versions::{add_operators, match_of, order_of, reads_as_itself};
 use worlds::{add_dependency, add_edits, add_meeting, add_repositories, add_world, is_name};
 
-/// What is asked; the README of this crate says what each question answers.
+/// The kinds of questions; the README of this crate has their answers.
 #[derive(Clone, Copy)]
 enum Question {
     /// `version TEXT`.
@@ -56,12 +56,12 @@ const QUESTIONS: [(&[u8], Question); 12] = [
     (b"repositories", Question::Repositories),
 ];
 
-/// What the two crates answer.
+/// The results of the two crates.
 #[derive(Drop)]
 struct LowCrates;
 
 impl Subject for LowCrates {
-    // Answers a question by its first word. No question rests on one before it.
+    // Answers a question by its first word. Questions are independent of each other.
     fn answer(
         &mut self,
         alloc: Global,

@@ -1,12 +1,12 @@
-//! Versions: which texts are versions, their order, what an operator matches, and the operators.
-//! The rules stand in `docs/formats.md`, "Versions".
+//! Versions: which texts are versions, their order, the matches of an operator, and the operators.
+//! The rules are in `docs/formats.md`, "Versions".
 use base_core::Words;
 use row_lines::{add_number, add_word, number_of, word_at};
 use std::alloc::{AllocError, Global};
 use std::cmp::Ordering;
 use version_core::{Op, Version};
 
-/// Whether a text is a version, which lends the same text.
+/// Whether a text is a version whose text is the same.
 pub(crate) fn reads_as_itself(text: &[u8]) -> bool {
     match Version::read(text) {
         Some(version) => version.text() == text,
@@ -14,8 +14,8 @@ pub(crate) fn reads_as_itself(text: &[u8]) -> bool {
     }
 }
 
-/// The sign between the two versions of `order A B`; another text where the order is another one
-/// the other way round.
+/// The sign between the two versions of `order A B`; another text if comparing them the other way
+/// round disagrees.
 pub(crate) fn order_of(words: &Words) -> &'static [u8] {
     let (Some(left), Some(right)) = (
         Version::read(word_at(words, 1)),

@@ -1,5 +1,5 @@
 //! Dependencies, worlds and lists of repositories: texts that are read and written, what meets a
-//! dependency, first bad lines, and edits. The rules stand in `docs/formats.md`, "Dependencies",
+//! dependency, first bad lines, and edits. The rules are in `docs/formats.md`, "Dependencies",
 //! "World" and "Repositories".
 
 use base_core::Words;
@@ -30,8 +30,8 @@ fn add_bad_line(alloc: Global, line: u64, answer: &mut Vec<u8>) -> Result<(), Al
     add_number(alloc, answer, u128::from(line))
 }
 
-/// Makes the edits of `edits WORLD EDIT..`, and adds what each answers: `+D` adds a dependency,
-/// `-N` takes out the one of this name, `#` counts, `?I` is the one at this place, and `=` is the
+/// Makes the edits of `edits WORLD EDIT..`, and adds the result of each: `+D` adds a dependency,
+/// `-N` removes the one of this name, `#` counts, `?I` is the one at this index, and `=` is the
 /// text.
 pub(crate) fn add_edits(
     alloc: Global,
@@ -47,8 +47,8 @@ pub(crate) fn add_edits(
     Ok(())
 }
 
-// Makes one edit of world, or adds what one asks: `+TEXT` adds, `-NAME` takes out, `#` counts,
-// `?PLACE` shows an entry, and `=` the text.
+// Makes one edit of world, or adds the answer to a question: `+TEXT` adds, `-NAME` removes, `#`
+// counts, `?INDEX` shows an entry, and `=` the text.
 fn add_edit(
     alloc: Global,
     world: &mut World,
@@ -67,7 +67,7 @@ fn add_edit(
     }
 }
 
-// Adds a dependency to world; a text that is none changes nothing.
+// Adds a dependency to world; a text that is no dependency changes nothing.
 fn add_to(world: &mut World, text: &[u8]) -> Result<(), AllocError> {
     match read_dep(text) {
         Some(dep) => world.add(&dep),
@@ -75,7 +75,7 @@ fn add_to(world: &mut World, text: &[u8]) -> Result<(), AllocError> {
     }
 }
 
-// Adds whether there was an entry to take out.
+// Adds whether there was an entry to remove.
 fn add_removal(was_there: bool, answer: &mut Vec<u8>) -> Result<(), AllocError> {
     add_word(answer, b"")?;
     add_yes_or_no(answer, was_there)

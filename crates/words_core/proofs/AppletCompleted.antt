@@ -16,10 +16,10 @@ use Rattle.words_core.specs.declared.options.Meaning.TheVariants.{Flag as Plain}
 use Rattle.words_core.specs.declared.reading.AppletSite.{AppletSite}
 use Rattle.words_core.specs.declared.reading.OptionState.{OptionState}
 use Rattle.words_core.specs.declared.reading.Start.{Start}
-use Rattle.words_core.specs.Grammar.{applet_site, command_from, command_of, command_read, early_flags, first_state, is_end, is_option, line_start, operands_of, option_reading, reading_behind, reading_by, site_at, site_behind_end, site_by, start_by, start_from, start_with, verdict, with_meaning, with_option, with_spec}
+use Rattle.words_core.specs.Grammar.{applet_site, command_from, line_command, command_read, early_flags, first_state, is_end, is_option, line_start, operands_of, option_reading, reading_behind, reading_by, site_at, site_behind_end, site_by, start_by, start_from, start_with, verdict, with_meaning, with_option, with_spec}
 use Rattle.words_core.specs.Kinds.{can_get_kind}
 use Rattle.words_core.specs.Options.{OptionSpec, applets, common_options, early_words, is_early, option_spelled, options_of}
-use Rattle.words_core.specs.Stuck.{are_stuck, are_stuck_by, is_stuck_by, suit}
+use Rattle.words_core.specs.Stuck.{is_stuck_by, suit}
 use Rattle.words_core.proofs.GoneOn.{is_not}
 use Rattle.words_core.proofs.LinesRead.{by_early}
 use Rattle.words_core.proofs.KindCompleted.{kind_completes}
@@ -172,7 +172,7 @@ module _ (applet : Applet) (named : List ℕ) (operands : List (List ℕ))
   take_all (w ∷ ws) = ap (λ xs. w ∷ xs) (take_all ws)
 
   completed_by : (words : List (List ℕ)) → applet_site 1 words ≡ Err (1 + length words) → IsSuited applet no_flags 1 words → CanBeCompleted words
-  unfolding command_of
+  unfolding line_command
   completed_by words h flags =
       let found = sought 1 words h in
       let site : AppletSite = site_by found.0 (1 + length words) applet in
@@ -211,10 +211,18 @@ applet_completed words h k =
       | inr flags ↦ completed_by Del (codes "del") (codes "a" ∷ []) del_here del_behind a_text one_good words h flags
     ]
 
-pub completed_unless : (words : List (List ℕ)) → are_stuck words ≡ false → command_of words ≡ Err (length words + 1) → CanBeCompleted words
-unfolding command_of are_stuck
+-- whether words can become no line: no applet has all the options before it, or they are stuck behind it
+abbrev pub line_stuck_by : List (List ℕ) → Result AppletSite ℕ → Bool
+line_stuck_by words (Err place) = not (list_any (suit words) applets)
+line_stuck_by words (Ok site) = is_stuck_by words (start_from words (Ok site))
+
+unfoldable pub line_stuck : List (List ℕ) → Bool
+line_stuck words = line_stuck_by words (applet_site 1 words)
+
+pub completed_unless : (words : List (List ℕ)) → line_stuck words ≡ false → line_command words ≡ Err (length words + 1) → CanBeCompleted words
+unfolding line_command line_stuck
 completed_unless words k c =
-    elim (applet_site 1 words) as (λ s. applet_site 1 words ≡ s → are_stuck_by words s ≡ false → CanBeCompleted words) [
+    elim (applet_site 1 words) as (λ s. applet_site 1 words ≡ s → line_stuck_by words s ≡ false → CanBeCompleted words) [
       | Err at ↦ λ s k.
           (let none : Err at ≡ Err (length words + 1) = sym (ap (λ r. command_from words (start_from words r)) s) ∙ c in
           let same : at ≡ length words + 1 = cc in
@@ -238,10 +246,10 @@ completed_unless words k c =
         ]
 
 -- the words before a usage error can be completed
-pub usage_is_first : (words : List (List ℕ)) (place : ℕ) → not (are_stuck (take (place - 1) words)) ≡ true → command_of words ≡ Err place → CanBeCompleted (take (place - 1) words)
+pub usage_is_first : (words : List (List ℕ)) (place : ℕ) → not (line_stuck (take (place - 1) words)) ≡ true → line_command words ≡ Err place → CanBeCompleted (take (place - 1) words)
 usage_is_first words place n c =
-    elim (command_of (take (place - 1) words)) as (λ r. command_of (take (place - 1) words) ≡ r → CanBeCompleted (take (place - 1) words)) [
-      | Ok command ↦ λ e. ([], command, ap command_of (append-nil (take (place - 1) words)) ∙ e)
+    elim (line_command (take (place - 1) words)) as (λ r. line_command (take (place - 1) words) ≡ r → CanBeCompleted (take (place - 1) words)) [
+      | Ok command ↦ λ e. ([], command, ap line_command (append-nil (take (place - 1) words)) ∙ e)
       | Err at ↦ λ e. by_place at e (usage_between (take (place - 1) words) at e)
     ] refl
   where
@@ -251,20 +259,20 @@ usage_is_first words place n c =
     size : length (take (place - 1) words) ≡ place - 1
     size = length-take-le (place - 1) words (omega (arith, bounds.0, bounds.1))
 
-    whole : command_of (take (place - 1) words ++ drop (place - 1) words) ≡ Err place
-    whole = ap command_of (take-append-drop (place - 1) words) ∙ c
+    whole : line_command (take (place - 1) words ++ drop (place - 1) words) ≡ Err place
+    whole = ap line_command (take-append-drop (place - 1) words) ∙ c
 
-    no_earlier : (at : ℕ) → can_get_kind (take (place - 1) words) ≡ false → command_of (take (place - 1) words) ≡ Err at → at ≤ length (take (place - 1) words) → at ≡ place
+    no_earlier : (at : ℕ) → can_get_kind (take (place - 1) words) ≡ false → line_command (take (place - 1) words) ≡ Err at → at ≤ length (take (place - 1) words) → at ≡ place
     no_earlier at k e l = (let same : Err at ≡ Err place = sym (usage_stays (take (place - 1) words) (drop (place - 1) words) at k e l) ∙ whole in cc)
 
-    by_kind : (at : ℕ) → command_of (take (place - 1) words) ≡ Err at → at ≤ length (take (place - 1) words) → CanBeCompleted (take (place - 1) words)
+    by_kind : (at : ℕ) → line_command (take (place - 1) words) ≡ Err at → at ≤ length (take (place - 1) words) → CanBeCompleted (take (place - 1) words)
     by_kind at e l = elim (can_get_kind (take (place - 1) words)) as (λ k. can_get_kind (take (place - 1) words) ≡ k → CanBeCompleted (take (place - 1) words)) [
       | true ↦ λ k. kind_completes (take (place - 1) words) (drop (place - 1) words) at place k e l whole (omega (arith, bounds.0, size)) (omega (arith, length-append (take (place - 1) words) (drop (place - 1) words)))
       | false ↦ λ k. absurd (let same : at ≡ place = no_earlier at k e l in omega (arith, bounds.0, size))
     ] refl
 
-    by_place : (at : ℕ) → command_of (take (place - 1) words) ≡ Err at → (1 ≤ at) × (at ≤ length (take (place - 1) words) + 1) → CanBeCompleted (take (place - 1) words)
+    by_place : (at : ℕ) → line_command (take (place - 1) words) ≡ Err at → (1 ≤ at) × (at ≤ length (take (place - 1) words) + 1) → CanBeCompleted (take (place - 1) words)
     by_place at e between = elim (cases_lt at (length (take (place - 1) words) + 1)) as (λ _. CanBeCompleted (take (place - 1) words)) [
       | inl less ↦ by_kind at e (omega arith)
-      | inr more ↦ (let same : at ≡ length (take (place - 1) words) + 1 = omega (arith, between.1) in completed_unless (take (place - 1) words) (is_not (are_stuck (take (place - 1) words)) n) (e ∙ ap Err same))
+      | inr more ↦ (let same : at ≡ length (take (place - 1) words) + 1 = omega (arith, between.1) in completed_unless (take (place - 1) words) (is_not (line_stuck (take (place - 1) words)) n) (e ∙ ap Err same))
     ]

@@ -7,7 +7,7 @@ use Rattle.std.proofs.lemmas.Bool.{and_from, and_parts, eqb-true, or_parts}
 use Rattle.std.proofs.lemmas.List.Folds.{list_all-append}
 use Rattle.std.proofs.lemmas.Option.{none-some, option_and_then_some, same_Some}
 use Rattle.command_core.specs.declared.command.Applet.{Applet}
-use Rattle.command_core.specs.declared.command.Applet.TheVariants.{Adbdump, Add, Del, Demo, Fix, Info, Mkndx, Mkpkg, Upgrade, Verify, Version}
+use Rattle.command_core.specs.declared.command.Applet.TheVariants.{Add, Del, Fix, Help, Info, List as ListApplet, Mkndx, Mkpkg, ProgramVersion, Upgrade, Version}
 use Rattle.command_core.specs.declared.command.Flags.{Flags}
 use Rattle.command_core.specs.declared.values.OptionValue.{OptionValue}
 use Rattle.command_core.specs.declared.values.ValueRule.{ValueRule}
@@ -40,12 +40,13 @@ all_own Del = (tt, (tt, (tt, (tt, tt))))
 all_own Upgrade = (tt, (tt, (tt, tt)))
 all_own Fix = (tt, (tt, (tt, tt)))
 all_own Info = (tt, (tt, (tt, (tt, (tt, (tt, tt))))))
-all_own Verify = (tt, (tt, tt))
-all_own Adbdump = (tt, (tt, tt))
 all_own Mkpkg = (tt, (tt, (refl, (refl, (refl, (refl, (refl, (refl, tt))))))))
 all_own Mkndx = (tt, (tt, (refl, (refl, (refl, tt)))))
 all_own Version = (tt, (tt, (tt, (tt, tt))))
-all_own Demo = (tt, (tt, tt))
+all_own ListApplet = (tt, (tt, (tt, tt)))
+all_own Help = tt
+all_own ProgramVersion = tt
+all_own applet = (tt, (tt, tt))
 
 pub found_own : (applet : Applet) (options : List OptionSpec) (word : List ℕ) (e : OptionSpec) → AllOwn applet options → option_spelled options word ≡ Some e → IsOwn applet e.meaning
 found_own applet [] word e own f = absurd (none-some e f)

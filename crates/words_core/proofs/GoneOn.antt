@@ -10,8 +10,7 @@ use Rattle.command_core.specs.Operands.{operand_at}
 use Rattle.words_core.specs.declared.reading.OptionState.{OptionState}
 use Rattle.words_core.specs.declared.reading.Reading.{Reading}
 use Rattle.words_core.specs.declared.reading.Start.{Start}
-use Rattle.words_core.specs.Grammar.{first_state, held_value, is_end, is_option, is_option_or_value, operands_of, option_name, option_reading, or_unread, reading_behind, reading_by, with_meaning_at, with_operand, with_word, with_word_by}
-use Rattle.words_core.specs.Lines.{rule_behind, rule_unless}
+use Rattle.words_core.specs.Grammar.{first_state, held_value, is_end, is_option, is_option_or_value, operands_of, option_name, option_reading, or_unread, reading_behind, reading_by, rule_behind, rule_unless, with_meaning_at, with_operand, with_word, with_word_by}
 use Rattle.words_core.specs.Options.{OptionSpec, option_spelled, options_of}
 use Rattle.words_core.specs.Stuck.{have_ended}
 use Rattle.words_core.proofs.LinesRead.{Says, meaning_says, rule_at_is, value_says}

@@ -18,7 +18,7 @@ use Rattle.command_core.specs.Flags.{has_kind, with_flag}
 use Rattle.command_core.specs.Operands.{at_least, exactly, first_refused, is_of_kind}
 use Rattle.words_core.specs.declared.reading.Reading.{Reading}
 use Rattle.words_core.specs.declared.reading.Start.{Start}
-use Rattle.words_core.specs.Grammar.{command_from, command_of, command_read, held_value, line_start, option_name, option_reading, reading_behind, reading_by, refused_operand, state_by, verdict}
+use Rattle.words_core.specs.Grammar.{command_from, line_command, command_read, held_value, line_start, option_name, option_reading, reading_behind, reading_by, refused_operand, state_by, verdict}
 use Rattle.words_core.specs.Kinds.{can_get_kind, can_get_kind_by, can_get_kind_from, is_info}
 use Rattle.words_core.specs.Options.{common_options, options_of}
 use Rattle.words_core.specs.Stuck.{have_ended}
@@ -181,7 +181,7 @@ module _ (words rest : List (List ℕ)) (start : Start) (at place : ℕ) (known 
         ∙ ap (behind reading.operands) (owner_read reading.state.flags reading.state.values end parts.1)))
 
     completed_on : CanBeCompleted words
-    unfolding command_of
+    unfolding line_command
     completed_on =
         let last : ℕ = length (words ++ (codes "-W" ∷ [])) + 1 in
         let read : Reading = behind reading.operands (reading_by (state_by (with_flag WhoOwns reading.state.flags) reading.state.values None) [] None) in (
@@ -202,8 +202,8 @@ module _ (words rest : List (List ℕ)) (start : Start) (at place : ℕ) (known 
   kind_completes_from = by_going (from_going start words low)
 
 -- where more words behind offend at a later place, a kind completes the words
-pub kind_completes : (words rest : List (List ℕ)) (at place : ℕ) → can_get_kind words ≡ true → command_of words ≡ Err at → at ≤ length words → command_of (words ++ rest) ≡ Err place → length words + 1 ≤ place → length words ≤ length (words ++ rest) → CanBeCompleted words
-unfolding command_of can_get_kind
+pub kind_completes : (words rest : List (List ℕ)) (at place : ℕ) → can_get_kind words ≡ true → line_command words ≡ Err at → at ≤ length words → line_command (words ++ rest) ≡ Err place → length words + 1 ≤ place → length words ≤ length (words ++ rest) → CanBeCompleted words
+unfolding line_command can_get_kind
 kind_completes words rest at place can bad before later far all =
     elim (line_start words) as (λ s. line_start words ≡ s → can_get_kind_by words s ≡ true → command_from words s ≡ Err at → CanBeCompleted words) [
       | Err first ↦ λ s none bad. absurd (false≢true none)

@@ -7,7 +7,7 @@ use Rattle.std.proofs.lemmas.Bool.{and_from, and_parts, false≢true, true≢fal
 use Rattle.std.proofs.lemmas.Option.{none-some, option_and_then_some, same_Some}
 use Rattle.std.proofs.lemmas.Result.{IfOk-at_ok}
 use Rattle.command_core.specs.declared.command.Applet.{Applet}
-use Rattle.command_core.specs.declared.command.Applet.TheVariants.{Adbdump, Add, Del, Demo, Fix, Info, Mkndx, Mkpkg, Upgrade, Verify, Version}
+use Rattle.command_core.specs.declared.command.Applet.TheVariants.{Add}
 use Rattle.command_core.specs.declared.command.Flag.{Flag}
 use Rattle.command_core.specs.declared.command.Flag.TheVariants.{AllowUntrusted, Check, Contents, Depends, Initdb, Installed, NoScripts, Purge, Simulate, Test, WhoOwns}
 use Rattle.command_core.specs.declared.command.Flags.{Flags}
@@ -284,16 +284,7 @@ is_own_option applet option = is_own_meaning applet option.meaning
 pub own_meanings : (applet : Applet) → list_all (is_own_option applet) (options_of applet) ≡ true
 unfolding common_options options_of
 own_meanings Add = refl
-own_meanings Del = refl
-own_meanings Upgrade = refl
-own_meanings Fix = refl
-own_meanings Info = refl
-own_meanings Verify = refl
-own_meanings Adbdump = refl
-own_meanings Mkpkg = refl
-own_meanings Mkndx = refl
-own_meanings Version = refl
-own_meanings Demo = refl
+own_meanings applet = refl
 
 may_have_with : (applet : Applet) (flags : Flags) (g : Flag) → has_flag g (allowed_flags applet) ≡ true → is_single kinds (with_flag g flags) ≡ true → may_have applet flags ≡ true → may_have applet (with_flag g flags) ≡ true
 may_have_with applet flags g o s m =

@@ -1,6 +1,7 @@
 pub mod Sites
 pub mod OneMore
 pub mod Found
+pub mod Helped
 pub mod KindsKept
 pub mod GivenKept
 pub mod WhatIsRead
@@ -16,6 +17,10 @@ pub mod StillOffending
 pub mod WordsCompleted
 pub mod KindCompleted
 pub mod AppletCompleted
+pub mod Asked
+pub mod AskedLines
+pub mod AskedLaws
 pub mod WhatFollows
 pub mod StuckWords
+pub mod AskedStuck
 pub mod Letters

@@ -17,8 +17,8 @@ use Rattle.command_core.specs.Values.{excludes, is_excluded, is_given, is_spent,
 use Rattle.words_core.specs.declared.options.Meaning.{Meaning}
 use Rattle.words_core.specs.declared.options.Meaning.TheVariants.{Flag as Plain, Kind, Value}
 use Rattle.words_core.specs.declared.reading.OptionState.{OptionState}
-use Rattle.words_core.specs.Grammar.{held_value, option_name, state_by, with_meaning, with_value}
-use Rattle.words_core.specs.Lines.{flags_after, flags_with, rule_in}
+use Rattle.words_core.specs.Grammar.{held_value, option_name, rule_in, state_by, with_meaning, with_value}
+use Rattle.words_core.specs.Lines.{flags_after, flags_with}
 use Rattle.words_core.specs.Options.{OptionSpec, option_spelled, options_of}
 use Rattle.words_core.proofs.KindsKept.{all_weaken, has_more, is_kind, is_own_meaning, is_own_option, own_meanings, second_kind, single_less, within_less}
 

@@ -7,7 +7,7 @@ use Rattle.std.specs.Str.{bytes_eq}
 use Rattle.std.proofs.lemmas.Bool.{and_parts, false≢true}
 use Rattle.std.proofs.lemmas.Option.{none-some, same_Some}
 use Rattle.command_core.specs.declared.command.Applet.{Applet}
-use Rattle.command_core.specs.declared.command.Applet.TheVariants.{Adbdump, Add, Del, Demo, Fix, Info, Mkndx, Mkpkg, Upgrade, Verify, Version}
+use Rattle.command_core.specs.declared.command.Applet.TheVariants.{Add}
 use Rattle.command_core.specs.declared.command.Flags.{Flags}
 use Rattle.command_core.specs.declared.operands.Operand.{Operand}
 use Rattle.command_core.specs.declared.values.OptionValue.{OptionValue}
@@ -23,8 +23,8 @@ use Rattle.words_core.specs.declared.reading.AppletSite.{AppletSite}
 use Rattle.words_core.specs.declared.reading.OptionState.{OptionState}
 use Rattle.words_core.specs.declared.reading.Reading.{Reading}
 use Rattle.words_core.specs.declared.reading.Start.{Start}
-use Rattle.words_core.specs.Grammar.{applet_site, command_from, command_of, command_read, early_flags, first_state, held_value, is_end, is_option, line_start, operands_of, option_name, option_reading, or_at, reading_behind, reading_by, site_at, site_behind_end, site_by, start_by, start_from, start_with, state_by, verdict, with_meaning, with_meaning_at, with_option, with_spec, with_spelled, with_word_by}
-use Rattle.words_core.specs.Lines.{IsLineOf, flags_after, flags_with, free_words, held_at, option_words, rule_behind, rule_in, rule_unless, stands_before, values_of}
+use Rattle.words_core.specs.Grammar.{applet_site, command_from, command_read, early_flags, first_state, held_value, is_end, is_option, line_command, line_start, operands_of, option_name, option_reading, or_at, reading_behind, reading_by, rule_behind, rule_in, rule_unless, site_at, site_behind_end, site_by, start_by, start_from, start_with, state_by, verdict, with_meaning, with_meaning_at, with_option, with_spec, with_spelled, with_word_by}
+use Rattle.words_core.specs.Lines.{IsLineOf, flags_after, flags_with, free_words, held_at, option_words, stands_before, values_of}
 use Rattle.words_core.specs.Options.{OptionSpec, applet_of, common_options, early_words, is_early, option_spelled, options_of}
 use Rattle.words_core.proofs.GivenKept.{IsOwn, all_own, found_own}
 use Rattle.words_core.proofs.KindsKept.{find_passes}
@@ -276,16 +276,7 @@ says_flag applet word = is_flag (option_spelled (options_of applet) word)
 early_flag : (applet : Applet) → list_all (says_flag applet) early_words ≡ true
 unfolding common_options options_of early_words
 early_flag Add = refl
-early_flag Del = refl
-early_flag Upgrade = refl
-early_flag Fix = refl
-early_flag Info = refl
-early_flag Verify = refl
-early_flag Adbdump = refl
-early_flag Mkpkg = refl
-early_flag Mkndx = refl
-early_flag Version = refl
-early_flag Demo = refl
+early_flag applet = refl
 
 flag_read : (flags more : Flags) (meaning : Meaning) → is_flag_meaning meaning ≡ true → flags_with flags None meaning ≡ Some more → with_meaning flags meaning ≡ Some more
 flag_read flags more (Plain flag) f h = h
@@ -374,8 +365,8 @@ from_made start more all words f v m are =
       })
     ] f v
 
-pub made_line : (words : List (List ℕ)) (command : CommandLine) → IsLineOf words command → command_of words ≡ Ok command
-unfolding command_of
+pub made_line : (words : List (List ℕ)) (command : CommandLine) → IsLineOf words command → line_command words ≡ Ok command
+unfolding line_command
 made_line words command line =
     let found = site_found no_flags command.flags 1 words line.applet command.operands command.applet line.names line.free line.early line.flags in
     let site : AppletSite = site_by found.ended line.applet.place command.applet in

@@ -26,8 +26,8 @@ use Rattle.words_core.specs.declared.reading.AppletSite.{AppletSite}
 use Rattle.words_core.specs.declared.reading.OptionState.{OptionState}
 use Rattle.words_core.specs.declared.reading.Reading.{Reading}
 use Rattle.words_core.specs.declared.reading.Start.{Start}
-use Rattle.words_core.specs.Grammar.{applet_site, command_from, command_of, command_read, early_flags, first_state, held_value, is_end, is_option, is_option_or_value, lacks_operand, lacks_word, line_start, operands_of, option_name, option_reading, or_at, or_unread, reading_behind, reading_by, refused_operand, site_at, site_behind_end, site_by, start_by, state_by, unless_at, verdict, with_flags, with_held, with_meaning, with_meaning_at, with_operand, with_option, with_spec, with_spelled, with_value, with_word, with_word_by}
-use Rattle.words_core.specs.Lines.{IsLineOf, flags_after, flags_with, free_words, held_at, option_words, rule_at, rule_behind, rule_in, rule_unless, stands_before, values_of}
+use Rattle.words_core.specs.Grammar.{applet_site, command_from, command_read, early_flags, first_state, held_value, is_end, is_option, is_option_or_value, lacks_operand, lacks_word, line_command, line_start, operands_of, option_name, option_reading, or_at, or_unread, reading_behind, reading_by, refused_operand, rule_at, rule_behind, rule_in, rule_unless, site_at, site_behind_end, site_by, start_by, state_by, unless_at, verdict, with_flags, with_held, with_meaning, with_meaning_at, with_operand, with_option, with_spec, with_spelled, with_value, with_word, with_word_by}
+use Rattle.words_core.specs.Lines.{IsLineOf, flags_after, flags_with, free_words, held_at, option_words, stands_before, values_of}
 use Rattle.words_core.specs.Options.{OptionSpec, applet_of, early_words, is_early, option_spelled, options_of}
 use Rattle.words_core.specs.Steps.{IsSoundReading}
 use Rattle.words_core.proofs.GivenKept.{from_kept}
@@ -546,8 +546,8 @@ judged_good behind applet reading command m j =
           sound = taken_sound applet flags reading.operands reading.state.values behind rule m.0 m.1 r f (ltb-false (length reading.operands) rule.least enough.0) enough.1;
         }
 
-pub read_line : (words : List (List ℕ)) (command : CommandLine) → command_of words ≡ Ok command → IsLineOf words command
-unfolding command_of
+pub read_line : (words : List (List ℕ)) (command : CommandLine) → line_command words ≡ Ok command → IsLineOf words command
+unfolding line_command
 read_line words command c =
     elim (line_start words) as (λ s. line_start words ≡ s → command_from words s ≡ Ok command → IsLineOf words command) [
       | Err place ↦ λ s h. absurd (cc)

@@ -12,7 +12,7 @@ use Rattle.words_core.specs.declared.reading.AppletSite.{AppletSite}
 use Rattle.words_core.specs.declared.reading.OptionState.{OptionState}
 use Rattle.words_core.specs.declared.reading.Reading.{Reading}
 use Rattle.words_core.specs.declared.reading.Start.{Start}
-use Rattle.words_core.specs.Grammar.{applet_site, command_from, command_of, command_read, first_state, is_end, is_option, is_option_or_value, lacks_word, line_start, operands_of, option_reading, or_at, or_unread, reading_behind, reading_by, reading_end, refused_operand, site_at, site_behind_end, site_by, unless_at, verdict, with_operand, with_word}
+use Rattle.words_core.specs.Grammar.{applet_site, command_from, line_command, command_read, first_state, is_end, is_option, is_option_or_value, lacks_word, line_start, operands_of, option_reading, or_at, or_unread, reading_behind, reading_by, reading_end, refused_operand, site_at, site_behind_end, site_by, unless_at, verdict, with_operand, with_word}
 use Rattle.words_core.specs.Options.{OptionSpec, applet_of, is_early, options_of}
 use Rattle.words_core.proofs.KindsKept.{IsPlain, start_known}
 use Rattle.words_core.proofs.Sites.{IsForeign, foreign_between, no_start}
@@ -160,8 +160,8 @@ site_searched place low behind (word ∷ words) l h =
     ]
 
 -- a usage error is at a word, or behind the last one
-pub usage_between : (words : List (List ℕ)) (place : ℕ) → command_of words ≡ Err place → (1 ≤ place) × (place ≤ length words + 1)
-unfolding command_of
+pub usage_between : (words : List (List ℕ)) (place : ℕ) → line_command words ≡ Err place → (1 ≤ place) × (place ≤ length words + 1)
+unfolding line_command
 usage_between words place c =
     elim (line_start words) as (λ s. line_start words ≡ s → command_from words s ≡ Err place → (1 ≤ place) × (place ≤ length words + 1)) [
       | Err at ↦ λ s (e : Err at ≡ Err place). by_place at place (cc) (no_start words at s)

@@ -16,7 +16,7 @@ use Rattle.command_core.specs.Flags.{has_kind}
 use Rattle.command_core.specs.Operands.{first_refused}
 use Rattle.words_core.specs.declared.reading.Reading.{Reading}
 use Rattle.words_core.specs.declared.reading.Start.{Start}
-use Rattle.words_core.specs.Grammar.{command_from, command_of, line_start, operands_of, option_reading, reading_behind, refused_operand, verdict}
+use Rattle.words_core.specs.Grammar.{command_from, line_command, line_start, operands_of, option_reading, reading_behind, refused_operand, verdict}
 use Rattle.words_core.specs.Kinds.{can_get_kind, can_get_kind_by, can_get_kind_from, is_info}
 use Rattle.words_core.specs.Options.{OptionSpec, options_of}
 use Rattle.words_core.specs.Stuck.{have_ended}
@@ -132,8 +132,8 @@ unfolding can_get_kind
 cannot_from words start k s = sym (ap (can_get_kind_by words) s) ∙ k
 
 -- a word that offends does so whatever follows
-pub usage_stays : (words more : List (List ℕ)) (place : ℕ) → can_get_kind words ≡ false → command_of words ≡ Err place → place ≤ length words → command_of (words ++ more) ≡ Err place
-unfolding command_of
+pub usage_stays : (words more : List (List ℕ)) (place : ℕ) → can_get_kind words ≡ false → line_command words ≡ Err place → place ≤ length words → line_command (words ++ more) ≡ Err place
+unfolding line_command
 usage_stays words more place k c l =
     elim (line_start words) as (λ s. line_start words ≡ s → command_from words s ≡ Err place → command_from (words ++ more) (line_start (words ++ more)) ≡ Err place) [
       | Err at ↦ λ s (e : Err at ≡ Err place).

@@ -23,9 +23,9 @@ use Rattle.words_core.specs.declared.reading.AppletSite.{AppletSite}
 use Rattle.words_core.specs.declared.reading.OptionState.{OptionState}
 use Rattle.words_core.specs.declared.reading.Reading.{Reading}
 use Rattle.words_core.specs.declared.reading.Start.{Start}
-use Rattle.words_core.specs.Grammar.{applet_site, command_from, command_of, command_read, early_flags, is_end, is_option, lacks_operand, lacks_word, line_start, option_reading, or_at, reading_behind, refused_operand, site_at, site_behind_end, site_by, start_from, start_with, state_by, unless_at, verdict, with_word_by}
+use Rattle.words_core.specs.Grammar.{applet_site, command_from, line_command, command_read, early_flags, is_end, is_option, lacks_operand, lacks_word, line_start, option_reading, or_at, reading_behind, reading_by, refused_operand, site_at, site_behind_end, site_by, start_from, start_with, state_by, unless_at, verdict, with_word_by}
 use Rattle.words_core.specs.Options.{OptionSpec, applet_of, applet_word, applets, is_early, options_of}
-use Rattle.words_core.specs.Stuck.{are_stuck, are_stuck_by, awaits_none, has_script, have_ended, is_full, is_stuck, is_stuck_by, lacks_option, suit}
+use Rattle.words_core.specs.Stuck.{are_stuck_by, awaits_none, has_script, have_ended, is_full, is_stuck, is_stuck_by, lacks_option, suit}
 use Rattle.words_core.proofs.GoneOn.{IsGoing, from_going, is_not}
 use Rattle.words_core.proofs.KindsKept.{IsPlain, start_known}
 use Rattle.words_core.proofs.LinesRead.{awaited_taken, step_taken}
@@ -88,12 +88,15 @@ no_fit letter single Script values text h =
     ] refl
 no_fit letter single kind values text h = absurd (false≢true h)
 
-pub awaited_unread : (options : List OptionSpec) (state : OptionState) (end : ℕ) (rule : ValueRule) (more : List (List ℕ)) → state.awaiting ≡ Some rule → is_full rule.kind rule.letter state.values ≡ true → (option_reading options state end more).unread ≡ Some end
-awaited_unread options state end rule [] a f = ap (option_map (λ (r : ValueRule). end)) a
-awaited_unread options state end rule (word ∷ words) a f =
+pub awaited_whole : (options : List OptionSpec) (state : OptionState) (end : ℕ) (rule : ValueRule) (more : List (List ℕ)) → state.awaiting ≡ Some rule → is_full rule.kind rule.letter state.values ≡ true → option_reading options state end more ≡ reading_by state [] (Some end)
+awaited_whole options state end rule [] a f = ap (λ o. reading_by state [] (option_map (λ (r : ValueRule). end) o)) a
+awaited_whole options state end rule (word ∷ words) a f =
     let next : OptionState = state_by state.flags (state.values ++ (option_value end rule.letter word ∷ [])) None in
-    ap (λ (r : Reading). r.unread) (step_taken options state end word words None (awaited_taken state word rule a)
-    (ap (with_word_by options state end word) a ∙ ap (λ b. if b then Some next else None) (no_fit rule.letter rule.single rule.kind state.values word f)))
+    step_taken options state end word words None (awaited_taken state word rule a)
+    (ap (with_word_by options state end word) a ∙ ap (λ b. if b then Some next else None) (no_fit rule.letter rule.single rule.kind state.values word f))
+
+pub awaited_unread : (options : List OptionSpec) (state : OptionState) (end : ℕ) (rule : ValueRule) (more : List (List ℕ)) → state.awaiting ≡ Some rule → is_full rule.kind rule.letter state.values ≡ true → (option_reading options state end more).unread ≡ Some end
+awaited_unread options state end rule more a f = ap (λ (r : Reading). r.unread) (awaited_whole options state end rule more a f)
 
 -- stuck words are no command, whatever follows, where their applet was found
 pub stuck_bad : (words more : List (List ℕ)) (start : Start) → line_start words ≡ Ok start → is_stuck words start ≡ true → IsBad start.applet (reading_behind start (words ++ more))
@@ -203,14 +206,14 @@ site_later place (word ∷ words) more h =
       ] refl
     ] refl
 
-take_more : (count : ℕ) (words more : List (List ℕ)) → length words ≤ count → take count (words ++ more) ≡ words ++ take (count - length words) more
+pub take_more : (count : ℕ) (words more : List (List ℕ)) → length words ≤ count → take count (words ++ more) ≡ words ++ take (count - length words) more
 take_more count [] more l = (let same : count ≡ count - 0 = omega arith in ap (λ k. take k more) same)
 take_more zero (word ∷ words) more l = absurd (omega (arith, l))
 take_more (suc count) (word ∷ words) more l =
     ap (λ ws. word ∷ ws) (take_more count words more (omega (arith, l)) ∙ ap (λ k. words ++ take k more) (let same : count - length words ≡ suc count - length (word ∷ words) = omega arith in same))
 
-no_applet_stays : (words more : List (List ℕ)) (at : ℕ) → applet_site 1 words ≡ Err at → not (list_any (suit words) applets) ≡ true → (place : ℕ) × (command_of (words ++ more) ≡ Err place)
-unfolding command_of
+no_applet_stays : (words more : List (List ℕ)) (at : ℕ) → applet_site 1 words ≡ Err at → not (list_any (suit words) applets) ≡ true → (place : ℕ) × (line_command (words ++ more) ≡ Err place)
+unfolding line_command
 no_applet_stays words more at s k =
     elim (cases_lt at (1 + length words)) as (λ _. (place : ℕ) × (command_from (words ++ more) (line_start (words ++ more)) ≡ Err place)) [
       | inl less ↦ (at, ap (λ r. command_from (words ++ more) (start_from (words ++ more) r)) (site_stays 1 words more (subst (λ r. IsKnown (1 + length words) r) (sym s) less) ∙ s))
@@ -236,15 +239,15 @@ no_applet_stays words more at s k =
         (not_any (suit words) applets (λ applet. bytes_eq (applet_word applet) later.word) site.applet k later.names)
         (omega (arith, later.late))
 
-pub stuck_stay : (words more : List (List ℕ)) → are_stuck words ≡ true → (place : ℕ) × (command_of (words ++ more) ≡ Err place)
-unfolding command_of are_stuck
+pub stuck_stay : (words more : List (List ℕ)) → are_stuck_by words (applet_site 1 words) ≡ true → (place : ℕ) × (line_command (words ++ more) ≡ Err place)
+unfolding line_command
 stuck_stay words more k =
-    elim (applet_site 1 words) as (λ s. applet_site 1 words ≡ s → are_stuck_by words s ≡ true → (place : ℕ) × (command_of (words ++ more) ≡ Err place)) [
-      | Err at ↦ λ s k. no_applet_stays words more at s k
+    elim (applet_site 1 words) as (λ s. applet_site 1 words ≡ s → are_stuck_by words s ≡ true → (place : ℕ) × (line_command (words ++ more) ≡ Err place)) [
+      | Err at ↦ λ s k. no_applet_stays words more at s (and_parts (list_any is_end words) (not (list_any (suit words) applets)) k).1
       | Ok site ↦ λ s k. by_start (line_start words) refl (ap (λ r. is_stuck_by words (start_from words r)) s ∙ k)
     ] refl k
   where
-    by_start : (r : Result Start ℕ) → line_start words ≡ r → is_stuck_by words (line_start words) ≡ true → (place : ℕ) × (command_of (words ++ more) ≡ Err place)
+    by_start : (r : Result Start ℕ) → line_start words ≡ r → is_stuck_by words (line_start words) ≡ true → (place : ℕ) × (line_command (words ++ more) ≡ Err place)
     by_start (Err at) s k = absurd (false≢true (sym (ap (is_stuck_by words) s) ∙ k))
     by_start (Ok start) s k =
         let bad = stuck_bad words more start s (sym (ap (is_stuck_by words) s) ∙ k) (length (words ++ more) + 1) in

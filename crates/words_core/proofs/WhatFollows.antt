@@ -11,7 +11,7 @@ use Rattle.command_core.specs.Operands.{first_refused, operand_at}
 use Rattle.words_core.specs.declared.reading.OptionState.{OptionState}
 use Rattle.words_core.specs.declared.reading.Reading.{Reading}
 use Rattle.words_core.specs.declared.reading.Start.{Start}
-use Rattle.words_core.specs.Grammar.{command_from, command_of, command_read, first_state, is_end, is_option_or_value, lacks_word, line_start, operands_of, option_reading, or_unread, reading_behind, reading_by, refused_operand, unless_at, verdict, with_operand, with_word}
+use Rattle.words_core.specs.Grammar.{command_from, line_command, command_read, first_state, is_end, is_option_or_value, lacks_word, line_start, operands_of, option_reading, or_unread, reading_behind, reading_by, refused_operand, unless_at, verdict, with_operand, with_word}
 use Rattle.words_core.specs.Kinds.{can_get_kind, can_get_kind_from}
 use Rattle.words_core.specs.Options.{OptionSpec, options_of}
 use Rattle.words_core.proofs.KindsKept.{IsPlain, start_known}
@@ -95,8 +95,8 @@ good_of applet reading behind command h =
       ] refl
     ] refl h
 
-pub offends_behind : (words more : List (List ℕ)) (command : CommandLine) (place : ℕ) → can_get_kind words ≡ false → command_of words ≡ Ok command → command_of (words ++ more) ≡ Err place → length words < place
-unfolding command_of
+pub offends_behind : (words more : List (List ℕ)) (command : CommandLine) (place : ℕ) → can_get_kind words ≡ false → line_command words ≡ Ok command → line_command (words ++ more) ≡ Err place → length words < place
+unfolding line_command
 offends_behind words more command place k c h =
     elim (line_start words) as (λ s. line_start words ≡ s → command_from words s ≡ Ok command → length words < place) [
       | Err at ↦ λ s (e : Err at ≡ Ok command). absurd (cc)

@@ -11,13 +11,13 @@ use Rattle.std.proofs.lemmas.Option.{none-some, same_Some}
 use Rattle.std.proofs.lemmas.Slice.Eq.{bytes_eq-Decides}
 use lib.Utf8.{encode}
 use Rattle.command_core.specs.declared.command.Applet.{Applet}
-use Rattle.command_core.specs.declared.command.Applet.TheVariants.{Adbdump, Add, Del, Demo, Fix, Info, Mkndx, Mkpkg, Upgrade, Verify, Version}
+use Rattle.command_core.specs.declared.command.Applet.TheVariants.{Info, Mkndx, Version}
 use Rattle.command_core.specs.declared.command.Flag.{Flag}
 use Rattle.command_core.specs.declared.command.Flag.TheVariants.{Check, Contents, Depends, Installed, WhoOwns}
 use Rattle.command_core.specs.declared.command.Flags.{Flags}
 use Rattle.command_core.specs.declared.operands.Operand.{Operand}
 use Rattle.command_core.specs.declared.operands.OperandKind.{OperandKind}
-use Rattle.command_core.specs.declared.operands.OperandKind.TheVariants.{Any, Dependency, DependencyName, File, Number, PackageName, Path}
+use Rattle.command_core.specs.declared.operands.OperandKind.TheVariants.{Any, Dependency, DependencyName, File, Number, PackageName, Path, Pattern}
 use Rattle.command_core.specs.declared.operands.OperandRule.{OperandRule}
 use Rattle.command_core.specs.declared.values.OptionValue.{OptionValue}
 use Rattle.command_core.specs.declared.values.TheConstants.{OUTPUT}
@@ -33,7 +33,7 @@ use Rattle.command_core.specs.Values.{excludes, is_excluded, is_given, is_script
 use Rattle.words_core.specs.declared.reading.OptionState.{OptionState}
 use Rattle.words_core.specs.declared.reading.Reading.{Reading}
 use Rattle.words_core.specs.declared.reading.Start.{Start}
-use Rattle.words_core.specs.Grammar.{command_from, command_of, command_read, held_value, lacks_word, line_start, operands_of, option_name, option_reading, reading_behind, reading_by, refused_operand, state_by, verdict, with_operand, with_word_by}
+use Rattle.words_core.specs.Grammar.{command_from, line_command, command_read, held_value, lacks_word, line_start, operands_of, option_name, option_reading, reading_behind, reading_by, refused_operand, state_by, verdict, with_operand, with_word_by}
 use Rattle.words_core.specs.Options.{OptionSpec, common_options, options_of}
 use Rattle.words_core.specs.Stuck.{awaits_none, has_script, have_ended, is_full, is_stuck, lacks_option}
 use Rattle.words_core.proofs.GivenKept.{from_kept}
@@ -105,6 +105,7 @@ sample_fits DependencyName = refl
 sample_fits PackageName = refl
 sample_fits Path = refl
 sample_fits Number = refl
+sample_fits Pattern = refl
 
 -- so many of them
 abbrev pub samples : OperandKind → ℕ → List (List ℕ)
@@ -119,6 +120,7 @@ sample_read Dependency options state place more a = rw a refl
 sample_read DependencyName options state place more a = rw a refl
 sample_read PackageName options state place more a = rw a refl
 sample_read Path options state place more a = rw a refl
+sample_read Pattern options state place more a = rw a refl
 
 pub samples_read : (kind : OperandKind) (count : ℕ) → AreTexts (samples kind count)
 samples_read kind zero options state place a = rw a refl
@@ -152,28 +154,27 @@ info_possible flags =
       ]
     ]
 
-version_possible : (flags : Flags) (rule : OperandRule) → version_operands flags ≡ Some rule → IsPossible rule
-version_possible flags rule r =
-    elim flags.test as (λ b. (if b then Some (exactly 2 Any) else if flags.check then Some (at_least 1 Any) else None) ≡ Some rule → IsPossible rule) [
-      | true ↦ λ (e : Some (exactly 2 Any) ≡ Some rule). subst (λ (x : OperandRule). IsPossible x) (same_Some (exactly 2 Any) rule e) refl
-      | false ↦ elim flags.check as (λ b. (if b then Some (at_least 1 Any) else None) ≡ Some rule → IsPossible rule) [
-        | true ↦ λ (e : Some (at_least 1 Any) ≡ Some rule). subst (λ (x : OperandRule). IsPossible x) (same_Some (at_least 1 Any) rule e) refl
-        | false ↦ λ (e : None ≡ Some rule). absurd (none-some rule e)
+abbrev is_possible : Option OperandRule → Bool
+is_possible None = true
+is_possible (Some rule) = is_at_most rule.most rule.least
+
+version_possible : (flags : Flags) → is_possible (version_operands flags) ≡ true
+version_possible flags =
+    elim flags.test as (λ b. is_possible (if b then Some (exactly 2 Any) else if flags.check then Some (at_least 1 Any) else None) ≡ true) [
+      | true ↦ refl
+      | false ↦ elim flags.check as (λ b. is_possible (if b then Some (at_least 1 Any) else None) ≡ true) [
+        | true ↦ refl
+        | false ↦ refl
       ]
-    ] r
+    ]
+
+each_possible : (applet : Applet) (flags : Flags) → is_possible (operand_rule applet flags) ≡ true
+each_possible Info flags = info_possible flags
+each_possible Version flags = version_possible flags
+each_possible applet flags = refl
 
 pub rule_possible : (applet : Applet) (flags : Flags) (rule : OperandRule) → operand_rule applet flags ≡ Some rule → IsPossible rule
-rule_possible Info flags rule r = subst (λ (x : OperandRule). IsPossible x) (same_Some (info_operands flags) rule r) (info_possible flags)
-rule_possible Version flags rule r = version_possible flags rule r
-rule_possible Add flags rule r = subst (λ (x : OperandRule). IsPossible x) (same_Some (at_least 0 Dependency) rule r) refl
-rule_possible Del flags rule r = subst (λ (x : OperandRule). IsPossible x) (same_Some (at_least 1 DependencyName) rule r) refl
-rule_possible Upgrade flags rule r = subst (λ (x : OperandRule). IsPossible x) (same_Some (at_least 0 PackageName) rule r) refl
-rule_possible Fix flags rule r = subst (λ (x : OperandRule). IsPossible x) (same_Some (at_least 1 PackageName) rule r) refl
-rule_possible Verify flags rule r = subst (λ (x : OperandRule). IsPossible x) (same_Some (at_least 1 File) rule r) refl
-rule_possible Adbdump flags rule r = subst (λ (x : OperandRule). IsPossible x) (same_Some (exactly 1 File) rule r) refl
-rule_possible Mkpkg flags rule r = subst (λ (x : OperandRule). IsPossible x) (same_Some (exactly 0 File) rule r) refl
-rule_possible Mkndx flags rule r = subst (λ (x : OperandRule). IsPossible x) (same_Some (at_least 0 File) rule r) refl
-rule_possible Demo flags rule r = subst (λ (x : OperandRule). IsPossible x) (same_Some (exactly 1 Number) rule r) refl
+rule_possible applet flags rule r = subst (λ o. is_possible o ≡ true) r (each_possible applet flags)
 
 -- as many as are still wanted fit behind those that are taken
 wanted_fit : (rule : OperandRule) (os : List Operand) → IsPossible rule → first_refused rule 0 os ≡ None → is_at_most rule.most (length os + (rule.least - length os)) ≡ true
@@ -357,7 +358,7 @@ can_go_on applet flags values os at m h =
 -- ---- words that lack a word
 
 abbrev pub CanBeCompleted : List (List ℕ) → Type 0
-CanBeCompleted words = (more : List (List ℕ)) × (command : CommandLine) × (command_of (words ++ more) ≡ Ok command)
+CanBeCompleted words = (more : List (List ℕ)) × (command : CommandLine) × (line_command (words ++ more) ≡ Ok command)
 
 -- no operand offends where words offend at their end
 pub none_refused : (rule : Option OperandRule) (low end : ℕ) (operands : List Operand) (unread : Option ℕ) → AllBetween low end operands → IsJudgedAt end (option_or (refused_operand rule operands) unread) end → refused_operand rule operands ≡ None
@@ -384,7 +385,7 @@ both_none None unread h = (refl, h)
 both_none (Some at) unread h = absurd (none-some at (sym h))
 
 pub completed_from : (words : List (List ℕ)) (start : Start) → is_stuck words start ≡ false → line_start words ≡ Ok start → verdict (length words + 1) start.applet (reading_behind start words) ≡ Err (length words + 1) → CanBeCompleted words
-unfolding command_of
+unfolding line_command
 completed_from words start k s h = by_going (from_going start words low)
   where
     end : ℕ

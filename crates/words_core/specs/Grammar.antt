@@ -2,10 +2,11 @@
 -- count from 1; where a word is missing, the place is the one behind the last word.
 -- The rules stand in `docs/commands.md`, "Words".
 use Rattle.std.specs.Prelude.{ℕ, ◌+◌, ◌-◌, ◌==◌, Bool, true, false, not, ◌&&◌, ◌||◌, nat_lt, List, [], ◌∷◌, ◌++◌, length, take, drop, codes, Option, Some, None, option_and_then, is_some, Result, Ok, Err, if◌then◌else◌}
-use Rattle.std.specs.List.{before_first, position}
+use Rattle.std.specs.List.{before_first, position, slice_get}
 use Rattle.std.specs.Option.{option_map, option_or}
 use Rattle.std.specs.Str.{bytes_eq}
 use Rattle.command_core.specs.declared.command.Applet.{Applet}
+use Rattle.command_core.specs.declared.command.Applet.TheVariants.{Help}
 use Rattle.command_core.specs.declared.command.Flags.{Flags}
 use Rattle.command_core.specs.declared.operands.Operand.{Operand}
 use Rattle.command_core.specs.declared.operands.OperandRule.{OperandRule}
@@ -18,12 +19,14 @@ use Rattle.command_core.specs.Operands.{first_refused, operand_at}
 use Rattle.command_core.specs.Values.{is_excluded, is_spent, is_value, lacks_value, option_value}
 use Rattle.words_core.specs.declared.options.Meaning.{Meaning}
 use Rattle.words_core.specs.declared.options.Meaning.TheVariants.{Flag as Plain, Kind, Value}
+use Rattle.words_core.specs.declared.next.NextWord.{NextWord}
+use Rattle.words_core.specs.declared.next.NextWord.TheVariants.{OptionOrCommand, Command as CommandAlone, OptionOrOperand, Value as NextValue, Operand as OperandAlone, Nothing}
 use Rattle.words_core.specs.declared.reading.AppletSite.{AppletSite}
 use Rattle.words_core.specs.declared.reading.OptionState.{OptionState}
 use Rattle.words_core.specs.declared.reading.Reading.{Reading}
 use Rattle.words_core.specs.declared.reading.Start.{Start}
 use Rattle.words_core.specs.declared.word.TheConstants.{EQUALS_SIGN}
-use Rattle.words_core.specs.Options.{OptionSpec, applet_of, is_early, option_spelled, options_of}
+use Rattle.words_core.specs.Options.{OptionSpec, applet_of, applet_word, asked_by, is_early, option_spelled, options_of}
 
 -- ---- a word
 
@@ -282,6 +285,107 @@ abbrev pub command_from : List (List ℕ) → Result Start ℕ → Result Comman
 command_from words (Err place) = Err place
 command_from words (Ok start) = verdict (length words + 1) start.applet (reading_behind start words)
 
+-- the command that the words spell, or the first place that offends
+unfoldable pub line_command : List (List ℕ) → Result CommandLine ℕ
+line_command words = command_from words (line_start words)
+
+-- ---- what the next word can be
+
+-- the rule of the values that an option has; None where it is a flag
+abbrev pub rule_in : Meaning → Option ValueRule
+rule_in (Plain flag) = None
+rule_in (Kind flag) = None
+rule_in (Value rule) = Some rule
+
+-- the rule of the option that a word spells; None where it has no values
+abbrev pub rule_at : List OptionSpec → List ℕ → Option ValueRule
+rule_at options word =
+    option_and_then (λ (e : OptionSpec). rule_in e.meaning)
+    (option_spelled options (option_name word))
+
+-- this rule, where the option's word holds no value
+abbrev pub rule_unless : Option (List ℕ) → Option ValueRule → Option ValueRule
+rule_unless None rule = rule
+rule_unless (Some text) rule = None
+
+-- the rule of the option that a word spells, where its value is the next word
+abbrev pub rule_behind : List OptionSpec → List ℕ → Option ValueRule
+rule_behind options word = rule_unless (held_value word) (rule_at options word)
+
+-- what the word after an option of an applet can be, by the rule of its value, if that is the next word
+abbrev pub next_by_rule : Applet → Option ValueRule → NextWord
+next_by_rule applet None = OptionOrOperand applet
+next_by_rule applet (Some rule) = NextValue applet rule
+
+-- what the word after the command can be, by the applet that the command names, if it names one
+abbrev pub next_by_applet : (Applet → NextWord) → Option Applet → NextWord
+next_by_applet next None = Nothing
+next_by_applet next (Some applet) = next applet
+
+-- what the word after a word can be, by what the word can be
+abbrev pub next_word : NextWord → List ℕ → NextWord
+next_word OptionOrCommand word =
+    if is_end word then CommandAlone else
+    if is_option word then OptionOrCommand else
+    next_by_applet OptionOrOperand (applet_of word)
+next_word CommandAlone word = next_by_applet OperandAlone (applet_of word)
+next_word (OptionOrOperand applet) word =
+    if is_end word then OperandAlone applet else
+    if is_option word then next_by_rule applet (rule_behind (options_of applet) word) else
+    OptionOrOperand applet
+next_word (NextValue applet rule) word = OptionOrOperand applet
+next_word (OperandAlone applet) word = OperandAlone applet
+next_word Nothing word = Nothing
+
+-- what the word after some words can be, by what the first of them can be
+abbrev pub next_words : NextWord → List (List ℕ) → NextWord
+next_words next [] = next
+next_words next (word ∷ words) = next_words (next_word next word) words
+
+-- what the word after the first words of a command line can be
+abbrev pub next_after : List (List ℕ) → NextWord
+next_after words = next_words OptionOrCommand words
+
+-- whether an option can be the next word
+abbrev pub takes_option : NextWord → Bool
+takes_option OptionOrCommand = true
+takes_option (OptionOrOperand applet) = true
+takes_option next = false
+
+-- ---- words that ask for help, or for the version
+
+-- the applet that the word at a place asks for, if it asks and an option can be there
+abbrev pub asked_at : List (List ℕ) → ℕ → Option Applet
+asked_at words place =
+    if takes_option (next_after (take (place - 1) words)) then
+    option_and_then asked_by (slice_get words (place - 1)) else
+    None
+
+-- the operands of `Help`: the word of the applet, if one was found before the word that asks
+abbrev pub topic_at : Result AppletSite ℕ → List Operand
+topic_at (Err place) = []
+topic_at (Ok site) = operand_at site.read (applet_word site.applet) ∷ []
+
+-- the operands of what words ask for
+abbrev pub asked_operands : List (List ℕ) → Applet → List Operand
+asked_operands words Help = topic_at (applet_site 1 words)
+asked_operands words applet = []
+
+-- the command that words ask for
+abbrev pub asked_command : List (List ℕ) → Applet → CommandLine
+asked_command words applet =
+    command_by applet no_flags (asked_operands words applet) [] (length words + 1)
+
+-- the command that the word at a place asks for, or that it offends there
+abbrev pub asked_or_err : List (List ℕ) → ℕ → Option Applet → Result CommandLine ℕ
+asked_or_err words place None = Err place
+asked_or_err words place (Some applet) = Ok (asked_command words applet)
+
+-- the command that was spelled, or else the one that the first word that offends asks for, if it asks
+abbrev pub spelled_or_asked : List (List ℕ) → Result CommandLine ℕ → Result CommandLine ℕ
+spelled_or_asked words (Ok command) = Ok command
+spelled_or_asked words (Err place) = asked_or_err words place (asked_at words place)
+
 -- the command of the words, or the first place that offends
 unfoldable pub command_of : List (List ℕ) → Result CommandLine ℕ
-command_of words = command_from words (line_start words)
+command_of words = spelled_or_asked words (line_command words)

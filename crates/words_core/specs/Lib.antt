@@ -2,10 +2,12 @@
 -- what the contract of `apk` says
 pub mod Options
 pub mod Grammar
+pub mod HelpTexts
 -- what only inner contracts and proofs use
 pub mod Rows
 pub mod Steps
 pub mod Faults
 pub mod Lines
+pub mod Asked
 pub mod Stuck
 pub mod Kinds

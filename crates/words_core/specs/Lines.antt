@@ -16,29 +16,8 @@ use Rattle.command_core.specs.Operands.{operand_at}
 use Rattle.command_core.specs.Values.{option_value}
 use Rattle.words_core.specs.declared.options.Meaning.{Meaning}
 use Rattle.words_core.specs.declared.options.Meaning.TheVariants.{Flag as Plain, Kind, Value}
-use Rattle.words_core.specs.Grammar.{held_value, is_end, is_option, operands_of, option_name}
+use Rattle.words_core.specs.Grammar.{held_value, is_end, is_option, operands_of, option_name, rule_at, rule_behind}
 use Rattle.words_core.specs.Options.{OptionSpec, applet_of, is_early, option_spelled, options_of}
-
--- the rule of the values that an option has; None where it is a flag
-abbrev pub rule_in : Meaning → Option ValueRule
-rule_in (Plain flag) = None
-rule_in (Kind flag) = None
-rule_in (Value rule) = Some rule
-
--- the rule of the option that a word spells; None where it has no values
-abbrev pub rule_at : List OptionSpec → List ℕ → Option ValueRule
-rule_at options word =
-    option_and_then (λ (e : OptionSpec). rule_in e.meaning)
-    (option_spelled options (option_name word))
-
--- this rule, where the option's word holds no value
-abbrev pub rule_unless : Option (List ℕ) → Option ValueRule → Option ValueRule
-rule_unless None rule = rule
-rule_unless (Some text) rule = None
-
--- the rule of the option that a word spells, where its value is the next word
-abbrev pub rule_behind : List OptionSpec → List ℕ → Option ValueRule
-rule_behind options word = rule_unless (held_value word) (rule_at options word)
 
 -- the words that are neither options nor values, each with its place: all behind `--`, and before it
 -- those that are neither. With a rule the first word is the value of its option

@@ -1,11 +1,11 @@
 -- The applets that exist, and the words that spell them and their options, after apk(8).
 -- The rules stand in `docs/commands.md`, "Words", the table of options and the paragraph of those
 -- before the applet.
-use Rattle.std.specs.Prelude.{ℕ, Bool, ◌||◌, List, [], ◌∷◌, ◌++◌, codes, Option}
+use Rattle.std.specs.Prelude.{ℕ, Bool, ◌||◌, List, [], ◌∷◌, ◌++◌, codes, Option, Some, None, if◌then◌else◌}
 use Rattle.std.specs.List.{find, list_any}
 use Rattle.std.specs.Str.{bytes_eq}
 use Rattle.command_core.specs.declared.command.Applet.{Applet}
-use Rattle.command_core.specs.declared.command.Applet.TheVariants.{Add, Del, Upgrade, Fix, Info, Verify, Adbdump, Mkpkg, Mkndx, Version, Demo}
+use Rattle.command_core.specs.declared.command.Applet.TheVariants.{Add, Del, Upgrade, Fix, Info, Verify, Adbdump, Mkpkg, Mkndx, Version, Demo, Adbgen, Audit, Manifest, List as ListApplet, Search, Policy, Help, ProgramVersion}
 use Rattle.command_core.specs.declared.command.Flag.{Flag}
 use Rattle.command_core.specs.declared.command.Flag.TheVariants.{AllowUntrusted, NoScripts, Initdb, Simulate, Purge, Installed, Contents, Depends, WhoOwns, Test, Check}
 use Rattle.command_core.specs.declared.values.ValueRule.{ValueRule}
@@ -31,7 +31,7 @@ kind_spec long short flag = record { long = long; short = short; meaning = Kind 
 abbrev pub value_spec : List ℕ → List ℕ → ValueRule → OptionSpec
 value_spec long short rule = record { long = long; short = short; meaning = Value rule }
 
--- the options of every applet
+-- the options of every applet that a word names
 unfoldable pub common_options : List OptionSpec
 common_options =
     flag_spec (codes "--allow-untrusted") [] AllowUntrusted ∷
@@ -56,6 +56,10 @@ info_options =
     (kind_spec (codes "--contents") (codes "-L") Contents ∷
     (kind_spec (codes "--depends") (codes "-R") Depends ∷
     (kind_spec (codes "--who-owns") (codes "-W") WhoOwns ∷ [])))
+
+-- the option of `list`, under which only packages that are installed are listed
+abbrev pub list_options : List OptionSpec
+list_options = kind_spec (codes "--installed") (codes "-I") Installed ∷ []
 
 -- the options of `version`, each of which says the kind
 abbrev pub version_options : List OptionSpec
@@ -91,10 +95,13 @@ own_options Info = info_options
 own_options Mkpkg = mkpkg_options
 own_options Mkndx = mkndx_options
 own_options Version = version_options
+own_options ListApplet = list_options
 own_options applet = []
 
--- the options of an applet, with those of every applet
+-- the options of an applet that a word names: those of every applet, and its own
 unfoldable pub options_of : Applet → List OptionSpec
+options_of Help = []
+options_of ProgramVersion = []
 options_of applet = common_options ++ own_options applet
 
 -- the option that a word spells, long or short, among some
@@ -112,7 +119,7 @@ early_words =
 abbrev pub is_early : List ℕ → Bool
 is_early word = list_any (λ early. bytes_eq early word) early_words
 
--- the word of an applet
+-- the word of an applet; no word names `Help` and `ProgramVersion`, which options ask for
 abbrev pub applet_word : Applet → List ℕ
 applet_word Add = codes "add"
 applet_word Del = codes "del"
@@ -125,13 +132,29 @@ applet_word Mkpkg = codes "mkpkg"
 applet_word Mkndx = codes "mkndx"
 applet_word Version = codes "version"
 applet_word Demo = codes "demo"
+applet_word Adbgen = codes "adbgen"
+applet_word Audit = codes "audit"
+applet_word Manifest = codes "manifest"
+applet_word ListApplet = codes "list"
+applet_word Search = codes "search"
+applet_word Policy = codes "policy"
+applet_word Help = []
+applet_word ProgramVersion = []
 
--- the applets that exist
+-- the applets that words name
 abbrev pub applets : List Applet
 applets =
     Add ∷ (Del ∷ (Upgrade ∷ (Fix ∷ (Info ∷
-    (Verify ∷ (Version ∷ (Adbdump ∷ (Mkpkg ∷ (Mkndx ∷ (Demo ∷ []))))))))))
+    (Verify ∷ (Version ∷ (Adbdump ∷ (Mkpkg ∷ (Mkndx ∷ (Demo ∷
+    (Adbgen ∷ (Audit ∷ (Manifest ∷ (ListApplet ∷ (Search ∷ (Policy ∷ []))))))))))))))))
 
--- the applet that a word names, among those that exist
+-- the applet that a word names, if it names one
 abbrev pub applet_of : List ℕ → Option Applet
 applet_of word = find (λ applet. bytes_eq (applet_word applet) word) applets
+
+-- the applet that an option asks for: `--help` or `-h`, and `--version` or `-V`
+abbrev pub asked_by : List ℕ → Option Applet
+asked_by word =
+    if bytes_eq (codes "--help") word || bytes_eq (codes "-h") word then Some Help else
+    if bytes_eq (codes "--version") word || bytes_eq (codes "-V") word then Some ProgramVersion else
+    None

@@ -1,5 +1,5 @@
--- Words that cannot become a command, whatever follows: the options before the applet are no
--- applet's, or no option can follow and one is lacking, or a value is awaited that no text can be.
+-- Words that cannot become a command, whatever follows: no option can follow, and those before the
+-- applet are no applet's, or one is lacking; or a value is awaited that no text can be.
 -- Serves the laws `words_before_a_usage_error_can_be_completed` and `stuck_words_are_no_command`, as
 -- the README says.
 use Rattle.std.specs.Prelude.{ℕ, ◌==◌, Bool, true, false, not, ◌&&◌, ◌||◌, List, [], ◌∷◌, drop, Option, Some, None, is_some, Result, Ok, Err, if◌then◌else◌}
@@ -17,8 +17,7 @@ use Rattle.command_core.specs.Values.{lacks_value, script_type, script_types}
 use Rattle.words_core.specs.declared.reading.AppletSite.{AppletSite}
 use Rattle.words_core.specs.declared.reading.OptionState.{OptionState}
 use Rattle.words_core.specs.declared.reading.Start.{Start}
-use Rattle.words_core.specs.Grammar.{applet_site, early_flags, is_end, is_option, reading_behind, start_from}
-use Rattle.words_core.specs.Lines.{rule_behind}
+use Rattle.words_core.specs.Grammar.{applet_site, command_of, early_flags, is_end, is_option, reading_behind, rule_behind, start_from}
 use Rattle.words_core.specs.Options.{OptionSpec, applets, options_of}
 
 -- ---- before the applet
@@ -76,12 +75,13 @@ abbrev pub is_stuck_by : List (List ℕ) → Result Start ℕ → Bool
 is_stuck_by words (Err place) = false
 is_stuck_by words (Ok start) = is_stuck words start
 
--- whether words are stuck, by the site of their applet; where none was found they are where no applet
--- has all the options before it
+-- whether words are stuck, by the site of their applet; where none was found they are if `--` has ended
+-- the options, and no applet has all of those before it
 abbrev pub are_stuck_by : List (List ℕ) → Result AppletSite ℕ → Bool
-are_stuck_by words (Err place) = not (list_any (suit words) applets)
+are_stuck_by words (Err place) = list_any is_end words && not (list_any (suit words) applets)
 are_stuck_by words (Ok site) = is_stuck_by words (start_from words (Ok site))
 
--- whether words are stuck: no words behind them make them a command
+-- whether words are stuck: they are no command, and no words after them make them one
 unfoldable pub are_stuck : List (List ℕ) → Bool
-are_stuck words = are_stuck_by words (applet_site 1 words)
+are_stuck words =
+    not (is_ok (command_of words)) && are_stuck_by words (applet_site 1 words)

@@ -1,10 +1,11 @@
 //! Laws of the grammar of command lines.
 //! Each is a row of the README of this crate; the rules of the grammar stand in `docs/commands.md`,
 //! "Words".
-ghost use Rattle.std.specs.Prelude.{◌≡◌, ◌≤◌, ◌<◌, ◌+◌, ◌-◌, ◌++◌, ℕ, List, Ok, Err, IsTrue, length, not, take};
+ghost use Rattle.std.specs.Prelude.{◌≡◌, ◌≤◌, ◌<◌, ◌+◌, ◌-◌, ◌++◌, ◌⊎◌, ℕ, List, Ok, Err, IsTrue, length, not, take};
 ghost use Rattle.std.specs.List.{list_all};
 ghost use Rattle.command_core.specs.Command.{CommandLine};
 ghost use Rattle.command_core.specs.declared.command.Applet.{Applet};
+ghost use Rattle.words_core.specs.Asked.{IsAskedBy};
 ghost use Rattle.words_core.specs.Grammar.{command_of};
 ghost use Rattle.words_core.specs.Kinds.{can_get_kind};
 ghost use Rattle.words_core.specs.Lines.{IsLineOf};
@@ -13,16 +14,17 @@ ghost use Rattle.words_core.specs.Rows.{has_its_letter};
 ghost use Rattle.words_core.specs.Stuck.{are_stuck};
 
 /// Words of which a command is read are that command: its applet, its operands and its options, and
-/// nothing else.
+/// nothing else; or a word of them asks for it.
 pub fn read_words_are_a_command()
     ensures { (words : List (List ℕ)) (command : CommandLine) → command_of words ≡ Ok command →
-        IsLineOf words command }
+        IsLineOf words command ⊎ IsAskedBy words command }
 {}
 
-/// Words that are a command are read as it, wherever its options stand.
+/// Words that are a command are read as it, wherever its options are, and so are words that ask for
+/// one.
 pub fn commands_are_read()
-    ensures { (words : List (List ℕ)) (command : CommandLine) → IsLineOf words command →
-        command_of words ≡ Ok command }
+    ensures { (words : List (List ℕ)) (command : CommandLine) →
+        IsLineOf words command ⊎ IsAskedBy words command → command_of words ≡ Ok command }
 {}
 
 /// A usage error is at a word, or behind the last one where a word is missing.

@@ -1,11 +1,11 @@
 //! The applets that exist, and the words that spell them and their options (apk(8)).
 //! The rules stand in `docs/commands.md`, "Words", the table of options and the paragraph of those
 //! before the applet.
-ghost use Rattle.std.specs.Prelude.{◌≡◌, ◌||◌, map};
+ghost use Rattle.std.specs.Prelude.{◌≡◌, ◌||◌, ◌++◌, map};
 ghost use Rattle.std.specs.Option.{option_and_then, option_map};
 ghost use Rattle.std.specs.Str.{bytes_eq};
-ghost use Rattle.words_core.specs.Grammar.{with_meaning, with_spec};
-ghost use Rattle.words_core.specs.Options.{applet_of, applet_word, common_options, is_early, option_spelled, options_of, own_options};
+ghost use Rattle.words_core.specs.Grammar.{rule_in, with_meaning, with_spec};
+ghost use Rattle.words_core.specs.Options.{applet_of, applet_word, asked_by, common_options, is_early, option_spelled, options_of, own_options};
 ghost use Rattle.words_core.specs.Rows.{option_spec};
 
 use command_core::{
@@ -35,8 +35,8 @@ pub(crate) enum Meaning {
     Value(ValueRule),
 }
 
-// The applets that exist.
-const APPLETS: [Applet; 11] = [
+// The applets that words name.
+const APPLETS: [Applet; 17] = [
     Applet::Add,
     Applet::Del,
     Applet::Upgrade,
@@ -48,6 +48,12 @@ const APPLETS: [Applet; 11] = [
     Applet::Mkpkg,
     Applet::Mkndx,
     Applet::Demo,
+    Applet::Adbgen,
+    Applet::Audit,
+    Applet::Manifest,
+    Applet::List,
+    Applet::Search,
+    Applet::Policy,
 ];
 
 // The words of the options that may stand before the applet.
@@ -59,7 +65,13 @@ static EARLY_WORDS: [&[u8]; 5] = [
     b"--purge",
 ];
 
-// The options of every applet.
+// The words that ask how a command is used.
+static HELP_WORDS: [&[u8]; 2] = [b"--help", b"-h"];
+
+// The words that ask for the version of the program.
+static VERSION_WORDS: [&[u8]; 2] = [b"--version", b"-V"];
+
+// The options of every applet that a word names.
 static COMMON: [OptionRow; 2] = [
     OptionRow {
         long: b"--allow-untrusted",
@@ -134,6 +146,12 @@ static INFO_KINDS: [OptionRow; 4] = [
     OptionRow { long: b"--who-owns", short: b"-W", meaning: Meaning::Kind(Flag::WhoOwns) },
 ];
 
+// The option of `list`, under which only packages that are installed are listed.
+#[rattlefmt::skip]
+static LIST_KINDS: [OptionRow; 1] = [
+    OptionRow { long: b"--installed", short: b"-I", meaning: Meaning::Kind(Flag::Installed) },
+];
+
 // The options of `version`, each of which says the kind.
 #[rattlefmt::skip]
 static VERSION_KINDS: [OptionRow; 2] = [
@@ -198,8 +216,8 @@ static MKNDX: [OptionRow; 3] = [
     COMPRESSION_ROW,
 ];
 
-// The word of an applet.
-fn applet_word(applet: Applet) -> &'static [u8]
+/// The word of an applet, or nothing where no word names it.
+pub(crate) fn applet_word(applet: Applet) -> &'static [u8]
     ensures { result.now ≡ applet_word applet }
 {
     match applet {
@@ -214,6 +232,14 @@ fn applet_word(applet: Applet) -> &'static [u8]
         Applet::Mkndx => b"mkndx",
         Applet::Version => b"version",
         Applet::Demo => b"demo",
+        Applet::Adbgen => b"adbgen",
+        Applet::Audit => b"audit",
+        Applet::Manifest => b"manifest",
+        Applet::List => b"list",
+        Applet::Search => b"search",
+        Applet::Policy => b"policy",
+        // No word names these two: `--help` and `--version` ask for them.
+        Applet::Help | Applet::ProgramVersion => b"",
     }
 }
 
@@ -229,11 +255,12 @@ fn own_options(applet: Applet) -> &'static [OptionRow]
         Applet::Mkpkg => &MKPKG,
         Applet::Mkndx => &MKNDX,
         Applet::Version => &VERSION_KINDS,
-        Applet::Verify | Applet::Adbdump | Applet::Demo => &[],
+        Applet::List => &LIST_KINDS,
+        _ => &[],
     }
 }
 
-/// The applet that a word names, among those that exist.
+/// The applet that a word names, if it names one.
 pub(crate) fn applet_of(word: &[u8]) -> Option<Applet>
     ensures { result ≡ applet_of word.now }
 {
@@ -251,15 +278,39 @@ pub(crate) fn is_early(word: &[u8]) -> bool
     is_among(&EARLY_WORDS, word)
 }
 
-/// The option that a word spells, among those of an applet and those of every applet.
+/// The option that a word spells, among those of an applet.
 #[tactic(auto, unfolding(crate::specs::Options::options_of))]
 pub(crate) fn option_spelled(applet: Applet, word: &[u8]) -> Option<OptionRow>
     ensures { option_map option_spec result ≡ option_spelled (options_of applet) word.now }
+{
+    match applet {
+        Applet::Help | Applet::ProgramVersion => None,
+        _ => common_or_own(applet, word),
+    }
+}
+
+// The option that a word spells, among those of every applet and those of one that a word names.
+fn common_or_own(applet: Applet, word: &[u8]) -> Option<OptionRow>
+    ensures { option_map option_spec result
+        ≡ option_spelled (common_options ++ own_options applet) word.now }
 {
     match common_option(word) {
         Some(option) => Some(option),
         None => find_option(own_options(applet), word),
     }
+}
+
+/// The applet that an option asks for: `--help` or `-h`, and `--version` or `-V`.
+pub(crate) fn asked_by(word: &[u8]) -> Option<Applet>
+    ensures { result ≡ asked_by word.now }
+{
+    if is_among(&HELP_WORDS, word) {
+        return Some(Applet::Help);
+    }
+    if is_among(&VERSION_WORDS, word) {
+        return Some(Applet::ProgramVersion);
+    }
+    None
 }
 
 // The option that a word spells, among those of every applet.
@@ -300,6 +351,16 @@ impl OptionRow {
 }
 
 impl Meaning {
+    /// The rule of the values that an option has. None: it is a flag.
+    pub(crate) fn rule(self) -> Option<ValueRule>
+        ensures { result ≡ rule_in self }
+    {
+        match self {
+            Meaning::Value(rule) => Some(rule),
+            _ => None,
+        }
+    }
+
     /// These flags and what the option says. None comes where it says no flag, or a second kind.
     pub(crate) fn with(self, flags: Flags) -> Option<Flags>
         ensures { result ≡ with_meaning flags self }

@@ -1,14 +1,18 @@
-//! Reads the command of a command line, or finds the first place that offends. The rules stand in
-//! `docs/commands.md`, "Words".
-ghost use Rattle.std.specs.Prelude.{◌≡◌, IfOk, IfErr};
+//! Reads the command of a command line, or finds the first place that offends. The rules are in
+//! `docs/commands.md`, "Words" and "Help".
+ghost use Rattle.std.specs.Prelude.{◌≡◌, IfOk, IfErr, IsTrue, OnErr};
+ghost use Rattle.std.specs.Result.{is_ok};
+ghost use Rattle.command_core.specs.Sound.{is_command};
 ghost use Rattle.words_core.specs.Faults.{IsBehindApplet, IsWordsFault};
-ghost use Rattle.words_core.specs.Grammar.{command_of, line_start, verdict};
+ghost use Rattle.words_core.specs.Grammar.{applet_site, asked_command, command_of, line_command, line_start, topic_at, verdict};
 ghost use Rattle.words_core.specs.Steps.{IsSoundReading};
 
-use crate::reading::{Reading, read_behind, read_start};
+use crate::next::asked_at;
+use crate::options::applet_word;
+use crate::reading::{Reading, find_applet, read_behind, read_start};
 use crate::word::place_behind;
 use base_core::Words;
-use command_core::{Applet, Command};
+use command_core::{Applet, Command, Flags, Operands, Values};
 use std::alloc::{AllocError, Global};
 
 /// Why there is no command.
@@ -39,10 +43,73 @@ impl From<AllocError> for WordsFault {
 ///
 /// `Usage` comes exactly outside the grammar, at the first word that offends once the whole line is
 /// known. `Memory` comes only where an applet was found, with its own options before it.
-#[tactic(auto, unfolding(crate::specs::Grammar::command_of))]
+#[tactic(auto, using(crate::proofs::AskedLaws::line_is))]
 pub fn read_words(alloc: Global, words: &Words) -> Result<Command, WordsFault>
     ensures ok { IfOk result (λ command. command_of words.now ≡ Ok command) }
     ensures usage { IfErr result (λ fault. IsWordsFault fault (command_of words.now)) }
+    ensures memory { IfErr result (λ fault. IsBehindApplet fault (line_start words.now)) }
+{
+    match read_line(alloc, words) {
+        Ok(command) => Ok(command),
+        Err(WordsFault::Usage { place }) => read_asked(alloc, words, place),
+        Err(WordsFault::Memory) => Err(WordsFault::Memory),
+    }
+}
+
+// The command that the word at a place asks for, where it is the first that offends.
+#[tactic(auto, unfolding(crate::specs::Grammar::command_of))]
+fn read_asked(alloc: Global, words: &Words, place: u32) -> Result<Command, WordsFault>
+    requires { line_command words.now ≡ Err place }
+    ensures ok { IfOk result (λ command. command_of words.now ≡ Ok command) }
+    ensures usage { IfErr result (λ fault. IsWordsFault fault (command_of words.now)) }
+    ensures memory { IfErr result (λ fault. IsBehindApplet fault (line_start words.now)) }
+{
+    let Some(applet) = asked_at(words, place) else {
+        return Err(WordsFault::Usage { place });
+    };
+    match asked_command(alloc, words, applet) {
+        Ok(command) => Ok(command),
+        Err(_) => Err(WordsFault::Memory),
+    }
+}
+
+// The command that words ask for.
+fn asked_command(alloc: Global, words: &Words, applet: Applet) -> Result<Command, AllocError>
+    requires { IsTrue (is_command (asked_command words.now applet)) }
+    ensures ok { IfOk result (λ command. command ≡ asked_command words.now applet) }
+    ensures memory { OnErr result (IsTrue (is_ok (applet_site 1 words.now))) }
+{
+    let operands = match applet {
+        Applet::Help => topic(alloc, words)?,
+        _ => Operands::new(alloc),
+    };
+    Ok(Command::of(
+        applet,
+        Flags::none(),
+        operands,
+        Values::new(alloc),
+        place_behind(words.len()),
+    ))
+}
+
+// The operands of `Help`: the word of the applet, if there is one.
+fn topic(alloc: Global, words: &Words) -> Result<Operands, AllocError>
+    ensures ok { IfOk result (λ operands. operands ≡ topic_at (applet_site 1 words.now)) }
+    ensures memory { OnErr result (IsTrue (is_ok (applet_site 1 words.now))) }
+{
+    let mut operands = Operands::new(alloc);
+    let Ok(site) = find_applet(words) else {
+        return Ok(operands);
+    };
+    operands.push(place_behind(site.read - 1), applet_word(site.applet))?;
+    Ok(operands)
+}
+
+// The command that the words spell.
+#[tactic(auto, unfolding(crate::specs::Grammar::line_command))]
+fn read_line(alloc: Global, words: &Words) -> Result<Command, WordsFault>
+    ensures ok { IfOk result (λ command. line_command words.now ≡ Ok command) }
+    ensures usage { IfErr result (λ fault. IsWordsFault fault (line_command words.now)) }
     ensures memory { IfErr result (λ fault. IsBehindApplet fault (line_start words.now)) }
 {
     let start = match read_start(words) {

@@ -56,8 +56,8 @@ pub(crate) fn read_start(words: &Words) -> Result<Start, u32>
     })
 }
 
-// Looks for the applet, which only some options may stand before.
-fn find_applet(words: &Words) -> Result<AppletSite, u32>
+/// Looks for the applet, which only some options may stand before.
+pub(crate) fn find_applet(words: &Words) -> Result<AppletSite, u32>
     ensures site { result ≡ applet_site 1 words.now }
     ensures few { length words.now < MOST_PLACES }
 {

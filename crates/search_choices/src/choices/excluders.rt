@@ -1,8 +1,8 @@
-//! What excludes a further candidate: a choice that has a conflict which the candidate meets, that
-//! meets one of its conflicts, or that occupies a name which it occupies.
-//! The rules stand in `docs/selection.md`, "What satisfies world", 2 and 3. In the contracts, None
-//! says for which names or entries no choice excludes the candidate, and all of these together that
-//! none does.
+//! The search for a choice that excludes a further candidate. It has a conflict that the candidate
+//! meets, meets one of the candidate's conflicts, or occupies a name of the candidate. The rules
+//! are in `docs/selection.md`, "What satisfies world", 2 and 3. In the contracts, None says for
+//! which names or entries no choice excludes the candidate; together these prove that none does at
+//! all.
 ghost use Rattle.std.specs.Prelude.{◌≡◌, ◌<◌, ℕ, length, true, false, IfOk, MatchOption, OnOk, Some, is_some, slice_get};
 ghost use Rattle.dep_core.specs.Dependency.{Dependency};
 ghost use Rattle.dep_core.specs.Meets.{dependency};
@@ -22,12 +22,12 @@ use search_tables::{choice_meeting_held, occupant};
 use std::alloc::AllocError;
 
 impl<'p> Choices<'p> {
-    /// A choice that no satisfying selection holds beside a candidate that is no choice. What is
-    /// learnt of long versions is kept.
+    /// A choice that no satisfying selection contains together with a candidate that is no choice.
+    /// Results for long versions are remembered.
     ///
     /// # Errors
     ///
-    /// Want of memory.
+    /// Out of memory.
     pub fn excluder(
         &self,
         id: CandId,
@@ -81,8 +81,8 @@ impl<'p> Choices<'p> {
         }
     }
 
-    // A choice that has a conflict of a name which the candidate meets, or that occupies the name
-    // where the candidate does (`is_occupied`).
+    // A choice with a conflict of a name that the candidate meets, or one that occupies the name if
+    // the candidate does (`is_occupied`).
     fn excluder_at(
         &self,
         name: &[u8],
@@ -110,7 +110,7 @@ impl<'p> Choices<'p> {
         }
     }
 
-    // A choice that occupies a name, where `is_occupied`.
+    // A choice that occupies a name, if `is_occupied`.
     fn occupant_at(&self, name: &[u8], is_occupied: bool) -> Option<CandId>
         ensures { MatchOption result (is_occupied ≡ true → (k : ℕ) →
             IsIn k (choices_of self.now) → is_at (pool_of self.now) (occupies_name name.now) k
@@ -123,8 +123,8 @@ impl<'p> Choices<'p> {
         None
     }
 
-    // A choice that excludes the candidate at the name of one of its entries of provides: that has
-    // a conflict which the entry meets, or that occupies the name where the entry has a version.
+    // A choice that excludes the candidate by the name of one of its entries of provides. It has a
+    // conflict that the entry meets, or occupies the name if the entry has a version.
     fn excluder_provided(
         &self,
         details: &Details<'_>,
@@ -155,7 +155,7 @@ impl<'p> Choices<'p> {
         Ok(None)
     }
 
-    // A choice that excludes the candidate at the name of this entry of its provides; an entry that
+    // A choice that excludes the candidate by the name of this entry of its provides; an entry that
     // is a conflict provides nothing.
     fn excluder_of_entry(
         &self,
@@ -184,7 +184,7 @@ impl<'p> Choices<'p> {
         self.excluder_at(entry.name, entry.version.is_some(), details, id, matches)
     }
 
-    // A choice that meets a conflict which the candidate has.
+    // A choice that meets a conflict of the candidate.
     fn excluder_meeting(
         &self,
         details: &Details<'_>,
@@ -211,8 +211,7 @@ impl<'p> Choices<'p> {
         Ok(None)
     }
 
-    // A choice that meets the dependency which the candidate has at an index, where the dependency
-    // is a conflict.
+    // A choice that meets the candidate's dependency at an index, if the dependency is a conflict.
     fn excluder_meeting_one(
         &self,
         dep: &Dep<'_>,

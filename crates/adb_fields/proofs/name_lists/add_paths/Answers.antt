@@ -1,4 +1,4 @@
--- One folder more, and none behind the last.
+-- One folder more, and none after the last.
 use Rattle.std.proofs.Common.{◌++◌, List, map, arith, ap, ◌∙◌}
 use Rattle.adb_view.specs.Adb.{payload_of}
 use Rattle.adb_view.specs.Entries.{array_entries}

@@ -1,4 +1,4 @@
--- One path more, and none behind the last.
+-- One path more, and none after the last.
 use Rattle.std.proofs.Common.{ℕ, ◌++◌, ◌∷◌, [], List, map, arith, ap, ◌∙◌}
 use Rattle.adb_view.specs.Adb.{payload_of}
 use Rattle.adb_view.specs.Entries.{array_entries}

@@ -1,4 +1,4 @@
--- One package more, and none behind the last.
+-- One package more, and none after the last.
 use Rattle.std.proofs.Common.{arith}
 use Rattle.adb_view.specs.Adb.{payload_of}
 use Rattle.adb_view.specs.Entries.{array_entries}

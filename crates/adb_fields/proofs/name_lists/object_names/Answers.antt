@@ -1,4 +1,4 @@
--- One name more, and none behind the last.
+-- One name more, and none after the last.
 use Rattle.std.proofs.Common.{arith}
 use Rattle.std.specs.Vec.{vec_len}
 use Rattle.adb_view.specs.Adb.{payload_of}

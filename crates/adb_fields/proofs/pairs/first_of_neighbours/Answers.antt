@@ -1,4 +1,4 @@
--- One pair more, and none behind the last name.
+-- One pair more, and none after the last name.
 use Rattle.std.proofs.Common.{◌-◌, arith}
 use Rattle.adb_fields.specs.NamedTexts.{named_by}
 use Rattle.adb_fields.proofs.FirstPair.{step_pair, no_next_pair}

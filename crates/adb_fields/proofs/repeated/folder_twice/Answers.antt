@@ -1,4 +1,4 @@
--- One list more, and none behind the last.
+-- One list more, and none after the last.
 use Rattle.std.proofs.Common.{Option, map, arith, ◌∙◌}
 use Rattle.adb_view.specs.Adb.{payload_of}
 use Rattle.adb_view.specs.Entries.{array_entries}

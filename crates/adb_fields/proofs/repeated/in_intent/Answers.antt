@@ -1,4 +1,4 @@
--- The writes stand behind the removals.
+-- The writes stand after the removals.
 use Rattle.std.proofs.Common.{ℕ, ◌≡◌, ◌+◌, ◌++◌, List, map, length, arith, ap, ◌∙◌}
 use Rattle.std.proofs.lemmas.List.{length-map}
 use Rattle.std.specs.Vec.{vec_len}

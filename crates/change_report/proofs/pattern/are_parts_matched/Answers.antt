@@ -6,8 +6,8 @@ use Rattle.std.proofs.lemmas.Iterator.Search.{all_from_yields_List}
 use Rattle.std.proofs.lemmas.Iterator.Splits.{YieldsList-from_slice_split}
 use Rattle.std.proofs.lemmas.List.Splits.{length-slice_split}
 use Rattle.base_core.specs.Name.{parts_of}
-use Rattle.change_outcome.specs.Triggers.{is_part_matched}
-use Rattle.change_report.proofs.Stars.{unlike, zipped}
+use Rattle.star_patterns.specs.Patterns.{is_matched}
+use Rattle.change_report.proofs.PatternParts.{unlike, zipped}
 use Rattle.change_report.proofs.pattern.are_parts_matched.Goals as goal
 
 pub returns-then-count_slashes : goal.returns-then-count_slashes
@@ -17,7 +17,7 @@ returns-then-count_slashes c =
 
 pub returns : goal.returns
 returns c =
-    all_from_yields_List (λ (p : List ℕ × List ℕ). is_part_matched p.0 p.1) c.all.new.self _ _ c.all.ensures.ran
+    all_from_yields_List (λ (p : List ℕ × List ℕ). is_matched p.0 p.1) c.all.new.self _ _ c.all.ensures.ran
     (YieldsList-from_zip
     (YieldsList-at c.zip.ensures.first
     (YieldsList-from_slice_split _ (λ b. b == 47) c.args.pattern.now c.split.ensures.rest c.split.ensures.done c.split.ensures.closure (λ x b q k. search rules)))

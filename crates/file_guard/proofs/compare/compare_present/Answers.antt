@@ -1,5 +1,5 @@
 -- One more piece.
-use Rattle.std.proofs.Common.{◌≡◌, ◌≤◌, ◌+◌, ℕ, List, length, take, Ok, sym, subst, arith}
+use Rattle.std.proofs.Common.{◌≡◌, ◌≤◌, ◌+◌, ℕ, List, drop, length, length-append, length-drop, take, Ok, sym, subst, arith}
 use Rattle.std.proofs.lemmas.List.{length-take-le}
 use Rattle.base_core.specs.Calls.{IfObservable}
 use Rattle.base_core.specs.Tree.{TreeState, CanRead}
@@ -12,7 +12,7 @@ loop-at-preserved g c =
     let few : c.min-len.result ≤ 65536 = omega (arith, c.min-len.ensures) in
     let within : c.loop-at.at + c.min-len.result ≤ c.args.size = omega (arith, c.loop-at.invariant.within, c.min-len.ensures) in
     let len : length (take c.min-len.result c.loop-at.piece) ≡ c.min-len.result =
-    length-take-le c.min-len.result c.loop-at.piece (omega (arith, c.min-len.array_long)) in
+    length-take-le c.min-len.result c.loop-at.piece (omega (arith, few, c.loop-at.invariant.whole)) in
     let allowed = can_read_piece (g.T.Tree.history c.args.tree.now) c.args.name.now c.args.size c.loop-at.at (length (take c.min-len.result c.loop-at.piece)) c.requires (omega arith) in
     let allowed_here =
     subst (λ (history : List TreeState). IfObservable history (CanRead c.args.name.now c.loop-at.at (length (take c.min-len.result c.loop-at.piece))))
@@ -21,6 +21,7 @@ loop-at-preserved g c =
     (Ok c.in_ok-read_at.field-0) c.in_ok-read_at.ensures.same c.in_ok-read_at.ensures.counts allowed_here in
     record {
       within = within;
+      whole = omega (arith, few, c.loop-at.invariant.whole, length-append c.read_at.new.into (drop c.min-len.result c.loop-at.piece), c.read_at.auto.into, len, length-drop c.min-len.result c.loop-at.piece);
       tree = readings_two (record {}) (g.T.Tree.history c.args.tree.now) (g.T.Tree.history c.loop-at.tree) (g.T.Tree.history c.read_at.new.self)
           (g.T.Tree.counts c.args.tree.now) (g.T.Tree.counts c.loop-at.tree) (g.T.Tree.counts c.read_at.new.self) 0 (Ok 0) c.loop-at.invariant.tree
           (read_again (record {}) _ _ _ _ _ 0 one_more);

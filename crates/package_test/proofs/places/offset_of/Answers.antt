@@ -1,4 +1,4 @@
--- At the place behind those of the files before it.
+-- At the place after those of the files before it.
 use Rattle.std.proofs.Common.{◌<◌, length, slice_index_or, sym, ◌∙◌, arith}
 use Rattle.package_test.proofs.FileOrder.{offset_at_end, offset_off, offset_there, other_file, other_folder}
 use Rattle.package_test.proofs.places.offset_of.Goals as goal

@@ -1,4 +1,4 @@
--- By the values, and by what stands behind them.
+-- By the values, and by what follows them.
 use Rattle.pkg_core.specs.Values.{value_of_contents}
 use Rattle.package_test.proofs.WholeTested.{whole_by_contents, whole_by_values}
 use Rattle.package_test.proofs.read.read_behind.Goals as goal

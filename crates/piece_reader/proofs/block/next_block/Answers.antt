@@ -1,4 +1,4 @@
--- The contents of a file begin behind the header and the positions.
+-- The contents of a file begin after the header and the positions.
 use Rattle.std.proofs.Common.{◌≡◌, None, Ok, length, subst}
 use Rattle.std.specs.Prelude.{IfSome}
 use Rattle.pkg_core.specs.Places.{HasAllLeft, IsStepped, WalksOn}

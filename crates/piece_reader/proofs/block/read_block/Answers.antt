@@ -1,4 +1,4 @@
--- The header that was seen, and the positions behind it, are the witness.
+-- The header that was seen, and the positions after it, are the witness.
 use Rattle.std.proofs.Common.{◌≡◌, ◌-◌, ◌+◌, ◌≤◌, ℕ, List, [], ◌++◌, length, drop, ap, sym, subst, ◌∙◌, arith, rules}
 use Rattle.std.specs.Prelude.{IfSome}
 use Rattle.std.proofs.lemmas.List.{length-drop}

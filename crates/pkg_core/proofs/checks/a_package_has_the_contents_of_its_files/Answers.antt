@@ -1,4 +1,4 @@
--- Behind the tests of its values.
+-- After the tests of its values.
 use Rattle.pkg_core.proofs.Given.{package_true}
 use Rattle.pkg_core.proofs.checks.a_package_has_the_contents_of_its_files.Goals as goal
 

@@ -1,4 +1,4 @@
--- Behind two tokens that fit, the others decide.
+-- After two tokens that fit, the others decide.
 use Rattle.std.proofs.Common.{sym, ◌∙◌}
 use Rattle.version_core.specs.Reading.{token_view, tokens_left}
 use Rattle.version_core.proofs.Fits.{all_fit_behind}

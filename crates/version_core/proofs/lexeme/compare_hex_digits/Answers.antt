@@ -1,4 +1,4 @@
--- The digits from a place on compare by those at the place, and then by those behind it.
+-- The digits from a place on compare by those at the place, and then by those after it.
 use Rattle.std.proofs.Common.{sym, ◌∙◌, ap, arith, rules}
 use Rattle.std.specs.Prelude.{is_some, not}
 use Rattle.version_core.proofs.Runs.{hex_cmp_decided, hex_cmp_ended, hex_cmp_tied, hex_place}

@@ -1,4 +1,4 @@
--- A hash has one digit at least, and only its mark is passed over.
+-- A hash has one digit at least, and only its mark is skipped.
 use Rattle.std.proofs.Common.{◌∙◌, ap}
 use Rattle.std.specs.Prelude.{not}
 use Rattle.version_core.proofs.Lexemes.{hash_is_stray, hash_is_found}

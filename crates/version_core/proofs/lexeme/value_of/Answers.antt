@@ -1,4 +1,4 @@
--- At most seventeen digits stand before the one that is added, so that nothing wraps.
+-- At most seventeen digits precede the one that is added, so that nothing wraps.
 use Rattle.std.proofs.Common.{get_or, arith}
 use Rattle.std.proofs.lemmas.Int.Digits.{digits_value_more, digits_more}
 use Rattle.version_core.proofs.Digits.{digit_bounds, digit_value-digit, few_digits}

@@ -1,4 +1,4 @@
--- The pieces of the blocks behind the front.
+-- The pieces of the blocks after the front.
 use Rattle.std.proofs.Common.{◌≡◌, ℕ, List, Some, drop, ap, sym, ◌∙◌}
 use Rattle.adb_block.specs.declared.block.BlockKind.TheVariants.{Adb}
 use Rattle.adb_block.specs.Reading.{reading_of}

@@ -1,4 +1,4 @@
--- A whole piece, behind which more is left.
+-- A whole piece, after which more is left.
 use Rattle.std.proofs.Common.{◌≡◌, ℕ, ◌+◌, ◌-◌, ◌<◌, min, List, ◌++◌, length, refl, ap, sym, ◌∙◌, arith}
 use Rattle.std.proofs.lemmas.List.{length-append}
 use Rattle.pkg_core.specs.Contents.{hash_fault}

@@ -1,4 +1,4 @@
--- The token that was read, and what is left behind it.
+-- The token that was read, and what is left after it.
 use Rattle.version_core.proofs.Walk.{advance_within, left_behind, fewer_bytes}
 use Rattle.version_core.proofs.token.Tokens.next.Goals as goal
 

@@ -1,0 +1,47 @@
+-- The records of a database's files are its listings, by path and entry.
+use Rattle.std.proofs.Common.{◌≡◌, ℕ, ◌+◌, List, [], ◌∷◌, ◌++◌, map, All, refl, ap, sym, ◌∙◌, subst}
+use Rattle.std.specs.List.{flat_map}
+use Rattle.std.proofs.lemmas.List.{map-append}
+use Rattle.std.proofs.lemmas.List.Elements.{All-map}
+use Rattle.std.proofs.lemmas.List.Sorted.{All-permutation}
+use Rattle.adb_view.specs.Plain.{Plain}
+use Rattle.adb_fields.specs.Repeated.{files_in, folders_in, name_of}
+use Rattle.base_core.specs.Name.{IsName}
+use Rattle.db_core.specs.Members.{Listing, Member, listings_by, listings_from, listings_in_folder, listings_in_folders, member_listings, staying_member, staying_members}
+use Rattle.base_core.specs.Sorted.{sorted_by}
+use Rattle.base_core.proofs.Sorting.{sorted_same}
+use Rattle.audit_core.specs.Records.{FileRecord, database_records, file_record, folder_records, package_records, record_cmp, records_by_path}
+
+-- the record of a listing
+abbrev pub listing_record : Listing → FileRecord
+listing_record l = record { path = l.path; entry = l.entry }
+
+in_folder : (m : Member) (place folder i : ℕ) (above : List ℕ) (entries : List Plain) → map listing_record (listings_in_folder m place folder i above entries) ≡ map (file_record above) entries
+in_folder m place folder i above [] = refl
+in_folder m place folder i above (entry ∷ entries) = ap (λ rs. file_record above entry ∷ rs) (in_folder m place folder (i + 1) above entries)
+
+in_folders : (m : Member) (place i : ℕ) (folders : List Plain) → map listing_record (listings_in_folders m place i folders) ≡ flat_map folder_records folders
+in_folders m place i [] = refl
+in_folders m place i (folder ∷ folders) =
+    map-append listing_record (listings_in_folder m place i 1 (name_of folder) (files_in folder)) (listings_in_folders m place (i + 1) folders)
+    ∙ (ap (λ rs. rs ++ map listing_record (listings_in_folders m place (i + 1) folders)) (in_folder m place i 1 (name_of folder) (files_in folder))
+    ∙ ap (λ rs. folder_records folder ++ rs) (in_folders m place (i + 1) folders))
+
+of_packages : (place : ℕ) (packages : List Plain) → map listing_record (listings_from place (map staying_member packages)) ≡ flat_map package_records packages
+of_packages place [] = refl
+of_packages place (pkg ∷ packages) =
+    map-append listing_record (listings_by place (staying_member pkg)) (listings_from (place + 1) (map staying_member packages))
+    ∙ (ap (λ rs. rs ++ map listing_record (listings_from (place + 1) (map staying_member packages))) (in_folders (staying_member pkg) place 1 (folders_in pkg))
+    ∙ ap (λ rs. package_records pkg ++ rs) (of_packages (place + 1) packages))
+
+pub records_are_listings : (packages : List Plain) → map listing_record (member_listings (staying_members packages)) ≡ database_records packages
+unfolding member_listings
+records_are_listings packages = of_packages 0 packages
+
+-- the paths of the records are names, where those of the listings are
+pub records_have_names : (packages : List Plain) (rs : List FileRecord) → rs ≡ records_by_path packages → All (λ l. IsName l.path) (member_listings (staying_members packages)) → All (λ r. IsName r.path) rs
+unfolding records_by_path
+records_have_names packages rs are named =
+    subst (All (λ r. IsName r.path)) (sym are)
+    (All-permutation (λ r. IsName r.path) (database_records packages) (sorted_by record_cmp (database_records packages)) (sorted_same record_cmp (database_records packages))
+    (subst (All (λ r. IsName r.path)) (records_are_listings packages) (All-map (λ r. IsName r.path) listing_record (member_listings (staying_members packages)) named)))

@@ -1,0 +1,14 @@
+-- The lines of the folders so far are added.
+use Rattle.std.proofs.Common.{◌≡◌, ◌++◌, take}
+use Rattle.std.specs.List.{flat_map}
+use Rattle.adb_fields.specs.ListValue.{list_value}
+use Rattle.adb_fields.specs.Repeated.{list_of}
+use Rattle.adb_view.specs.Values.{entries_in}
+use Rattle.audit_core.specs.Manifest.{manifest_line}
+use Rattle.audit_core.specs.Records.{folder_records}
+use Rattle.audit_core.proofs.digests.push_folders.Given as goal
+
+abbrev pub invariant-loop-i : goal.invariant-loop-i
+invariant-loop-i l =
+    l.report.items
+    ≡ l.fn.report.items ++ flat_map manifest_line (flat_map folder_records (take l.i (list_of (entries_in (list_value l.folders)))))

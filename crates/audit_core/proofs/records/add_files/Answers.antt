@@ -1,0 +1,24 @@
+use Rattle.std.proofs.Common.{◌∙◌, ◌++◌, [], ◌∷◌, map, ap, arith}
+use Rattle.adb_view.specs.Plain.{Plain}
+use Rattle.adb_fields.specs.ListValue.{list_value}
+use Rattle.adb_fields.specs.Repeated.{list_of}
+use Rattle.adb_view.specs.Values.{entries_in, nth}
+use Rattle.audit_core.specs.Records.{FileRecord, file_record}
+use Rattle.audit_core.specs.Seen.{record_seen}
+use Rattle.audit_core.proofs.RecordSteps.{added_more, all_values_taken, map_taken, value_at}
+use Rattle.audit_core.proofs.records.add_files.Goals as goal
+
+pub loop-i-preserved : goal.loop-i-preserved
+loop-i-preserved c =
+    let vs = entries_in (list_value c.args.files.now) in
+    let record_of : Plain → FileRecord = file_record c.args.folder.now in
+    added_more _ _ _ (record_of (nth vs c.loop-i.i) ∷ []) _ _
+    c.in_ok-add_file.ensures c.loop-i.invariant
+    (map_taken record_of (list_of vs) c.loop-i.i (nth vs c.loop-i.i) (value_at vs c.loop-i.i (omega (arith, c.len-i-end.ensures.value, c.loop-i-test.true))))
+
+pub returns : goal.returns
+returns c =
+    let vs = entries_in (list_value c.args.files.now) in
+    c.loop-i.invariant
+    ∙ ap (λ xs. map record_seen c.args.records.now.items ++ map (file_record c.args.folder.now) xs)
+    (all_values_taken vs c.loop-i.i (omega (arith, c.len-i-end.ensures.value, c.loop-i-test.false, c.loop-i.auto.i-end)))

@@ -1,0 +1,13 @@
+-- The records of the files so far are added.
+use Rattle.std.proofs.Common.{◌≡◌, ◌++◌, map, take}
+use Rattle.adb_fields.specs.ListValue.{list_value}
+use Rattle.adb_fields.specs.Repeated.{list_of}
+use Rattle.adb_view.specs.Values.{entries_in}
+use Rattle.audit_core.specs.Records.{file_record}
+use Rattle.audit_core.specs.Seen.{record_seen}
+use Rattle.audit_core.proofs.records.add_files.Given as goal
+
+abbrev pub invariant-loop-i : goal.invariant-loop-i
+invariant-loop-i l =
+    map record_seen l.records.items
+    ≡ map record_seen l.fn.records.items ++ map (file_record l.folder) (take l.i (list_of (entries_in (list_value l.files))))

@@ -1,0 +1,14 @@
+-- The records of the folders so far are added.
+use Rattle.std.proofs.Common.{◌≡◌, ◌++◌, map, take}
+use Rattle.std.specs.List.{flat_map}
+use Rattle.adb_fields.specs.ListValue.{list_value}
+use Rattle.adb_fields.specs.Repeated.{list_of}
+use Rattle.adb_view.specs.Values.{entries_in}
+use Rattle.audit_core.specs.Records.{folder_records}
+use Rattle.audit_core.specs.Seen.{record_seen}
+use Rattle.audit_core.proofs.records.add_folders.Given as goal
+
+abbrev pub invariant-loop-i : goal.invariant-loop-i
+invariant-loop-i l =
+    map record_seen l.records.items
+    ≡ map record_seen l.fn.records.items ++ flat_map folder_records (take l.i (list_of (entries_in (list_value l.folders))))

@@ -1,0 +1,51 @@
+-- What `audit` reports: the installed files that differ from their records. The rules are in
+-- `docs/commands.md`, "`audit`"; when bytes are as listed, in "What a change does with files".
+use Rattle.std.specs.Prelude.{ℕ, suc, List, [], ◌∷◌, ◌++◌, Option, Some, None, if◌then◌else◌}
+use Rattle.std.specs.List.{flat_map}
+use Rattle.adb_view.specs.Plain.{Plain}
+use Rattle.audit_core.specs.Records.{FileRecord, records_by_path}
+use Rattle.audit_core.specs.declared.comparing.Difference.{Difference}
+use Rattle.audit_core.specs.declared.comparing.Difference.TheVariants.{Changed, Missing}
+use Rattle.file_guard.specs.AsListed.{is_as_listed}
+use Rattle.make_info.specs.Reads.{Reads}
+use Rattle.report_core.specs.AuditReports.{changed_text, missing_text}
+use Rattle.report_core.specs.Reports.{report_line}
+
+-- a file that differs from its record, by its path, and how it differs
+pub record FileDifference : Type 0 where
+  pub path : List ℕ
+  pub difference : Difference
+
+-- how a file differs from its entry, by what is found under its path: no file, or other bytes than
+-- the entry lists; None if it does not differ
+abbrev pub difference_from : Plain → Option (List ℕ) → Option Difference
+difference_from entry None = Some Missing
+difference_from entry (Some bytes) = if is_as_listed entry bytes then None else Some Changed
+
+-- a path with a difference, if there is one
+abbrev pub difference_at : List ℕ → Option Difference → List FileDifference
+difference_at path None = []
+difference_at path (Some difference) = record { path = path; difference = difference } ∷ []
+
+-- the files that differ from some records, in the order of these; the read of the first file has
+-- this number
+abbrev pub differences_from : Reads → ℕ → List FileRecord → List FileDifference
+differences_from read n [] = []
+differences_from read n (r ∷ rs) =
+    difference_at r.path (difference_from r.entry (read n r.path))
+    ++ differences_from read (suc n) rs
+
+-- what is reported of a path with a difference
+abbrev pub difference_text : Difference → List ℕ → List ℕ
+difference_text Missing path = missing_text path
+difference_text Changed path = changed_text path
+
+-- the line of a file that differs
+abbrev pub difference_line : FileDifference → List ℕ
+difference_line d = report_line (difference_text d.difference d.path)
+
+-- the report of an audit of some packages: a line for each file that differs from its record, in
+-- byte order of the paths. The first of the reads that it rests on has this number
+unfoldable pub audit_report : Reads → ℕ → List Plain → List ℕ
+audit_report read first packages =
+    flat_map difference_line (differences_from read first (records_by_path packages))

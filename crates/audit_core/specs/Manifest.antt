@@ -1,0 +1,43 @@
+-- What `manifest` reports: the digest and path of each file of some packages. The rules are in
+-- `docs/commands.md`, "`manifest`".
+use Rattle.std.specs.Prelude.{ℕ, List, [], ◌∷◌, ◌++◌, Option, Some, None, Result, Ok, Err}
+use Rattle.std.specs.List.{find, flat_map}
+use Rattle.adb_view.specs.Plain.{Plain}
+use Rattle.audit_core.specs.Records.{FileRecord, package_records}
+use Rattle.base_core.specs.Lists.{and_then}
+use Rattle.command_core.specs.declared.operands.Operand.{Operand}
+use Rattle.db_core.specs.Packages.{is_package_named}
+use Rattle.file_guard.specs.AsListed.{file_hash}
+use Rattle.report_core.specs.AuditReports.{manifest_text}
+use Rattle.report_core.specs.Reports.{report_line}
+use Rattle.report_core.specs.declared.refusal.Refusal.{Refusal}
+use Rattle.report_core.specs.declared.refusal.Refusal.TheVariants.{NotInstalled}
+
+-- the line of a file
+abbrev pub manifest_line : FileRecord → List ℕ
+manifest_line r = report_line (manifest_text (file_hash r.entry) r.path)
+
+-- the lines of a package's files, in the order of the database
+abbrev pub package_manifest : Plain → List ℕ
+package_manifest pkg = flat_map manifest_line (package_records pkg)
+
+-- the package that an operand names; no two packages of a database have one name
+abbrev pub operand_package : List Plain → Operand → Option Plain
+operand_package packages o = find (is_package_named o.text) packages
+
+-- a manifest of further packages, with lines in front of it; a refusal stays as it is
+abbrev pub with_lines : List ℕ → Result (List ℕ) Refusal → Result (List ℕ) Refusal
+with_lines lines further = and_then further (λ more. Ok (lines ++ more))
+
+-- the manifest with the package of an operand first, unless that is not installed
+abbrev pub manifest_with :
+    Operand → Option Plain → Result (List ℕ) Refusal → Result (List ℕ) Refusal
+manifest_with o None further = Err (NotInstalled o.place)
+manifest_with o (Some pkg) further = with_lines (package_manifest pkg) further
+
+-- the lines of the packages that operands name, in the order given; or the refusal of the first
+-- operand that names no installed package
+abbrev pub manifest_of : List Plain → List Operand → Result (List ℕ) Refusal
+manifest_of packages [] = Ok []
+manifest_of packages (o ∷ operands) =
+    manifest_with o (operand_package packages o) (manifest_of packages operands)

@@ -1,0 +1,41 @@
+-- The records of the files that packages list (apk-package(5)). The rules are in `docs/formats.md`,
+-- "Schemas", tables 4, 5, 7 and 9; the word *record* is defined in `docs/commands.md`, "`audit`".
+use Rattle.std.specs.Prelude.{ℕ, List, map}
+use Rattle.std.specs.List.{flat_map}
+use Rattle.std.specs.Ordering.{on}
+use Rattle.std.specs.declared.cmp.Ordering.{Ordering}
+use Rattle.adb_fields.specs.Paths.{path_of}
+use Rattle.adb_fields.specs.Repeated.{files_in, folders_in, name_of}
+use Rattle.adb_view.specs.Plain.{Plain}
+use Rattle.base_core.specs.ByteOrder.{bytes_cmp}
+use Rattle.base_core.specs.Sorted.{sorted_by}
+
+-- the record of a file: the path that a package lists, and the entry, which says what bytes the
+-- file has
+pub record FileRecord : Type 0 where
+  pub path : List ℕ
+  pub entry : Plain
+
+-- the record of a file in the folder of this name
+abbrev pub file_record : List ℕ → Plain → FileRecord
+file_record folder entry = record { path = path_of folder (name_of entry); entry = entry }
+
+-- the records of a folder's files, in their order
+abbrev pub folder_records : Plain → List FileRecord
+folder_records folder = map (file_record (name_of folder)) (files_in folder)
+
+-- the records of a package's files, folder by folder
+abbrev pub package_records : Plain → List FileRecord
+package_records pkg = flat_map folder_records (folders_in pkg)
+
+-- the records of the files of all packages, package by package
+abbrev pub database_records : List Plain → List FileRecord
+database_records packages = flat_map package_records packages
+
+-- the order of records: the byte order of their paths
+unfoldable pub record_cmp : FileRecord → FileRecord → Ordering
+record_cmp = on (λ r. r.path) bytes_cmp
+
+-- the records of the files of all packages, in byte order of their paths
+unfoldable pub records_by_path : List Plain → List FileRecord
+records_by_path packages = sorted_by record_cmp (database_records packages)

@@ -1,0 +1,23 @@
+-- What the values of the program stand for. No rule of a document: serves the contracts of
+-- `src/records.rt` and `src/comparing.rt`.
+use Rattle.std.specs.Prelude.{Option, Some, None, if◌then◌else◌}
+use Rattle.adb_view.specs.Values.{value_at}
+use Rattle.adb_view.specs.declared.tables.Kind.TheVariants as Kinds
+use Rattle.adb_view.specs.declared.tables.Which.TheVariants as Tables
+use Rattle.audit_core.specs.Records.{FileRecord}
+use Rattle.audit_core.specs.StoredRecords.{StoredRecord}
+use Rattle.audit_core.specs.declared.comparing.Difference.{Difference}
+use Rattle.audit_core.specs.declared.comparing.Difference.TheVariants.{Changed, Missing}
+use Rattle.file_guard.specs.declared.compare.Comparison.{Comparison}
+
+-- the record that is stored so
+abbrev pub record_seen : StoredRecord → FileRecord
+record_seen r = record {
+  path = r.path;
+  entry = value_at r.payload (Kinds.Obj Tables.File) r.word;
+}
+
+-- how a file differs, by how it compares with its entry; None if it does not differ
+abbrev pub difference_by : Option Comparison → Option Difference
+difference_by None = Some Missing
+difference_by (Some comparison) = if comparison.as_new then None else Some Changed

@@ -1,0 +1,137 @@
+//! `audit`: each file that the packages of a database list is compared with its record. The rules
+//! are in `docs/commands.md`, "`audit`".
+
+ghost use Rattle.audit_core.specs.Audit.{audit_report, difference_at, difference_from, difference_line, difference_text, differences_from};
+ghost use Rattle.audit_core.specs.Seen.{difference_by, record_seen};
+ghost use Rattle.base_core.specs.Calls.{IfObservable};
+ghost use Rattle.base_core.specs.Name.{IsName};
+ghost use Rattle.base_core.specs.Read.{OnlyReads};
+ghost use Rattle.base_core.specs.Tree.{files_of};
+ghost use Rattle.db_core.specs.Seen.{packages_of};
+ghost use Rattle.package_files.specs.Runs.{Explains};
+ghost use Rattle.report_core.specs.Reports.{report_line};
+ghost use Rattle.std.specs.List.{flat_map};
+ghost use Rattle.std.specs.Prelude.{◌≡◌, ◌++◌, ℕ, List, Option, All, IfOk, OnOk, map};
+
+use crate::records::{Record, records_by_path};
+use base_core::{Name, Text, Tree, TreeFault};
+use db_core::Db;
+use file_guard::{Comparison, compare_file_in, listed_file};
+use path_clashes::path_bytes;
+use pkg_core::PIECE_LEN;
+use std::alloc::{AllocError, Global};
+
+/// How a file differs from its record.
+#[derive(Clone, Copy, Debug, PartialEq, Eq)]
+pub enum Difference {
+    /// There is no file under the path.
+    Missing,
+    /// The file has other bytes than its record lists.
+    Changed,
+}
+
+/// Compares each file that the packages of a database list with its record, and reports those that
+/// differ: `X PATH` of a file that is missing, `U PATH` of one with other bytes, in byte order of
+/// the paths. Each file is read once, in pieces of 65,536 bytes, and the tree stays as it is,
+/// whatever the answer. It takes a few words for each file that is listed, and the report.
+///
+/// # Errors
+///
+/// `Disk` if the tree failed, and `Memory`.
+pub fn audit<T: Tree>(alloc: Global, db: &Db<'_>, tree: &mut T) -> Result<Text, TreeFault>
+    // It is the report of some contents at each read, from any number on; if the tree shows its
+    // files, of these.
+    ensures report { (first : ℕ) → Explains (T.history tree.old) (λ read.
+        IfOk result (λ report. report ≡ audit_report read first (packages_of db.now))) }
+    // The tree is only read; a fault of it has its cause.
+    ensures tree { OnlyReads TreeFault.Disk (T.history tree.old) (T.history tree.new)
+        (T.counts tree.old) (T.counts tree.new) result }
+{
+    // A law that the proof needs; it computes nothing.
+    db.listed_paths_are_names();
+    let records = records_by_path(alloc, db)?;
+    let report = audit_records(alloc, &records, tree)?;
+    Ok(Text::from_vec(report))
+}
+
+// The lines of the files that differ from their records, in the order of these.
+fn audit_records<T: Tree>(
+    alloc: Global,
+    records: &[Record<'_>],
+    tree: &mut T,
+) -> Result<Vec<u8>, TreeFault>
+    requires { All (λ r. IsName r.path) (map record_seen records.now) }
+    ensures report { (first : ℕ) → Explains (T.history tree.old) (λ read.
+        IfOk result (λ report. report.items ≡ flat_map difference_line
+        (differences_from read first (map record_seen records.now)))) }
+    ensures tree { OnlyReads TreeFault.Disk (T.history tree.old) (T.history tree.new)
+        (T.counts tree.old) (T.counts tree.new) result }
+{
+    let mut report = Vec::new(alloc);
+    // One piece for all files: to zero one for each small file would take longer than to read it.
+    let mut piece = [0; PIECE_LEN];
+    for record in records {
+        audit_record(alloc, &mut report, record, tree, &mut piece)?;
+    }
+    Ok(report)
+}
+
+// Adds the line of a file, if it differs from its record. The file is read into the piece; what
+// this has before does not matter.
+fn audit_record<T: Tree>(
+    alloc: Global,
+    report: &mut Vec<u8>,
+    record: &Record<'_>,
+    tree: &mut T,
+    piece: &mut [u8; PIECE_LEN],
+) -> Result<(), TreeFault>
+    requires { IsName (record_seen record.now).path }
+    ensures line { (found : Option (List ℕ))
+        × IfObservable (T.history tree.old)
+        (λ v. found ≡ files_of v (record_seen record.now).path)
+        × OnOk result (report.new.items ≡ report.old.items ++ flat_map difference_line
+        (difference_at (record_seen record.now).path
+        (difference_from (record_seen record.now).entry found))) }
+    ensures tree { OnlyReads TreeFault.Disk (T.history tree.old) (T.history tree.new)
+        (T.counts tree.old) (T.counts tree.new) result }
+{
+    let path = path_bytes(alloc, &record.path)?;
+    let name = Name::of(alloc, &path)?;
+    let listed = listed_file(&record.file);
+    let found = compare_file_in(tree, &name, Some(listed), None, piece)?;
+    if let Some(difference) = difference_by(found) {
+        push_difference(report, difference, &path)?;
+    }
+    Ok(())
+}
+
+// How a file differs from its record, by how it compares with the entry; None if it does not
+// differ.
+fn difference_by(found: Option<Comparison>) -> Option<Difference>
+    ensures { result ≡ difference_by found }
+{
+    match found {
+        None => Some(Difference::Missing),
+        Some(comparison) if comparison.as_new => None,
+        Some(_) => Some(Difference::Changed),
+    }
+}
+
+// Adds the line of a file that differs.
+fn push_difference(
+    report: &mut Vec<u8>,
+    difference: Difference,
+    path: &[u8],
+) -> Result<(), AllocError>
+    ensures { OnOk result (report.new.items
+        ≡ report.old.items ++ report_line (difference_text difference path.now)) }
+{
+    let mark: &[u8] = match difference {
+        Difference::Missing => b"X ",
+        Difference::Changed => b"U ",
+    };
+    report.extend_from_slice(mark)?;
+    report.extend_from_slice(path)?;
+    report.push(b'\n')?;
+    Ok(())
+}

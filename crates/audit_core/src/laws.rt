@@ -1,0 +1,49 @@
+//! What follows of the reports of `audit`. The rules are in `docs/commands.md`, "`audit`".
+
+ghost use Rattle.adb_fields.specs.FirstPair.{IsIn};
+ghost use Rattle.adb_fields.specs.Repeated.{entries_at};
+ghost use Rattle.adb_schema.specs.SoundContainers.{IsSoundValue};
+ghost use Rattle.adb_view.specs.FieldIndexes.{IDB_PACKAGES};
+ghost use Rattle.adb_view.specs.Plain.{Plain};
+ghost use Rattle.adb_view.specs.declared.tables.Which.TheVariants.{Idb};
+ghost use Rattle.audit_core.specs.Audit.{FileDifference, audit_report, difference_line};
+ghost use Rattle.audit_core.specs.Differences.{AreAsRecorded, IsDifferenceIn, file_differences};
+ghost use Rattle.base_core.specs.Files.{Files};
+ghost use Rattle.base_core.specs.Listed.{IsRising};
+ghost use Rattle.make_info.specs.Reads.{Reads};
+ghost use Rattle.std.specs.List.{flat_map};
+ghost use Rattle.std.specs.Prelude.{◌≡◌, ◌≤◌, ◌↔◌, [], ℕ, List, map};
+
+/// A report of an audit rests on the reads from its first on alone. What a command reads before
+/// them is another matter.
+pub fn audits_rest_on_their_own_reads()
+    ensures { (read other : Reads) (first : ℕ) (packages : List Plain)
+        → ((n : ℕ) (name : List ℕ) → first ≤ n → read n name ≡ other n name)
+        → audit_report read first packages ≡ audit_report other first packages }
+{}
+
+/// If the reads find files as they are, the report of an audit has a line for each file that differs
+/// from its record: an installed package lists it, and it is missing or has other bytes than its
+/// entry lists. No other file has a line. The paths rise in byte order, so each has one line.
+pub fn an_audit_reports_just_the_files_that_differ()
+    // The report is the lines of the differences.
+    ensures report { (files : Files) (read : Reads) (first : ℕ) (packages : List Plain)
+        → ((n : ℕ) (name : List ℕ) → read n name ≡ files name)
+        → audit_report read first packages
+        ≡ flat_map difference_line (file_differences files packages) }
+    // Each of these is one, and none is left out.
+    ensures each { (files : Files) (packages : List Plain) (d : FileDifference)
+        → IsIn d (file_differences files packages) ↔ IsDifferenceIn packages files d }
+    // Of a sound database each path is reported once, in byte order.
+    ensures rising { (files : Files) (database : Plain) → IsSoundValue Idb database
+        → IsRising (map (λ d. d.path)
+        (file_differences files (entries_at IDB_PACKAGES database))) }
+{}
+
+/// If the reads find files as they are, an audit reports nothing exactly if each file that a package
+/// lists is as recorded.
+pub fn an_audit_reports_nothing_if_all_is_as_recorded()
+    ensures { (files : Files) (read : Reads) (first : ℕ) (packages : List Plain)
+        → ((n : ℕ) (name : List ℕ) → read n name ≡ files name)
+        → (audit_report read first packages ≡ []) ↔ AreAsRecorded packages files }
+{}

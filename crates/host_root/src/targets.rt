@@ -1,0 +1,225 @@
+//! What the host would refuse later: whether a file can be renamed to a path, or be removed.
+//! The rules are in `docs/crash-safety.md`, "What the host's tree does", the row of `check_target`.
+
+use super::folders::{Folders, look_at};
+use host_files::{Found, Host, HostFault, LOCK_FOLDER, Reason, parent_of, path_text};
+use std::alloc::Global;
+use std::collections::BTreeSet;
+use std::fs;
+use std::fs::Files;
+use std::io::ErrorKind;
+use std::os::unix::fs::MetadataExt;
+
+/// The last part of the folder that is made, renamed and removed to learn what the host allows.
+const PROBE: &[u8] = b".apk-probe";
+
+/// The folders to which a file can be renamed, as far as this run has asked.
+#[derive(Drop)]
+pub struct Targets {
+    alloc: Global,
+    // The folder that the files come from.
+    source: Vec<u8>,
+    // The folders to which the host renamed something from there.
+    asked: BTreeSet<Vec<u8>>,
+}
+
+impl Targets {
+    /// No folder was asked for.
+    pub fn new(alloc: Global) -> Targets {
+        Targets {
+            alloc,
+            source: Vec::new(alloc),
+            asked: BTreeSet::new(alloc),
+        }
+    }
+
+    /// Asks whether a file can be renamed to a path, from a source, which need not be there yet.
+    /// Folders that are absent are not made: the deepest one that is there is asked for.
+    pub fn check_write<R: Host>(
+        &mut self,
+        rt: &R,
+        folders: &mut Folders,
+        path: &[u8],
+        source: &[u8],
+    ) -> Result<(), HostFault> {
+        if is_reserved(path) {
+            return Err(HostFault::own(Reason::Reserved));
+        }
+        let folder = folders.deepest_on_way(rt, path)?;
+        let absent = path.strip_prefix(folder).unwrap_or(path);
+        check_parts(rt, self.alloc, folder, absent)?;
+        if folder == parent_of(path) {
+            check_place(rt, self.alloc, path)?;
+        }
+        let source = folders.deepest_on_way(rt, source)?;
+        self.check_folder(rt, folder, source)
+    }
+
+    /// Asks, once a run, whether a file can be renamed from one folder to another: a folder is made
+    /// in the one, renamed to the other, and removed there. To the model it is nothing.
+    fn check_folder<R: Files>(
+        &mut self,
+        rt: &R,
+        folder: &[u8],
+        source: &[u8],
+    ) -> Result<(), HostFault> {
+        if self.source.as_slice() != source {
+            self.source = Vec::from_slice(self.alloc, source)?;
+            self.asked.clear();
+        }
+        if self.asked.contains(folder) {
+            return Ok(());
+        }
+        let probe = below(self.alloc, folder, PROBE)?;
+        let moved = below(self.alloc, source, PROBE)?;
+        make_probe(rt, &probe)?;
+        if folder != source {
+            rename_probe(rt, &probe, &moved)?;
+        }
+        fs::remove_dir(rt, path_text(&moved)?)?;
+        match self.asked.insert(Vec::from_slice(self.alloc, folder)?) {
+            Ok(_) => Ok(()),
+            Err(_) => Err(HostFault::Memory),
+        }
+    }
+}
+
+/// Whether a path is one of the program's own, or below one: the lock's folder, or the folder by
+/// which the host is asked.
+fn is_reserved(path: &[u8]) -> bool {
+    let first = match path.iter().position(|byte| *byte == b'/') {
+        Some(end) => &path[..end],
+        None => path,
+    };
+    first == LOCK_FOLDER.as_bytes() || path.split(|byte| *byte == b'/').any(|part| part == PROBE)
+}
+
+/// Asks whether the host has names as long as the parts of a path that are not looked at yet, in
+/// the folder that they begin in.
+fn check_parts<R: Files>(
+    rt: &R,
+    alloc: Global,
+    folder: &[u8],
+    parts: &[u8],
+) -> Result<(), HostFault> {
+    for part in parts.split(|byte| *byte == b'/') {
+        if part.is_empty() {
+            continue;
+        }
+        match fs::symlink_metadata(rt, path_text(&below(alloc, folder, part)?)?) {
+            Err(e) if e.kind() == ErrorKind::InvalidFilename => return Err(e.into()),
+            _ => {}
+        }
+    }
+    Ok(())
+}
+
+/// Asks whether what is at a path can give way to a file: a regular file that may be removed, or
+/// folders, below which regular files are a question of the model.
+fn check_place<R: Host>(rt: &R, alloc: Global, path: &[u8]) -> Result<(), HostFault> {
+    match look_at(rt, alloc, path)? {
+        Found::Nothing => Ok(()),
+        Found::File(_) => check_removal(rt, path),
+        Found::Folder => check_folders_below(rt, alloc, path),
+    }
+}
+
+/// Asks whether a file at a path can be removed, if there is one.
+pub fn check_remove<R: Host>(
+    rt: &R,
+    alloc: Global,
+    folders: &mut Folders,
+    path: &[u8],
+) -> Result<(), HostFault> {
+    if !folders.have_way(rt, path)? {
+        return Ok(());
+    }
+    match look_at(rt, alloc, path)? {
+        Found::File(_) => check_removal(rt, path),
+        Found::Nothing | Found::Folder => Ok(()),
+    }
+}
+
+/// Asks whether the regular file at a path may be removed or replaced. The host is told to remove
+/// a folder there: it looks at the rights of the file and of the folder around it first, and then
+/// finds that there is no folder.
+fn check_removal<R: Files>(rt: &R, path: &[u8]) -> Result<(), HostFault> {
+    match fs::remove_dir(rt, path_text(path)?) {
+        Ok(()) => Ok(()),
+        Err(e) if e.kind() == ErrorKind::NotADirectory => Ok(()),
+        Err(e) => Err(e.into()),
+    }
+}
+
+/// Asks whether folders can give way to a file: all on one file system, that of the folder around,
+/// and with nothing below them but folders and regular files.
+fn check_folders_below<R: Host>(rt: &R, alloc: Global, path: &[u8]) -> Result<(), HostFault> {
+    let around = device_of(rt, parent_of(path))?;
+    let mut folders = Vec::new(alloc);
+    push(alloc, &mut folders, path)?;
+    // A walk ends when no folder is left; the bound shows the checker that it ends.
+    for _ in 0..u64::MAX {
+        let Some(folder) = folders.pop() else {
+            break;
+        };
+        if device_of(rt, &folder)? != around {
+            return Err(HostFault::at(alloc, Reason::OtherFileSystem, &folder));
+        }
+        for entry in fs::read_dir(rt, path_text(&folder)?)? {
+            let entry = entry?;
+            let below = entry.path().as_str().as_bytes();
+            if look_at(rt, alloc, below)?.is_folder() {
+                push(alloc, &mut folders, below)?;
+            }
+        }
+    }
+    Ok(())
+}
+
+/// The host's number of the device that a folder is on. The root is the empty path.
+fn device_of<R: Files>(rt: &R, folder: &[u8]) -> Result<u64, HostFault> {
+    let folder: &[u8] = if folder.is_empty() { b"." } else { folder };
+    Ok(fs::symlink_metadata(rt, path_text(folder)?)?.dev())
+}
+
+/// Makes the folder by which the host is asked. One that a killed run has left is removed first.
+fn make_probe<R: Files>(rt: &R, probe: &[u8]) -> Result<(), HostFault> {
+    let path = path_text(probe)?;
+    match fs::create_dir(rt, path) {
+        Err(e) if e.kind() == ErrorKind::AlreadyExists => {
+            fs::remove_dir(rt, path)?;
+            Ok(fs::create_dir(rt, path)?)
+        }
+        made => Ok(made?),
+    }
+}
+
+/// Renames the folder by which the host is asked; if that fails, it is removed.
+fn rename_probe<R: Files>(rt: &R, probe: &[u8], moved: &[u8]) -> Result<(), HostFault> {
+    let Err(e) = fs::rename(rt, path_text(probe)?, path_text(moved)?) else {
+        return Ok(());
+    };
+    let _ = fs::remove_dir(rt, path_text(probe)?);
+    if e.kind() == ErrorKind::CrossesDevices {
+        return Err(HostFault::own(Reason::OtherFileSystem));
+    }
+    Err(e.into())
+}
+
+/// The path of a part in a folder. The root is the empty path.
+fn below(alloc: Global, folder: &[u8], part: &[u8]) -> Result<Vec<u8>, HostFault> {
+    let mut path = Vec::from_slice(alloc, folder)?;
+    if !folder.is_empty() {
+        path.extend_from_slice(b"/")?;
+    }
+    path.extend_from_slice(part)?;
+    Ok(path)
+}
+
+/// Puts a path behind others.
+fn push(alloc: Global, list: &mut Vec<Vec<u8>>, path: &[u8]) -> Result<(), HostFault> {
+    match list.push(Vec::from_slice(alloc, path)?) {
+        Ok(()) => Ok(()),
+        Err(_) => Err(HostFault::Memory),
+    }
+}

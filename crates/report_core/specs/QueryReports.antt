@@ -1,0 +1,52 @@
+-- What the reports of queries say: `list`, `search` and `policy` (apk(8)). Each line ends with a
+-- line end.
+-- The rules are in `docs/commands.md`, "`list`", "`search`" and "`policy`".
+use Rattle.std.specs.Prelude.{ℕ, Bool, true, false, List, [], ◌∷◌, ◌++◌, Option, Some, None, codes}
+use Rattle.report_core.specs.Reports.{name_version, report_line}
+
+-- ---- `list` and `search`
+
+-- a text between two others; nothing if the text is empty
+abbrev pub text_between : List ℕ → List ℕ → List ℕ → List ℕ
+text_between before [] after = []
+text_between before (b ∷ bytes) after = before ++ (b ∷ bytes) ++ after
+
+-- the mark of a package that is installed
+abbrev pub installed_mark : Bool → List ℕ
+installed_mark true = codes " [installed]"
+installed_mark false = []
+
+-- the line of `list` for a package, as `NAME-VERSION ARCH {ORIGIN} (LICENSE) [installed]`, without
+-- the parts that are empty
+abbrev pub list_line : List ℕ → List ℕ → List ℕ → List ℕ → List ℕ → Bool → List ℕ
+list_line name version arch origin license installed =
+    report_line (name_version name version ++ text_between (codes " ") arch []
+    ++ text_between (codes " {") origin (codes "}")
+    ++ text_between (codes " (") license (codes ")") ++ installed_mark installed)
+
+-- the line of `search` for a package
+abbrev pub search_line : List ℕ → List ℕ → List ℕ
+search_line name version = report_line (name_version name version)
+
+-- ---- `policy`
+
+-- the first line for a name
+abbrev pub policy_heading : List ℕ → List ℕ
+policy_heading name = report_line (name ++ codes " policy:")
+
+-- the line of a version, below the name
+abbrev pub version_heading : List ℕ → List ℕ
+version_heading version = report_line (codes "  " ++ version ++ codes ":")
+
+-- a line below a version: where the package with this version is
+abbrev pub place_line : List ℕ → List ℕ
+place_line text = report_line (codes "    " ++ text)
+
+-- the line of the database of installed packages
+abbrev pub database_line : List ℕ
+database_line = place_line (codes "lib/apk/db/installed")
+
+-- the line of a repository, by its tag, if it has one, and the path of its index
+abbrev pub repository_line : Option (List ℕ) → List ℕ → List ℕ
+repository_line None path = place_line path
+repository_line (Some tag) path = place_line (codes "@" ++ tag ++ codes " " ++ path)

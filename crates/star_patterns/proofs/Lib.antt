@@ -1,0 +1,5 @@
+mod Filled
+mod FirstStar
+mod Pieces
+mod Places
+mod Worked

@@ -1,0 +1,12 @@
+-- What a pattern without its first piece has to match. Serves the proofs of `src/pattern.rt`.
+use Rattle.std.specs.Prelude.{ℕ, ◌==◌, Bool, List}
+use Rattle.std.specs.List.{list_any}
+use Rattle.star_patterns.specs.Patterns.{is_matched, star, suffixes_of}
+
+-- whether a pattern has a `*`
+abbrev pub has_star : List ℕ → Bool
+has_star pattern = list_any (λ b. b == star) pattern
+
+-- whether a pattern matches some end of a text
+abbrev pub is_end_matched : List ℕ → List ℕ → Bool
+is_end_matched pattern text = list_any (is_matched pattern) (suffixes_of text)

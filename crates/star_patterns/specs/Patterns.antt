@@ -1,0 +1,29 @@
+-- What a pattern matches: each `*` stands for any bytes, none too, and each other byte for itself.
+-- The rule is in `docs/formats.md`, "Patterns".
+use Rattle.std.specs.Prelude.{ℕ, ◌==◌, Bool, false, ◌&&◌, if◌then◌else◌, List, [], ◌∷◌, ◌++◌, length}
+use Rattle.std.specs.List.{list_any}
+
+-- the byte `*`
+abbrev pub star : ℕ
+star = 42
+
+-- what is left of a text from each place on, the whole and the empty end too
+abbrev pub suffixes_of : List ℕ → List (List ℕ)
+suffixes_of [] = [] ∷ []
+suffixes_of (b ∷ text) = (b ∷ text) ∷ suffixes_of text
+
+-- whether a text begins with this byte, and its rest passes a test
+abbrev pub is_byte_then : ℕ → (List ℕ → Bool) → List ℕ → Bool
+is_byte_then p is_rest [] = false
+is_byte_then p is_rest (b ∷ text) = (p == b) && is_rest text
+
+-- whether a pattern matches the whole of a text
+abbrev pub is_matched : List ℕ → List ℕ → Bool
+is_matched [] text = length text == 0
+is_matched (p ∷ pattern) text =
+    if p == star then list_any (is_matched pattern) (suffixes_of text)
+    else is_byte_then p (is_matched pattern) text
+
+-- whether a pattern matches some part of a text
+abbrev pub is_matched_within : List ℕ → List ℕ → Bool
+is_matched_within pattern text = is_matched (star ∷ pattern ++ star ∷ []) text

@@ -1,0 +1,19 @@
+-- Words that ask for help or for the version, apart from how they are read.
+-- The rules are in `docs/commands.md`, "Help"; the laws `read_words_are_a_command` and
+-- `commands_are_read` say that *command_of* keeps them.
+use Rattle.std.specs.Prelude.{◌≡◌, ℕ, ◌<◌, List, ◌∷◌, ◌++◌, length, Err, Some, IsTrue}
+use Rattle.command_core.specs.Command.{CommandLine}
+use Rattle.words_core.specs.Grammar.{asked_command, line_command, next_after, takes_option}
+use Rattle.words_core.specs.Options.{asked_by}
+
+-- a word asks for a command: an option can be there, and no word before it offends. What follows the
+-- word says nothing
+pub record IsAskedBy (words : List (List ℕ)) (command : CommandLine) : Type 0 where
+  pub before : List (List ℕ)
+  pub word : List ℕ
+  pub after : List (List ℕ)
+  pub whole : words ≡ before ++ (word ∷ after)
+  pub asks : asked_by word ≡ Some command.applet
+  pub option : IsTrue (takes_option (next_after before))
+  pub fine : (place : ℕ) → line_command before ≡ Err place → length before < place
+  pub is : command ≡ asked_command words command.applet

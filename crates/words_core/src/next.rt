@@ -1,0 +1,132 @@
+//! What the next word of a command line can be, and what a word asks for where an option can be: help,
+//! or the version of the program.
+//! The rules are in `docs/commands.md`, "Words" and "Help".
+ghost use Rattle.std.specs.Prelude.{◌≡◌, ◌+◌, ◌≤◌, IsTrue, length, take};
+ghost use Rattle.words_core.specs.Grammar.{asked_at, is_option, next_after, next_word, rule_behind, takes_option};
+ghost use Rattle.words_core.specs.Options.{options_of};
+ghost use Rattle.words_core.specs.declared.next.NextWord.TheVariants.{OptionOrCommand, OptionOrOperand};
+
+use crate::options::{applet_of, asked_by, option_spelled};
+use crate::word::{held_value, is_end, is_option, option_name};
+use base_core::Words;
+use command_core::{Applet, ValueRule};
+
+/// What the next word of a command line can be.
+#[derive(Clone, Copy)]
+pub(crate) enum NextWord {
+    /// An option, `--`, or the command.
+    OptionOrCommand,
+    /// The command: `--` has ended the options.
+    Command,
+    /// An option of the command, `--`, or an operand.
+    OptionOrOperand(Applet),
+    /// The value of the command's option that has this rule.
+    Value(Applet, ValueRule),
+    /// An operand: `--` has ended the options.
+    Operand(Applet),
+    /// Nothing, since no such command is known.
+    Nothing,
+}
+
+impl NextWord {
+    // What the word after a word can be.
+    fn after(self, word: &[u8]) -> NextWord
+        ensures { result ≡ next_word self word.now }
+    {
+        match self {
+            NextWord::OptionOrCommand => after_start(word),
+            NextWord::Command => match applet_of(word) {
+                Some(applet) => NextWord::Operand(applet),
+                None => NextWord::Nothing,
+            },
+            NextWord::OptionOrOperand(applet) => after_applet(applet, word),
+            NextWord::Value(applet, _) => NextWord::OptionOrOperand(applet),
+            NextWord::Operand(applet) => NextWord::Operand(applet),
+            NextWord::Nothing => NextWord::Nothing,
+        }
+    }
+
+    /// Whether an option can be the next word.
+    pub(crate) fn takes_option(self) -> bool
+        ensures { result ≡ takes_option self }
+    {
+        matches!(
+            self,
+            NextWord::OptionOrCommand | NextWord::OptionOrOperand(_)
+        )
+    }
+}
+
+// What the word after a word can be that is an option before the command, `--`, or the command.
+fn after_start(word: &[u8]) -> NextWord
+    ensures { result ≡ next_word OptionOrCommand word.now }
+{
+    if is_end(word) {
+        return NextWord::Command;
+    }
+    if is_option(word) {
+        return NextWord::OptionOrCommand;
+    }
+    match applet_of(word) {
+        Some(applet) => NextWord::OptionOrOperand(applet),
+        None => NextWord::Nothing,
+    }
+}
+
+// What the word after a word can be that is an option of the command, `--`, or an operand.
+fn after_applet(applet: Applet, word: &[u8]) -> NextWord
+    ensures { result ≡ next_word (OptionOrOperand applet) word.now }
+{
+    if is_end(word) {
+        return NextWord::Operand(applet);
+    }
+    if !is_option(word) {
+        return NextWord::OptionOrOperand(applet);
+    }
+    match rule_behind(applet, word) {
+        Some(rule) => NextWord::Value(applet, rule),
+        None => NextWord::OptionOrOperand(applet),
+    }
+}
+
+// The rule of the option that a word spells, where its value is the next word.
+fn rule_behind(applet: Applet, word: &[u8]) -> Option<ValueRule>
+    requires { IsTrue (is_option word.now) }
+    ensures { result ≡ rule_behind (options_of applet) word.now }
+{
+    if held_value(word).is_some() {
+        return None;
+    }
+    match option_spelled(applet, option_name(word)) {
+        Some(option) => option.meaning.rule(),
+        None => None,
+    }
+}
+
+/// What the word after the first words of a command line can be, so many of them.
+pub(crate) fn next_after(words: &Words, count: usize) -> NextWord
+    requires { count ≤ length words.now }
+    ensures { result ≡ next_after (take count words.now) }
+{
+    let mut next = NextWord::OptionOrCommand;
+    for i in 0..count {
+        next = next.after(words.word(i));
+    }
+    next
+}
+
+/// The applet that the word at a place asks for, if it asks and an option can be there.
+pub(crate) fn asked_at(words: &Words, place: u32) -> Option<Applet>
+    requires low { 1 ≤ place }
+    requires high { place ≤ length words.now + 1 }
+    ensures { result ≡ asked_at words.now place }
+{
+    let before = place as usize - 1;
+    if !next_after(words, before).takes_option() {
+        return None;
+    }
+    if before == words.len() {
+        return None;
+    }
+    asked_by(words.word(before))
+}
