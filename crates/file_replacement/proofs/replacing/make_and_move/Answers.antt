@@ -3,7 +3,7 @@ use Rattle.journal_core.proofs.Maps.{maps_more, maps_on}
 use Rattle.journal_core.proofs.History.{on_observable}
 use Rattle.file_replacement.proofs.Joined.{fill_moments, moving_moments, moved_called}
 use Rattle.file_replacement.proofs.Proper.{fill_proper, settle_proper}
-use Rattle.file_replacement.proofs.replacing.write_beside.Goals as goal
+use Rattle.file_replacement.proofs.replacing.make_and_move.Goals as goal
 
 pub returns-in_err-fill-clause-moments : goal.returns-in_err-fill-clause-moments
 returns-in_err-fill-clause-moments g c =
