@@ -10,7 +10,7 @@ use Rattle.command_core.specs.declared.operands.Operand.{Operand}
 use Rattle.dep_core.specs.Dependency.{Dependency}
 use Rattle.star_patterns.specs.Fills.{IsFilledTo}
 use Rattle.star_patterns.specs.Patterns.{is_matched, is_matched_within}
-use Rattle.query_core.specs.Asked.{HasName, IsNameAsked, IsPartAsked, ProvidesName}
+use Rattle.query_core.specs.Asked.{IsNameOf, IsNameAsked, IsPartAsked, ProvidesName}
 use Rattle.query_core.specs.List.{is_list_candidate, is_name_matched}
 use Rattle.query_core.specs.Search.{candidate_names, is_name_found, is_search_candidate, provided_names}
 use Rattle.query_core.proofs.Parts.{found_in_part, part_found}
@@ -105,15 +105,15 @@ module _ (law : (pattern text : List ℕ) → (is_matched pattern text ≡ true)
   in_provided (q ∷ ps) p (inl is) e = rw (subst (λ (r : Dependency). r.conflict ≡ false) is e) (inl (ap (λ (r : Dependency). r.name) is))
   in_provided (q ∷ ps) p (inr m) e = elim (bool_cases (q.conflict)) [ inl t ↦ rw t (in_provided ps p m e) | inr t ↦ rw t (inr (in_provided ps p m e)) ]
 
-  has_name : (c : Candidate) (name : List ℕ) → IsIn name (candidate_names c) → HasName c name
+  has_name : (c : Candidate) (name : List ℕ) → IsIn name (candidate_names c) → IsNameOf c name
   has_name c name (inl is) = inl (sym is)
   has_name c name (inr m) = inr (provided c c.provides name (λ q k. k) m)
 
-  name_in : (c : Candidate) (name : List ℕ) → HasName c name → IsIn name (candidate_names c)
+  name_in : (c : Candidate) (name : List ℕ) → IsNameOf c name → IsIn name (candidate_names c)
   name_in c name (inl is) = inl (sym is)
   name_in c name (inr p) = inr (subst (λ (n : List ℕ). IsIn n (provided_names c.provides)) p.name_is (in_provided c.provides p.entry p.provided p.no_conflict))
 
-  pub searched_if_asked : (patterns : List Operand) (c : Candidate) → (is_search_candidate patterns c ≡ true) ↔ ((is_some c.repository ≡ true) × ((name : List ℕ) × (HasName c name × IsPartAsked patterns name)))
+  pub searched_if_asked : (patterns : List Operand) (c : Candidate) → (is_search_candidate patterns c ≡ true) ↔ ((is_some c.repository ≡ true) × ((name : List ℕ) × (IsNameOf c name × IsPartAsked patterns name)))
   searched_if_asked patterns c = (
     (λ h.
         let both = both_true (is_some c.repository) (list_any (is_name_found patterns) (candidate_names c)) h in

@@ -33,8 +33,8 @@ pub record ProvidesName (c : Candidate) (name : List ℕ) : Type 0 where
   pub name_is : entry.name ≡ name
 
 -- a candidate has a name: its own, or one that it provides
-abbrev pub HasName : Candidate → List ℕ → Type 0
-HasName c name = (c.name ≡ name) ⊎ ProvidesName c name
+abbrev pub IsNameOf : Candidate → List ℕ → Type 0
+IsNameOf c name = (c.name ≡ name) ⊎ ProvidesName c name
 
 -- there is a candidate of this name of its own with this version
 pub record IsVersionOfName (candidates : List Candidate) (name : List ℕ) (version : Option (List ℕ))

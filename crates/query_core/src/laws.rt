@@ -7,7 +7,7 @@ ghost use Rattle.command_core.specs.Command.{CommandLine};
 ghost use Rattle.command_core.specs.declared.operands.Operand.{Operand};
 ghost use Rattle.dep_core.specs.Dependency.{Dependency};
 ghost use Rattle.dep_core.specs.Repositories.{Repository};
-ghost use Rattle.query_core.specs.Asked.{ComeInOrder, HasName, IsNameAsked, IsPartAsked, IsVersionOfName};
+ghost use Rattle.query_core.specs.Asked.{ComeInOrder, IsNameOf, IsNameAsked, IsPartAsked, IsVersionOfName};
 ghost use Rattle.query_core.specs.List.{is_list_candidate};
 ghost use Rattle.query_core.specs.Order.{query_cmp, selected_places};
 ghost use Rattle.query_core.specs.Policy.{name_policy, versions_of_name};
@@ -82,7 +82,7 @@ pub fn search_prints_what_is_asked_for()
     ensures { (patterns : List Operand) (c : Candidate)
         → (is_search_candidate patterns c ≡ true)
         ↔ ((is_some c.repository ≡ true)
-        × ((name : List ℕ) × (HasName c name × IsPartAsked patterns name))) }
+        × ((name : List ℕ) × (IsNameOf c name × IsPartAsked patterns name))) }
 {
     a_pattern_matches_what_its_stars_are_filled_to();
 }
