@@ -2,8 +2,8 @@
 
 -- what the contract of `gen_` says
 pub mod Generated
--- what a law says
-pub mod FirstBadLine
+-- what the laws say
+pub mod Dumps
 -- what only inner contracts and proofs use
 pub mod Cursors
 pub mod Reads
