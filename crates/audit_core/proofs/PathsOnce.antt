@@ -1,13 +1,13 @@
 -- No path stands twice in a sound database.
-use Rattle.std.proofs.Common.{◌≡◌, ◌⊎◌, inl, inr, ℕ, Bool, true, false, List, [], ◌∷◌, ◌++◌, map, refl, ap, sym, ◌∙◌, subst, true≢false}
+use Rattle.std.proofs.Common.{◌≡◌, inl, inr, ℕ, Bool, true, false, List, [], ◌∷◌, ◌++◌, map, refl, ap, sym, ◌∙◌, subst, true≢false}
 use Rattle.std.specs.Prelude.{◌==◌, ◌&&◌, ◌||◌, not, nat_le, length}
 use Rattle.std.specs.List.{flat_map, list_any}
 use Rattle.std.proofs.lemmas.List.{map-append}
 use Rattle.adb_fields.specs.FirstPair.{IsIn}
-use Rattle.adb_fields.specs.Once.{AllDistinct, AreApart, AreDistinctNames, IsInOneOf, NamesStandOnce}
+use Rattle.adb_fields.specs.Once.{AllDistinct, AreApart, AreDistinctNames, IsInOneOf}
 use Rattle.adb_fields.specs.Paths.{path_of}
 use Rattle.adb_fields.specs.Repeated.{entries_at, files_in, folders_in, list_of, name_of, paths_in, paths_under}
-use Rattle.adb_fields.proofs.Members.{from-flat_map, from-map, in-flat_map, in-map}
+use Rattle.adb_fields.proofs.Members.{from-flat_map, from-map, in-map}
 use Rattle.adb_schema.specs.Rules.{is_file_name, is_one_part}
 use Rattle.adb_schema.specs.SoundContainers.{IsSoundValue}
 use Rattle.adb_schema.specs.SoundValues.{IsFileOf, IsFolder, IsPackage}

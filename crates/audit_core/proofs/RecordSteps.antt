@@ -4,7 +4,7 @@ use Rattle.std.specs.Prelude.{slice_get}
 use Rattle.std.specs.List.{flat_map}
 use Rattle.std.proofs.lemmas.Grind.{flat_map-append}
 use Rattle.std.proofs.lemmas.List.{map-append, take_all}
-use Rattle.adb_view.specs.Plain.{Plain, Plains}
+use Rattle.adb_view.specs.Plain.{Plains}
 use Rattle.adb_view.specs.Values.{count_of, nth}
 use Rattle.adb_fields.specs.Repeated.{list_of}
 use Rattle.db_core.proofs.Places.{count_listed, nth_listed}

@@ -16,8 +16,9 @@ ghost use Rattle.std.specs.Prelude.{◌≡◌, ◌++◌, ℕ, List, Option, All,
 use crate::records::{Record, records_by_path};
 use base_core::{Name, Text, Tree, TreeFault};
 use db_core::Db;
-use file_guard::{Comparison, compare_file, listed_file};
+use file_guard::{Comparison, compare_file_in, listed_file};
 use path_clashes::path_bytes;
+use pkg_core::PIECE_LEN;
 use std::alloc::{AllocError, Global};
 
 /// How a file differs from its record.
@@ -67,18 +68,22 @@ fn audit_records<T: Tree>(
         (T.counts tree.old) (T.counts tree.new) result }
 {
     let mut report = Vec::new(alloc);
+    // One piece for all files: to zero one for each small file would take longer than to read it.
+    let mut piece = [0; PIECE_LEN];
     for record in records {
-        audit_record(alloc, &mut report, record, tree)?;
+        audit_record(alloc, &mut report, record, tree, &mut piece)?;
     }
     Ok(report)
 }
 
-// Adds the line of a file, if it differs from its record.
+// Adds the line of a file, if it differs from its record. The file is read into the piece; what
+// this has before does not matter.
 fn audit_record<T: Tree>(
     alloc: Global,
     report: &mut Vec<u8>,
     record: &Record<'_>,
     tree: &mut T,
+    piece: &mut [u8; PIECE_LEN],
 ) -> Result<(), TreeFault>
     requires { IsName (record_seen record.now).path }
     ensures line { (found : Option (List ℕ))
@@ -92,7 +97,8 @@ fn audit_record<T: Tree>(
 {
     let path = path_bytes(alloc, &record.path)?;
     let name = Name::of(alloc, &path)?;
-    let found = compare_file(tree, &name, Some(listed_file(&record.file)), None)?;
+    let listed = listed_file(&record.file);
+    let found = compare_file_in(tree, &name, Some(listed), None, piece)?;
     if let Some(difference) = difference_by(found) {
         push_difference(report, difference, &path)?;
     }

@@ -1,5 +1,5 @@
-//! A change is carried through: its files are staged, and one step lets all of them count. The
-//! rules are in `docs/crash-safety.md`, "A change of several files".
+//! A change is carried through: its files are staged, and one step commits all of them. The rules
+//! are in `docs/crash-safety.md`, "A change of several files".
 ghost use Rattle.std.specs.Prelude.{◌≡◌, ◌<◌, ◌+◌, ◌++◌, ◌∷◌, ◌⊎◌, [], ℕ, false, List, None, length, take, IfErr, IsErrOf, OnErr, OnOk};
 ghost use Rattle.base_core.specs.Calls.{IfObservable};
 ghost use Rattle.base_core.specs.Faults.{GoesOn, HasCause, IsNoFault};
@@ -65,13 +65,14 @@ fn stage_each<T: Tree>(
     Ok(())
 }
 
-/// Carries a change through whose stage is begun: it asks the tree for each name that is removed or
-/// written, stages the files, publishes the intent, and does all actions. It asks for no memory.
+/// Carries through a change whose stage is begun: it asks the tree for each name that is removed or
+/// written, stages the files, publishes (commits) the intent, and does all actions. It allocates no
+/// memory.
 ///
 /// # Errors
 ///
-/// `Bad` where a file of a package does not have its digest any more, before anything is published;
-/// or `Disk` if the tree failed.
+/// `Bad` if a file of a package does not have its digest any more, before anything is published; or
+/// `Disk` if the tree failed.
 pub fn carry_out<T: Tree>(
     stage: &mut Stage,
     tree: &mut T,
@@ -81,27 +82,27 @@ pub fn carry_out<T: Tree>(
     requires new { stage.old ≡ new_stage stage.old.intent.removals stage.old.intent.writes }
     requires same { length writes.now ≡ length stage.old.intent.writes }
 
-    // Where neither an intent is read nor anything waits, and each write's source stands for these
-    // bytes, the change leads to the files with these bytes under the writes' names.
+    // If no intent is read, nothing is staged, and each write's source denotes these bytes, the
+    // change leads to the files with these bytes under the writes' names.
     ensures run { IfObservable (T.history tree.old) (λ v. (contents : List (List ℕ))
         → v.names intent_name ≡ None → IsEmptyStage (files_of v)
         → StandForEach (files_of v) writes.now contents
         → IsCarriedTo (after_actions stage.old.intent (with_staged 1 contents (files_of v)))
         v (T.history tree.old) (T.history tree.new) result) }
-    // Whatever else the tree shows then: it has come to files with bytes that the sources may stand
-    // for, so those of a package have the size and the digest that its value lists.
+    // Whatever else the tree returns: the result are files with bytes that the sources may denote,
+    // so those of a package have the size and the digest that its value lists.
     ensures listed { IfObservable (T.history tree.old) (λ v.
         v.names intent_name ≡ None → IsEmptyStage (files_of v)
         → OnOk result ((contents : List (List ℕ)) × MayStandForEach writes.now contents
         × IsStageRunDone (after_actions stage.old.intent (with_staged 1 contents (files_of v)))
         v (T.history tree.new))) }
-    // Nor is it half done behind an error: where a package is bad only what waits has changed.
+    // Nor is it half done after an error: if a package is bad, only staged files have changed.
     ensures unpublished { IfObservable (T.history tree.old) (λ v.
         v.names intent_name ≡ None → IsEmptyStage (files_of v)
         → (member : ℕ) (cause : Cause) → IsErrOf result (Bad member cause)
         → IsStagingRun v (T.history tree.old) (T.history tree.new)) }
-    // Where the tree failed either only what waits has changed, or the change has begun that leads
-    // to such files.
+    // If the tree failed, either only staged files have changed, or the change that leads to such
+    // files has begun.
     ensures cut_off { IfObservable (T.history tree.old) (λ v.
         v.names intent_name ≡ None → IsEmptyStage (files_of v)
         → OnErr result (IsStagingRun v (T.history tree.old) (T.history tree.new)
@@ -113,18 +114,18 @@ pub fn carry_out<T: Tree>(
     ensures asked { (T.history tree.new ≡ T.history tree.old)
         ⊎ AreAccepted T.accepts stage.old.intent }
     ensures accepted { OnOk result (AreAccepted T.accepts stage.old.intent) }
-    // A package is told as bad only with the cause of some file that has the values of the one that
-    // was tested, and other contents.
+    // A package is reported bad only with the cause of some file that has the values of the tested
+    // one, and other contents.
     ensures bad { (member : ℕ) (cause : Cause) → IsErrOf result (Bad member cause)
         → HasSpoiledFile member cause writes.now }
-    // How the tree's counts explain the answer: no count falls, a fault has its cause, and any
-    // other answer hides none.
+    // How the tree's counts explain the result: no count falls, a fault has its cause, and any
+    // other result hides none.
     ensures goes_on { GoesOn (T.counts tree.old) (T.counts tree.new) }
     ensures disk { IsErrOf result DiskFault → HasCause (T.counts tree.old) (T.counts tree.new) }
     ensures kept { OnOk result (IsNoFault (T.counts tree.old) (T.counts tree.new)) }
     ensures others { IfErr result (λ fault. (fault ≡ DiskFault → ⊥)
         → IsNoFault (T.counts tree.old) (T.counts tree.new)) }
-    // No call is a misuse where there is room for the stage, before and behind the change.
+    // No call is a misuse if the paths of the stage are free, before and after the change.
     ensures proper { IfObservable (T.history tree.old) (λ v. (contents : List (List ℕ))
         → v.names intent_name ≡ None → IsEmptyStage (files_of v)
         → StandForEach (files_of v) writes.now contents → HasRoomBeside (files_of v)

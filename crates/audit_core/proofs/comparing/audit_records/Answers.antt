@@ -1,8 +1,6 @@
-use Rattle.std.proofs.Common.{arith, map, subst, sym}
-use Rattle.base_core.specs.Name.{IsName}
+use Rattle.std.proofs.Common.{arith}
 use Rattle.base_core.specs.declared.tree.TreeFault.TheVariants.{Disk}
 use Rattle.base_core.proofs.Counting.{readings_none}
-use Rattle.audit_core.specs.Seen.{record_seen}
 use Rattle.audit_core.proofs.AuditSteps.{named_at, nothing_reported, nothing_said, reported_all, reported_more}
 use Rattle.audit_core.proofs.Reading.{reads_on}
 use Rattle.audit_core.proofs.comparing.audit_records.Goals as goal

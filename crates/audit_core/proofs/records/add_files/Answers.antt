@@ -1,4 +1,4 @@
-use Rattle.std.proofs.Common.{◌∙◌, ◌++◌, List, [], ◌∷◌, map, ap, arith}
+use Rattle.std.proofs.Common.{◌∙◌, ◌++◌, [], ◌∷◌, map, ap, arith}
 use Rattle.adb_view.specs.Plain.{Plain}
 use Rattle.adb_fields.specs.ListValue.{list_value}
 use Rattle.adb_fields.specs.Repeated.{list_of}

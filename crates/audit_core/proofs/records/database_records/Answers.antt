@@ -1,4 +1,4 @@
-use Rattle.std.proofs.Common.{◌∙◌, ◌++◌, [], map, ap, arith, sym}
+use Rattle.std.proofs.Common.{◌∙◌, ◌++◌, [], map, ap, arith}
 use Rattle.std.specs.List.{flat_map}
 use Rattle.std.specs.Option.{option_map_or}
 use Rattle.audit_core.specs.Records.{package_records}
