@@ -4,6 +4,7 @@ pub mod Options
 pub mod Grammar
 pub mod HelpTexts
 -- what only inner contracts and proofs use
+pub mod Usage
 pub mod Rows
 pub mod Steps
 pub mod Faults
