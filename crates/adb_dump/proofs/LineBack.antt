@@ -55,7 +55,7 @@ back_at (suc n) k h lt =
       | inr top ↦ let e : k ≡ n = omega arith in rw e (eqb-true (hex_value (slice_index lower_digits n)) n a.0)
     ]
 
-hex_value-digit : (n : ℕ) → n < 16 → hex_value (slice_index lower_digits n) ≡ n
+pub hex_value-digit : (n : ℕ) → n < 16 → hex_value (slice_index lower_digits n) ≡ n
 hex_value-digit n lt = back_at 16 n refl lt
 
 hex_byte_back : (c : ℕ) → c < 256 → hex_value (slice_index lower_digits (c / 16)) * 16 + hex_value (slice_index lower_digits (c % 16)) ≡ c
@@ -91,7 +91,7 @@ escaped-len c = by_test (eqb c 10) (eqb c 92) (eqb c 34) (is_printable c)
     by_test false false false true = lit< tt
     by_test false false false false = lit< tt
 
-unquoted-escaped : (n c : ℕ) (more : List ℕ) → c < 256 → quoted_read (suc n) (escape_of c ++ more) ≡ option_map (λ b. c ∷ b) (quoted_read n more)
+pub unquoted-escaped : (n c : ℕ) (more : List ℕ) → c < 256 → quoted_read (suc n) (escape_of c ++ more) ≡ option_map (λ b. c ∷ b) (quoted_read n more)
 unfolding encode_with
 unquoted-escaped n c more lt = go (eqb c 10) refl
   where

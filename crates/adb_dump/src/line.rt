@@ -161,7 +161,7 @@ fn write_escaped<O: Out>(out: &mut O, byte: u8) -> Result<(), AllocError>
 
 /// Whether a text may be written as it is: every byte is printable, no space is first or last, no
 /// quote is first, and the text is not `null`.
-fn is_bare(text: &[u8]) -> bool
+pub fn is_bare(text: &[u8]) -> bool
     ensures { result ≡ is_bare text.now }
 {
     if !is_printable(text) {

@@ -1,11 +1,11 @@
--- What a call on a tree says of the tree's history and counts. The rules are in
--- `docs/crash-safety.md`, "Moments" (the history) and "Misuses, faults and counts".
+-- What holds of the tree's history and counts over a call. The rules are in `docs/crash-safety.md`,
+-- "Moments" (the history) and "Misuses, faults and counts".
 use Rattle.std.specs.Prelude.{◌≡◌, ◌⊎◌, List, [], ◌∷◌, Result, OnOk, OnErr}
 use Rattle.base_core.specs.Tree.{TreeState}
 use Rattle.base_core.specs.Faults.{Counts, GoesOn, HasCause, IsNoFault, next_count}
 
--- A tree's history is the list of its states so far, the newest first. It is observable where it is
--- not empty: a tree whose states nobody can know, as one over the host's files, has an empty one.
+-- A tree's history is the list of its states so far, the newest first. It is observable if it is not
+-- empty. A tree whose states nobody can know, such as one over the host's files, has an empty one.
 
 -- P holds of the newest state, if the history is observable
 abbrev pub IfObservable : List TreeState → (TreeState → Type 0) → Type 0
@@ -17,28 +17,27 @@ abbrev pub HasNow : List TreeState → (TreeState → Type 0) → Type 0
 HasNow [] P = ⊥
 HasNow (v ∷ earlier) P = P v
 
--- what a call that writes makes of the history: one that succeeds adds the state `done`; one that
--- fails adds the state `failed`, or none, and none if it was a misuse. `can` says at which
--- states the call is no misuse
+-- how a call that writes changes the history: a success adds the state `done`; a failure adds the state
+-- `failed` or none, and none if the call was a misuse. `can` says at which states it is no misuse
 pub record Moves {T E : Type 0} (can : TreeState → Type 0) (done failed : TreeState → TreeState)
     (old new : List TreeState) (result : Result T E) : Type 0 where
-  -- what is not observable stays so
+  -- an unobservable history stays unobservable
   pub unobservable : old ≡ [] → new ≡ []
-  -- success adds just the state `done`
+  -- success adds exactly the state `done`
   pub ok : OnOk result (IfObservable old (λ v. new ≡ done v ∷ old))
-  -- a failure adds nothing, or, where the call was no misuse, the state `failed`
+  -- a failure adds nothing, or the state `failed` if the call was no misuse
   pub err : OnErr result (IfObservable old (λ v. (new ≡ old) ⊎ (can v × (new ≡ failed v ∷ old))))
 
--- what a call of a tree does to the counts, where `can` says at which states the call is no misuse
+-- how a call of a tree changes the counts; `can` says at which states the call is no misuse
 pub record IsCounted {T E : Type 0} (can : TreeState → Type 0) (history : List TreeState)
     (before now : Counts) (result : Result T E) : Type 0 where
   -- no count falls
   pub goes_on : GoesOn before now
   -- an error is a counted fault, and has its reason
   pub cause : OnErr result (HasCause before now)
-  -- a call that succeeds counts neither a fault nor a want, and was no misuse
+  -- a call that succeeds counts neither a fault nor a lack of memory, and was no misuse
   pub kept : OnOk result (IsNoFault before now)
   pub allowed : OnOk result (IfObservable history can)
-  -- just the misuses are counted as such
+  -- exactly the misuses are counted as such
   pub proper : IfObservable history (λ v. can v → now.misuses ≡ before.misuses)
   pub misuse : IfObservable history (λ v. (can v → ⊥) → now.misuses ≡ next_count before.misuses)

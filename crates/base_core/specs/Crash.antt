@@ -4,8 +4,8 @@ use Rattle.std.specs.Prelude.{◌≡◌, ℕ, true, List, ◌++◌, Option, Some
 use Rattle.base_core.specs.Files.{Files, NameMap}
 use Rattle.base_core.specs.Tree.{TreeState, File, IsMapOf, files_by}
 
--- what a crash may leave of the file of a number: a synced file's bytes, and of another any bytes;
--- without a number, nothing
+-- what a crash may leave of the file with a number: a synced file's bytes, and any bytes of another
+-- file; nothing if there is no number
 abbrev pub MayLeave : (ℕ → File) → Option ℕ → Option (List ℕ) → Type 0
 MayLeave files None bytes = bytes ≡ None
 MayLeave files (Some n) None = ⊥
@@ -19,16 +19,16 @@ IsImageBy v map image = (q : List ℕ) → MayLeave v.files (map q) (image q)
 abbrev pub IsImage : TreeState → Files → Type 0
 IsImage v image = (map : NameMap) × IsMapOf v map × IsImageBy v map image
 
--- a tree is orderly: each file on which something rests is synced, in each map of names. What rests
--- on which file is a parameter, decided by the files of that map: only a crate above, which can
--- read the file that says what is left to do, knows it
+-- a tree is orderly: each file that must be durable is synced, in each map of names. The parameter
+-- `rests_on` says which files these are, given the files of that map: only a crate that can read the
+-- journal knows it
 pub record IsOrderly (rests_on : Files → List ℕ → Type 0) (v : TreeState) : Type 0 where
   pub each : (map : NameMap) → IsMapOf v map → (q : List ℕ) (n : ℕ) → rests_on (files_by v map) q
       → map q ≡ Some n → (v.files n).synced ≡ true
 
 -- ---- moments, as the states that a history got since it was an older one, the newest first
 
--- P holds of each state that was added since; `old` is the history then, `new` the history now
+-- P holds of each state that was added between the histories `old` and `new`
 pub record Since (P : TreeState → Type 0) (old new : List TreeState) : Type 0 where
   -- the states that were added, the newest first
   pub added : List TreeState

@@ -33,7 +33,7 @@ no_names q = None
 abbrev pub IsWithin : {X : Type 0} → List (List ℕ) → (List ℕ → Option X) → Type 0
 IsWithin names map = (q : List ℕ) → IsSome (map q) → list_any (bytes_eq q) names ≡ true
 
--- what is present in the map is a name: a path below the root
+-- whatever is present in the map is a name: a path below the root
 abbrev pub AreNames : {X : Type 0} → (List ℕ → Option X) → Type 0
 AreNames map = (q : List ℕ) → IsSome (map q) → IsName q
 

@@ -1,5 +1,5 @@
--- The definitions of trees, crashes, names, sinks and lists in order. The README of this crate says
--- in which order to read them, and the head of each file where its rule stands.
+-- The definitions of trees, crashes, names, sinks and sorted lists. The README of this crate says in
+-- which order to read them; the head of each file names the document with its rule.
 
 -- what the contract of `apk` says
 pub mod Lists

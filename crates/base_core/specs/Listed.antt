@@ -8,20 +8,20 @@ use Rattle.base_core.specs.Files.{IsFolderOf}
 use Rattle.base_core.specs.Name.{IsName}
 use Rattle.base_core.specs.Tree.{TreeState}
 
--- the names stand in byte order, each once
+-- the names are in byte order, each once
 abbrev pub IsRising : List (List ℕ) → Type 0
 IsRising names = AllPairs (λ a b. slice_cmp nat_cmp a b ≡ Less) names
 
--- the names that are present in a map, just these, in byte order
+-- exactly the names that are present in a map, in byte order
 pub record IsNamesOf {X : Type 0} (map : List ℕ → Option X) (names : List (List ℕ)) : Type 0 where
   pub rising : IsRising names
-  -- just the present names stand in it
+  -- the list has exactly the present names
   pub each : (q : List ℕ) → Contains names q ↔ IsSome (map q)
 
--- the listing of a folder: just the present names below it, at any depth, in byte order
+-- the listing of a folder: exactly the present names below it, at any depth, in byte order
 pub record IsListOf (folder : List ℕ) (v : TreeState) (names : List (List ℕ)) : Type 0 where
   pub rising : IsRising names
-  -- just the present names below the folder stand in it
+  -- the list has exactly the present names below the folder
   pub each : (q : List ℕ) → Contains names q ↔ (IsSome (v.names q) × IsFolderOf folder q)
 
 -- these bytes are a name, and the folder is a folder of it

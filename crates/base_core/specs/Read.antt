@@ -1,4 +1,4 @@
--- What a call that reads a tree says. It leaves the tree as it is, as `docs/crash-safety.md`,
+-- What a call that only reads a tree ensures: the tree is unchanged, as `docs/crash-safety.md`,
 -- "Misuses, faults and counts", says of the commands that only read.
 use Rattle.std.specs.Prelude.{◌≡◌, ◌++◌, ℕ, List, length, take, drop, Option, IfSome, Result, OnOk, IfErr, IsErrOf, Vec}
 use Rattle.std.specs.Option.{option_map}
@@ -7,12 +7,12 @@ use Rattle.base_core.specs.Calls.{IfObservable}
 use Rattle.base_core.specs.Faults.{Counts, GoesOn, HasCause, IsNoFault}
 use Rattle.base_core.specs.Tree.{TreeState, files_of}
 
--- the bytes that a read found, without where they lie in memory; None if it found no file
+-- the bytes that a read found, without their address in memory; None if it found no file
 abbrev pub bytes_in : Option (Vec ℕ Global) → Option (List ℕ)
 bytes_in found = option_map (λ bytes. bytes.items) found
 
--- behind the bytes `before` stand so many more; where the tree tells its files, they are those that
--- the file under the name has from the offset `at` on
+-- the read bytes follow the bytes `before`, in the given number; if the tree's history is observable,
+-- they are the bytes of the file under the name from the offset `at` on
 pub record HasReadBehind (history : List TreeState) (name : List ℕ) (at len : ℕ)
     (before now : List ℕ) : Type 0 where
   -- what was read
@@ -22,19 +22,19 @@ pub record HasReadBehind (history : List TreeState) (name : List ℕ) (at len : 
   pub told : IfObservable history
       (λ v. IfSome (files_of v name) (λ file. read ≡ take len (drop at file)))
 
--- a call that only reads the tree; `disk_fault` is what it answers if the tree failed
+-- a call that only reads the tree; `disk_fault` is what it returns if the tree failed
 pub record OnlyReads {A E : Type 0} (disk_fault : E) (old new : List TreeState)
     (before now : Counts)
     (result : Result A E) : Type 0 where
-  -- the states stay
+  -- the states are unchanged
   pub same : new ≡ old
   -- no count falls
   pub goes_on : GoesOn before now
   -- the tree failed only if that has its cause
   pub disk : IsErrOf result disk_fault → HasCause before now
-  -- an answer that is no fault of the tree raised neither faults nor wants
+  -- a success adds neither a fault nor a lack of memory
   pub kept : OnOk result (IsNoFault before now)
-  -- nor did an error other than `disk_fault`
+  -- nor does an error other than `disk_fault`
   pub others : IfErr result (λ fault. (fault ≡ disk_fault → ⊥) → IsNoFault before now)
   -- if the history is observable, no call was a misuse
   pub proper : IfObservable old (λ v. now.misuses ≡ before.misuses)

@@ -1,11 +1,10 @@
--- What stands after a crash, and what holds at a moment by those before it. The rules are in
+-- The tree after a crash, and what holds at a moment given the earlier ones. The rules are in
 -- `docs/crash-safety.md`, "What a crash leaves", and of `HasLed` in "Moments".
 use Rattle.std.specs.Prelude.{◌≡◌, ◌⊎◌, ◌≤◌, ℕ, true, List, [], ◌∷◌, ◌++◌, Some}
 use Rattle.base_core.specs.Crash.{IsImage}
 use Rattle.base_core.specs.Tree.{TreeState, files_of}
 
--- `w` is a tree that stands after a crash of `v`: an image, by one map of names, with each file
--- synced
+-- `w` is a tree after a crash of `v`: an image, by one map of names, with each file synced
 pub record IsCrashOf (v w : TreeState) : Type 0 where
   -- what is read then is what a crash may leave of `v`
   pub left : IsImage v (files_of w)
@@ -14,12 +13,12 @@ pub record IsCrashOf (v w : TreeState) : Type 0 where
   -- each file that a name leads to is synced
   pub synced : (q : List ℕ) (n : ℕ) → w.names q ≡ Some n → (w.files n).synced ≡ true
 
--- P holds at each moment of a list: it speaks of the moments before and of the state
+-- P holds at each moment of a list: its arguments are the earlier moments and the state
 abbrev pub EachMoment : (List TreeState → TreeState → Type 0) → List TreeState → Type 0
 EachMoment P [] = Unit {0}
 EachMoment P (v ∷ earlier) = P earlier v × EachMoment P earlier
 
--- P holds so at each moment that was added since; `old` is the history then, `new` that of now
+-- P holds at each moment that was added between the histories `old` and `new`
 pub record SinceBy (P : List TreeState → TreeState → Type 0)
     (old new : List TreeState) : Type 0 where
   -- the states that were added, the newest first
@@ -27,7 +26,7 @@ pub record SinceBy (P : List TreeState → TreeState → Type 0)
   pub is : new ≡ added ++ old
   pub each : EachMoment P added
 
--- at one of the moments the name as read led to a file that was made as number `made` or later
+-- at one of the moments the name as read led to a file whose number is `made` or larger
 abbrev pub HasLed : List ℕ → ℕ → List TreeState → Type 0
 HasLed name made [] = ⊥
 HasLed name made (v ∷ earlier) =

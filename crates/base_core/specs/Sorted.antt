@@ -1,15 +1,15 @@
--- Lists in order, by any order of their elements. The rule is that of `docs/names.md`, *sorted*,
--- and of the README of this crate.
+-- Sorted lists, by any order of their elements. The rule is that of `docs/names.md`, *sorted*, and of
+-- the README of this crate.
 use Rattle.std.specs.Prelude.{List, [], ◌∷◌, if◌then◌else◌}
 use Rattle.std.specs.Ordering.{is_gt}
 use Rattle.std.specs.declared.cmp.Ordering.{Ordering}
 
--- a list with one more element: in front of the first one that it does not come behind
+-- a list with one more element, which is put before the first one that it is not greater than
 abbrev pub with_element : {X : Type 0} → (X → X → Ordering) → X → List X → List X
 with_element cmp x [] = x ∷ []
 with_element cmp x (y ∷ ys) = if is_gt (cmp x y) then y ∷ with_element cmp x ys else x ∷ y ∷ ys
 
--- the elements of a list in this order; equal ones stay in the order that they had
+-- the elements of a list in this order; equal ones keep their order
 abbrev pub sorted_by : {X : Type 0} → (X → X → Ordering) → List X → List X
 sorted_by cmp [] = []
 sorted_by cmp (x ∷ xs) = with_element cmp x (sorted_by cmp xs)

@@ -1,19 +1,19 @@
--- A tree of files at one moment, what each call makes of it, and where a call is a misuse. The
--- rules are in `docs/crash-safety.md`, "A tree at one moment", "What each call does" and
--- "Misuses, faults and counts".
+-- A tree of files at one moment, what each call does to it, and when a call is a misuse. The rules are
+-- in `docs/crash-safety.md`, "A tree at one moment", "What each call does" and "Misuses, faults and
+-- counts".
 use Rattle.std.specs.Prelude.{◌≡◌, ◌⊎◌, ◌≢◌, ◌≤◌, ◌<◌, ℕ, ◌+◌, Bool, true, false, if◌then◌else◌, ◌==◌, List, [], ◌∷◌, ◌++◌, Option, Some, None, IsSome, length}
 use Rattle.base_core.specs.Lists.{IsIn}
 use Rattle.base_core.specs.Files.{Files, NameMap, put_name, drop_name, move_name, AreNames, IsFile, IsFolderLike, IsWithin}
 
--- a file: its bytes as read, and whether a crash leaves just these
+-- a file: its bytes as read, and whether a crash keeps exactly these
 pub record File : Type 0 where
   -- the bytes as a read gives them
   pub bytes : List ℕ
-  -- whether a crash leaves just these bytes
+  -- whether a crash keeps exactly these bytes
   pub synced : Bool
 
--- a tree at one moment: the files by number, and how many were made; the names as read, and the
--- maps of names before it, since the names were last synced, the newest first
+-- a tree at one moment: the files by number, and how many were made; the names as read, and the earlier
+-- maps of names since the names were last synced, the newest first
 pub record TreeState : Type 0 where
   -- the file of each number
   pub files : ℕ → File
@@ -21,7 +21,7 @@ pub record TreeState : Type 0 where
   pub made : ℕ
   -- the map of names as read
   pub names : NameMap
-  -- the maps before it since the names were last synced, the newest first
+  -- the earlier maps since the names were last synced, the newest first
   pub older : List NameMap
 
 -- the bytes of the file of a number, if there is a number
@@ -29,26 +29,26 @@ abbrev pub bytes_at : (ℕ → File) → Option ℕ → Option (List ℕ)
 bytes_at files None = None
 bytes_at files (Some n) = Some (files n).bytes
 
--- the files as one of the maps of names shows them
+-- the files by one of the maps of names
 abbrev pub files_by : TreeState → NameMap → Files
 files_by v map q = bytes_at v.files (map q)
 
--- the files as read: those that the newest map of names shows
+-- the files as read: those by the newest map of names
 abbrev pub files_of : TreeState → Files
 files_of v = files_by v v.names
 
--- ---- what the calls make of a state
+-- ---- how the calls change a state
 
 -- the files by number, with this one under the number `n`
 abbrev pub set_file : (ℕ → File) → ℕ → File → ℕ → File
 set_file files n file k = if k == n then file else files k
 
--- the state with the file of this number changed; without a number it stays
+-- the state with the file of this number changed; unchanged if there is no number
 abbrev pub change_at : (File → File) → TreeState → Option ℕ → TreeState
 change_at change v None = v
 change_at change v (Some n) = record v { files = set_file v.files n (change (v.files n)) }
 
--- the state whose names are now these; the map before it is one more that a crash may bring back
+-- the state with these names; the map before is one more that a crash may restore
 abbrev pub with_names : TreeState → NameMap → TreeState
 with_names v names = record v { names = names; older = v.names ∷ v.older }
 
@@ -61,7 +61,7 @@ after_create name v = record {
   older = v.names ∷ v.older;
 }
 
--- after `append`: the file has the piece behind its bytes, and is not synced
+-- after `append`: the piece is added at the file's end, and the file is unsynced
 abbrev pub after_append : List ℕ → List ℕ → TreeState → TreeState
 after_append name piece v =
     change_at (λ f. record { bytes = f.bytes ++ piece; synced = false }) v (v.names name)
@@ -75,22 +75,22 @@ after_failed_append name v =
 abbrev pub after_sync : List ℕ → TreeState → TreeState
 after_sync name v = change_at (λ f. record { bytes = f.bytes; synced = true }) v (v.names name)
 
--- the state in which the file of this number is under `to`, and none under `from`; without a
--- number it stays
+-- the state in which the file of this number is under `to`, and none under `from`; unchanged if there
+-- is no number
 abbrev pub move_at : List ℕ → List ℕ → TreeState → Option ℕ → TreeState
 move_at from to v None = v
 move_at from to v (Some n) = with_names v (move_name v.names from to n)
 
--- after `rename`: the file of the first name is under the second, in place of what stood there
+-- after `rename`: the file of the first name is under the second, in place of the file there
 abbrev pub after_rename : List ℕ → List ℕ → TreeState → TreeState
 after_rename from to v = move_at from to v (v.names from)
 
--- the state in which nothing is under the name; without a number it stays
+-- the state in which nothing is under the name; unchanged if there is no number
 abbrev pub remove_at : List ℕ → TreeState → Option ℕ → TreeState
 remove_at name v None = v
 remove_at name v (Some n) = with_names v (drop_name v.names name)
 
--- after `remove`: nothing is under the name; its file itself is as it was
+-- after `remove`: nothing is under the name; the file itself is as it was
 abbrev pub after_remove : List ℕ → TreeState → TreeState
 after_remove name v = remove_at name v (v.names name)
 
@@ -102,9 +102,9 @@ after_sync_names v = record v { older = [] }
 abbrev pub same_state : TreeState → TreeState
 same_state v = v
 
--- ---- where a call is no misuse
+-- ---- when a call is no misuse
 
--- for a call that is a misuse at no state
+-- for a call that is never a misuse
 abbrev pub Anywhere : TreeState → Type 0
 Anywhere v = Unit {0}
 
@@ -128,7 +128,7 @@ pub record CanCreate (name : List ℕ) (v : TreeState) : Type 0 where
 pub record CanRename (from to : List ℕ) (v : TreeState) : Type 0 where
   pub present : IsSome (v.names from)
   pub apart : from ≢ to
-  -- which file is under a name does not matter to this, so 0 stands for its number
+  -- the test does not depend on the file, so 0 serves as its number
   pub folders : IsFolderLike (put_name (drop_name v.names from) to 0)
 
 -- ---- the maps of names
@@ -137,9 +137,9 @@ pub record CanRename (from to : List ℕ) (v : TreeState) : Type 0 where
 abbrev pub IsMapOf : TreeState → NameMap → Type 0
 IsMapOf v map = IsIn map (v.names ∷ v.older)
 
--- what holds of every state that a tree shows: in each map of names finitely many names are
--- present, each is a name, none is a folder of another, and each leads to a file that was made; and
--- each file has fewer than 2 ^ 64 bytes
+-- what holds of every observable state. In each map of names finitely many names are present, each is a
+-- name, none is a folder of another, and each leads to a file that was made. Each file has fewer than 2
+-- ^ 64 bytes
 pub record IsWhole (v : TreeState) : Type 0 where
   -- finitely many names are present
   pub finite : (map : NameMap) → IsMapOf v map → (names : List (List ℕ)) × IsWithin names map

@@ -1,15 +1,15 @@
--- What a call that writes to a sink says. Serves the contracts of calls that write all of their
+-- What a call that writes to a sink ensures. It serves the contracts of calls that write all of their
 -- bytes, as `write_all` does (its row in the README of this crate).
 use Rattle.std.specs.Prelude.{ℕ, List, Result, OnOk, OnErr}
 use Rattle.base_core.specs.Faults.{FailsWithCause}
 use Rattle.base_core.specs.Sink.{SinkChange, Gets, GetsSome}
 
--- a call has written all these bytes to a sink, or a front of them if the sink failed
+-- a call has written all these bytes to a sink, or a prefix of them if the sink failed
 pub record Writes {T E : Type 0} (bytes : List ℕ) (sink : SinkChange)
     (result : Result T E) : Type 0 where
   -- all bytes were written
   pub ok : OnOk result (Gets sink bytes)
-  -- a front of the bytes was written
+  -- a prefix of the bytes was written
   pub err : OnErr result (GetsSome sink bytes)
   -- the sink failed only if its count of faults rose
   pub cause : FailsWithCause sink.before sink.after result

@@ -1,16 +1,13 @@
-//! Why a container is refused. Which test each one fails, and in which order they are made, stands
-//! in `docs/formats.md`, "Container" and "Tests of a container"; the line that tells it in
-//! `docs/commands.md`, "Error lines".
+//! Why a container is refused. `docs/formats.md`, "Container" and "Tests of a container", defines
+//! what each test checks and the order of the tests; `docs/commands.md`, "Error lines", defines the
+//! line that is printed.
 
 /// A digest of a file's bytes: SHA-1 (FIPS 180-4, 20 bytes), SHA-256 (32 bytes) or SHA-512 (64
 /// bytes).
 #[derive(Clone, Copy, Debug, PartialEq, Eq)]
 pub enum Digest {
-    /// Of SHA-1.
     Sha1([u8; 20]),
-    /// Of SHA-256.
     Sha256([u8; 32]),
-    /// Of SHA-512.
     Sha512([u8; 64]),
 }
 
@@ -26,7 +23,7 @@ pub enum Cause {
     Truncated {
         at: u64,
     },
-    /// The block at this offset has an unknown kind, or stands where its kind may not.
+    /// The block at this offset has an unknown kind, or a kind that is not allowed there.
     BlockOrder {
         at: u64,
     },
@@ -36,16 +33,15 @@ pub enum Cause {
     Outside {
         word: u32,
     },
-    /// The value is of another kind than asked for.
+    /// The value is of another kind than expected.
     WrongKind {
         word: u32,
     },
-    /// The container has this schema, and not one that is asked for.
+    /// The container has this schema, which is not an expected one.
     WrongSchema {
         found: u32,
     },
-    /// The payload has at least this many values, which are too many: one more than the most that
-    /// are read (4,194,304).
+    /// The payload has at least this many values: one more than the limit, 4,194,304.
     TooLarge {
         count: u32,
     },
@@ -54,15 +50,14 @@ pub enum Cause {
     BadText {
         place: u16,
     },
-    /// A name stands twice, at two positions that count from 1. `place` is as in `BadText`.
+    /// A name is repeated, at two positions that count from 1. `place` is as in `BadText`.
     Repeated {
         place: u16,
         first: u32,
         second: u32,
     },
-    /// The contents of one file stand where those of another have to. Each of the two is given by
-    /// the position of its folder and its position in the folder, which count from 1; (0, 0) is
-    /// none.
+    /// The contents of one file are at the place of another's. Each file is given by the position
+    /// of its folder and its position in the folder, both counted from 1; (0, 0) means none.
     DataOrder {
         expected: (u32, u32),
         found: (u32, u32),
@@ -77,7 +72,7 @@ pub enum Cause {
         wanted: Digest,
         found: Digest,
     },
-    /// The line with this number, counted from 1, of a database that is a text breaks its grammar.
+    /// This line, counted from 1, of a database in text form breaks its grammar.
     TextLine {
         line: u64,
     },

@@ -1,6 +1,6 @@
-//! What the crates above share: names, texts and words; the traits of the outside, `Tree` and
-//! `Sink`, with what their calls mean; a read of a whole file and a write of all bytes; lists in
-//! order; and why a container is refused.
+//! What the crates above share: names, texts and words; the traits `Tree` and `Sink` for the
+//! outside world, with the meaning of their calls; a read of a whole file and a write of all bytes;
+//! sorted lists and byte order; and why a container is refused.
 //!
 //! Bytes come in and leave as `Name`, `Text`, `Words` or `Names`. The contracts cite `Lists` (what
 //! is in a list), `Name` (what a name is), `Files` (files by their names), `Tree`, `Calls`, `Crash`

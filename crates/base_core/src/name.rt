@@ -10,8 +10,8 @@ use std::alloc::{AllocError, Global};
 use std::marker::Model;
 use std::str;
 
-/// A path seen as its bytes: UTF-8, 1 to 1,024 bytes, parts separated by `/`, no part empty, `.` or
-/// `..`, no zero byte. It is relative to the root that a tree stands for.
+/// A path as its bytes: UTF-8, 1 to 1,024 bytes, parts separated by `/`, no part empty, `.` or
+/// `..`, no zero byte. It is relative to the tree's root.
 #[derive(Drop)]
 pub struct Name {
     bytes: Vec<u8>,
@@ -29,7 +29,7 @@ impl Model for Name {
 }
 
 impl Name {
-    /// The name that the bytes are. None comes exactly when they are no name.
+    /// The bytes as a name, or None exactly if they are not a name.
     pub fn read(alloc: Global, bytes: &[u8]) -> Result<Option<Name>, AllocError>
         ensures when { IfOk result (λ found. is_some found ≡ is_name bytes.now) }
         ensures value { IfOk result (λ found. IfSome found (λ name. name ≡ bytes.now)) }
@@ -41,7 +41,7 @@ impl Name {
         Ok(Some(Name { bytes }))
     }
 
-    /// The name that the bytes are, if they are known to be one.
+    /// The bytes as a name, if they are known to be one.
     pub fn of(alloc: Global, bytes: &[u8]) -> Result<Name, AllocError>
         requires { IsName bytes.now }
         ensures { IfOk result (λ name. name ≡ bytes.now) }
@@ -50,7 +50,6 @@ impl Name {
         Ok(Name { bytes })
     }
 
-    /// The bytes of the name.
     pub fn as_bytes(&self) -> &[u8]
         ensures value { result.now ≡ self.now }
         ensures name { IsName self.now }
@@ -67,8 +66,8 @@ impl Name {
     }
 }
 
-/// Whether the bytes are a name: 1 to 1,024 bytes of UTF-8, none of them zero, whose parts may
-/// stand in a name.
+/// Whether the bytes are a name: 1 to 1,024 bytes of UTF-8, none of them zero, and each part may be
+/// in a name.
 #[tactic(auto, unfolding(crate::specs::Name::is_name))]
 pub fn is_name(bytes: &[u8]) -> bool
     ensures { result ≡ is_name bytes.now }
@@ -106,7 +105,7 @@ fn is_part(part: &[u8]) -> bool
     !part.is_empty() && part != b".".as_slice() && part != b"..".as_slice()
 }
 
-/// Whether a name is a folder of another: the first and a slash begin the second.
+/// Whether a name is a folder of another: the other begins with it and a slash.
 pub fn is_folder_of(folder: &[u8], name: &[u8]) -> bool
     ensures { IsTrue result ↔ IsFolderOf folder.now name.now }
 {
@@ -116,7 +115,7 @@ pub fn is_folder_of(folder: &[u8], name: &[u8]) -> bool
     }
 }
 
-/// A list of names, as a listing gives it.
+/// A list of names, as a listing returns it.
 #[derive(Drop)]
 pub struct Names {
     names: Vec<Name>,

@@ -1,4 +1,4 @@
-//! What takes bytes: the trait `Sink`, and a write of all bytes. Its rule is in
+//! Output streams: the trait `Sink`, and a write of all bytes. Its rules are in
 //! `docs/crash-safety.md`, "Misuses, faults and counts" (the counts of a sink), and in the rows of
 //! `Sink` and `write_all` in the README of this crate.
 ghost use Rattle.std.specs.Prelude.{◌≡◌, [], List, ℕ, Option, take, IsOk, IfOk, OnOk, OnErr};
@@ -12,7 +12,7 @@ use thiserror::Error;
 #[error("the sink failed")]
 pub struct SinkFault;
 
-/// What takes bytes at its end, as a file that is open for appending or a pipe.
+/// An output stream, such as a file that is open for appending or a pipe.
 pub trait Sink {
     /// The bytes written so far, if they are observable.
     ghost bytes: { Self → Option (List ℕ) };
@@ -20,7 +20,7 @@ pub trait Sink {
     /// How often a write failed, and why.
     ghost counts: { Self → Counts };
 
-    /// Takes a front of the piece, at least one byte if there is one, and answers how many bytes
+    /// Takes a prefix of the piece, at least one byte if there is one, and returns how many bytes
     /// it took. An empty piece never fails.
     ///
     /// # Errors
@@ -39,7 +39,7 @@ pub trait Sink {
 ///
 /// # Errors
 ///
-/// `SinkFault` if the sink failed; then a front of the bytes was added.
+/// `SinkFault` if the sink failed; then a prefix of the bytes was added.
 pub fn write_all<S: Sink>(sink: &mut S, bytes: &[u8]) -> Result<(), SinkFault>
     ensures ok { OnOk result (Adds (S.bytes sink.old) (S.bytes sink.new) bytes.now) }
     ensures err { OnErr result (AddsSome (S.bytes sink.old) (S.bytes sink.new) bytes.now) }

@@ -1,12 +1,12 @@
-//! Byte texts, and the words of a command line. How many words a command line may have stands in
-//! `docs/commands.md`, "Answers and statuses" (status 5); how they are read, in "Words". In the
-//! clauses `ok` and `err` say what a push makes of the list, `small` that places fit in 32 bits.
+//! Byte texts, and the words of a command line. `docs/commands.md` says how many words a command
+//! line may have ("Answers and statuses", status 5) and how they are read ("Words"). In the clauses
+//! `ok` and `err` say what a push makes of the list, `small` that places fit in 32 bits.
 ghost use Rattle.std.specs.Prelude.{◌≡◌, ◌<◌, [], ◌∷◌, ◌++◌, length, IfOk, OnOk, OnErr, slice_get, Some, ◌==◌};
 
 use std::alloc::{AllocError, Global};
 use std::marker::Model;
 
-/// Bytes of any values that are owned: what a word, an option or a line says.
+/// Owned bytes of any values, such as a word, an option or a line.
 #[derive(Drop)]
 pub struct Text {
     bytes: Vec<u8>,
@@ -36,7 +36,6 @@ impl Text {
         Text { bytes }
     }
 
-    /// The bytes of the text.
     pub fn as_bytes(&self) -> &[u8]
         ensures { result.now ≡ self.now }
     {
@@ -44,8 +43,8 @@ impl Text {
     }
 }
 
-/// The words of a command line, without the program's name: at most 4,294,967,294, so that places,
-/// counted from 1, and the place behind the last one are u32 numbers.
+/// The words of a command line, without the program's name. There are at most 4,294,967,294, so
+/// that places, counted from 1, and the place after the last one are u32 numbers.
 #[derive(Drop)]
 pub struct Words {
     alloc: Global,
@@ -99,7 +98,7 @@ impl Words {
         self.words.is_empty()
     }
 
-    /// The word at an index, which counts from 0 (the places that usage errors tell count from 1).
+    /// The word at an index, counted from 0 (the places in usage errors count from 1).
     pub fn word(&self, i: usize) -> &[u8]
         requires { i < length self.now }
         ensures { slice_get self.now i ≡ Some result.now }

@@ -1,6 +1,6 @@
-//! What holds files: the trait `Tree` with the meaning of its calls, and reads of a whole file.
-//! What each call does is in `docs/crash-safety.md`, "What each call does"; where a call is a
-//! misuse, and what is counted, in "Misuses, faults and counts".
+//! Stores of files: the trait `Tree` with the meaning of its calls, and reads of a whole file.
+//! `docs/crash-safety.md` says what each call does ("What each call does"), when a call is a
+//! misuse, and what is counted ("Misuses, faults and counts").
 ghost use Rattle.std.specs.Prelude.{◌≡◌, ℕ, List, Option, Some, length, take, drop, IfOk, OnOk, IfSome, IsErrOf, All};
 ghost use Rattle.std.specs.Option.{option_map, option_copied};
 ghost use Rattle.base_core.specs.Tree.{TreeState, files_of, after_create, after_append, after_failed_append, after_sync, after_rename, after_remove, after_sync_names, same_state, Anywhere, HasName, CanRead, CanCreate, CanRename, IsWhole};
@@ -14,7 +14,7 @@ use crate::name::{Name, Names};
 use std::alloc::{AllocError, Global};
 use thiserror::Error;
 
-/// A tree failed.
+/// An I/O error of a tree.
 #[derive(Clone, Copy, Debug, PartialEq, Eq, Error)]
 #[error("the tree failed")]
 pub struct Disk;
@@ -25,7 +25,7 @@ pub enum TreeFault {
     /// The tree failed.
     #[error("the tree failed")]
     Disk,
-    /// There was no memory.
+    /// Out of memory.
     #[error("out of memory")]
     Memory,
 }
@@ -33,7 +33,7 @@ pub enum TreeFault {
 impl From<Disk> for TreeFault {
     ghost from_gives = { λ _ fault. fault ≡ DiskFault };
 
-    // The fault of a tree as the fault of a call that reads it into memory.
+    // An I/O error as the error of a call that reads the tree into memory.
     fn from(_: Disk) -> TreeFault {
         TreeFault::Disk
     }
@@ -42,18 +42,18 @@ impl From<Disk> for TreeFault {
 impl From<AllocError> for TreeFault {
     ghost from_gives = { λ _ fault. fault ≡ Memory };
 
-    // Lack of memory as the fault of such a call.
+    // Out of memory as the error of such a call.
     fn from(_: AllocError) -> TreeFault {
         TreeFault::Memory
     }
 }
 
-/// Files under names, as a folder of the host or a tree in memory. A call that would make one name
-/// a folder of another is a misuse. Each call answers `Disk` only if the tree's count of faults
-/// rose in it, also if its history is not observable.
+/// Files under names: a folder of the host, or a tree in memory. A call that would make one name a
+/// folder of another is a misuse. Each call returns `Disk` only if the tree's count of faults rose
+/// in it, even if its history is not observable.
 ///
-/// In the clauses of the calls `same` says that the history stays, `moves` which states are added,
-/// `counts` what becomes of the counts, and `value` what is answered where the history is
+/// In the clauses of the calls `same` says that the history is unchanged, `moves` which states are
+/// added, `counts` how the counts change, and `value` what is returned if the history is
 /// observable.
 pub trait Tree {
     /// The states so far, the newest first. It is empty if they are not observable.
@@ -62,9 +62,9 @@ pub trait Tree {
     /// How often a call failed, and why.
     ghost counts: { Self → Counts };
 
-    /// The tree answered that a file can be renamed to the name, from the source that is given, or
-    /// that the name can be removed, if no source is given. It speaks of no state: only an Ok of
-    /// `check_target` gives it, so code over any tree that has it has asked.
+    /// The tree has answered that a file can be renamed to the name from the given source, or,
+    /// without a source, that the name can be removed. It depends on no state: only an Ok of
+    /// `check_target` gives it, so code over any tree that has it must have asked.
     ghost accepts: { Option (List ℕ) → List ℕ → Type 0 };
 
     /// The file's length in bytes, or None exactly if the name is absent.
@@ -93,8 +93,8 @@ pub trait Tree {
         ensures counts { IsCounted (CanCreate name.now) (history self.old)
             (counts self.old) (counts self.new) result };
 
-    /// Adds a piece at the file's end. The file is not synced any more, and where the call fails it
-    /// may not be either. An absent name is a misuse, and a fault.
+    /// Adds a piece at the file's end. The file is unsynced then, and may be unsynced if the call
+    /// fails. An absent name is a misuse, and a fault.
     fn append(&mut self, name: &Name, piece: &[u8]) -> Result<(), Disk>
         ensures moves { Moves (HasName name.now) (after_append name.now piece.now)
             (after_failed_append name.now)
@@ -110,16 +110,16 @@ pub trait Tree {
         ensures counts { IsCounted (HasName name.now) (history self.old)
             (counts self.old) (counts self.new) result };
 
-    /// Lets `to` lead to the file of `from`, and `from` to none, in one step; what `to` led to is
-    /// gone. An absent `from`, the same name twice, or a `to` that would make one name a folder of
-    /// another is a misuse, and a fault.
+    /// Moves the file of `from` to `to` in one step: `from` is absent then, and the file that `to`
+    /// led to is gone. An absent `from`, the same name twice, or a `to` that would make one name a
+    /// folder of another is a misuse, and a fault.
     fn rename(&mut self, from: &Name, to: &Name) -> Result<(), Disk>
         ensures moves { Moves (CanRename from.now to.now) (after_rename from.now to.now)
             (after_rename from.now to.now) (history self.old) (history self.new) result }
         ensures counts { IsCounted (CanRename from.now to.now) (history self.old)
             (counts self.old) (counts self.new) result };
 
-    /// Takes a name away. An absent name is no fault, and nothing changes.
+    /// Removes a name. An absent name is no fault, and nothing changes.
     fn remove(&mut self, name: &Name) -> Result<(), Disk>
         ensures moves { Moves Anywhere (after_remove name.now) (after_remove name.now)
             (history self.old) (history self.new) result }
@@ -133,12 +133,12 @@ pub trait Tree {
         ensures counts { IsCounted Anywhere (history self.old) (counts self.old)
             (counts self.new) result };
 
-    /// All names below a folder, at any depth. They are names below the folder in byte order, each
-    /// once, also if the history is not observable. Lack of memory is no fault of the tree.
+    /// All names below a folder, at any depth, in byte order, each once, even if the history is not
+    /// observable. Out of memory is no fault of the tree.
     fn list(&mut self, alloc: Global, folder: &Name) -> Result<Names, TreeFault>
         ensures same { history self.new ≡ history self.old }
         ensures goes_on { GoesOn (counts self.old) (counts self.new) }
-        // A failed tree has its cause; no other answer raises faults or wants.
+        // A failed tree has its cause; no other answer adds a fault or a lack of memory.
         ensures disk { IsErrOf result DiskFault → HasCause (counts self.old) (counts self.new) }
         ensures kept { OnOk result (IsNoFault (counts self.old) (counts self.new)) }
         ensures memory { IsErrOf result Memory → IsNoFault (counts self.old) (counts self.new) }
@@ -147,11 +147,11 @@ pub trait Tree {
             IfObservable (history self.old) (λ v. IsListOf folder.now v names)) }
         ensures order { IfOk result (λ names. AreNamesBelow folder.now names) };
 
-    /// Asks, before a change is committed, whether a file can be renamed to the name later, from
-    /// the source, or whether the name can be removed later, if there is no source. The source need
-    /// not be there yet. A name that the tree can never take so, or give up, is a fault. No call is
-    /// a misuse: what other files allow is no question of this call. Folders that are needed may
-    /// be made, since an empty folder is no part of a state.
+    /// Asks, before a change is committed, whether the tree could later rename a file from the
+    /// source to the name, or, without a source, remove the name. The source need not exist yet. A
+    /// fault says that the tree can never do so. No call is a misuse: conflicts with other files
+    /// are not checked here. Missing folders may be made, since an empty folder is no part of a
+    /// state.
     fn check_target(&mut self, name: &Name, source: Option<&Name>) -> Result<(), Disk>
         ensures same { history self.new ≡ history self.old }
         ensures counts { IsCounted Anywhere (history self.old) (counts self.old)
@@ -163,12 +163,12 @@ pub trait Tree {
     ghost whole: { (tree : Self) → All IsWhole (history tree) };
 }
 
-/// The whole file, or None exactly if it is absent. The tree stays as it is, whatever the
-/// answer.
+/// The whole file, or None exactly if the name is absent. The tree is unchanged, whatever is
+/// returned.
 ///
 /// # Errors
 ///
-/// `Disk` if the tree failed, `Memory` if there was no memory for the bytes.
+/// `Disk` if the tree failed, `Memory` if out of memory.
 pub fn read_all<T: Tree>(
     alloc: Global,
     tree: &mut T,
@@ -187,18 +187,18 @@ pub fn read_all<T: Tree>(
     Ok(Some(bytes))
 }
 
-/// How many bytes of a file one call reads at most: 128 KiB. Zeros are written where the bytes will
-/// stand, and are still in the processor's cache when these come; as many zeros as a long file has
-/// would go to memory and come back. Any number above 0 is right.
+/// How many bytes one call reads at most: 128 KiB. The buffer is filled with zeros first; with this
+/// limit they are still in the processor's cache when the file's bytes replace them. Any number
+/// above 0 is correct.
 const LONGEST_READ: u64 = 131_072;
 
-/// Reads a whole file, which has so many bytes, behind the bytes that stand there. The tree stays
-/// as it is, whatever the answer. It takes no memory where there is room for the file.
+/// Appends a whole file of the given length to the bytes. The tree is unchanged, whatever is
+/// returned. No memory is allocated if there is room for the file.
 ///
 /// # Errors
 ///
-/// `Disk` if the tree failed, `Memory` if there was no memory for the bytes; then some may
-/// stand behind the others.
+/// `Disk` if the tree failed, `Memory` if out of memory; then a part of the file may have been
+/// appended.
 pub fn read_behind<T: Tree>(
     tree: &mut T,
     name: &Name,
@@ -217,12 +217,12 @@ pub fn read_behind<T: Tree>(
         read_some(tree, name, at, LONGEST_READ, bytes)?;
         at += LONGEST_READ;
     }
-    // A file without bytes is read too: it is there, and can be opened.
+    // An empty file is read too: it exists, and can be opened.
     read_some(tree, name, at, size - at, bytes)?;
     Ok(())
 }
 
-/// Reads so many bytes of a file, from an offset on, in one call, behind those that stand there.
+/// Appends this many bytes of a file, from an offset on, to the bytes, by one call.
 fn read_some<T: Tree>(
     tree: &mut T,
     name: &Name,

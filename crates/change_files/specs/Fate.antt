@@ -1,4 +1,4 @@
--- What becomes of a file that comes, and of the one that is under its path. The rules are in
+-- What is done with an added file, and with the one under its path. The rules are in
 -- `docs/commands.md`, "What a change does with files", on files below `etc/`.
 use Rattle.std.specs.Prelude.{ℕ, Bool, false, not, ◌&&◌, ◌||◌, if◌then◌else◌, List, ◌++◌, length, nat_le, codes, Option, Some, None, nat_eq}
 use Rattle.std.specs.List.{starts_with}
@@ -8,12 +8,11 @@ use Rattle.db_core.specs.Members.{Listing}
 use Rattle.file_guard.specs.AsListed.{do_entries_agree, is_as_listed}
 use Rattle.change_files.specs.FileChange.{FileChange, is_claimed, old_entry}
 
--- whether a path is one of configuration, which the user may change: it lies below `etc/`
+-- whether a path is a protected configuration file, which the user may change: it is below `etc/`
 abbrev pub is_guarded : List ℕ → Bool
 is_guarded path = starts_with nat_eq path (codes "etc/")
 
--- what stands behind the path in the name of a new file that is laid beside one that the user
--- changed
+-- the ending of the name of a new file that is laid beside one that the user changed
 abbrev pub aside_ending : List ℕ
 aside_ending = codes ".apk-new"
 
@@ -21,48 +20,46 @@ aside_ending = codes ".apk-new"
 abbrev pub aside_name : List ℕ → List ℕ
 aside_name path = path ++ aside_ending
 
--- whether the package before has the same file there; where the path was not listed before, nothing
--- agrees
+-- whether the package before has the same file there; false if the path was not listed before
 abbrev pub agrees_with_old : Option Plain → Plain → Bool
 agrees_with_old None entry = false
 agrees_with_old (Some old) entry = do_entries_agree old entry
 
--- whether bytes are as the package before lists them; where the path was not listed before, none
--- are
+-- whether bytes are as the package before lists them; false if the path was not listed before
 abbrev pub is_as_old : Option Plain → List ℕ → Bool
 is_as_old None bytes = false
 is_as_old (Some old) bytes = is_as_listed old bytes
 
--- what becomes of a file that comes and is its owner's
+-- what is done with an added file of its owner
 pub data Fate : Type 0 where
   -- the file takes its path
   goes_in : Fate
-  -- the user's file stays, and the new one is not laid down
+  -- the user's file is kept, and the new one is not installed
   gives_way : Fate
-  -- the user's file stays, and the new one is laid beside it
+  -- the user's file is kept, and the new one is laid beside it
   goes_aside : Fate
 
 -- how many bytes a name may have at most
 abbrev pub longest_name : ℕ
 longest_name = 1024
 
--- What becomes of a file whose path holds a file that the user changed. It is laid beside that one
--- where it differs from what was listed before, and no package lists the name beside it, which is
--- not too long for a name.
+-- What is done with a file if the user changed the file under its path. It is laid beside that one if
+-- it differs from what was listed before, no package lists the name beside, and that is not too long
+-- for a name.
 abbrev pub fate_beside : FileChange → List ℕ → Plain → Fate
 fate_beside change path entry =
     if not (agrees_with_old (old_entry change path) entry)
     && (nat_le (length (aside_name path)) longest_name && not (is_claimed change (aside_name path)))
     then goes_aside else gives_way
 
--- What becomes of a file that comes, by what is under its path. The user changed a guarded file
--- where its bytes are neither those of the new entry nor those of the old one.
+-- What is done with an added file, given the file under its path. The user changed a protected file if
+-- its bytes are neither those of the new entry nor those of the old one.
 abbrev pub fate_by : FileChange → List ℕ → Plain → Option (List ℕ) → Fate
 fate_by change path entry None = goes_in
 fate_by change path entry (Some bytes) =
     if not (is_guarded path) || (is_as_listed entry bytes || is_as_old (old_entry change path) bytes)
     then goes_in else fate_beside change path entry
 
--- what becomes of a file whose member comes and owns its path
+-- what is done with a file whose member is added and owns its path
 unfoldable pub fate_of : FileChange → Files → Listing → Fate
 fate_of change files l = fate_by change l.path l.entry (files l.path)

@@ -1,13 +1,13 @@
--- The packages before a change and after it, and the files that each of them lists. Who owns a path
--- stands in `docs/commands.md`, "Files that several packages list".
+-- The packages before a change and after it, and the files that each of them lists. `docs/commands.md`,
+-- "Files that several packages list", says who owns a path.
 use Rattle.std.specs.Prelude.{ℕ, ◌==◌, Bool, List, map, Option, Some, None, option_map, option_and_then, is_some, bytes_eq, if◌then◌else◌}
 use Rattle.std.specs.List.{find, list_any}
 use Rattle.adb_view.specs.Plain.{Plain}
 use Rattle.db_core.specs.Members.{Listing, Member, claims_of, is_coming, member_listings, staying_member}
 use Rattle.file_owners.specs.Owners.{owner_of_path}
 
--- a change of packages, as their files see it: the packages of the database before, those after,
--- and whether configuration that the user changed goes with its package (`--purge`)
+-- a change of packages, for their files: the packages of the database before, those after, and whether
+-- configuration that the user changed is removed with its package (`--purge`)
 pub record FileChange : Type 0 where
   pub old : List Plain
   pub members : List Member
@@ -19,7 +19,7 @@ pub record FileChange : Type 0 where
 unfoldable pub old_listings : FileChange → List Listing
 old_listings change = member_listings (map staying_member change.old)
 
--- what the old packages say of a path; no two of them list it
+-- the entry of the old packages for a path; no two of them list it
 unfoldable pub old_entry : FileChange → List ℕ → Option Plain
 old_entry change path =
     option_map (λ l. l.entry) (find (λ l. bytes_eq l.path path) (old_listings change))
@@ -40,11 +40,11 @@ owner_listing change path =
     option_and_then (λ place. find (λ l. l.place == place) (claims_of change.members path))
     (owner_of_path change.members path)
 
--- a file, if its member comes: that of a package that stays is not written
+-- a file, if its member is added: that of a kept package is not written
 abbrev pub if_it_comes : Option Listing → Option Listing
 if_it_comes None = None
 if_it_comes (Some l) = if is_coming l.member then Some l else None
 
--- the file by which the owner of a path lists it, where that member comes
+-- the file by which the owner of a path lists it, if that member is added
 abbrev pub coming_owner : FileChange → List ℕ → Option Listing
 coming_owner change path = if_it_comes (owner_listing change path)

@@ -1,5 +1,5 @@
--- The files after a change, name by name. The rules are in `docs/commands.md`,
--- "What a change does with files", behind the three tests.
+-- The files after a change, name by name. The rules are in `docs/commands.md`, "What a change does with
+-- files", after the three tests.
 use Rattle.std.specs.Prelude.{ℕ, ◌-◌, Bool, true, false, not, ◌&&◌, if◌then◌else◌, List, [], ◌∷◌, length, take, Option, Some, None, is_some, option_and_then, bytes_eq, nat_eq}
 use Rattle.std.specs.List.{ends_with}
 use Rattle.std.specs.Option.{option_or}
@@ -14,13 +14,13 @@ use Rattle.change_files.specs.FileChange.{FileChange, coming_owner, is_claimed, 
 
 -- ---- what is written
 
--- a file that takes its path: only one that goes in does
+-- the file, if it takes its path
 abbrev pub if_in : Listing → Fate → Option Listing
 if_in l goes_in = Some l
 if_in l gives_way = None
 if_in l goes_aside = None
 
--- a file that is laid beside another: only one that goes aside is
+-- the file, if it is laid beside another
 abbrev pub if_aside : Listing → Fate → Option Listing
 if_aside l goes_in = None
 if_aside l gives_way = None
@@ -36,7 +36,7 @@ abbrev pub laid_beside : FileChange → Files → List ℕ → Option Listing
 laid_beside change files path =
     option_and_then (λ l. if_aside l (fate_of change files l)) (coming_owner change path)
 
--- the path beside which a file of this name would lie: the name without the ending
+-- the path beside which a file of this name would be laid: the name without the ending
 abbrev pub path_beside : List ℕ → Option (List ℕ)
 path_beside name =
     if ends_with nat_eq name aside_ending then Some (take (length name - length aside_ending) name)
@@ -54,13 +54,13 @@ is_written change files name = is_some (written_as change files name)
 
 -- ---- what is removed
 
--- whether the user changed the file under a path, which was listed so
+-- whether the user changed the file under a path, given its entry
 abbrev pub is_changed : Plain → Option (List ℕ) → Bool
 is_changed entry None = false
 is_changed entry (Some bytes) = not (is_as_listed entry bytes)
 
--- whether a file that no package lists any more is configuration that the user changed, and that is
--- not to be purged
+-- whether a file that no package lists any more is configuration that the user changed and that is not
+-- to be purged
 abbrev pub may_stay : FileChange → List ℕ → Option (List ℕ) → Option Plain → Bool
 may_stay change path bytes None = false
 may_stay change path bytes (Some entry) =
@@ -71,20 +71,20 @@ abbrev pub is_left_over : FileChange → Files → List ℕ → Bool
 is_left_over change files path =
     was_listed change path && (not (is_claimed change path) && not (is_written change files path))
 
--- whether the user's file stays under a path though its package is gone
+-- whether the user's file is kept under a path although its package is removed
 unfoldable pub is_kept : FileChange → Files → List ℕ → Bool
 is_kept change files path =
     is_left_over change files path && may_stay change path (files path) (old_entry change path)
 
--- whether a change removes what is under a path; so it is also where no file stands there
+-- whether a change removes the file under a path, if there is one
 unfoldable pub is_removed : FileChange → Files → List ℕ → Bool
 is_removed change files path =
     is_left_over change files path && not (may_stay change path (files path) (old_entry change path))
 
--- ---- the contents of a file that comes
+-- ---- the contents of an added file
 
--- the bytes of a file that comes, where each member that comes has these contents: a link is
--- written as a file with the link's text
+-- the bytes of an added file, given the contents of each added member: a link is written as a file with
+-- the link's text
 unfoldable pub listing_bytes : (ℕ → List Packages.Contents) → Listing → List ℕ
 listing_bytes contents l =
     if has_target l.entry then link_bytes l.entry
@@ -92,28 +92,28 @@ listing_bytes contents l =
 
 -- ---- all names
 
--- the text of world after a change; a world that is absent and has nothing to say stays absent
+-- the text of world after a change; an absent world that would be empty stays absent
 abbrev pub world_bytes_after : List ℕ → Option (List ℕ) → Option (List ℕ)
 world_bytes_after [] None = None
 world_bytes_after [] (Some old) = Some []
 world_bytes_after (b ∷ bytes) old = Some (b ∷ bytes)
 
--- What a name has that is none of the records: the bytes of the file that is written there, or
+-- The file of a name that is none of the records: the bytes of the file that is written there, or
 -- nothing if it is removed, or what it had before.
 abbrev pub bytes_after : (Listing → List ℕ) → Option Listing → Bool → Option (List ℕ) → Option (List ℕ)
 bytes_after bytes_of (Some l) is_gone old = Some (bytes_of l)
 bytes_after bytes_of None true old = None
 bytes_after bytes_of None false old = old
 
--- what a change leads to beside the files of packages: the bytes of the new database and of the new
--- world, and whether a text database was taken over
+-- the results of a change other than the files of packages: the bytes of the new database and of the
+-- new world, and whether a text database was converted
 pub record Records : Type 0 where
   pub database : List ℕ
   pub world : List ℕ
   pub takes_text_over : Bool
 
--- The files after a change: the new database and world; no text database that was taken over; the
--- files that come; no file that is removed; and all others as before.
+-- The files after a change: the new database and world; no converted text database; the added files; no
+-- removed file; and all others as before.
 unfoldable pub changed_files : FileChange → (Listing → List ℕ) → Records → Files → Files
 changed_files change bytes_of records files name =
     if bytes_eq name database_name then Some records.database

@@ -1,5 +1,5 @@
--- Which names there are after a change, of which none may be a folder of another. The rules are
--- in `docs/commands.md`, "What a change does with files", test 2.
+-- Which names are present after a change; none of them may be a folder of another. The rules are in
+-- `docs/commands.md`, "What a change does with files", test 2.
 use Rattle.std.specs.Prelude.{ℕ, Bool, not, ◌&&◌, ◌||◌, List, ◌∷◌, map, is_some, option_and_then, bytes_eq}
 use Rattle.std.specs.List.{filter, list_any}
 use Rattle.base_core.specs.Files.{Files}
@@ -8,13 +8,13 @@ use Rattle.db_core.specs.Members.{Member, is_coming, member_listings}
 use Rattle.change_files.specs.FileChange.{FileChange, is_claimed, was_listed}
 use Rattle.change_files.specs.FilesAfter.{database_name, is_kept, laid_beside, path_beside, world_name}
 
--- the paths that packages which come list
+-- the paths that added packages list
 abbrev pub coming_paths : List Member → List (List ℕ)
 coming_paths members =
     map (λ l. l.path) (filter (λ l. is_coming l.member) (member_listings members))
 
--- whether a change counts as writing a name: a package that comes lists it, or a file is laid
--- beside another under it; the database and the world always count
+-- whether a change counts as writing a name: an added package lists it, or a file is laid beside
+-- another under it; the database and the world always count
 unfoldable pub counts_as_written : FileChange → Files → List ℕ → Bool
 counts_as_written change files name =
     list_any (bytes_eq name) (database_name ∷ world_name ∷ coming_paths change.members)
@@ -26,7 +26,7 @@ unfoldable pub is_let_go : FileChange → Files → List ℕ → Bool
 is_let_go change files name =
     was_listed change name && not (is_claimed change name || is_kept change files name)
 
--- what the search for the first clash asks of each name
+-- the names of a change, as the search for the first clash needs them
 abbrev pub name_change : FileChange → Files → NameChange
 name_change change files =
     record { counts_as_written = counts_as_written change files; lets_go = is_let_go change files }

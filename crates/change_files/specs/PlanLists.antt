@@ -15,12 +15,12 @@ use Rattle.change_files.specs.FilesAfter.{is_kept, is_removed, laid_beside, writ
 
 -- ---- names in byte order, each once
 
--- a name in front of names in byte order, unless the first of them is the same
+-- adds a name before names in byte order, unless the first of them is the same
 abbrev pub unless_next : List ℕ → List (List ℕ) → List (List ℕ)
 unless_next name [] = name ∷ []
 unless_next name (x ∷ xs) = cond (bytes_eq name x) (x ∷ xs) (name ∷ x ∷ xs)
 
--- names in byte order, of which one is left where equal ones stand side by side
+-- names in byte order, with adjacent equal ones reduced to one
 abbrev pub without_repeats : List (List ℕ) → List (List ℕ)
 without_repeats [] = []
 without_repeats (x ∷ xs) = unless_next x (without_repeats xs)
@@ -57,7 +57,7 @@ file_writes_of change files =
 unfoldable pub removals_of : FileChange → Files → List (List ℕ)
 removals_of change files = filter (is_removed change files) (names_in_order (old_paths change))
 
--- the paths at which the user's file stays, in byte order
+-- the paths at which the user's file is kept, in byte order
 unfoldable pub kept_of : FileChange → Files → List (List ℕ)
 kept_of change files = filter (is_kept change files) (names_in_order (old_paths change))
 
@@ -67,8 +67,8 @@ aside_of change files =
     filter (λ path. is_some (laid_beside change files path))
     (names_in_order (coming_paths change.members))
 
--- ---- what no package may list
+-- ---- reserved paths
 
--- the first reserved path in byte order that a package which comes lists
+-- the first reserved path in byte order that an added package lists
 unfoldable pub first_reserved : List Member → Option (List ℕ)
 first_reserved members = smallest_text (filter is_reserved (coming_paths members))

@@ -1,6 +1,6 @@
--- What the laws say of single names: which are those of the records, of files beside others, of
--- packages that come. (Not what `docs/names.md` calls touched.) Serves the laws of `src/laws.rt`;
--- the rules are in `docs/commands.md`, "What a change does with files".
+-- Classes of names for the laws: those of the records, of files beside others, and of added packages.
+-- (This is not *touched* of `docs/names.md`.) It serves the laws of `src/laws.rt`; the rules are in
+-- `docs/commands.md`, "What a change does with files".
 use Rattle.std.specs.Prelude.{◌≡◌, ℕ, Bool, true, false, ◌&&◌, ◌||◌, List, Some, is_some, option_and_then, bytes_eq}
 use Rattle.std.specs.List.{list_any}
 use Rattle.base_core.specs.Files.{Files}
@@ -13,7 +13,7 @@ use Rattle.change_files.specs.FilesAfter.{Records, database_name, laid_beside, p
 use Rattle.change_files.specs.NamesAfter.{coming_paths}
 use Rattle.change_files.specs.PlanLists.{FileWrite, write_to}
 
--- whether a name is that of the database, of the world, or of a text database that was taken over
+-- whether a name is that of the database, of the world, or of a converted text database
 abbrev pub is_record_name : Records → List ℕ → Bool
 is_record_name records name =
     bytes_eq name database_name
@@ -24,12 +24,12 @@ abbrev pub is_aside_name : FileChange → Files → List ℕ → Bool
 is_aside_name change files name =
     is_some (option_and_then (laid_beside change files) (path_beside name))
 
--- whether a package that comes lists the path
+-- whether an added package lists the path
 abbrev pub is_coming_path : FileChange → List ℕ → Bool
 is_coming_path change path = list_any (bytes_eq path) (coming_paths change.members)
 
--- configuration that the user changed: what is under a guarded path is neither as a package
--- that comes lists it nor as one listed it before
+-- configuration that the user changed: the file under a protected path is neither as an added package
+-- lists it nor as a package listed it before
 pub record IsUsersFile (change : FileChange) (files : Files) (path bytes : List ℕ) : Type 0 where
   pub guarded : is_guarded path ≡ true
   pub present : files path ≡ Some bytes
@@ -38,12 +38,12 @@ pub record IsUsersFile (change : FileChange) (files : Files) (path bytes : List 
   pub unlike_old : (entry : Plain) → old_entry change path ≡ Some entry
       → is_as_listed entry bytes ≡ false
 
--- whatever a package listed under the path before, it says something else than this entry
+-- if a package listed the path before, its entry differs from this one
 abbrev pub IsNewEntry : FileChange → List ℕ → Plain → Type 0
 IsNewEntry change path entry =
     (old : Plain) → old_entry change path ≡ Some old → do_entries_agree old entry ≡ false
 
--- what is written under a name, as the plan tells it
+-- what is written under a name, as an element of the plan
 pub record IsWriteOf (change : FileChange) (files : Files) (write : FileWrite) : Type 0 where
   pub listing : Listing
   pub written : written_as change files write.name ≡ Some listing

@@ -1,6 +1,5 @@
-//! What follows from the definitions, for all changes and files. The rules that they follow from
-//! stand in `docs/commands.md`, "What a change does with files"; the README of this crate lists
-//! them.
+//! What follows from the definitions, for all changes and files. The rules are in
+//! `docs/commands.md`, "What a change does with files"; the README of this crate lists the laws.
 
 ghost use Rattle.std.specs.Prelude.{◌≡◌, ◌≢◌, ◌⊎◌, ◌↔◌, ℕ, Bool, true, false, List, [], None, Some, IsSome, map, is_some, All, Contains};
 ghost use Rattle.adb_schema.specs.Reserved.{is_reserved};
@@ -23,10 +22,10 @@ ghost use Rattle.change_files.specs.Touched.{IsNewEntry, IsUsersFile, IsWriteOf,
 
 // ---- what is written
 
-/// A package that comes and owns a path lists it, and so it is with all that is written: it goes in
-/// under that path, or lies beside it.
+/// An added package that owns a path lists it. So does the owner of everything that is written:
+/// under that path, or beside it.
 pub fn what_is_written_is_owned_by_a_package_that_comes()
-    // Of the owner of a path that comes.
+    // Of the added owner of a path.
     ensures owner { (change : FileChange) (path : List ℕ) (l : Listing)
         → coming_owner change path ≡ Some l
         → (l.path ≡ path) × (is_coming l.member ≡ true)
@@ -39,7 +38,7 @@ pub fn what_is_written_is_owned_by_a_package_that_comes()
         × ((name ≡ l.path) ⊎ (name ≡ aside_name l.path)) }
 {}
 
-/// A file whose owner comes takes its path, unless the user changed the one that stands there.
+/// A file of an added owner takes its path, unless the user changed the file there.
 pub fn what_comes_takes_its_path()
     ensures { (change : FileChange) (files : Files) (path : List ℕ) (l : Listing)
         → coming_owner change path ≡ Some l
@@ -47,30 +46,30 @@ pub fn what_comes_takes_its_path()
         → written_as change files path ≡ Some l }
 {}
 
-/// Beside a file that the user changed the new one is laid, where no package listed the path before
-/// or what it listed says something else, and the name beside is one that no package lists; and
-/// only there. It is under that name.
+/// A new file is laid beside one that the user changed exactly if no package listed the path before
+/// or the old entry differs, and no package lists the name beside it. It is written under that
+/// name.
 pub fn what_differs_lies_beside_the_users_file()
-    // Where the new file is laid beside.
+    // When the new file is laid beside.
     ensures beside { (change : FileChange) (files : Files) (path bytes : List ℕ) (l : Listing)
         → coming_owner change path ≡ Some l → IsUsersFile change files path bytes
         → IsNewEntry change path l.entry
         → IsName (aside_name path) → is_claimed change (aside_name path) ≡ false
         → laid_beside change files path ≡ Some l }
-    // Only there.
+    // Only then.
     ensures only { (change : FileChange) (files : Files) (path : List ℕ) (l : Listing)
         → laid_beside change files path ≡ Some l
         → ((bytes : List ℕ) × IsUsersFile change files path bytes)
         × IsNewEntry change path l.entry × (is_claimed change (aside_name path) ≡ false) }
-    // Under that name it is written.
+    // It is written under that name.
     ensures stands { (change : FileChange) (files : Files) (path : List ℕ) (l : Listing)
         → laid_beside change files path ≡ Some l
         → written_as change files (aside_name path) ≡ Some l }
 {}
 
-/// What a package brings under a path is as its entry says: a link's text; contents of its size and
-/// its digest; or an empty file, where its entry tells that. The contents are those of a package in
-/// which no test fails, for each member that comes.
+/// The contents that a package has for a path are as its entry says: a link's text; contents of its
+/// size and its digest; or, if the entry says so, an empty file. For each added member, the
+/// contents are those of a package in which no test fails.
 pub fn what_a_package_brings_is_as_listed()
     ensures { (contents : ℕ → List Contents) (members : List Member) (l : Listing)
         → Contains (member_listings members) l
@@ -81,7 +80,7 @@ pub fn what_a_package_brings_is_as_listed()
         → is_as_listed l.entry (listing_bytes contents l) ≡ true }
 {}
 
-/// Where something is written the file has those bytes after the change.
+/// A file that is written has those bytes after the change.
 pub fn what_is_written_takes_its_name()
     ensures { (change : FileChange) (bytes_of : Listing → List ℕ) (records : Records)
         (files : Files) (name : List ℕ) (l : Listing) → written_as change files name ≡ Some l
@@ -89,8 +88,8 @@ pub fn what_is_written_takes_its_name()
         → changed_files change bytes_of records files name ≡ Some (bytes_of l) }
 {}
 
-/// No name that is written is reserved where no package that comes lists a reserved path; and the
-/// database, the world and a text database have reserved names.
+/// No written name is reserved if no added package lists a reserved path; and the database, the
+/// world and a text database have reserved names.
 pub fn what_is_written_is_not_reserved()
     ensures written { (change : FileChange) (files : Files) (name : List ℕ) (l : Listing)
         → first_reserved change.members ≡ None → written_as change files name ≡ Some l
@@ -101,7 +100,7 @@ pub fn what_is_written_is_not_reserved()
 
 // ---- what is removed
 
-/// What is removed was listed before, and no package lists it after the change; then it is absent.
+/// A removed path was listed before, and no package lists it after the change; then it is absent.
 pub fn what_is_removed_was_listed_before()
     ensures listed { (change : FileChange) (files : Files) (path : List ℕ)
         → is_removed change files path ≡ true
@@ -112,15 +111,16 @@ pub fn what_is_removed_was_listed_before()
         → changed_files change bytes_of records files path ≡ None }
 {}
 
-/// No name that is removed is reserved, where the packages before list no reserved path.
+/// No removed name is reserved, if the packages before list no reserved path.
 pub fn what_is_removed_is_not_reserved()
     ensures { (change : FileChange) (files : Files) (path : List ℕ)
         → All (λ l. is_reserved l.path ≡ false) (old_listings change)
         → is_removed change files path ≡ true → is_reserved path ≡ false }
 {}
 
-/// What was listed before, and where no package lists it now and nothing is written, goes, unless
-/// the user changed it; and what is kept the user changed, and it is not to be purged.
+/// A path that was listed before is removed, if no package lists it now and nothing is written
+/// there, unless the user changed its file; and each kept file was changed by the user and is not
+/// to be purged.
 pub fn what_is_left_over_goes_unless_it_is_the_users()
     ensures goes { (change : FileChange) (files : Files) (path : List ℕ)
         → is_left_over change files path ≡ true
@@ -131,9 +131,9 @@ pub fn what_is_left_over_goes_unless_it_is_the_users()
         → ((bytes : List ℕ) × IsUsersFile change files path bytes) × (change.purge ≡ false) }
 {}
 
-// ---- what is not touched
+// ---- what is unchanged
 
-/// A path whose owner stays is not touched.
+/// A path with a kept owner is unchanged.
 pub fn the_file_of_a_package_that_stays_is_not_touched()
     // The plan of the change neither writes nor removes it.
     ensures plan { (change : FileChange) (files : Files) (path : List ℕ) (l : Listing)
@@ -148,7 +148,7 @@ pub fn the_file_of_a_package_that_stays_is_not_touched()
 {}
 
 /// Configuration that the user changed keeps its bytes, unless it is to be purged and no package
-/// lists it. One that was laid beside another file gives way to what is laid there now.
+/// lists it. A file that was laid beside another is replaced by the one that is laid there now.
 pub fn configuration_that_the_user_changed_stays()
     ensures { (change : FileChange) (bytes_of : Listing → List ℕ) (records : Records)
         (files : Files) (path bytes : List ℕ)
@@ -158,7 +158,7 @@ pub fn configuration_that_the_user_changed_stays()
         → changed_files change bytes_of records files path ≡ Some bytes }
 {}
 
-/// What is kept stays as it is.
+/// A kept file is unchanged.
 pub fn what_is_kept_stays()
     ensures { (change : FileChange) (bytes_of : Listing → List ℕ) (records : Records)
         (files : Files) (path : List ℕ) → is_kept change files path ≡ true
@@ -166,8 +166,8 @@ pub fn what_is_kept_stays()
         → changed_files change bytes_of records files path ≡ files path }
 {}
 
-/// A name that no package listed before and that no package which comes lists stays as it is,
-/// unless a file is laid beside another one under it.
+/// A name that no package listed before and that no added package lists is unchanged, unless a file
+/// is laid beside another one under it.
 pub fn a_name_that_nobody_lists_is_not_touched()
     ensures { (change : FileChange) (bytes_of : Listing → List ℕ) (records : Records)
         (files : Files) (name : List ℕ) → was_listed change name ≡ false
@@ -178,7 +178,7 @@ pub fn a_name_that_nobody_lists_is_not_touched()
 
 // ---- the names
 
-/// Each file after a change stands under one of the names after.
+/// Each file after a change has one of the names after.
 pub fn the_files_after_a_change_stand_under_its_names()
     ensures { (change : FileChange) (bytes_of : Listing → List ℕ) (records : Records)
         (files : Files) (name : List ℕ)
@@ -186,8 +186,8 @@ pub fn the_files_after_a_change_stand_under_its_names()
         → is_name_after (name_change change files) files name ≡ true }
 {}
 
-/// A file of before whose name is not let go of stands after a change; one that is let go of, and
-/// under whose name nothing is written, is absent then.
+/// A file of before is present after a change that does not let go of its name. If the change lets
+/// go of the name and writes nothing there, the file is absent.
 pub fn the_names_after_a_change_are_those_of_its_files()
     ensures stands { (change : FileChange) (bytes_of : Listing → List ℕ) (records : Records)
         (files : Files) (name : List ℕ)
@@ -203,8 +203,8 @@ pub fn the_names_after_a_change_are_those_of_its_files()
 
 // ---- the records
 
-/// The new database and the new world are under their names; a world that was absent and has
-/// nothing to say stays absent, and so is a text database that was taken over.
+/// The new database and the new world are under their names. An absent world that would be empty
+/// stays absent, and a converted text database is absent.
 pub fn the_records_of_a_change_stand_under_their_names()
     ensures database { (change : FileChange) (bytes_of : Listing → List ℕ) (records : Records)
         (files : Files)
@@ -212,11 +212,11 @@ pub fn the_records_of_a_change_stand_under_their_names()
     ensures world { (change : FileChange) (bytes_of : Listing → List ℕ) (records : Records)
         (files : Files) → (records.world ≢ []) ⊎ IsSome (files world_name)
         → changed_files change bytes_of records files world_name ≡ Some records.world }
-    // A world that was absent and has nothing to say stays absent.
+    // An absent world that would be empty stays absent.
     ensures no_world { (change : FileChange) (bytes_of : Listing → List ℕ) (records : Records)
         (files : Files) → records.world ≡ [] → files world_name ≡ None
         → changed_files change bytes_of records files world_name ≡ None }
-    // A text database that was taken over is gone.
+    // A converted text database is absent.
     ensures text { (change : FileChange) (bytes_of : Listing → List ℕ) (records : Records)
         (files : Files) → records.takes_text_over ≡ true
         → changed_files change bytes_of records files text_database_name ≡ None }
@@ -224,9 +224,9 @@ pub fn the_records_of_a_change_stand_under_their_names()
 
 // ---- the lists
 
-/// The lists of a plan hold just the names that are written, removed, kept and laid aside.
+/// The lists of a plan have exactly the names that are written, removed, kept and laid beside.
 pub fn the_lists_of_a_plan_hold_just_its_names()
-    // A write stands in the list where something is written under its name, with that file.
+    // A write is in the list if something is written under its name, with that file.
     ensures writes { (change : FileChange) (files : Files) (write : FileWrite)
         → Contains (file_writes_of change files) write ↔ IsWriteOf change files write }
     ensures written { (change : FileChange) (files : Files) (name : List ℕ)
@@ -241,7 +241,7 @@ pub fn the_lists_of_a_plan_hold_just_its_names()
         ↔ (is_some (laid_beside change files path) ≡ true) }
 {}
 
-/// Each list of a plan is in byte order, and no name stands in it twice.
+/// Each list of a plan is in byte order, and no name is repeated.
 pub fn the_lists_of_a_plan_rise()
     ensures writes { (change : FileChange) (files : Files)
         → IsRising (map (λ write. write.name) (file_writes_of change files)) }
@@ -250,7 +250,7 @@ pub fn the_lists_of_a_plan_rise()
     ensures aside { (change : FileChange) (files : Files) → IsRising (aside_of change files) }
 {}
 
-/// No name is both written and removed, and none that is kept is one of them.
+/// No name is both written and removed, and no kept name is either.
 pub fn a_name_has_one_place_in_a_plan()
     ensures removed { (change : FileChange) (files : Files) (name : List ℕ)
         → is_written change files name ≡ true → is_removed change files name ≡ false }

@@ -1,11 +1,11 @@
-//! What a change of packages makes of the files, name by name. The rules are in
-//! `docs/commands.md`, "What a change does with files".
+//! The files after a change of packages, name by name. The rules are in `docs/commands.md`, "What a
+//! change does with files".
 //!
-//! It is a crate of definitions. `FileChange` of `specs/` says which packages list a path before
-//! and after; `Fate` what becomes of a file that comes where the user changed the one under its
-//! path; `FilesAfter` what stands under each name after the change; `NamesAfter` which names there
-//! are then; and `PlanLists` the same as lists of what is removed, written and kept. The functions
-//! are laws.
+//! This crate consists of definitions. Of `specs/`, `FileChange` says which packages list a path
+//! before and after; `Fate` what is done with an added file if the user changed the one under its
+//! path; `FilesAfter` which file each name has after the change; `NamesAfter` which names are
+//! present then; and `PlanLists` the same as lists of what is removed, written and kept. The
+//! functions are laws.
 #![tactic(auto)]
 
 mod laws;

@@ -1,6 +1,6 @@
 -- Claims whose paths are names.
--- Which bytes are a name, stands in `docs/commands.md`, "Words". Serves the contracts of
--- `name_of_path` and `names_of_claims`.
+-- `docs/commands.md`, "Words", says which bytes are a name. It serves the contracts of `name_of_path`
+-- and `names_of_claims`.
 use Rattle.std.specs.Prelude.{◌≡◌, ℕ, List, Some, slice_get}
 use Rattle.base_core.specs.Name.{IsName}
 use Rattle.path_claims.specs.Claims.{PathClaim}

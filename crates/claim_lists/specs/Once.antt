@@ -1,13 +1,12 @@
 -- The first claim of each path.
--- No rule of a document: serves the contract of `one_of_each_path`, by which a path is looked up
--- once for all packages that claim it.
+-- No document has a rule for this: it serves the contract of `one_of_each_path`, by which a path is
+-- searched once for all packages that claim it.
 use Rattle.std.specs.Prelude.{◌≡◌, ℕ, List, map}
 use Rattle.std.specs.List.{find}
 use Rattle.base_core.specs.Listed.{IsRising}
 use Rattle.path_claims.specs.Claims.{PathClaim, is_of_path}
 
--- the second list has the first claim of each path that the first list has, in byte order of the
--- paths
+-- the second list has the first claim of each path of the first list, in byte order of the paths
 pub record HasFirsts (all firsts : List PathClaim) : Type 0 where
   pub rising : IsRising (map (λ c. c.path) firsts)
   pub each : (path : List ℕ) → find (is_of_path path) firsts ≡ find (is_of_path path) all

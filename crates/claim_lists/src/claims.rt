@@ -1,8 +1,8 @@
 //! Claims in the order of their paths: the claim of a path, one claim of each path, and the names
-//! that paths are.
-//! What a claim is, is in `docs/commands.md`, "Files that several packages list"; which bytes
-//! are a name, in "Words" there. The calls here are dictionaries of claims: their contracts say all
-//! of them.
+//! of paths.
+//! `docs/commands.md`, "Files that several packages list", says what a claim is; "Words" there,
+//! which bytes are a name. These calls are general operations on sorted claims: their contracts are
+//! their whole specification.
 
 ghost use Rattle.std.specs.Prelude.{◌≡◌, ◌<◌, ◌≤◌, true, false, length, map, option_and_then, slice_get, IfSome, IfOk};
 ghost use Rattle.std.specs.List.{find};
@@ -21,8 +21,8 @@ use path_claims::{Claim, begins_path};
 use path_clashes::path_bytes;
 use std::alloc::{AllocError, Global};
 
-/// The place of the first claim of a path, counted from 0, among claims in the order of their
-/// paths. None comes exactly when no claim has the path. It compares as a binary search does.
+/// The place of the first claim of a path, counted from 0, by a binary search among claims in the
+/// order of their paths. None is returned exactly if no claim has the path.
 pub fn find_claim(claims: &[Claim<'_>], path: &FilePath<'_>) -> Option<usize>
     requires { IsSorted claim_cmp (map claim_seen claims.now) }
     ensures within { IfSome result (λ i. i < length claims.now) }
@@ -33,9 +33,9 @@ pub fn find_claim(claims: &[Claim<'_>], path: &FilePath<'_>) -> Option<usize>
     claim_at(claims, path, at)
 }
 
-/// The place of the first claim of a path, as `find_claim` answers it, for paths that are asked for
-/// in their order: it looks first at the place `next`, and leaves there the place behind the claim
-/// that it found, or the one where it would stand. Where it has to look no further it makes three
+/// The place of the first claim of a path, as `find_claim` returns it, for paths that are searched
+/// in their order. The search starts at the place `next`, and sets it to the place after the found
+/// claim, or to the place where the path would be. If the first place is right, it makes three
 /// comparisons.
 pub fn find_next_claim(claims: &[Claim<'_>], path: &FilePath<'_>, next: &mut usize) -> Option<usize>
     requires { IsSorted claim_cmp (map claim_seen claims.now) }
@@ -52,8 +52,8 @@ pub fn find_next_claim(claims: &[Claim<'_>], path: &FilePath<'_>, next: &mut usi
     found
 }
 
-/// The place at which a path belongs among claims, if the claim there has the path: `at` is how
-/// many claims have paths before it.
+/// The place of a path among claims, if the claim there has the path: `at` is how many claims have
+/// paths before it.
 fn claim_at(claims: &[Claim<'_>], path: &FilePath<'_>, at: usize) -> Option<usize>
     requires sorted { IsSorted claim_cmp (map claim_seen claims.now) }
     requires bound { at ≤ length claims.now }
@@ -73,7 +73,7 @@ fn claim_at(claims: &[Claim<'_>], path: &FilePath<'_>, at: usize) -> Option<usiz
     }
 }
 
-/// How many claims have paths before this one; it looks first at this place (`guess`).
+/// How many claims have paths before this one; the search starts at `guess`.
 fn place_near(claims: &[Claim<'_>], path: &FilePath<'_>, guess: usize) -> usize
     requires { IsSorted claim_cmp (map claim_seen claims.now) }
     ensures bound { result ≤ length claims.now }
@@ -92,7 +92,7 @@ fn place_near(claims: &[Claim<'_>], path: &FilePath<'_>, guess: usize) -> usize
     guess
 }
 
-/// How many claims have paths before this one, found by halving.
+/// How many claims have paths before this one, by binary search.
 fn place_of(claims: &[Claim<'_>], path: &FilePath<'_>) -> usize
     requires { IsSorted claim_cmp (map claim_seen claims.now) }
     ensures bound { result ≤ length claims.now }
@@ -106,7 +106,7 @@ fn place_of(claims: &[Claim<'_>], path: &FilePath<'_>) -> usize
 ///
 /// # Errors
 ///
-/// Lack of memory.
+/// Out of memory.
 pub fn one_of_each_path<'a>(
     alloc: Global,
     claims: &[Claim<'a>],
@@ -124,11 +124,11 @@ pub fn one_of_each_path<'a>(
     Ok(firsts)
 }
 
-/// The name that a path is.
+/// The path as a name.
 ///
 /// # Errors
 ///
-/// Lack of memory.
+/// Out of memory.
 pub fn name_of_path(alloc: Global, path: &FilePath<'_>) -> Result<Name, AllocError>
     requires { IsName (joined_path path.now) }
     ensures { IfOk result (λ name. name ≡ joined_path path.now) }
@@ -137,11 +137,11 @@ pub fn name_of_path(alloc: Global, path: &FilePath<'_>) -> Result<Name, AllocErr
     Name::of(alloc, &bytes)
 }
 
-/// The names that the paths of claims are, in their order.
+/// The paths of claims as names, in their order.
 ///
 /// # Errors
 ///
-/// Lack of memory.
+/// Out of memory.
 pub fn names_of_claims(alloc: Global, claims: &[Claim<'_>]) -> Result<Names, AllocError>
     requires { HaveNames (map claim_seen claims.now) }
     ensures { IfOk result (λ names. names ≡ map (λ c. c.path) (map claim_seen claims.now)) }

@@ -1,6 +1,6 @@
--- What an entry of the members stands for: a payload, a package's word in it, and an id; and the
+-- What an entry of the members denotes, by a payload, a package's word in it, and an id; and the
 -- payload of a database.
--- No rule of a document: serves the contracts of `src/members.rt`.
+-- No document has a rule for this: it serves the contracts of `src/members.rt`.
 use Rattle.std.specs.Prelude.{ℕ, Bool, List, [], Option, Some, None, ◌||◌, bytes_eq, is_some}
 use Rattle.adb_schema.specs.declared.checked.IdbView.{IdbView}
 use Rattle.adb_view.specs.Values.{value_at}
@@ -9,16 +9,16 @@ use Rattle.adb_view.specs.declared.tables.Kind.TheVariants.{Obj}
 use Rattle.adb_view.specs.declared.tables.Which.TheVariants.{Package}
 use Rattle.db_core.specs.Members.{Member}
 
--- the member that a payload, a word in it and an id say: the word leads to the package, and one
--- that stays has no id
+-- the member of a payload, a word in it and an id: the word leads to the package, and a kept one has no
+-- id
 abbrev pub member_by : List ℕ × ℕ × Option (List ℕ) → Member
 member_by e = record { pkg = value_at e.0 (Obj Package) e.1; id = e.2 }
 
--- the payload that the packages of a database are read from; no bytes where there is no database
+-- the payload that the packages of a database are read from; no bytes if there is no database
 abbrev pub payload_of_database : Option IdbView → List ℕ
 payload_of_database None = []
 payload_of_database (Some idb) = payload_of idb.adb
 
--- whether an entry has an id, so that its package comes, or this payload
+-- whether an entry has an id, so that its package is added, or has this payload
 abbrev pub comes_or_is_in : List ℕ → List ℕ × ℕ × Option (List ℕ) → Bool
 comes_or_is_in payload e = is_some e.2 || bytes_eq e.0 payload

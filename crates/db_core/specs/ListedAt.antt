@@ -1,4 +1,4 @@
--- Where a file that members list stands.
+-- The place of a file that members list.
 -- Positions count as in `docs/formats.md`, "The other blocks". Serves the law
 -- `listings_stand_at_their_places`.
 use Rattle.std.specs.Prelude.{◌≡◌, ◌≤◌, ◌-◌, List, Some, slice_get}
@@ -7,8 +7,8 @@ use Rattle.adb_fields.specs.Paths.{path_of}
 use Rattle.adb_fields.specs.Repeated.{name_of, folders_in, files_in}
 use Rattle.db_core.specs.Members.{Listing, Member}
 
--- a listing stands at its places: its member among the members, counted from 0, its folder in the
--- member's package and its file in the folder, counted from 1; and its path is that of both
+-- a listing is at its places: its member among the members, counted from 0, its folder in the member's
+-- package and its file in the folder, counted from 1; its path is that of folder and file
 pub record IsListedAt (members : List Member) (l : Listing) : Type 0 where
   pub above : Plain
   pub member : slice_get members l.place ≡ Some l.member

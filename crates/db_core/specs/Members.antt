@@ -1,6 +1,6 @@
 -- The packages after a change, and the files that they list.
--- The rules are in `docs/formats.md`, "The database after a change"; the words *member*, *lists*
--- and *listing* in `docs/names.md`, "The installed database and a change of it".
+-- The rules are in `docs/formats.md`, "The database after a change"; the terms *member*, *lists* and
+-- *listing* in `docs/names.md`, "The installed database and a change of it".
 use Rattle.std.specs.Prelude.{ℕ, ◌+◌, ◌==◌, Bool, true, false, List, [], ◌∷◌, ◌++◌, Option, Some, None, is_some, bytes_eq, map}
 use Rattle.std.specs.List.{filter}
 use Rattle.base_core.specs.Listed.{IsRising}
@@ -9,20 +9,20 @@ use Rattle.adb_view.specs.Plain.{Plain}
 use Rattle.adb_fields.specs.Paths.{path_of}
 use Rattle.adb_fields.specs.Repeated.{name_of, package_name, folders_in, files_in}
 
--- a member: a package after the change; one that comes has an id, one that stays has none
+-- a member: a package after the change; an added one has an id, a kept one has none
 pub record Member : Type 0 where
   pub pkg : Plain
   pub id : Option (List ℕ)
 
--- the member that a package of the database is which stays
+-- the member of a kept package of the database
 abbrev pub staying_member : Plain → Member
 staying_member pkg = record { pkg = pkg; id = None }
 
--- packages of the database that all stay, as members
+-- kept packages of the database, as members
 abbrev pub staying_members : List Plain → List Member
 staying_members packages = map staying_member packages
 
--- the member that a package is which comes, with its container's id
+-- the member of an added package, with its container's id
 abbrev pub coming_member : Plain → List ℕ → Member
 coming_member pkg id = record { pkg = pkg; id = Some id }
 
@@ -30,17 +30,17 @@ coming_member pkg id = record { pkg = pkg; id = Some id }
 abbrev pub member_name : Member → List ℕ
 member_name m = package_name m.pkg
 
--- whether a member comes; one that stays has no id
+-- whether a member is added; a kept one has no id
 abbrev pub is_coming : Member → Bool
 is_coming m = is_some m.id
 
 -- ---- their order
 
--- members stand in byte order of their names, each name once
+-- members are in byte order of their names, each name once
 abbrev pub AreInOrder : List Member → Type 0
 AreInOrder members = IsRising (map member_name members)
 
--- whether a name comes behind the last of some members, and so behind all of them
+-- whether a name is after the last of some members, and so after all of them
 abbrev pub comes_behind : List ℕ → List Member → Bool
 comes_behind name [] = true
 comes_behind name (m ∷ []) = precedes (member_name m) name

@@ -1,4 +1,4 @@
--- The names of packages in byte order, among which one is found.
+-- The names of packages in byte order, for binary search.
 -- The rule is in `docs/DECISIONS.md`, "The installed database". Serves the contracts of
 -- `src/name_places.rt`.
 use Rattle.std.specs.Prelude.{ℕ, ◌+◌, List, [], ◌∷◌, Option, bytes_eq, option_map}
@@ -29,6 +29,6 @@ placed_name_cmp = on (λ n. n.name) bytes_cmp
 abbrev pub placed_names_in_order : List Plain → List NameWithPlace
 placed_names_in_order packages = sorted_by placed_name_cmp (placed_names_from 0 packages)
 
--- the place beside the first name of the list that is this one, if one is
+-- the place of the first name of the list that is this one, if one is
 abbrev pub place_named : List ℕ → List NameWithPlace → Option ℕ
 place_named name names = option_map (λ n. n.place) (find (λ n. bytes_eq n.name name) names)

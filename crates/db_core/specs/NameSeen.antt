@@ -1,5 +1,5 @@
--- What a name with its place stands for.
--- No rule of a document: serves the contracts of `src/name_places.rt`.
+-- What a name with its place denotes.
+-- No document has a rule for this: it serves the contracts of `src/name_places.rt`.
 use Rattle.db_core.specs.NamePlaces.{NameWithPlace}
 use Rattle.db_core.specs.declared.name_places.NamePlace.{NamePlace}
 

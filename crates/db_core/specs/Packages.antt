@@ -1,6 +1,6 @@
--- The packages of a database, and who of them lists a file.
--- The rules are in `docs/formats.md`, "Schemas", tables 7 and 9, and "The texts" (which paths may
--- be listed, and the reserved names); who owns a path, in `docs/commands.md`, "`info`".
+-- The packages of a database, and which of them lists a file.
+-- The rules are in `docs/formats.md`, "Schemas", tables 7 and 9, and "The texts" (which paths may be
+-- listed, and the reserved names); who owns a path, in `docs/commands.md`, "`info`".
 use Rattle.std.specs.Prelude.{ℕ, Bool, List, [], Option, Some, None, not, ◌||◌, bytes_eq}
 use Rattle.std.specs.List.{list_all, list_any}
 use Rattle.base_core.specs.Name.{is_name}
@@ -31,11 +31,11 @@ lists_names pkg = list_all is_name (paths_in pkg)
 abbrev pub lists_no_reserved : Plain → Bool
 lists_no_reserved pkg = list_all (λ path. not (is_reserved path)) (paths_in pkg)
 
--- whether a member comes, or lists no reserved path: a package may list one, and a database may not
+-- whether a member is added, or lists no reserved path: a package may list one, a database may not
 abbrev pub comes_or_lists_no_reserved : Member → Bool
 comes_or_lists_no_reserved m = is_coming m || lists_no_reserved m.pkg
 
--- the packages of the value of a database; none where there is no database
+-- the packages of the value of a database; none if there is no database
 abbrev pub packages_by : Option Plain → List Plain
 packages_by None = []
 packages_by (Some v) = entries_at IDB_PACKAGES v

@@ -1,5 +1,5 @@
--- What a database and the members of the program stand for.
--- No rule of a document: contracts speak of a database and of members by these.
+-- What a database and the members of the program denote.
+-- No document has a rule for this: contracts use these to speak of a database and of members.
 use Rattle.std.specs.Prelude.{ℕ, List, option_map, map}
 use Rattle.adb_view.specs.Plain.{Plain}
 use Rattle.adb_schema.specs.Views.{idb_value}
@@ -17,7 +17,7 @@ packages_of db = packages_by (option_map idb_value db.idb)
 abbrev pub members_of : Members → List Member
 members_of members = map member_by members.entries.items
 
--- the packages of the database from which members stay, in its order
+-- the packages of the database of the kept members, in its order
 abbrev pub packages_before : Members → List Plain
 packages_before members = packages_of members.db.now
 

@@ -1,4 +1,4 @@
--- Members whose packages come out of sound containers, and files that a database may list.
+-- Members whose packages are from sound containers, and files that a database may list.
 -- The rules are in `docs/formats.md`, "Tests of a container" (what is sound), "Names that stand
 -- twice" and "The texts", field 401 (which paths a database may list). Serves the law of `db_write`
 -- that a new database is sound.
@@ -32,13 +32,13 @@ abbrev pub IsSoundDatabaseIfAny : Option Plain → Type 0
 IsSoundDatabaseIfAny None = Unit {0}
 IsSoundDatabaseIfAny (Some database) = IsSoundValue Idb database × IsNormal database
 
--- a package comes out of a sound container: of a database where it has no id and stays, of a
--- package's own where it has one and comes
+-- a package is from a sound container: a kept one, without an id, from a database; an added one, with
+-- its id, from a container of its own
 abbrev pub IsOfSoundContainer : Plain → Option (List ℕ) → Type 0
 IsOfSoundContainer pkg None = IsOfSoundDatabase pkg
 IsOfSoundContainer pkg (Some id) = IsOfSoundPackage pkg id
 
--- each of some members comes out of a sound container
+-- each of some members is from a sound container
 abbrev pub AreOfSoundContainers : List Member → Type 0
 AreOfSoundContainers [] = Unit {0}
 AreOfSoundContainers (m ∷ members) = IsOfSoundContainer m.pkg m.id × AreOfSoundContainers members

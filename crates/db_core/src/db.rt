@@ -1,7 +1,7 @@
 //! The installed database as it is read.
-//! The rules are in `docs/formats.md`, "Tests of a container" (which file is read), and
-//! "Schemas", tables 7 and 9 (what it holds); what `find` and `owner_of` answer, in
-//! `docs/DECISIONS.md`, "The installed database", and `docs/commands.md`, "`info`".
+//! The rules are in `docs/formats.md`, "Tests of a container" (which file is read), and "Schemas",
+//! tables 7 and 9 (its contents). What `find` and `owner_of` return is in `docs/DECISIONS.md`, "The
+//! installed database", and `docs/commands.md`, "`info`".
 ghost use Rattle.adb_fields.specs.ListValue.{list_value};
 ghost use Rattle.adb_fields.specs.Repeated.{entries_at, list_of};
 ghost use Rattle.adb_schema.specs.ReadFaults.{IsReadFault};
@@ -33,11 +33,11 @@ use base_core::Name;
 use pkg_core::{bytes_are_small, tested_payloads_hold_sound_values};
 use std::alloc::{AllocError, Global};
 
-/// The packages of an installed database, in its order. All is lent from the file's bytes; the
-/// places of the packages are kept besides in byte order of names, in which a name is looked for.
+/// The packages of an installed database, in its order. All data are lent from the file's bytes.
+/// The places of the packages are also kept in byte order of names, for searches.
 #[derive(Drop)]
 pub struct Db<'a> {
-    /// The view of the database; none where there is no file, and so no package.
+    /// The view of the database; none if there is no file, and so no package.
     pub(crate) idb: Option<IdbView<'a>>,
     /// The names of the packages in byte order, each with the place of its package.
     pub(crate) names: Vec<NamePlace<'a>>,
@@ -67,7 +67,7 @@ impl<'a> Db<'a> {
         }
     }
 
-    /// Reads a database, and makes all tests of its file. It takes a few words for each package.
+    /// Reads a database, and tests its whole file. It takes a few words for each package.
     ///
     /// # Errors
     ///
@@ -84,12 +84,12 @@ impl<'a> Db<'a> {
         Ok(db)
     }
 
-    /// The database in a payload that passes all tests of one. They are not made again. It takes a
-    /// few words for each package.
+    /// The database in a payload that passes all tests; they are not repeated. It takes a few words
+    /// for each package.
     ///
     /// # Errors
     ///
-    /// Lack of memory.
+    /// Out of memory.
     pub fn open(alloc: Global, payload: &'a [u8]) -> Result<Db<'a>, AllocError>
         requires { payload_fault Tables.Idb payload.now ≡ None }
         ensures { IfOk result (λ db. packages_of db
@@ -133,8 +133,8 @@ impl<'a> Db<'a> {
         package_of_database(&self.idb, i)
     }
 
-    /// The place of the package with this name, counted from 0; of several the first. None comes
-    /// exactly when no package has the name. The name is found by halving.
+    /// The place of the first package with this name, counted from 0, found by binary search. None
+    /// is returned exactly if no package has the name.
     pub fn find(&self, name: &[u8]) -> Option<usize>
         ensures found { result
             ≡ position_from (is_package_named name.now) 0 (packages_of self.now) }
@@ -143,8 +143,8 @@ impl<'a> Db<'a> {
         place_of(&self.names, name)
     }
 
-    /// The place of the package that lists this path, counted from 0; of several the first. None
-    /// comes exactly when no package lists it. It looks at all that the database lists.
+    /// The place of the first package that lists this path, counted from 0. None is returned
+    /// exactly if no package lists it. It searches all that the database lists.
     pub fn owner_of(&self, path: &Name) -> Option<usize>
         ensures found { result ≡ position_from (lists_path path.now) 0 (packages_of self.now) }
         ensures within { IfSome result (λ i. i < length (packages_of self.now)) }
@@ -162,8 +162,8 @@ impl<'a> Db<'a> {
             (member_listings (staying_members (packages_of self.now))) }
     {}
 
-    /// No path that a package of the database lists is reserved: no change removes one of the
-    /// package keeper's own files as a package's.
+    /// No path that a package of the database lists is reserved: so a change never removes one of
+    /// the package keeper's own files as a package's file.
     pub fn no_listed_path_is_reserved(&self)
         ensures { All (λ l. is_reserved l.path ≡ false)
             (member_listings (staying_members (packages_of self.now))) }
@@ -184,7 +184,7 @@ pub(crate) fn package_of_database<'a>(idb: &Option<IdbView<'a>>, i: usize) -> Pa
     }
 }
 
-/// The payload of the first block of a database's file, which passes all tests.
+/// The payload of the first block of a database file that passes all tests.
 #[tactic(auto, unfolding(adb_schema::specs::Soundness::first_fault, adb_schema::specs::Soundness::payload_in))]
 fn first_payload(bytes: &[u8]) -> &[u8]
     requires { first_fault Tables.Idb bytes.now ≡ None }
@@ -200,7 +200,7 @@ fn first_payload(bytes: &[u8]) -> &[u8]
     }
 }
 
-/// A view of the database in a payload that passes all tests of one, which are not made again.
+/// A view of the database in a payload that passes all tests; they are not repeated.
 pub fn open_idb(payload: &[u8]) -> IdbView<'_>
     requires { payload_fault Tables.Idb payload.now ≡ None }
     ensures { idb_value result ≡ root_value Tables.Idb payload.now }
@@ -228,7 +228,7 @@ fn package_at<'a>(packages: &List<'a, PackageView<'a>>, i: usize) -> PackageView
     requires { i < count_of (entries_in (list_value packages.now)) }
     ensures { package_value result ≡ entry_in (list_value packages.now) i }
 {
-    // Never so, by the contract; `len` tells that a list has less than 2^32 entries.
+    // Never so, by the contract; `len` says that a list has less than 2^32 entries.
     if i >= packages.len() {
         unreachable!();
     }
@@ -245,8 +245,7 @@ fn is_lister<'a>(packages: &List<'a, PackageView<'a>>, i: usize, path: &[u8]) ->
     is_path_listed(&package.paths(), path)
 }
 
-/// The place in a list, counted from 0, of the first package that lists this path; none where no
-/// package does.
+/// The place in a list, counted from 0, of the first package that lists this path, if one does.
 fn find_lister<'a>(packages: &List<'a, PackageView<'a>>, path: &[u8]) -> Option<usize>
     ensures found { result ≡ position_from (lists_path path.now) 0
         (list_of (entries_in (list_value packages.now))) }

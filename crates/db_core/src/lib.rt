@@ -1,9 +1,9 @@
 //! The installed database as it is read (apk-v3(5)), and the packages after a change.
 //!
-//! `Db` is the database: all is lent from its file's bytes. `Members` are the packages after a
-//! change, those that stay and those that come, and `Owned` says which of the files that they list
-//! are theirs. The contracts cite `Members` (members and the files that they list) and `Packages`
-//! (the packages of a database) of `specs/`.
+//! `Db` is the database: all data are lent from its file's bytes. `Members` are the kept and added
+//! packages after a change, and `Owned` says which of the files that they list they own. The
+//! contracts cite `Members` (members and the files that they list) and `Packages` (the packages of
+//! a database) of `specs/`.
 //! The rules are in `docs/formats.md`, "Schemas", table 9, "Tests of a container" and "The
 //! database after a change", and in `docs/commands.md`, "`info`" (who owns a path).
 #![tactic(auto)]

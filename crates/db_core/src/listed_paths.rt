@@ -1,6 +1,6 @@
-//! Whether folders list a file with some path, which is not joined.
+//! Whether folders list a file with some path, without joining it.
 //! What a path is, is in `docs/formats.md`, "The texts", fields 401 and 501: the folder's name,
-//! which is empty for the root, `/`, and the file's name. Who owns a path is asked by `info`
+//! which is empty for the root, `/`, and the file's name. `info` asks who owns a path
 //! (`docs/commands.md`, "`info`").
 ghost use Rattle.adb_fields.specs.ListValue.{list_value};
 ghost use Rattle.adb_fields.specs.Paths.{path_of};
@@ -31,7 +31,7 @@ fn is_path_in_folder<'a>(folders: &List<'a, DirInfo<'a>>, i: usize, path: &[u8])
     ensures { result ≡ list_any (bytes_eq path.now)
         (paths_under (entry_in (list_value folders.now) i)) }
 {
-    // Never so, by the contract; `len` tells that a list has less than 2^32 entries.
+    // Never so, by the contract; `len` says that a list has less than 2^32 entries.
     if i >= folders.len() {
         unreachable!();
     }
@@ -58,7 +58,7 @@ fn is_path_of_file<'a>(files: &List<'a, FileInfo<'a>>, i: usize, folder: &[u8], 
     ensures { result ≡ bytes_eq path.now
         (path_of folder.now (name_of (entry_in (list_value files.now) i))) }
 {
-    // Never so, by the contract; `len` tells that a list has less than 2^32 entries.
+    // Never so, by the contract; `len` says that a list has less than 2^32 entries.
     if i >= files.len() {
         unreachable!();
     }
@@ -66,7 +66,7 @@ fn is_path_of_file<'a>(files: &List<'a, FileInfo<'a>>, i: usize, folder: &[u8], 
 }
 
 /// Whether a path is that of the file with this name in this folder: the two joined by `/`, or the
-/// name alone where the folder is the root.
+/// name alone if the folder is the root.
 fn is_path(path: &[u8], folder: &[u8], name: &[u8]) -> bool
     ensures { result ≡ bytes_eq path.now (path_of folder.now name.now) }
 {

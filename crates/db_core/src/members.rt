@@ -1,7 +1,7 @@
 //! The packages after a change.
-//! The rule is in `docs/formats.md`, "The database after a change": those that stay and those
-//! that come, in byte order of their names. How a member is added is said in `docs/DECISIONS.md`,
-//! "The installed database".
+//! The rule is in `docs/formats.md`, "The database after a change": kept and added packages, in
+//! byte order of their names. `docs/DECISIONS.md`, "The installed database", says how a member is
+//! added.
 
 ghost use Rattle.adb_fields.specs.Repeated.{package_name};
 ghost use Rattle.adb_schema.specs.Views.{package_value};
@@ -31,12 +31,11 @@ use std::marker::Model;
 /// (`docs/selection.md`, "What there is to choose from").
 pub const MOST_MEMBERS: usize = 65536;
 
-/// A package after the change, and the id of one that comes.
+/// A package after the change, and the id of an added one.
 #[derive(Drop)]
 pub(crate) struct PackageWithId<'a> {
-    /// The package.
     pub(crate) view: PackageView<'a>,
-    /// The id of a package that comes; none of one that stays.
+    /// The id of an added package; none for a kept one.
     pub(crate) id: Option<[u8; 32]>,
 }
 
@@ -56,28 +55,28 @@ impl<'a> Model for PackageWithId<'a> {
         ≡ true };
 }
 
-/// The packages after a change, in byte order of names: those that stay and those that come.
+/// The packages after a change, in byte order of names: kept and added ones.
 #[derive(Drop)]
 pub struct Members<'a> {
-    /// The database from which packages stay.
+    /// The database of the kept packages.
     pub(crate) db: &'a Db<'a>,
     /// The packages, in byte order of their names.
     pub(crate) entries: Vec<PackageWithId<'a>>,
-    // The packages stand in byte order of their names, each name once.
+    // The packages are in byte order of their names, each name once.
     ghost in_order: { IsRising (map (λ e. member_name (member_by e)) entries.items) },
     // There are no more packages than there may be.
     ghost few: { length entries.items ≤ MOST_MEMBERS },
-    // Each path that a package lists is a name; one that stays lists no reserved path.
+    // Each path that a package lists is a name; a kept package lists no reserved path.
     ghost named: { list_all (λ e. lists_names (member_by e).pkg) entries.items ≡ true },
     ghost free: { list_all (λ e. comes_or_lists_no_reserved (member_by e)) entries.items ≡ true },
-    // The packages come out of sound containers.
+    // The packages are from sound containers.
     ghost sound: { ∥ AreOfSoundContainers (map member_by entries.items) ∥₁ },
-    // A package that stays is read from the payload of the database.
+    // A kept package is read from the payload of the database.
     ghost lent: { list_all (comes_or_is_in (payload_of_database db.now.idb)) entries.items
         ≡ true },
 }
 
-/// Whether the name of a package comes before another one in byte order.
+/// Whether the name of a package is before another name in byte order.
 fn is_before(entry: &PackageWithId<'_>, name: &[u8]) -> bool
     ensures { result ≡ precedes (member_name (member_by entry.now)) name.now }
 {
@@ -91,7 +90,7 @@ impl<'a> Members<'a> {
     ghost use Rattle.db_core.specs.Members.{AreInOrder, member_listings};
     ghost use Rattle.db_core.specs.Seen.{members_of, packages_before, packages_of, payload_before};
 
-    /// A list without packages, for those that stay of a database and those that come.
+    /// A list without packages, for kept packages of a database and added ones.
     pub fn new(alloc: Global, db: &'a Db<'a>) -> Members<'a>
         ensures none { members_of result ≡ [] }
         ensures before { packages_before result ≡ packages_of db.entry.now }
@@ -102,19 +101,19 @@ impl<'a> Members<'a> {
         }
     }
 
-    /// The database from which packages stay.
+    /// The database of the kept packages.
     pub fn db(&self) -> &'a Db<'a>
         ensures { packages_of result.now ≡ packages_before self.now }
     {
         self.db
     }
 
-    /// Adds the package at a place of the database, counted from 0, which stays. A refused call
+    /// Adds the package at a place of the database, counted from 0, as a kept one. A refused call
     /// changes nothing.
     ///
     /// # Errors
     ///
-    /// Lack of memory.
+    /// Out of memory.
     pub fn stays(&mut self, i: usize) -> Result<(), AllocError>
         requires at { i < length (packages_before self.old) }
         requires behind { (pkg : Plain) → slice_get (packages_before self.old) i ≡ Some pkg
@@ -130,11 +129,11 @@ impl<'a> Members<'a> {
         Ok(())
     }
 
-    /// Adds a package that comes, with its id. A refused call changes nothing.
+    /// Adds an added package, with its id. A refused call changes nothing.
     ///
     /// # Errors
     ///
-    /// Lack of memory.
+    /// Out of memory.
     pub fn comes_in_pieces(&mut self, contents: &Contents<'a>) -> Result<(), AllocError>
         requires behind { comes_behind (package_name (value_of_contents contents.now))
             (members_of self.old) ≡ true }
@@ -153,7 +152,7 @@ impl<'a> Members<'a> {
         Ok(())
     }
 
-    /// Whether a package with this name comes behind all others, as one that is added has to.
+    /// Whether this name is after those of all packages, as that of the next member has to be.
     pub fn comes_behind(&self, name: &[u8]) -> bool
         ensures { result ≡ comes_behind name.now (members_of self.now) }
     {
@@ -165,8 +164,8 @@ impl<'a> Members<'a> {
         order.is_lt()
     }
 
-    /// The place of the package with this name, counted from 0. None comes exactly when no package
-    /// has the name. The name is found by halving.
+    /// The place of the package with this name, counted from 0, found by binary search. None is
+    /// returned exactly if no package has the name.
     pub fn find(&self, name: &[u8]) -> Option<usize>
         ensures found { (i : ℕ) (m : Member) → slice_get (members_of self.now) i ≡ Some m
             → is_place i result ≡ bytes_eq (member_name m) name.now }
@@ -182,7 +181,7 @@ impl<'a> Members<'a> {
         Some(at)
     }
 
-    /// How many packages have names that come before this one.
+    /// How many packages have names before this one.
     fn count_before(&self, name: &[u8]) -> usize
         ensures within { result ≤ length self.now.entries.items }
         ensures point { IsPartitionPoint
@@ -208,8 +207,7 @@ impl<'a> Members<'a> {
         self.entries.is_empty()
     }
 
-    /// The package at a place, counted from 0. One that stays is read from the payload of the
-    /// database.
+    /// The package at a place, counted from 0. A kept one is read from the payload of the database.
     pub fn view(&self, i: usize) -> &PackageView<'a>
         requires { i < length (members_of self.now) }
         ensures value { (m : Member) → slice_get (members_of self.now) i ≡ Some m
@@ -220,7 +218,7 @@ impl<'a> Members<'a> {
         &self.entries[i].view
     }
 
-    /// The id of the package at a place, counted from 0; none where the package stays.
+    /// The id of the package at a place, counted from 0; none if the package is kept.
     pub fn id(&self, i: usize) -> Option<[u8; 32]>
         requires { i < length (members_of self.now) }
         ensures { (m : Member) → slice_get (members_of self.now) i ≡ Some m → result ≡ m.id }
@@ -228,8 +226,8 @@ impl<'a> Members<'a> {
         self.entries[i].id
     }
 
-    /// Members stand in byte order of their names, each name once. The writer of a database asks
-    /// for it, since a database lists its packages in that order.
+    /// Members are in byte order of their names, each name once. The writer of a database requires
+    /// this, since a database lists its packages in that order.
     pub fn members_are_in_order(&self)
         ensures { AreInOrder (members_of self.now) }
     {}
@@ -239,23 +237,23 @@ impl<'a> Members<'a> {
         ensures { All (λ l. IsName l.path) (member_listings (members_of self.now)) }
     {}
 
-    /// No path that a member which stays lists is reserved, since its database passed the tests; a
-    /// package that comes may list one.
+    /// A kept member lists no reserved path, since its database passed the tests; an added package
+    /// may list one.
     pub fn no_path_that_stays_is_reserved(&self)
         ensures { All (λ l. is_coming l.member ≡ false → is_reserved l.path ≡ false)
             (member_listings (members_of self.now)) }
     {}
 
-    /// The packages come out of sound containers, so that what is read of them need not be judged
-    /// again, and a database of them is sound.
+    /// The packages are from sound containers: what is read of them need not be tested again, and a
+    /// database of them is sound.
     pub fn packages_are_sound(&self)
         ensures { ∥ AreOfSoundContainers (members_of self.now) ∥₁ }
     {}
 }
 
-/// Each file that members list stands at its places: the member at the one among members, the
-/// folder and the file at those in it. Its path is that of the folder and the file. So a claim
-/// leads back to the entry of its file.
+/// Each file that members list is at its places: the member among members, the folder in it, and
+/// the file in the folder. Its path is that of the folder and the file. So a claim leads back to
+/// the entry of its file.
 pub fn listings_stand_at_their_places()
     ensures { (members : List Member) (i : ℕ) (l : Listing)
         → slice_get (member_listings members) i ≡ Some l → IsListedAt members l }

@@ -1,6 +1,6 @@
 //! Names of packages in byte order, each with the place of its package.
-//! The rule is in `docs/DECISIONS.md`, "The installed database": a database may have its
-//! packages in any order of names, so their names are kept in byte order beside it.
+//! The rule is in `docs/DECISIONS.md`, "The installed database": a database may have its packages
+//! in any order of names, so their names are also kept in byte order.
 ghost use Rattle.adb_fields.specs.ListValue.{list_value};
 ghost use Rattle.adb_fields.specs.Repeated.{list_of, package_name};
 ghost use Rattle.adb_schema.specs.Views.{package_value};
@@ -24,7 +24,7 @@ pub(crate) struct NamePlace<'a> {
     pub(crate) place: usize,
 }
 
-/// The names of packages in byte order. Equal ones stay in the order of the packages.
+/// The names of packages in byte order. Equal ones keep the order of the packages.
 pub(crate) fn sorted_names<'a>(
     alloc: Global,
     packages: &List<'a, PackageView<'a>>,
@@ -58,7 +58,7 @@ fn name_at<'a>(packages: &List<'a, PackageView<'a>>, i: usize) -> &'a [u8]
     requires { i < count_of (entries_in (list_value packages.now)) }
     ensures { result.now ≡ package_name (entry_in (list_value packages.now) i) }
 {
-    // Never so, by the contract; `len` tells that a list has less than 2^32 entries.
+    // Never so, by the contract; `len` says that a list has less than 2^32 entries.
     if i >= packages.len() {
         unreachable!();
     }
@@ -66,7 +66,7 @@ fn name_at<'a>(packages: &List<'a, PackageView<'a>>, i: usize) -> &'a [u8]
     package.info().name()
 }
 
-/// Puts names into byte order. Equal ones stay in the order that they have.
+/// Sorts names in byte order. Equal ones keep their order.
 fn sort_names(names: &mut Vec<NamePlace<'_>>) -> Result<(), AllocError>
     ensures { IfOk result (λ _. map name_seen names.new.items
         ≡ sorted_by placed_name_cmp (map name_seen names.old.items)) }
@@ -75,7 +75,7 @@ fn sort_names(names: &mut Vec<NamePlace<'_>>) -> Result<(), AllocError>
     Ok(())
 }
 
-/// How many names come before this one; the names are in byte order.
+/// How many names are before this one; the names are in byte order.
 fn count_before(names: &[NamePlace<'_>], name: &[u8]) -> usize
     requires { IsSorted placed_name_cmp (map name_seen names.now) }
     ensures within { result ≤ length names.now }

@@ -1,7 +1,7 @@
-//! Which files of the members are theirs.
-//! What a member owns, is in `docs/commands.md`, "Files that several packages list"; that a
-//! database lists of a package's files those that it owns, in `docs/formats.md`, "The database
-//! after a change".
+//! Which files the members own.
+//! `docs/commands.md`, "Files that several packages list", says which files a member owns;
+//! `docs/formats.md`, "The database after a change", says that a database lists of a package's
+//! files those that it owns.
 ghost use Rattle.std.specs.Prelude.{◌≡◌, ◌<◌, ◌==◌, ◌++◌, ◌∷◌, [], Some, length, slice_get, OnOk, OnErr};
 
 use std::alloc::{AllocError, Global};
@@ -40,11 +40,11 @@ impl Owned {
         Owned { flags }
     }
 
-    /// Adds a file behind the others. A refused call changes nothing.
+    /// Adds the flag of the next file. A refused call changes nothing.
     ///
     /// # Errors
     ///
-    /// Lack of memory.
+    /// Out of memory.
     pub fn push(&mut self, owned: bool) -> Result<(), AllocError>
         ensures ok { OnOk result (self.new ≡ self.old ++ owned ∷ []) }
         ensures err { OnErr result (self.new ≡ self.old) }
@@ -67,7 +67,7 @@ impl Owned {
         self.flags.is_empty()
     }
 
-    /// Whether the file at a place, counted from 0, is its member's.
+    /// Whether its member owns the file at a place, counted from 0.
     pub fn get(&self, i: usize) -> bool
         requires { i < length self.now }
         ensures { slice_get self.now i ≡ Some result }

@@ -1,11 +1,11 @@
--- What the information of a package tells of its file.
--- The rule is in `docs/formats.md`, "The database after a change": its `file-size` is as it
--- was. Serves the law `a_package_keeps_its_information`.
+-- What the information of a package says of its file.
+-- The rule is in `docs/formats.md`, "The database after a change": its `file-size` is unchanged. It
+-- serves the law `a_package_keeps_its_information`.
 use Rattle.std.specs.Prelude.{ℕ}
 use Rattle.adb_view.specs.Plain.{Plain}
 use Rattle.adb_view.specs.FieldIndexes.{INFO_FILE_SIZE, PACKAGE_INFO}
 use Rattle.adb_view.specs.Values.{entry_in, int_in}
 
--- the length of the package's file, as its information tells it; 0 where it tells none
+-- the length of the package's file, as its information gives it; 0 if it gives none
 abbrev pub file_size_of : Plain → ℕ
 file_size_of pkg = int_in (entry_in (entry_in pkg PACKAGE_INFO) INFO_FILE_SIZE)

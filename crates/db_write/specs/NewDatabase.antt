@@ -1,7 +1,7 @@
--- The database that lists members: of each its folders, and the files that it owns. No integer in
--- it is 0.
--- The rules are in `docs/formats.md`, "The database after a change"; the fields in "Schemas",
--- tables 5, 7 and 9.
+-- The database that lists members: of each its folders, and the files that it owns. No integer in it is
+-- 0.
+-- The rules are in `docs/formats.md`, "The database after a change"; the fields in "Schemas", tables 5,
+-- 7 and 9.
 use Rattle.std.specs.Prelude.{ℕ, ◌+◌, Bool, true, false, List, [], ◌∷◌, Option, length, drop, unwrap_or, Result, Ok, Err}
 use Rattle.adb_view.specs.Plain.{Plain, Plains, none, more, blob_value, arr_value, obj_value}
 use Rattle.adb_view.specs.FieldIndexes.{DIR_ACL, INFO_FILE_SIZE, INFO_HASHES, PACKAGE_INFO, PACKAGE_REPLACES_PRIORITY, PACKAGE_SCRIPTS, PACKAGE_TRIGGERS}
@@ -15,8 +15,7 @@ use Rattle.db_core.specs.Members.{Member}
 
 -- ---- by flags, one for each file in its order
 
--- the entries of those files whose flag is set, by one flag for each; a file without a flag is left
--- out
+-- the entries of those files whose flag is set, by one flag for each; a file without a flag is left out
 abbrev pub owned_entries : List Plain → List Bool → Plains
 owned_entries [] flags = none
 owned_entries (file ∷ files) [] = none
@@ -24,8 +23,8 @@ owned_entries (file ∷ files) (true ∷ flags) =
     more (without_zeros file) (owned_entries files flags)
 owned_entries (file ∷ files) (false ∷ flags) = owned_entries files flags
 
--- what each element of a list makes of the flags from its first one on; `count` says how many each
--- has
+-- the values that a function computes of each element of a list and the flags from the element's first
+-- one on; `count` says how many flags each element has
 abbrev pub each_by_flags :
     {X : Type 0} → (X → ℕ) → (X → List Bool → Plain) → List X → List Bool → Plains
 each_by_flags count value [] flags = none
@@ -39,7 +38,7 @@ total_of count (x ∷ xs) = count x + total_of count xs
 
 -- ---- folders
 
--- how many files a folder has: as many flags belong to the folder
+-- how many files a folder has, and so how many flags
 abbrev pub file_count : Plain → ℕ
 file_count folder = length (files_in folder)
 
@@ -55,11 +54,11 @@ folders_after folders flags = each_by_flags file_count folder_after folders flag
 
 -- ---- packages
 
--- how many files a member lists: as many flags belong to the member
+-- how many files a member lists, and so how many flags it has
 abbrev pub member_file_count : Member → ℕ
 member_file_count m = total_of file_count (folders_in m.pkg)
 
--- the information of a package in the new database, whose hash is the id where the package comes
+-- the information of a package in the new database; the hash of an added package is its id
 abbrev pub info_after : Option (List ℕ) → Plain → Plain
 info_after id info =
     info_with info (unwrap_or id (text_in (entry_in info INFO_HASHES)))
@@ -85,11 +84,11 @@ packages_after members flags = each_by_flags member_file_count package_after mem
 unfoldable pub database_value : List Member → List Bool → Plain
 database_value members flags = obj_value (more (arr_value (packages_after members flags)) none)
 
--- the file of a database with this payload, unless the payload passes a limit of the writer
+-- the file of a database with this payload, unless the payload exceeds a limit of the writer
 abbrev pub database_container : Result (List ℕ) PayloadCounts → Result (List ℕ) PayloadCounts
 database_container (Ok payload) = Ok (file_of IDB_WORD payload)
 database_container (Err counts) = Err counts
 
--- the file of the new database, or the counts of the writer at the first value that passes a limit
+-- the file of the new database, or the counts of the writer at the first value that exceeds a limit
 unfoldable pub database_of : List Member → List Bool → Result (List ℕ) PayloadCounts
 database_of members flags = database_container (written_of (database_value members flags))

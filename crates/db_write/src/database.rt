@@ -1,6 +1,6 @@
 //! The database's container.
-//! The rules are in `docs/formats.md`, "The database after a change" and "Container"; the limits
-//! of a payload in "Canonical layout"; what is asked of the flags, in `docs/DECISIONS.md`, "The
+//! The rules are in `docs/formats.md`, "The database after a change" and "Container"; the limits of
+//! a payload in "Canonical layout"; the condition on the flags in `docs/DECISIONS.md`, "The
 //! installed database".
 ghost use Rattle.adb_values.specs.Drafts.{draft_with};
 ghost use Rattle.adb_values.specs.Written.{IsWrittenAs};
@@ -24,18 +24,18 @@ use adb_write::{WriteFault, file_of};
 use db_core::{Members, Owned};
 use std::alloc::{AllocError, Global};
 
-/// Writes the database that lists these members, and of their files those that are theirs, by one
-/// flag for each in the order of members, folders and files: the container's bytes. A file without
-/// a flag is not theirs. It passes all tests of a database where no path is theirs of two members,
-/// and none is reserved.
+/// Writes the database that lists these members, and of their files those that they own: the
+/// container's bytes. There is one flag for each file, in the order of members, folders and files;
+/// a file without a flag is not owned. The database passes all tests if no path is owned by two
+/// members, and none is reserved.
 ///
 /// # Errors
 ///
-/// `TooLarge` where the database passes a limit of the writer, or `Memory`.
+/// `TooLarge` if the database exceeds a limit of the writer, or `Memory`.
 pub fn write_db(alloc: Global, members: &Members<'_>, owned: &Owned) -> Result<Vec<u8>, WriteFault>
     ensures written { IsWrittenAs (λ file. file.items) result
         (database_of (members_of members.now) owned.now) }
-    // The file passes all tests of a database where the listings that are owned may be listed.
+    // The file passes all tests of a database if the owned listings may be listed.
     ensures sound { IfOk result (λ file.
         MayBeListed (owned_listings (member_listings (members_of members.now)) owned.now)
         → IsSound Tables.Idb file.items) }

@@ -41,7 +41,7 @@ pub(crate) fn write_folders(
     write_folder_list(draft, adb, known, folders, flags)
 }
 
-/// The flags behind those of the files of a package: the next package's.
+/// The flags after those of the files of a package: the next package's.
 pub(crate) fn flags_behind<'f>(adb: Adb<'_>, pkg: Val, flags: &'f [bool]) -> &'f [bool]
     requires { is_sound (payload_of adb) (Kinds.Obj Tables.Package) pkg ≡ true }
     ensures { result.now ≡ drop (total_of file_count (folders_in
@@ -72,13 +72,13 @@ fn write_folder_list<'a>(
     for i in 0..folders.len() {
         let folder = entry_word(folders, i);
         write_folder(draft, adb, known, folder, left)?;
-        // The next folder takes the flags behind those of this one.
+        // The next folder takes the flags after those of this one.
         left = flags_behind_folder(adb, folder, left);
     }
     draft.close_array()
 }
 
-/// The flags behind those of the files of these folders.
+/// The flags after those of the files of these folders.
 fn flags_behind_folders<'a, 'f>(adb: Adb<'a>, folders: Arr<'a>, flags: &'f [bool]) -> &'f [bool]
     requires { are_all_sound (payload_of adb) (Kinds.Obj Tables.Dir) (array_entries folders)
         ≡ true }
@@ -93,8 +93,8 @@ fn flags_behind_folders<'a, 'f>(adb: Adb<'a>, folders: Arr<'a>, flags: &'f [bool
     left
 }
 
-/// The flags behind those of the files of one folder, the one with this word; none are left where
-/// there are too few.
+/// The flags after those of the files of the folder with this word; none are left if there are too
+/// few.
 fn flags_behind_folder<'f>(adb: Adb<'_>, folder: Val, flags: &'f [bool]) -> &'f [bool]
     requires { is_sound (payload_of adb) (Kinds.Obj Tables.Dir) folder ≡ true }
     ensures { result.now ≡ drop
@@ -157,8 +157,8 @@ fn write_files<'a>(
     draft.close_array()
 }
 
-/// Whether there is a flag at a place, counted from 0, and it is set; a file without a flag is
-/// nobody's.
+/// Whether the flag at a place, counted from 0, exists and is set; a file without a flag is owned
+/// by nobody.
 fn is_set(flags: &[bool], i: usize) -> bool
     ensures { result ≡ unwrap_or (slice_get flags.now i) false }
 {

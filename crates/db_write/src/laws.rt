@@ -1,7 +1,7 @@
-//! What a database that is written says when it is read, and that nothing changes where nothing was
-//! to be changed.
+//! The contents of a written database when it is read, and that nothing changes if nothing was to
+//! be changed.
 //! The rules are in `docs/formats.md`, "The database after a change", and in `docs/DECISIONS.md`,
-//! "The installed database" (what is asked of files that are owned).
+//! "The installed database" (the conditions on owned files).
 ghost use Rattle.adb_copy.specs.Zeros.{without_zeros};
 ghost use Rattle.adb_fields.specs.FirstPair.{IsIn};
 ghost use Rattle.adb_fields.specs.Repeated.{entries_at, folders_in, list_of, name_of, paths_in};
@@ -36,8 +36,8 @@ use adb_schema::{no_text_is_bad_where_each_keeps_its_rule, sound_containers_hold
 use adb_sound::{a_container_of_a_good_value_is_sound, what_a_container_is_made_of_is_read_back};
 use adb_write::{a_file_is_spelled, a_value_overflows_exactly_past_a_limit};
 
-/// A database whose value may stand at the root of a container passes all tests when it is written,
-/// and its packages are read back: those of the members, each with the files that it owns.
+/// If its value may be at the root of a container, a written database passes all tests, and its
+/// packages are read back: those of the members, each with the files that it owns.
 pub fn a_written_database_is_read_back()
     ensures database { (members : List Member) (flags : List Bool) (bytes : List ℕ)
         → IsRootOf Tables.Idb (database_value members flags) → database_of members flags ≡ Ok bytes
@@ -56,9 +56,9 @@ pub fn a_written_database_is_read_back()
     what_a_container_is_made_of_is_read_back();
 }
 
-/// The value of a database that is written may stand at the root of a container: where each member
-/// that stays was read from a sound database, and each that comes from a sound package with its id,
-/// members are in order, each path that is owned has one owner, and none is reserved.
+/// The value of a written database may be at the root of a container under these conditions: each
+/// kept member was read from a sound database, and each added one from a sound package with its id;
+/// members are in order, each owned path has one owner, and none is reserved.
 pub fn a_database_of_sound_packages_may_stand_at_the_root()
     ensures { (members : List Member) (flags : List Bool) (bytes : List ℕ)
         → AreOfSoundContainers members → AreInOrder members
@@ -71,8 +71,8 @@ pub fn a_database_of_sound_packages_may_stand_at_the_root()
     no_name_is_repeated_where_each_stands_once();
 }
 
-/// What sound containers of bytes hold may be members: each package of a database, which stays, and
-/// the value of a package, which comes with a digest as its id.
+/// The contents of sound containers may be members: each package of a database as a kept one, and
+/// the value of a package as an added one, with a digest as its id.
 pub fn packages_of_sound_containers_may_be_members()
     ensures stays { (file : List ℕ) (pkg : Plain)
         → IsSound Tables.Idb file → All (λ b. b < 256) (payload_in file)
@@ -86,15 +86,15 @@ pub fn packages_of_sound_containers_may_be_members()
     sound_containers_hold_sound_values();
 }
 
-/// The packages of a database after a change list the files that members list and own, in their
-/// order, and no others.
+/// The packages of a database after a change list exactly the files that members list and own, in
+/// their order.
 pub fn a_database_lists_the_owned_files()
     ensures { (members : List Member) (flags : List Bool)
         → flat_map paths_in (list_of (packages_after members flags)) ≡ owned_paths members flags }
 {}
 
 /// A database that is read and written with nothing changed has the same value, in which an integer
-/// 0 is Null; where the value had no such integer, and its payload was canonical, it is the same
+/// 0 is Null. If the value had no such integer, and its payload was canonical, it has the same
 /// bytes.
 pub fn a_database_without_changes_stays_the_same()
     ensures value { (v : Plain) → HasShape (shape_of (Kinds.Obj Tables.Idb)) v
@@ -108,9 +108,8 @@ pub fn a_database_without_changes_stays_the_same()
         ≡ Ok (file_of IDB_WORD payload) }
 {}
 
-/// The information of a package in a new database has the id of one that comes as its hash, and of
-/// one that stays its own. The size of its file is as it was, and so is each other field, in which
-/// an integer 0 is Null.
+/// In a new database the hash of an added package is its id, and a kept one keeps its own. The size
+/// of its file is unchanged, and so is each other field, in which an integer 0 is Null.
 pub fn a_package_keeps_its_information()
     ensures comes { (pkg : Plain) (id : List ℕ) (flags : List Bool)
         → installed_id (package_after (coming_member pkg id) flags) ≡ id }
@@ -124,8 +123,8 @@ pub fn a_package_keeps_its_information()
         ≡ without_zeros (entry_in (entry_in m.pkg PACKAGE_INFO) i) }
 {}
 
-/// The folders of a package stay in a new database, also where no file of them is owned, each with
-/// its name and its access list.
+/// The folders of a package are kept in a new database, each with its name and its access list,
+/// even if no file of them is owned.
 pub fn a_package_keeps_its_folders()
     ensures names { (m : Member) (flags : List Bool)
         → map name_of (folders_in (package_after m flags)) ≡ map name_of (folders_in m.pkg) }
@@ -135,7 +134,7 @@ pub fn a_package_keeps_its_folders()
 {}
 
 /// The entries of files in a new database are those of the files that members list and own, in
-/// their order, each as its member has it, where an integer 0 is Null.
+/// their order, each as its member has it, in which an integer 0 is Null.
 pub fn a_database_keeps_the_entries_of_owned_files()
     ensures { (members : List Member) (flags : List Bool)
         → map (λ l. l.entry)
@@ -143,8 +142,8 @@ pub fn a_database_keeps_the_entries_of_owned_files()
         ≡ map (λ l. without_zeros l.entry) (owned_listings (member_listings members) flags) }
 {}
 
-/// A package in a new database has the scripts, the triggers and the priority in replacing that it
-/// had, where an integer 0 is Null.
+/// A package in a new database keeps its scripts, its triggers and its priority in replacing, in
+/// which an integer 0 is Null.
 pub fn a_package_keeps_its_scripts_and_its_priority()
     ensures scripts { (m : Member) (flags : List Bool)
         → entry_in (package_after m flags) PACKAGE_SCRIPTS
@@ -157,8 +156,8 @@ pub fn a_package_keeps_its_scripts_and_its_priority()
         ≡ int_in (entry_in m.pkg PACKAGE_REPLACES_PRIORITY) }
 {}
 
-/// A database that was written, and whose value may stand at the root of a container, is written
-/// again alike: read back, with nothing changed, it is the same bytes.
+/// A written database whose value may be at the root of a container is written again with the same
+/// bytes: it is read back, and nothing changes.
 pub fn a_written_database_is_written_again_alike()
     ensures { (members : List Member) (flags : List Bool) (bytes : List ℕ)
         → IsRootOf Tables.Idb (database_value members flags) → database_of members flags ≡ Ok bytes

@@ -1,8 +1,8 @@
-//! Writes the installed database that stands after a change (apk-v3(5)).
+//! Writes the installed database after a change (apk-v3(5)).
 //!
-//! The members of a change and the files that are theirs come in, the bytes of a container go out.
-//! The contracts cite `NewDatabase` (the database's value, field by field, and its file) and
-//! `SoundMembers` (members that come out of sound containers) of `specs/`. `laws` says what
+//! It takes the members of a change and the files that they own, and returns the bytes of a
+//! container. The contracts cite `NewDatabase` (the database's value, field by field, and its file)
+//! and `SoundMembers` (members that are from sound containers) of `specs/`. `laws` says what
 //! follows.
 //! The rules are in `docs/formats.md`, "The database after a change", and "Schemas", tables 5, 7
 //! and 9.

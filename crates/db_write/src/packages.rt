@@ -1,6 +1,6 @@
 //! The packages of a database.
-//! The rule is in `docs/formats.md`, "The database after a change": what a database has of each
-//! package; the fields in "Schemas", table 7.
+//! The rule is in `docs/formats.md`, "The database after a change": the contents of the database
+//! for each package; the fields are in "Schemas", table 7.
 ghost use Rattle.adb_copy.specs.Known.{AreBlobsOf};
 ghost use Rattle.adb_view.specs.FieldIndexes.{PACKAGE_INFO};
 ghost use Rattle.adb_view.specs.Values.{entry_in, is_sound, value_at};
@@ -27,8 +27,8 @@ use db_core::Members;
 use std::alloc::{AllocError, Global};
 
 /// Writes the packages of members with the files whose flag is set, by one flag for each file of
-/// all members, in order. Packages that stay may share long texts, so those of the database that
-/// were written are kept.
+/// all members, in order. Kept packages may share long texts, so the written texts of the database
+/// are remembered.
 pub(crate) fn write_packages(
     alloc: Global,
     draft: &mut Draft,
@@ -43,13 +43,13 @@ pub(crate) fn write_packages(
     let mut left = flags;
     for i in 0..members.len() {
         write_member(alloc, draft, members, &mut known, i, left)?;
-        // The next package takes the flags behind those of this one.
+        // The next package takes the flags after those of this one.
         left = flags_behind_member(members, i, left);
     }
     draft.close_array()
 }
 
-/// The flags behind those of the files of the member at a place, counted from 0.
+/// The flags after those of the files of the member at a place, counted from 0.
 fn flags_behind_member<'f>(members: &Members<'_>, i: usize, flags: &'f [bool]) -> &'f [bool]
     requires { i < length (members_of members.now) }
     ensures { (m : Member) → slice_get (members_of members.now) i ≡ Some m
@@ -60,8 +60,8 @@ fn flags_behind_member<'f>(members: &Members<'_>, i: usize, flags: &'f [bool]) -
 }
 
 /// Writes the member at a place, counted from 0, with the files whose flag is set, by the flags
-/// from its first file on. `known` has the long texts of the database that the draft has already; a
-/// package that comes is read from a payload of its own.
+/// from its first file on. `known` has the long texts of the database that the draft has already;
+/// an added package is read from a payload of its own.
 fn write_member(
     alloc: Global,
     draft: &mut Draft,
@@ -89,7 +89,7 @@ fn write_member(
 }
 
 /// Writes the package with a word of a payload, with the files whose flag is set, by the flags from
-/// its first file on; a package that comes has an id.
+/// its first file on; an added package has an id.
 fn write_package(
     draft: &mut Draft,
     adb: Adb<'_>,
@@ -117,8 +117,8 @@ fn write_package(
     draft.close_object()
 }
 
-/// Writes the information of a package, with the id of one that comes as its hash; one that stays
-/// keeps its own.
+/// Writes the information of a package. The hash of an added one is its id; a kept one keeps its
+/// own.
 fn write_member_info(
     draft: &mut Draft,
     adb: Adb<'_>,
@@ -139,8 +139,7 @@ fn write_member_info(
     write_info(draft, adb, known, info, hash_after(&id, own), len)
 }
 
-/// The hash of a package in the new database: the id of one that comes, and its own of one that
-/// stays.
+/// The hash of a package in the new database: the id of an added one, and its own of a kept one.
 fn hash_after<'a>(id: &'a Option<[u8; 32]>, own: &'a [u8]) -> &'a [u8]
     ensures { result.now ≡ unwrap_or id.entry.now own.entry.now }
 {

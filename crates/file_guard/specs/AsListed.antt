@@ -7,17 +7,16 @@ use Rattle.adb_view.specs.FieldIndexes.{FILE_HASHES, FILE_SIZE, FILE_TARGET}
 use Rattle.adb_view.specs.Values.{entry_in, int_in, text_in}
 use Rattle.pkg_core.specs.Contents.{hash_fault}
 
--- the size of a file in bytes, as its entry tells it; 0 where the entry tells none
+-- the size of a file in bytes, by its entry; 0 if the entry gives none
 abbrev pub file_size : Plain → ℕ
 file_size entry = int_in (entry_in entry FILE_SIZE)
 
--- the digest of a file, as its entry tells it: its length says which one it is; no bytes where the
--- entry tells none
+-- the digest of a file, by its entry; its length says which function it is; no bytes if the entry gives
+-- none
 abbrev pub file_hash : Plain → List ℕ
 file_hash entry = text_in (entry_in entry FILE_HASHES)
 
--- the target of a file, as its entry tells it: of a link `00 a0` and the link's text; of another
--- file no bytes
+-- the target of a file, by its entry: for a link `00 a0` and the link's text; otherwise no bytes
 abbrev pub file_target : Plain → List ℕ
 file_target entry = text_in (entry_in entry FILE_TARGET)
 
@@ -25,7 +24,7 @@ file_target entry = text_in (entry_in entry FILE_TARGET)
 abbrev pub has_target : Plain → Bool
 has_target entry = not (length (file_target entry) == 0)
 
--- where the text of a link begins in its target, counted from 0: behind `00 a0`
+-- where the text of a link begins in its target, counted from 0: after `00 a0`
 abbrev pub link_text_at : ℕ
 link_text_at = 2
 
@@ -33,16 +32,16 @@ link_text_at = 2
 abbrev pub target_text : List ℕ → List ℕ
 target_text target = drop link_text_at target
 
--- the bytes that stand for a link to a target: a mark, and the link's text
+-- the bytes of a file that represents a link to a target: a mark, and the link's text
 abbrev pub link_to : List ℕ → List ℕ
 link_to target = codes "!<symlink>" ++ target_text target
 
--- the bytes of a file that stands for the link of an entry
+-- the bytes of a file that represents the link of an entry
 abbrev pub link_bytes : Plain → List ℕ
 link_bytes entry = link_to (file_target entry)
 
--- Whether bytes are as an entry tells by a size, a hash and a target: a link's bytes; bytes with
--- the hash; or, if there is none, no bytes at a size of 0.
+-- Whether bytes are as an entry with this size, hash and target lists them: a link's bytes; bytes with
+-- the hash; or, if there is no hash, no bytes at a size of 0.
 unfoldable pub is_as_listed_by : ℕ → List ℕ → List ℕ → List ℕ → Bool
 is_as_listed_by size hash target bytes =
     if not (length target == 0) then bytes_eq bytes (link_to target)

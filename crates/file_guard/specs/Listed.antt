@@ -1,4 +1,4 @@
--- What a `ListedFile` says of bytes, and how a file of a tree compares with two of them. Serves the
+-- What a `ListedFile` says of bytes, and how a file of a tree compares with two of them. It serves the
 -- contracts of `compare_file`, `listed_file` and `ListedFile::agrees`.
 use Rattle.std.specs.Prelude.{◌≡◌, ℕ, Bool, false, List, Option, Some, None}
 use Rattle.std.specs.Option.{option_map}
@@ -13,7 +13,7 @@ pub record IsOfEntry (listed : ListedFile) (entry : Plain) : Type 0 where
   pub hash : listed.hash.now ≡ file_hash entry
   pub target : listed.target.now ≡ file_target entry
 
--- whether bytes are as a `ListedFile` tells; where nothing is listed, no bytes are
+-- whether bytes are as a `ListedFile` describes; without one, none are
 abbrev pub is_as_told : Option ListedFile → List ℕ → Bool
 is_as_told None bytes = false
 is_as_told (Some listed) bytes =
@@ -25,6 +25,6 @@ abbrev pub comparison_by : Option ListedFile → Option ListedFile → List ℕ 
 comparison_by new old bytes =
     record { as_new = is_as_told new bytes; as_old = is_as_told old bytes }
 
--- how the file that stands there compares, if there is one
+-- how the file under the name compares, if there is one
 abbrev pub comparison_of : Option ListedFile → Option ListedFile → Option (List ℕ) → Option Comparison
 comparison_of new old found = option_map (comparison_by new old) found

@@ -1,13 +1,13 @@
--- What is known of a file's bytes, of which some were seen and others are still to come. Serves the
--- contracts of `Watch` in `src/watch.rt`.
+-- What is known of a file's bytes after some of them were read. It serves the contracts of `Watch` in
+-- `src/watch.rt`.
 use Rattle.std.specs.Prelude.{◌≡◌, Bool, false, ℕ, List, ◌++◌, bytes_eq, is_none}
 use Rattle.pkg_core.specs.Contents.{hash_fault}
 use Rattle.pkg_core.specs.Hashing.{HoldsFor}
 use Rattle.file_guard.specs.declared.watch.Watch.{Watch}
 use Rattle.file_guard.specs.declared.watch.Watch.TheVariants.{Never, Exactly, Hashed}
 
--- What a `Watch` knows behind these bytes: a test of the whole file fails, asks for just the bytes
--- that are due, or asks for the digest of all.
+-- What a `Watch` knows after these bytes: a test of the whole file fails, requires exactly the expected
+-- bytes, or requires the digest of all.
 abbrev pub Watches : Watch → (List ℕ → Bool) → List ℕ → Type 0
 Watches Never test so_far = (further : List ℕ) → test (so_far ++ further) ≡ false
 Watches (Exactly first second) test so_far =

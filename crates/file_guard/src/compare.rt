@@ -1,6 +1,5 @@
-//! What an entry of a file says of its bytes, and a file of a tree, read once and compared with two
-//! entries. The rules are in `docs/commands.md`, "What a change does with files", what counts as
-//! changed.
+//! What an entry says of a file's bytes, and a comparison of a file of a tree with two entries. The
+//! rules are in `docs/commands.md`, "What a change does with files", what counts as changed.
 
 ghost use Rattle.std.specs.Prelude.{◌≡◌, ℕ, List, length, Option, Some, IfOk};
 ghost use Rattle.std.specs.Option.{option_map};
@@ -26,10 +25,10 @@ pub struct Comparison {
     pub as_old: bool,
 }
 
-/// Compares the file under a name with two entries, of which one may be absent: then no bytes are
-/// as it lists them. Returns None exactly if the name is absent. The file is read once, in pieces
-/// of 65,536 bytes, and the tree stays as it is, whatever the answer. The answer is right of some
-/// file or of none, also if the tree does not show its files.
+/// Compares the file under a name with two entries. Either may be absent: then no bytes are as it
+/// lists them. Returns None exactly if the name is absent. The file is read once, in pieces of
+/// 65,536 bytes, and the tree is unchanged, whatever is returned. If the tree's files are not
+/// observable, the answer is right of some file or of none.
 ///
 /// # Errors
 ///
@@ -44,7 +43,7 @@ pub fn compare_file<T: Tree>(
     ensures found { IfOk result (λ answer. (file : Option (List ℕ))
         × IfObservable (T.history tree.old) (λ v. file ≡ files_of v name.now)
         × (answer ≡ comparison_of new.entry old.entry file)) }
-    // Where the tree tells its files, it is right of the one that stands there.
+    // If the tree's files are observable, it is right of the file under the name.
     ensures answer { IfOk result (λ found. IfObservable (T.history tree.old) (λ v.
         found ≡ comparison_of new.entry old.entry (files_of v name.now))) }
     ensures tree { OnlyReads (record {}) (T.history tree.old) (T.history tree.new)
@@ -54,8 +53,8 @@ pub fn compare_file<T: Tree>(
     compare_file_in(tree, name, new, old, &mut piece)
 }
 
-/// The same as `compare_file`, in a piece that the caller lends: so many files need one piece
-/// between them. What the piece has before the call does not matter.
+/// The same as `compare_file`, in a piece that the caller lends, so that many files can share one
+/// piece. The contents of the piece before the call do not matter.
 ///
 /// # Errors
 ///
@@ -71,7 +70,7 @@ pub fn compare_file_in<T: Tree>(
     ensures found { IfOk result (λ answer. (file : Option (List ℕ))
         × IfObservable (T.history tree.old) (λ v. file ≡ files_of v name.now)
         × (answer ≡ comparison_of new.entry old.entry file)) }
-    // If the tree shows its files, it is right of the one under the name.
+    // If the tree's files are observable, it is right of the file under the name.
     ensures answer { IfOk result (λ found. IfObservable (T.history tree.old) (λ v.
         found ≡ comparison_of new.entry old.entry (files_of v name.now))) }
     ensures tree { OnlyReads (record {}) (T.history tree.old) (T.history tree.new)
@@ -84,7 +83,7 @@ pub fn compare_file_in<T: Tree>(
     Ok(Some(comparison))
 }
 
-/// Compares a file that is there, and has so many bytes, with two entries.
+/// Compares a present file, which has this many bytes, with two entries.
 fn compare_present<T: Tree>(
     tree: &mut T,
     name: &Name,
@@ -121,11 +120,11 @@ fn compare_present<T: Tree>(
 /// What an entry of a file says of its bytes.
 #[derive(Clone, Copy)]
 pub struct ListedFile<'a> {
-    /// How many bytes there are; 0 where the entry tells none.
+    /// How many bytes there are; 0 if the entry gives no size.
     pub size: u64,
-    /// The digest of the bytes, by the function that its length tells; empty if there is none.
+    /// The digest of the bytes, whose length says which function it is; empty if there is none.
     pub hash: &'a [u8],
-    /// A link's target, behind a number of two bytes; empty if it is no link.
+    /// A link's target, after a number of two bytes; empty if it is no link.
     pub target: &'a [u8],
 }
 

@@ -1,12 +1,12 @@
-//! Whether a file of a tree has the bytes that a package's entry tells. The rules are in
+//! Whether a file of a tree has the bytes that a package's entry describes. The rules are in
 //! `docs/commands.md`, "What a change does with files", what counts as changed.
 //!
 //! `ListedFile` is what an entry of a file (apk-package(5)) says of its bytes. `compare_file` reads
-//! the file under a name once, piece by piece, and compares it with the entry of the package that
-//! comes and with that of the package before. `LINK_MARK` and `target_text` are what is written for
-//! a link, one behind the other. No memory is taken. The contracts cite `AsListed` (which bytes are
-//! as an entry lists them), `Listed` (the same of a `ListedFile`) and `Watching` (what is known of
-//! a file that is not read whole yet) of `specs/`.
+//! the file under a name once, piece by piece, and compares it with the entry of the added package
+//! and with that of the package before. A link is written as `LINK_MARK` followed by its
+//! `target_text`. No memory is allocated. The contracts cite `AsListed` (which bytes are as an
+//! entry lists them), `Listed` (the same of a `ListedFile`) and `Watching` (what is known of a file
+//! that is only read in part) of `specs/`.
 #![tactic(auto)]
 
 mod compare;

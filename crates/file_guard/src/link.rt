@@ -1,17 +1,17 @@
-//! What a file holds that is written for a link: a mark, and the link's text. The rules are in
-//! `docs/commands.md`, "What a change does with files", and of an entry's target in
+//! The contents of the file that is written for a link: a mark, and the link's text. The rules are
+//! in `docs/commands.md`, "What a change does with files", and of an entry's target in
 //! `docs/formats.md`, "The texts", field 406.
 
 ghost use Rattle.std.specs.Prelude.{◌≡◌};
 ghost use Rattle.file_guard.specs.AsListed.{target_text};
 
-/// What stands in front of a link's text in the file that is written for the link.
+/// The bytes before a link's text in the file that is written for the link.
 pub const LINK_MARK: &[u8] = b"!<symlink>";
 
-/// Where the text of a link begins in its target, counted from 0: behind `00 a0`.
+/// Where the text of a link begins in its target, counted from 0: after `00 a0`.
 const LINK_TEXT_AT: usize = 2;
 
-/// The text of a link with this target; none where the target is too short to have one.
+/// The text of a link with this target; none if the target is too short to have one.
 pub fn target_text(target: &[u8]) -> &[u8]
     ensures { result.now ≡ target_text target.now }
 {

@@ -1,6 +1,5 @@
-//! A comparison of a file's bytes, which come piece by piece, with an entry. It serves
-//! `compare_file`; the rules are in `docs/commands.md`, "What a change does with files", what
-//! counts as changed.
+//! A comparison of a file's bytes with an entry, piece by piece. It serves `compare_file`; the
+//! rules are in `docs/commands.md`, "What a change does with files", what counts as changed.
 
 ghost use Rattle.std.specs.Prelude.{◌≡◌, ℕ, Bool, List, [], ◌++◌, Some};
 ghost use Rattle.file_guard.specs.Listed.{is_as_told};
@@ -10,21 +9,22 @@ use crate::compare::ListedFile;
 use crate::link::{LINK_MARK, target_text};
 use pkg_core::Hasher;
 
-/// What the bytes that are still to come have to be. Contracts see, by `Watching` of `specs/`, what
-/// is tested of all bytes.
+/// What the remaining bytes have to be. `Watching` of `specs/` relates this to the test of all
+/// bytes.
 #[derive(Drop)]
 pub(crate) enum Watch<'a> {
-    /// Whatever comes, the file is not as listed.
+    /// Whatever the remaining bytes are, the file is not as listed.
     Never,
-    /// The file is as listed where just these bytes come, the first ones and then the second ones.
+    /// The file is as listed if exactly these bytes remain, the first ones and then the second
+    /// ones.
     Exactly(&'a [u8], &'a [u8]),
-    /// The file is as listed where all bytes together have this digest.
+    /// The file is as listed if all bytes together have this digest.
     Hashed(Hasher, &'a [u8]),
 }
 
 impl<'a> Watch<'a> {
-    /// The watch of an entry, before the first byte of the file; nothing is as listed where there
-    /// is no entry.
+    /// The watch of an entry, before the first byte of the file; without an entry, nothing is as
+    /// listed.
     pub fn new(listed: Option<ListedFile<'a>>) -> Watch<'a>
         ensures { Watches result (is_as_told listed.entry) [] }
     {
@@ -34,7 +34,7 @@ impl<'a> Watch<'a> {
         }
     }
 
-    /// The watch behind further bytes of the file.
+    /// The watch after more bytes of the file.
     pub fn take(self, bytes: &[u8]) -> Watch<'a>
         ensures { (test : List ℕ → Bool) (so_far : List ℕ) → Watches self.entry test so_far
             → Watches result test (so_far ++ bytes.now) }
@@ -49,7 +49,7 @@ impl<'a> Watch<'a> {
         }
     }
 
-    /// Whether the file is as listed, where no further byte comes.
+    /// Whether the file is as listed, if no bytes remain.
     pub fn is_met(self) -> bool
         ensures { (test : List ℕ → Bool) (bytes : List ℕ) → Watches self.entry test bytes
             → result ≡ test bytes }
@@ -62,8 +62,8 @@ impl<'a> Watch<'a> {
     }
 }
 
-/// The watch of a file that is listed so: its link's bytes, its digest, or no bytes are due; by a
-/// size alone nothing is as listed.
+/// The watch of a file with this entry: its link's bytes, its digest, or no bytes are expected; by
+/// a size alone nothing is as listed.
 fn watch_listed<'a>(listed: ListedFile<'a>) -> Watch<'a>
     ensures { Watches result (is_as_told (Some listed.entry)) [] }
 {
@@ -79,7 +79,7 @@ fn watch_listed<'a>(listed: ListedFile<'a>) -> Watch<'a>
     Watch::Never
 }
 
-/// What is to come behind some bytes, where these two runs of bytes were to come.
+/// The bytes expected after some bytes, if these two runs of bytes were expected.
 fn bytes_behind<'a>(first: &'a [u8], second: &'a [u8], bytes: &[u8]) -> Watch<'a>
     ensures { (test : List ℕ → Bool) (so_far : List ℕ)
         → Watches (Watch.Exactly first.entry second.entry) test so_far

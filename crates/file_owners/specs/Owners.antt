@@ -1,26 +1,24 @@
 -- Who owns the files that members list.
--- The rules are in `docs/commands.md`, "Files that several packages list"; the words *claim*,
--- *owner*, *contested* and *rivals* in `docs/names.md`, "The installed database and a change of
--- it".
+-- The rules are in `docs/commands.md`, "Files that several packages list"; the terms *claim*, *owner*,
+-- *contested* and *rivals* in `docs/names.md`, "The installed database and a change of it".
 use Rattle.std.specs.Prelude.{ℕ, ◌+◌, Bool, false, List, [], ◌∷◌, map, Option, Some, None, slice_get}
 use Rattle.db_core.specs.Members.{Listing, Member, claims_of, member_listings}
 use Rattle.path_claims.specs.Claims.{ContestedPath, PathClaim, contested_by, is_member}
 use Rattle.path_claims.specs.Contest.{winner}
 use Rattle.file_owners.specs.Replaces.{takes_over}
 
--- whether the first member takes over the files of the second, where both are there
+-- whether the first member takes over the files of the second, if both exist
 abbrev pub takes_over_if_any : Option Member → Option Member → Bool
 takes_over_if_any None y = false
 takes_over_if_any (Some x) None = false
 takes_over_if_any (Some x) (Some y) = takes_over x.pkg y.pkg
 
--- whether the member at place x takes over the files of that at place y; not where there is no
--- member
+-- whether the member at place x takes over the files of that at place y; not if there is no member
 unfoldable pub member_beats : List Member → ℕ → ℕ → Bool
 member_beats members x y = takes_over_if_any (slice_get members x) (slice_get members y)
 
--- the place of the member that owns a path: it beats each other one that lists the path; none where
--- no member does
+-- the place of the member that owns a path: it beats each other one that lists the path; none if no
+-- member does
 unfoldable pub owner_of_path : List Member → List ℕ → Option ℕ
 owner_of_path members path =
     winner (member_beats members) (map (λ l. l.place) (claims_of members path))
@@ -31,7 +29,7 @@ unfoldable pub owned_of : List Member → List Bool
 owned_of members =
     map (λ l. is_member l.place (owner_of_path members l.path)) (member_listings members)
 
--- the claim of a file that is listed, with its number: how many claims stand before it
+-- the claim of a listed file, with its number: how many claims are before it
 abbrev pub claim_by : ℕ → Listing → PathClaim
 claim_by number l = record {
   path = l.path;
@@ -46,11 +44,11 @@ abbrev pub claims_from : ℕ → List Listing → List PathClaim
 claims_from number [] = []
 claims_from number (l ∷ listings) = claim_by number l ∷ claims_from (number + 1) listings
 
--- the claims of members: each file that they list, with how many stand before it
+-- the claims of members: each file that they list, with the number of claims before it
 unfoldable pub claims_in : List Member → List PathClaim
 claims_in members = claims_from 0 (member_listings members)
 
--- the first path in byte order that no member owns, with the first member that lists it and the
--- first other one that this one does not beat; none where each path has an owner
+-- the first path in byte order that no member owns, with the first member that lists it and the first
+-- other one that this one does not beat; none if each path has an owner
 unfoldable pub contested_of : List Member → Option ContestedPath
 contested_of members = contested_by (member_beats members) (claims_in members)

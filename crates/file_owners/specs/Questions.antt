@@ -1,5 +1,5 @@
--- The questions whether entries of what a package replaces name a member. Each asks by the word of a
--- version's text, so that entries which share the text ask one question.
+-- The questions whether entries of `replaces` name a member. Each asks by the word of a version's text,
+-- so that entries which share the text ask one question.
 use Rattle.std.specs.Prelude.{◌≡◌, ◌<◌, ℕ, Bool, true, false, ◌==◌, ◌&&◌, List, [], ◌∷◌, ◌++◌, length, Option, Some, None, slice_get}
 use Rattle.adb_view.specs.Plain.{Plain}
 use Rattle.adb_view.specs.FieldIndexes.{DEP_MATCH, DEP_NAME, DEP_VERSION}
@@ -25,13 +25,13 @@ abbrev pub question_names_if_any : List ℕ → ℕ → Plain → Option Questio
 question_names_if_any payload place pkg None = false
 question_names_if_any payload place pkg (Some q) = question_names payload place pkg q
 
--- the questions with one more behind them, if there is one
+-- the questions followed by one more, if there is one
 abbrev pub with_question : List Question → Option Question → List Question
 with_question questions None = questions
 with_question questions (Some q) = questions ++ q ∷ []
 
--- its entry is a sound dependency, with the name of the member at its place, the version to which
--- its word leads, and its operator
+-- its entry is a sound dependency, with the name of the member at its place, the version to which its
+-- word leads, and its operator
 pub record IsQuestionIn (members : List Member) (payload : List ℕ) (q : Question) : Type 0 where
   pub within : q.place < length members
   pub shaped : is_sound payload (Obj Dep) q.word ≡ true

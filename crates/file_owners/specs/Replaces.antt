@@ -21,19 +21,18 @@ abbrev pub is_replaced_by : Option Dependency → List ℕ → List ℕ → Bool
 is_replaced_by None name version = false
 is_replaced_by (Some d) name version = not d.conflict && meets d name (Some version)
 
--- whether an entry of what a package replaces names y: it is no conflict, and is met by y's own
--- name and version
+-- whether an entry of `replaces` names y: it is no conflict, and y's own name and version satisfy it
 abbrev pub is_named_by : Plain → Plain → Bool
 is_named_by entry y =
     is_version (version_text y)
     && is_replaced_by (dependency_in entry) (package_name y) (version_text y)
 
--- whether x names y: an entry of what x replaces does
+-- whether x names y: an entry of x's `replaces` does
 unfoldable pub names_package : Plain → Plain → Bool
 names_package x y =
     list_any (λ entry. is_named_by entry y) (entries_at INFO_REPLACES (entry_in x PACKAGE_INFO))
 
--- the priority of a package in replacing: 0 where the package tells none
+-- the priority of a package in replacing: 0 if the package gives none
 abbrev pub replacing_priority : Plain → ℕ
 replacing_priority pkg = int_in (entry_in pkg PACKAGE_REPLACES_PRIORITY)
 

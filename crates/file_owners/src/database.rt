@@ -1,7 +1,6 @@
 //! The files that the packages of a database list, as claims.
-//! What a database lists is in `docs/formats.md`, "Schemas", tables 4, 5, 7 and 9; that a
-//! package which stays claims those files, in `docs/commands.md`, "Files that several packages
-//! list".
+//! `docs/formats.md`, "Schemas", tables 4, 5, 7 and 9, says what a database lists;
+//! `docs/commands.md`, "Files that several packages list", that a kept package claims those files.
 
 ghost use Rattle.std.specs.Prelude.{◌≡◌, ◌<◌, [], Some, IfOk, length, map, slice_get};
 ghost use Rattle.db_core.specs.Members.{Member, listings_by, member_listings, staying_member};
@@ -19,13 +18,13 @@ use path_claims::{Claim, sort_claims};
 use std::alloc::{AllocError, Global};
 use std::marker::PhantomData;
 
-/// Gathers the files that the packages of a database list, as those of members that all stay: the
-/// claims in the order of their paths, and those of one path in the order of the packages. It takes
-/// a few words for each file, and compares paths as a sort does.
+/// Gathers the files that the packages of a database list, as those of members that are all kept:
+/// the claims in the order of their paths, and those of one path in the order of the packages. It
+/// takes a few words for each file, and compares paths as a sort does.
 ///
 /// # Errors
 ///
-/// Lack of memory.
+/// Out of memory.
 pub fn claims_in_database<'a>(alloc: Global, db: &Db<'a>) -> Result<Vec<Claim<'a>>, AllocError>
     ensures { IfOk result (λ claims. map claim_seen claims.items
         ≡ sorted_by claim_cmp (claims_in (map staying_member (packages_of db.now)))) }
@@ -48,8 +47,8 @@ fn listed_files<'a>(alloc: Global, db: &Db<'a>) -> Result<Vec<Claim<'a>>, AllocE
 }
 
 /// Adds the files of the package at a place of the database, counted from 0, to the claims. The
-/// mark serves the borrow checker alone, which does not know the parts of a view that is made and
-/// lent here unless the signature names the view as an argument.
+/// mark serves only the borrow checker: it does not know the parts of a view that is made and lent
+/// here unless the signature names the view as an argument.
 fn add_package<'a>(
     claims: &mut Vec<Claim<'a>>,
     db: &Db<'a>,
@@ -62,7 +61,7 @@ fn add_package<'a>(
         → map claim_seen claims.new.items
         ≡ with_listings (map claim_seen claims.old.items) (listings_by i m)) }
 {
-    // Never so, by the contract; `len` tells that places are below 2^32.
+    // Never so, by the contract; `len` says that places are below 2^32.
     if i >= db.len() {
         unreachable!();
     }

@@ -1,7 +1,7 @@
 //! The files that members list, as claims.
-//! The rule is in `docs/commands.md`, "Files that several packages list": a package that comes
-//! claims each file that it lists, and one that stays those that the database lists for it. Members
-//! count from 0, folders and files from 1, as in *Listing* of `db_core`.
+//! The rule is in `docs/commands.md`, "Files that several packages list": an added package claims
+//! each file that it lists, and a kept one those that the database lists for it. Members count from
+//! 0, folders and files from 1, as in *Listing* of `db_core`.
 
 ghost use Rattle.std.specs.Prelude.{◌≡◌, ◌<◌, ◌+◌, [], ◌∷◌, Some, IfOk, length, map, slice_get};
 ghost use Rattle.adb_fields.specs.Paths.{path_of};
@@ -18,7 +18,7 @@ use db_core::Members;
 use path_claims::Claim;
 use std::alloc::{AllocError, Global};
 
-/// Where a folder stands: the member's place counts from 0, the folder's in it from 1.
+/// A folder with its places: the member's counts from 0, the folder's in it from 1.
 #[derive(Clone, Copy)]
 struct FolderPlace<'a> {
     /// The place of the member, counted from 0.
@@ -86,7 +86,7 @@ fn add_folder<'a>(
         (name_of (nth (entries_in (list_value folders.now)) i))
         (files_in (nth (entries_in (list_value folders.now)) i)))) }
 {
-    // Never so, by the contract; `len` tells that a list has less than 2^32 entries.
+    // Never so, by the contract; `len` says that a list has less than 2^32 entries.
     if i >= folders.len() {
         unreachable!();
     }
@@ -136,7 +136,7 @@ pub(crate) fn place_of(members: &Members<'_>, i: usize) -> u32
     requires { i < length (members_of members.now) }
     ensures { result ≡ i }
 {
-    // Never so, by the contract; `len` tells that there are at most 65,536 members.
+    // Never so, by the contract; `len` says that there are at most 65,536 members.
     if i >= members.len() {
         unreachable!();
     }

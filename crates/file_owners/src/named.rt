@@ -1,4 +1,4 @@
-//! Which members each member names in what it replaces.
+//! Which members the `replaces` of each member names.
 //! The rule is in `docs/commands.md`, "Files that several packages list": "One package *names*
 //! another where an entry of its `replaces` that is no conflict is met by the other's name and
 //! version." Since no two members have one name, an entry names one at most.
@@ -27,12 +27,11 @@ use adb_view::{Arr, Which};
 use db_core::Members;
 use std::alloc::{AllocError, Global};
 
-/// The field of an info with what a package replaces.
+/// The field `replaces` of an info.
 const REPLACES: usize = 16;
 
 /// For each member, in its order, the places of those that it names, in rising order. Each entry of
-/// what members replace is read once, and a version that entries share is compared once for each
-/// member.
+/// `replaces` is read once, and a version that entries share is compared once for each member.
 pub(crate) fn places_of_each(
     alloc: Global,
     members: &Members<'_>,
@@ -49,7 +48,7 @@ pub(crate) fn places_of_each(
     Ok(named)
 }
 
-/// The places of the members that a package names, in rising order; each may stand more than once.
+/// The places of the members that a package names, in rising order; each may be repeated.
 fn places_named(
     alloc: Global,
     members: &Members<'_>,
@@ -66,7 +65,7 @@ fn places_named(
     Ok(places)
 }
 
-/// The entries of what a package replaces.
+/// The entries of a package's `replaces`.
 fn replaced_entries<'a>(info: &PkgInfo<'a>) -> Arr<'a>
     ensures sound { are_all_sound (payload_of info.now.adb) (Kinds.Obj Tables.Dep)
         (array_entries result) ≡ true }
@@ -82,7 +81,7 @@ fn replaced_entries<'a>(info: &PkgInfo<'a>) -> Arr<'a>
     )
 }
 
-/// Whether a place is among places in rising order, found by halving.
+/// Whether a place is among places in rising order, by binary search.
 pub(crate) fn is_among(places: &[u32], place: u32) -> bool
     requires { IsSorted nat_cmp places.now }
     ensures { result ≡ list_any (λ p. p == place) places.now }

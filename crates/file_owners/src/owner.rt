@@ -1,7 +1,7 @@
-//! The owners of the files that members list, by which of two packages takes over the files of the
-//! other.
+//! The owners of the files that members list, given which of two packages takes over the files of
+//! the other.
 //! The rules are in `docs/commands.md`, "Files that several packages list": which of two packages
-//! beats the other, who owns a path, and which path is reported where nobody does.
+//! beats the other, who owns a path, and which path is reported if nobody does.
 
 ghost use Rattle.std.specs.Prelude.{◌≡◌, ◌<◌, Some, IfOk, length, map, option_map, slice_get, List, true, false};
 ghost use Rattle.db_core.specs.Members.{Member, member_listings};
@@ -29,8 +29,7 @@ use path_claims::{Contest, Owners, owners_of};
 use std::alloc::{AllocError, Global};
 use version_core::Version;
 
-/// Members, some of which take over the files of others: for each the places of those that it
-/// names.
+/// Members, with the places of the members that each one names.
 #[derive(Drop)]
 struct Claimants<'m, 'a> {
     /// The packages after the change.
@@ -44,8 +43,8 @@ struct Claimants<'m, 'a> {
 impl<'m, 'a> Contest for Claimants<'m, 'a> {
     ghost beats = { λ claimants. member_beats (members_of claimants.members.now) };
 
-    /// Whether the member at the first place beats that at the second. A place behind the last
-    /// member beats nothing and is not beaten.
+    /// Whether the member at the first place beats that at the second. A place after the last
+    /// member neither beats nor is beaten.
     fn beats(&self, one: u32, other: u32) -> bool {
         if one as usize >= self.members.len() {
             return false;
@@ -57,8 +56,8 @@ impl<'m, 'a> Contest for Claimants<'m, 'a> {
     }
 }
 
-/// Whether the member at the first place takes over the files of that at the second, where `named`
-/// has the places that each member names.
+/// Whether the member at the first place takes over the files of that at the second; `named` has
+/// the places that each member names.
 fn member_beats(members: &Members<'_>, named: &[Vec<u32>], one: u32, other: u32) -> bool
     requires one { one < length (members_of members.now) }
     requires other { other < length (members_of members.now) }
@@ -75,11 +74,11 @@ fn member_beats(members: &Members<'_>, named: &[Vec<u32>], one: u32, other: u32)
 }
 
 /// Finds who owns the files that members list. It takes a few words for each file and each entry of
-/// what members replace, reads each entry once, and compares paths as a sort does.
+/// `replaces`, reads each entry once, and compares paths as a sort does.
 ///
 /// # Errors
 ///
-/// Lack of memory.
+/// Out of memory.
 pub fn owners_of_files<'a>(alloc: Global, members: &Members<'a>) -> Result<Owners<'a>, AllocError>
     // The files in the order of their paths, each with the places at which it is listed.
     ensures claims { IfOk result (λ found. map claim_seen found.claims.items
@@ -111,8 +110,8 @@ fn is_replaced(dep: &DepView<'_>, name: &[u8], version: &Version<'_>) -> bool
     }
 }
 
-/// Whether an entry of what a package replaces names another package: it is no conflict, and is met
-/// by that one's own name and version. Neither is judged, since sound containers hold both.
+/// Whether an entry of `replaces` names another package: it is no conflict, and that one's name and
+/// version satisfy it. Neither is validated, since both are from sound containers.
 pub(crate) fn is_named_by(entry: &DepView<'_>, pkg: &PackageView<'_>) -> bool
     requires entry { IsSoundDependency (dependency_value entry.now) }
     requires version { is_version (version_text (package_value pkg.now)) ≡ true }
@@ -124,6 +123,7 @@ pub(crate) fn is_named_by(entry: &DepView<'_>, pkg: &PackageView<'_>) -> bool
 }
 
 /// Whether the first of two packages that name each other is preferred: it has the greater priority
+/// in replacing, or at equal priority the later name.
 /// in replacing, or at equal priority the later name.
 #[tactic(auto, unfolding(crate::specs::Replaces::is_preferred_to))]
 pub(crate) fn is_preferred<'a, 'b>(one: &PackageView<'a>, other: &PackageView<'b>) -> bool
@@ -140,8 +140,8 @@ pub fn no_two_packages_take_over_from_each_other()
     ensures { (x y : Plain) → takes_over x y ≡ true → takes_over y x ≡ false }
 {}
 
-/// Of the files that members list and own, none has the path of another member's: so the flags that
-/// tell who owns what may be written into a database.
+/// No two members own files of one path: so the flags that say who owns what may be written into a
+/// database.
 pub fn no_path_is_owned_by_two_members()
     ensures { (members : List Member)
         → HaveOneOwner (owned_listings (member_listings members) (owned_of members)) }

@@ -1,7 +1,7 @@
-//! The questions whether entries of what a package replaces name a member. Many entries may share
-//! the text of a version, so entries that ask the same of one member are answered once.
-//! When an entry names a package stands in `docs/commands.md`, "Files that several packages list".
-//! That a question is answered once is this crate's own choice, and saves time alone.
+//! The questions whether entries of `replaces` name a member. Many entries may share the text of a
+//! version, so entries that ask the same of one member are answered once.
+//! `docs/commands.md`, "Files that several packages list", says when an entry names a package. To
+//! answer a question once is this crate's own choice; it only saves time.
 
 ghost use Rattle.std.specs.Prelude.{◌≡◌, ◌<◌, ◌-◌, ◌+◌, ◌==◌, ◌||◌, ℕ, true, All, Some, IfOk, IfSome, length, slice_get, take};
 ghost use Rattle.std.specs.List.{list_any};
@@ -37,7 +37,7 @@ const VERSION: usize = 1;
 pub(crate) struct Question {
     /// The member's place, counted from 0.
     pub(crate) place: u32,
-    /// The word of the version that is asked for, in the payload of the entry.
+    /// The word of the required version, in the payload of the entry.
     pub(crate) version: u32,
     /// How that version is compared.
     pub(crate) matching: u64,
@@ -46,7 +46,7 @@ pub(crate) struct Question {
 }
 
 impl Question {
-    /// The order in which questions that are the same stand together.
+    /// An order in which equal questions are adjacent.
     fn compare(&self, other: &Question) -> Ordering {
         let by_place = self.place.cmp(&other.place);
         let by_version = self.version.cmp(&other.version);
@@ -54,7 +54,7 @@ impl Question {
         by_place.then(by_version.then(by_matching))
     }
 
-    /// Whether both ask the same of one member: the words tell, and not the bytes.
+    /// Whether both ask the same of one member: this compares words, not bytes.
     fn is_same(&self, other: &Question) -> bool
         ensures { result ≡ true → AreSameQuestion self.now other.now }
     {
@@ -65,7 +65,7 @@ impl Question {
 }
 
 /// The places of the members that the entries of a `replaces` name. It takes time in proportion to
-/// k log k in the k entries; a text that several of them share is compared once for each member and
+/// k log k for k entries; a text that several of them share is compared once for each member and
 /// operator.
 pub(crate) fn places_in<'a>(
     alloc: Global,
@@ -89,7 +89,7 @@ pub(crate) fn places_in<'a>(
     Ok(places)
 }
 
-/// The questions of entries, in their order; an entry whose name no member has asks none.
+/// The questions of entries, in their order; an entry asks none if no member has its name.
 fn questions_of<'a>(
     alloc: Global,
     members: &Members<'_>,
@@ -118,7 +118,7 @@ fn questions_of<'a>(
     Ok(questions)
 }
 
-/// Adds a question behind others, if there is one.
+/// Adds a question to others, if there is one.
 fn add_question(questions: &mut Vec<Question>, question: Option<Question>) -> Result<(), AllocError>
     ensures { IfOk result (λ _. questions.new.items
         ≡ with_question questions.old.items question) }
@@ -151,8 +151,8 @@ fn question_of(members: &Members<'_>, adb: Adb<'_>, entry: Val) -> Option<Questi
     }
 }
 
-/// The places of the members for which questions are answered with yes, in the order of the
-/// questions. Those that are the same and stand together are answered once.
+/// The places of the members for which the answer is yes, in the order of the questions. Adjacent
+/// equal questions are answered once.
 fn places_asked(
     alloc: Global,
     members: &Members<'_>,
@@ -183,8 +183,7 @@ fn add_place(places: &mut Vec<u32>, place: Option<u32>) -> Result<(), AllocError
     Ok(())
 }
 
-/// The place of the member for which a question is answered with yes, unless the one before it is
-/// the same.
+/// The place of the question's member, if the answer is yes and the question before is another one.
 fn place_asked(members: &Members<'_>, adb: Adb<'_>, questions: &[Question], i: usize) -> Option<u32>
     requires within { i < length questions.now }
     requires questions { All (IsQuestionIn (members_of members.now) (payload_of adb))

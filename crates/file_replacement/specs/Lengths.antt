@@ -1,8 +1,8 @@
--- How long the name of a file may be that is replaced.
+-- The longest name of a file that can be replaced.
 -- The rules are in `docs/crash-safety.md`, "A whole file replaced".
 use Rattle.std.specs.Prelude.{ℕ}
 
--- the longest name of a file that is replaced, in bytes: its scratch name, `.apk-tmp` behind the name,
--- has eight bytes more, and a name at most 1,024
+-- the longest name of a file that can be replaced, in bytes: its scratch name, which adds `.apk-tmp`,
+-- has eight bytes more, and a name has at most 1,024
 abbrev pub longest_replaced : ℕ
 longest_replaced = 1016

@@ -1,3 +1,3 @@
--- The definitions of this crate. Each file names the place of its rule.
+-- The definitions of this crate. Each file names the document with its rule.
 -- what the contract of `replace` says, beside definitions of `journal_core`
 pub mod Lengths

@@ -1,4 +1,4 @@
-//! A whole file is put in the place of another, so that a crash leaves the old one or the new one.
+//! Replaces a whole file, so that a crash leaves the old one or the new one.
 //!
 //! The contract cites `Lengths` of `specs/`, and `Replacing`, `Reading` and `Recovery` (the state
 //! that files stand for) of `journal_core`.

@@ -9,7 +9,7 @@ use Rattle.journal_core.specs.Quiet.{IsStill}
 use Rattle.journal_core.specs.Recovery.{Intent, stage_name}
 use Rattle.journal_core.specs.Staged.{Staging, IsActing}
 
--- a stage with this intent, so many of whose actions are done
+-- a stage with this intent, this many of whose actions are done
 abbrev pub acting_stage : Intent → ℕ → Staging
 acting_stage intent acted = record {
   intent = intent;
@@ -19,7 +19,7 @@ acting_stage intent acted = record {
   acted = acted;
 }
 
--- a stage with this intent, all of whose files wait
+-- a stage with this intent, all of whose files are staged
 abbrev pub full_stage : Intent → Staging
 full_stage intent = record {
   intent = intent;
@@ -29,8 +29,8 @@ full_stage intent = record {
   acted = 0;
 }
 
--- what the move of a file that may wait at a place makes of the tree: a file that is there is moved to
--- its name, and nothing happens if none is there; after a fault the file was moved or not
+-- how the move of a file that may be staged at a place changes the tree: a file that is there is moved
+-- to its name, and nothing happens if none is there; after a fault the file was moved or not
 pub record MovesIfThere {T E : Type 0} (place name : List ℕ) (old new : List TreeState)
     (result : Result T E) : Type 0 where
   pub ok : OnOk result (IfObservable old (λ v.
@@ -38,13 +38,13 @@ pub record MovesIfThere {T E : Type 0} (place name : List ℕ) (old new : List T
   pub err : OnErr result (IfObservable old (λ v.
       (new ≡ old) ⊎ (new ≡ after_rename place name v ∷ old)))
 
--- the name under which the file of the next write waits; its number has at most 64 bits
+-- the name of the next write's staged file; its number has at most 64 bits
 pub record IsNextName (name : List ℕ) (stage : Staging) : Type 0 where
   pub is : name ≡ stage_name (stage.staged + 1)
   pub few : stage.staged + 1 < 2 ^ 64
 
--- a moment of the actions: from the start on nothing has happened to the state, and so many of the
--- stage's actions are done
+-- a moment of the actions: the state is unchanged since the start, and this many of the stage's actions
+-- are done
 pub record GoesWith (ignored : List ℕ → Bool) (files : Files) (stage : Staging)
     (start v : TreeState) : Type 0 where
   pub still : IsStill ignored start v

@@ -1,6 +1,6 @@
--- What a call of a stage keeps: the files under other names, and the names that no crash undoes.
--- The rules are in `docs/crash-safety.md`, "A change of several files", the list of what is proved,
--- and in "Recovery".
+-- What a call of a stage keeps: the files under other names, and the durable changes of names.
+-- The rules are in `docs/crash-safety.md`, "A change of several files", the list of what is proved, and
+-- in "Recovery".
 use Rattle.std.specs.Prelude.{◌≡◌, ◌≢◌, ◌⊎◌, ℕ, ◌+◌, true, false, List, [], length, None, Some, slice_get}
 use Rattle.base_core.specs.Crash.{Since}
 use Rattle.base_core.specs.Files.{Files, NameMap}
@@ -10,71 +10,72 @@ use Rattle.journal_intent.specs.FreeNames.{IsNoneOf}
 
 -- ---- the files as read
 
--- the files as read stay as they are under each name but these
+-- the files as read are unchanged under each name except these
 abbrev pub KeepsFilesBut : (List ℕ → Type 0) → TreeState → TreeState → Type 0
 KeepsFilesBut these start v = (q : List ℕ) → (these q → ⊥) → files_of v q ≡ files_of start q
 
--- the names of the next action, where so many are done: the name that is removed, or the name that
--- is written and the one under which its file waits
+-- the names of the next action, if this many are done: the name that is removed, or the name that is
+-- written and that of its staged file
 abbrev pub IsOfAction : Intent → ℕ → List ℕ → Type 0
 IsOfAction intent acted q =
     (slice_get intent.removals acted ≡ Some q)
     ⊎ ((i : ℕ) × (acted ≡ length intent.removals + i)
     × ((slice_get intent.writes i ≡ Some q) ⊎ (q ≡ stage_name (i + 1))))
 
--- the files as read are these files, once the intent that is read is done and gone
+-- the files as read are these files, once the intent that is read is done and removed
 abbrev pub RecoversTo : Files → TreeState → Type 0
 RecoversTo files v = recovered_files (files_of v) ≡ files
 
--- a name that waits: the intent's, or one below the stage
+-- a name of the journal: the intent's, or one in the staging area
 abbrev pub IsWaitingName : List ℕ → Type 0
 IsWaitingName name = (name ≡ intent_name) ⊎ (is_staged name ≡ true)
 
--- the intent, and each file below the stage, is as it was at the start or is gone
+-- the intent, and each file in the staging area, is as it was at the start or is gone
 abbrev pub IsLessWaiting : TreeState → TreeState → Type 0
 IsLessWaiting start v = (q : List ℕ) → IsWaitingName q
     → (files_of v q ≡ None) ⊎ (files_of v q ≡ files_of start q)
 
--- each name that does not wait has the bytes of the old files or those of the new ones
+-- each name outside the staging area has the bytes of the old files or those of the new ones
 abbrev pub HasOldOrNewBytes : Files → Files → TreeState → Type 0
 HasOldOrNewBytes old new v =
     (q : List ℕ) → (IsWaitingName q → ⊥) → (files_of v q ≡ old q) ⊎ (files_of v q ≡ new q)
 
--- each name that does not wait has old bytes or new ones at each moment since, whatever the old files
--- are, if so it was at this moment
+-- each name outside the staging area has old bytes or new ones at each moment since, for any old files
+-- for which this held at the start
 abbrev pub KeepsOldOrNewBytes : Files → TreeState → List TreeState → List TreeState → Type 0
 KeepsOldOrNewBytes files v old new =
     (base : Files) → HasOldOrNewBytes base files v → Since (HasOldOrNewBytes base files) old new
 
--- the intent stays as it was at the start, and each file that waits stays or goes
+-- the intent is as it was at the start, and each staged file is unchanged or gone
 pub record KeepsIntent (start v : TreeState) : Type 0 where
   pub intent : v.names intent_name ≡ start.names intent_name
   pub waiting : IsLessWaiting start v
 
 -- ---- the maps of names
 
--- each name but these leads in every map where it leads as read, so no crash undoes its change
+-- each name except these leads in every map to the same file as in the newest, so no crash undoes its
+-- change
 abbrev pub NamesLastBut : List (List ℕ) → TreeState → Type 0
 NamesLastBut these v =
     (map : NameMap) → IsMapOf v map → (q : List ℕ) → IsNoneOf q these → map q ≡ v.names q
 
--- each name but the intent's and those below the stage leads in every map where it leads as read, so no
--- crash undoes its change
+-- each name except the intent's and those in the staging area leads in every map to the same file as in
+-- the newest, so no crash undoes its change
 abbrev pub ShownNamesLast : TreeState → Type 0
 ShownNamesLast v = (map : NameMap) → IsMapOf v map → (q : List ℕ) → q ≢ intent_name
     → is_staged q ≡ false → map q ≡ v.names q
 
--- each name but the intent's, those below the stage and these leads in every map where it leads as read
+-- the same of each name except the intent's, those in the staging area and these
 abbrev pub ShownNamesLastBut : List (List ℕ) → TreeState → Type 0
 ShownNamesLastBut these v = (map : NameMap) → IsMapOf v map → (q : List ℕ) → IsNoneOf q these
     → q ≢ intent_name → is_staged q ≡ false → map q ≡ v.names q
 
--- no crash brings the name back
+-- no crash restores the name
 abbrev pub IsInNoMap : List ℕ → TreeState → Type 0
 IsInNoMap name v = (map : NameMap) → IsMapOf v map → map name ≡ None
 
--- each map is one from before, but for these names: so a crash leaves each other name where it
--- might have left it before
+-- each map is one from before, except for these names: so a crash leaves each other name as it might
+-- have left it before
 abbrev pub KeepsMapsBut : List (List ℕ) → TreeState → TreeState → Type 0
 KeepsMapsBut these start v = (map : NameMap) → IsMapOf v map
     → (was : NameMap) × IsMapOf start was × ((q : List ℕ) → IsNoneOf q these → map q ≡ was q)

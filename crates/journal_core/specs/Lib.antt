@@ -1,10 +1,11 @@
--- The definitions of this crate. Each file names the place of its rule.
+-- The definitions of this crate. Each file names the document with its rule.
 -- what the contract of `apk` says
 pub mod Recovery
 pub mod Replacing
 pub mod Quiet
 pub mod Staged
 pub mod Kept
+pub mod Targets
 -- what only inner contracts and proofs use
 pub mod Reading
 pub mod Filling

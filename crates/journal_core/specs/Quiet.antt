@@ -1,4 +1,4 @@
--- A moment at which nothing has happened to the state.
+-- A moment at which the state has not changed.
 -- The rules are in `docs/crash-safety.md`, "What files stand for", the table, *quiet* and *still*.
 use Rattle.std.specs.Prelude.{◌≡◌, ◌≤◌, ℕ, Bool, List}
 use Rattle.base_core.specs.Crash.{IsImage, IsOrderly}
@@ -12,8 +12,8 @@ IsQuiet ignored start v =
     (image : Files) → IsImage v image → (was : Files) × IsImage start was
     × (state_of ignored image ≡ state_of ignored was)
 
--- an orderly moment at which nothing has happened to the state, nor to the state as read; files may
--- have been made
+-- an orderly moment at which neither the state nor the state as read has changed; files may have been
+-- made
 pub record IsStill (ignored : List ℕ → Bool) (start v : TreeState) : Type 0 where
   pub orderly : IsOrderly (RestsOn ignored) v
   pub quiet : IsQuiet ignored start v

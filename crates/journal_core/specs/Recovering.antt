@@ -1,5 +1,5 @@
--- What a recovery makes of the tree, and its faults.
--- The rules are in `docs/crash-safety.md`, "Recovery". Serves the contracts of `journal_recovery`.
+-- How a recovery changes the tree, and its faults.
+-- The rules are in `docs/crash-safety.md`, "Recovery". It serves the contracts of `journal_recovery`.
 use Rattle.std.specs.Prelude.{◌≡◌, ℕ, true, if◌then◌else◌, List, Option, None, All}
 use Rattle.std.specs.List.{list_any}
 use Rattle.std.specs.Str.{bytes_eq}
@@ -12,7 +12,7 @@ use Rattle.journal_core.specs.declared.fault.RecoverFault.{RecoverFault}
 use Rattle.journal_core.specs.declared.fault.RecoverFault.TheVariants.{Disk, IntentBad, Memory}
 use Rattle.journal_core.specs.Recovery.{recovered_files, intent_name, is_staged}
 
--- the fault of a recovery for that of the reading of an intent
+-- the fault of a recovery for a failed read of an intent
 abbrev pub recover_fault_of : ReadFault → RecoverFault
 recover_fault_of (Bad cause) = IntentBad cause
 recover_fault_of NoMemoryToRead = Memory
@@ -22,29 +22,29 @@ abbrev pub recover_fault_of_tree : TreeFault → RecoverFault
 recover_fault_of_tree TreeFailed = Disk
 recover_fault_of_tree NoMemory = Memory
 
--- a moment behind the actions of an intent: the files as read are those of the start with the intent
+-- a moment after the actions of an intent: the files as read are those of the start with the intent
 -- done, and no intent is read
 pub record IsReplayed (start v : TreeState) : Type 0 where
   pub reads : files_of v ≡ recovered_files (files_of start)
   pub absent : v.names intent_name ≡ None
 
--- a map or files without what waits: the names of the waiting files lead nowhere
+-- a map or files without the staged files: their names lead nowhere
 abbrev pub unless_staged : {X : Type 0} → (List ℕ → Option X) → List ℕ → Option X
 unless_staged map q = if is_staged q then None else map q
 
--- each of these names lies below the stage
+-- each of these names is in the staging area
 abbrev pub AllStaged : List (List ℕ) → Type 0
 AllStaged names = All (λ name. is_staged name ≡ true) names
 
--- a moment without some names of the start: these lead nowhere, and the others where they led; no file
--- has changed
+-- a moment without some names of the start: these lead nowhere, and the others to the same files; no
+-- file has changed
 pub record IsWithout (names : List (List ℕ)) (start v : TreeState) : Type 0 where
   pub map : (q : List ℕ) → v.names q
       ≡ (if list_any (bytes_eq q) names then None else start.names q)
   pub files : v.files ≡ start.files
 
--- a moment without what waited at the start: no name below the stage leads anywhere, and no file has
--- changed
+-- a moment without the staged files of the start: no name in the staging area leads anywhere, and no
+-- file has changed
 pub record IsEmptied (start v : TreeState) : Type 0 where
   pub map : (q : List ℕ) → v.names q ≡ unless_staged start.names q
   pub files : v.files ≡ start.files

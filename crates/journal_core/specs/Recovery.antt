@@ -1,5 +1,5 @@
--- What files stand for, also in the midst of a change: the intent that is still to be done, and the
--- names that no state has.
+-- What files stand for, that is, what recovery yields, even in the middle of a change: the intent that
+-- is still to be done, and the names that are no part of a state.
 -- The rules are in `docs/crash-safety.md`, "What files stand for", the table.
 use Rattle.std.specs.Prelude.{◌≡◌, ◌⊎◌, ◌≤◌, ◌<◌, ℕ, ◌+◌, Bool, false, ◌||◌, if◌then◌else◌, List, [], ◌∷◌, length, Option, Some, None}
 use Rattle.std.specs.Str.{bytes_eq}
@@ -12,12 +12,12 @@ unfoldable pub use Rattle.journal_intent.specs.Intent.{read_intent}
 
 -- ---- the intent
 
--- the intent that a file under the intent's name spells, if the file is there and spells one
+-- the intent that a file under the intent's name encodes, if the file is there and encodes one
 abbrev pub intent_at : Option (List ℕ) → Option Intent
 intent_at None = None
 intent_at (Some file) = read_intent file
 
--- the intent that stands among the files, if there is one
+-- the intent among the files, if there is one
 abbrev pub intent_of : Files → Option Intent
 intent_of files = intent_at (files intent_name)
 
@@ -27,52 +27,52 @@ intent_of files = intent_at (files intent_name)
 abbrev pub without_names : List (List ℕ) → Files → Files
 without_names names files q = if list_any (bytes_eq q) names then None else files q
 
--- a file that stands at a name is moved to another name
+-- the file at a name, if there is one, is moved to another name
 abbrev pub move_if : Files → List ℕ → List ℕ → Option (List ℕ) → Files
 move_if files from to None = files
 move_if files from to (Some bytes) = move_name files from to bytes
 
--- the waiting files from number k on are moved to their names; one that is absent was moved before
+-- the staged files from number k on are moved to their names; one that is absent was moved before
 abbrev pub after_moves : ℕ → List (List ℕ) → Files → Files
 after_moves k [] files = files
 after_moves k (name ∷ names) files =
     after_moves (k + 1) names (move_if files (stage_name k) name (files (stage_name k)))
 
--- the files once all actions of an intent are done: first the removals, then the moves, from the
--- waiting file 1 on
+-- the files once all actions of an intent are done: first the removals, then the moves, from the staged
+-- file 1 on
 abbrev pub after_actions : Intent → Files → Files
 after_actions intent files = after_moves 1 intent.writes (without_names intent.removals files)
 
--- ---- what files stand for
+-- ---- what recovery yields
 
--- the files once this intent is done and gone: without an intent they stay
+-- the files once this intent is done and removed; unchanged without an intent
 abbrev pub recovered_files_by : Option Intent → Files → Files
 recovered_files_by None files = files
 recovered_files_by (Some intent) files = drop_name (after_actions intent files) intent_name
 
--- the files once their intent is done and gone; the same files, if there is none or it is no
--- intent container
+-- the files that recovery yields: their intent is done and removed; unchanged if there is none or it is
+-- no intent container
 abbrev pub recovered_files : Files → Files
 recovered_files files = recovered_files_by (intent_of files) files
 
--- the names that no state has: the waiting files, and further names ignored
+-- the names that are no part of a state: those of the staged files, and further names ignored
 abbrev pub is_hidden : (List ℕ → Bool) → List ℕ → Bool
 is_hidden ignored name = is_staged name || ignored name
 
--- the state that files stand for, apart from the names ignored; an intent that is done and gone is no
--- part of it, but a file under its name that is no intent container is
+-- the state that files stand for, apart from the names ignored: what recovery yields, without an
+-- intent, but with a file under its name that is no intent container
 abbrev pub state_of : (List ℕ → Bool) → Files → Files
 state_of ignored files q = if is_hidden ignored q then None else recovered_files files q
 
 -- ---- order
 
--- where a file waits for an action of this intent
+-- the name of a file that is staged for an action of this intent
 abbrev pub IsPlaceOf : Option Intent → List ℕ → Type 0
 IsPlaceOf None q = ⊥
 IsPlaceOf (Some intent) q = (k : ℕ) × (1 ≤ k) × (k < 1 + length intent.writes) × (q ≡ stage_name k)
 
--- the state of files rests on their intent, on each file that is not hidden, and on those that wait
--- for the intent's actions
+-- the state of files depends on their intent, on each file that is not hidden, and on those that are
+-- staged for the intent's actions
 abbrev pub RestsOn : (List ℕ → Bool) → Files → List ℕ → Type 0
 RestsOn ignored files q =
     (q ≡ intent_name) ⊎ ((is_hidden ignored q ≡ false) ⊎ IsPlaceOf (intent_of files) q)

@@ -1,7 +1,7 @@
--- A stage: how new files come to wait, what the publishing of the intent does, the actions behind
--- it, and what a recovery leaves.
--- The rules are in `docs/crash-safety.md`, "A change of several files", and for what a recovery
--- leaves in "Recovery".
+-- A stage: how files are staged, what publishing (committing) the intent does, the actions after it,
+-- and what a recovery leaves.
+-- The rules are in `docs/crash-safety.md`, "A change of several files", and for what a recovery leaves
+-- in "Recovery".
 use Rattle.std.specs.Prelude.{◌≡◌, ◌⊎◌, ◌≤◌, ◌<◌, ℕ, ◌+◌, Bool, true, false, if◌then◌else◌, List, [], ◌∷◌, ◌++◌, length, Option, Some, None, IsSome, slice_get}
 use Rattle.base_core.specs.Files.{Files, NameMap, IsFolderOf, put_name}
 use Rattle.base_core.specs.Tree.{TreeState, IsMapOf, files_by, files_of}
@@ -13,8 +13,8 @@ use Rattle.adb_view.specs.declared.tables.Which.TheVariants.{Intent as IntentTab
 use Rattle.journal_core.specs.Recovery.{Intent, IsOldOrNew, IsPlaceOf, RestsOn, intent_name, intent_of, is_staged, recovered_files, stage_name, state_of}
 use Rattle.journal_core.specs.Quiet.{IsQuiet}
 
--- a stage as its calls see it: what it is to do, how many of its writes have their files, whether
--- the next one's file is begun, whether the intent is published, and how many actions are done
+-- a stage for its calls: its actions, how many of its writes have their staged files, whether the next
+-- one's file is begun, whether the intent is published, and how many actions are done
 pub record Staging : Type 0 where
   pub intent : Intent
   pub staged : ℕ
@@ -26,7 +26,7 @@ pub record Staging : Type 0 where
 abbrev pub action_count : Intent → ℕ
 action_count intent = length intent.removals + length intent.writes
 
--- a stage of these actions that has done nothing
+-- a stage of these actions at its start
 abbrev pub new_stage : List (List ℕ) → List (List ℕ) → Staging
 new_stage removals writes = record {
   intent = record { removals = removals; writes = writes };
@@ -36,26 +36,26 @@ new_stage removals writes = record {
   acted = 0;
 }
 
--- what is under the intent's name is no intent container, for this cause
+-- the file under the intent's name is no intent container, for this cause
 abbrev pub IsIntentFault : Files → Cause → Type 0
 IsIntentFault files cause = (file : List ℕ) × (files intent_name ≡ Some file)
     × (first_fault IntentTable file ≡ Some cause)
 
 -- ---- staging
 
--- the files with more files that wait, which have these bytes, the first of them as number k
+-- the files with more staged files, which have these bytes, the first of them as number k
 abbrev pub with_staged : ℕ → List (List ℕ) → Files → Files
 with_staged k [] files = files
 with_staged k (bytes ∷ contents) files =
     with_staged (k + 1) contents (put_name files (stage_name k) bytes)
 
--- the files with one more that waits as number k, where there are bytes for it: the file that is begun
+-- the files with one more staged file, number k, if there are bytes for it: the file that is begun
 abbrev pub with_begun : ℕ → Option (List ℕ) → Files → Files
 with_begun k None files = files
 with_begun k (Some bytes) files = put_name files (stage_name k) bytes
 
--- a file is under the name, and under no other name in any map; and in none of these maps an
--- action of the intent takes it
+-- a file is under the name, and under no other name in any map; and in none of these maps an action of
+-- the intent uses it
 pub record IsAlone (name : List ℕ) (v : TreeState) : Type 0 where
   pub number : ℕ
   pub there : v.names name ≡ Some number
@@ -63,14 +63,14 @@ pub record IsAlone (name : List ℕ) (v : TreeState) : Type 0 where
   pub no_place : (map : NameMap) → IsMapOf v map → map name ≡ Some number
       → IsPlaceOf (intent_of (files_by v map)) name → ⊥
 
--- the file that waits as number k was begun, where there are bytes for it
+-- the staged file number k was begun, if there are bytes for it
 abbrev pub IsBegun : ℕ → Option (List ℕ) → TreeState → Type 0
 IsBegun k None v = Unit {0}
 IsBegun k (Some bytes) v = IsAlone (stage_name k) v
 
--- Nothing but a stage's calls has written the tree since the files as read were `base`, and these
--- held no intent. Files with these bytes wait and are synced, and one with those of the file that
--- is begun waits.
+-- Only a stage's calls have written the tree since the files as read were `base`, without an intent.
+-- Files with these bytes are staged and synced, and one with the bytes of the file that is begun is
+-- staged.
 pub record IsStaged (stage : Staging) (contents : List (List ℕ)) (begun : Option (List ℕ))
     (base : Files) (v : TreeState) : Type 0 where
   pub count : length contents ≡ stage.staged
@@ -88,7 +88,7 @@ pub record AreDone (intent : Intent) (acted : ℕ) (files : Files) : Type 0 wher
       → files name ≡ None
   pub moved : (k : ℕ) → 1 ≤ k → length intent.removals + k ≤ acted → files (stage_name k) ≡ None
 
--- from the publishing on: the intent is read, the files as read stand for these files, and the
+-- from the publishing on: the intent is read, recovery of the files as read yields these files, and the
 -- stage's actions so far are done
 pub record IsActing (stage : Staging) (files : Files) (v : TreeState) : Type 0 where
   pub stands : intent_of (files_of v) ≡ Some stage.intent
@@ -97,17 +97,17 @@ pub record IsActing (stage : Staging) (files : Files) (v : TreeState) : Type 0 w
 
 -- ---- recovery
 
--- the files as a recovery leaves them: the intent is done, and nothing waits
+-- the files as a recovery leaves them: the intent is done, and nothing is staged
 abbrev pub unstaged_files : Files → Files
 unstaged_files files q = if is_staged q then None else recovered_files files q
 
--- nothing waits in a map or in files: no name below the stage leads anywhere
+-- a map or files have nothing staged: no name in the staging area leads anywhere
 abbrev pub IsEmptyStage : {X : Type 0} → (List ℕ → Option X) → Type 0
 IsEmptyStage files = (q : List ℕ) → is_staged q ≡ true → files q ≡ None
 
 -- ---- moments
 
--- an intent that was made as file number `made` or later is read, and what is read stands for these
+-- an intent that was made as file number `made` or later is read, and the files as read stand for these
 -- files
 abbrev pub Publishes : (List ℕ → Bool) → Files → ℕ → TreeState → Type 0
 Publishes ignored files made v =
@@ -123,8 +123,8 @@ HasPublished ignored files made [] = ⊥
 HasPublished ignored files made (v ∷ earlier) =
     Publishes ignored files made v ⊎ HasPublished ignored files made earlier
 
--- a moment of a run that leads to these files: a crash leaves a state from before or theirs, and
--- one from before as long as no intent was read that was made since and stands for them
+-- a moment of a run that leads to these files: a crash leaves a state from before or theirs; it leaves
+-- one from before as long as no intent that was made since and stands for them was read
 pub record IsOnTheWay (ignored : List ℕ → Bool) (files : Files) (start : TreeState)
     (earlier : List TreeState) (v : TreeState) : Type 0 where
   pub orderly : IsOrderly (RestsOn ignored) v
@@ -142,23 +142,23 @@ pub record PublishedBy (ignored : List ℕ → Bool) (files : Files) (start : Tr
   pub each : EachMoment (IsOnTheWay ignored files start) added
   pub published : HasPublished ignored files start.made added
 
--- ---- room
+-- ---- free paths
 
--- a name that is present in these files, or under which the intent or a file may come to stand while
--- they wait
+-- a name that is present in these files, or that the intent or a staged file may get
 abbrev pub MayBePresent : Files → List ℕ → Type 0
 MayBePresent files q =
     IsSome (files q) ⊎ ((q ≡ intent_name) ⊎ ((k : ℕ) × (q ≡ stage_name k)))
 
--- the files stay folder-like with the intent and all that may wait
+-- no name becomes a folder of another if the intent and all staged files are added
 pub record HasRoomBeside (files : Files) : Type 0 where
   pub folders : (p q : List ℕ) → IsFolderOf p q → MayBePresent files p → MayBePresent files q → ⊥
 
--- nothing waits yet, and the files stay folder-like with the intent and all that may wait
+-- nothing is staged yet, and no name becomes a folder of another if the intent and all staged files are
+-- added
 pub record HasRoomToStage (files : Files) : Type 0 where
   pub empty : IsEmptyStage files
   pub beside : HasRoomBeside files
 
--- where an intent is found, its actions have room
+-- if an intent is found, the paths of its actions are free
 abbrev pub HasRoomToReplay : Files → Type 0
 HasRoomToReplay files = IsSome (intent_of files) → HasRoomBeside (recovered_files files)

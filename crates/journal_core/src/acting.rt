@@ -1,6 +1,6 @@
-//! The actions of an intent, one after another: its removals, and behind them its moves.
+//! The actions of an intent, one after another: first its removals, then its moves.
 //! The rules are in `docs/crash-safety.md`, "A change of several files", step 3 of the table and
-//! what is said of the actions below it.
+//! the text on actions below it.
 ghost use Rattle.std.specs.Prelude.{◌≡◌, ◌≤◌, ◌<◌, ◌+◌, ℕ, Bool, List, length, IfOk, OnOk, OnErr, IsSome};
 ghost use Rattle.base_core.specs.Calls.{HasNow, IfObservable};
 ghost use Rattle.base_core.specs.Crash.{IsOrderly, Since};
@@ -18,8 +18,8 @@ use crate::laws::Journal;
 use base_core::{Disk, Name, Tree, a_crash_may_leave_the_files_as_read, order_outlasts_a_crash};
 use journal_intent::PreparedIntent;
 
-/// Does the next action of an intent, where `acted` are done and one is left, and answers how many
-/// are done then. The clauses are those of `Stage::apply_one`, for a stage with this intent.
+/// Does the next action of an intent, of which `acted` are done and one is left, and returns how
+/// many are done then. The clauses are those of `Stage::apply_one`, for a stage with this intent.
 pub(crate) fn act<T: Tree>(
     intent: &PreparedIntent,
     acted: usize,
@@ -47,14 +47,14 @@ pub(crate) fn act<T: Tree>(
     ensures none_left { action_count intent.now ≤ acted
         → IfOk result (λ next. next ≡ acted) × (tree.new ≡ tree.old) }
 
-    // No count of faults falls; a fault of the tree is answered only if that count rose, and Ok
+    // No count of faults falls; a fault of the tree is returned only if that count rose, and Ok
     // only if it did not.
     ensures goes_on { GoesOn (T.counts tree.old) (T.counts tree.new) }
     ensures cause { OnErr result (HasCause (T.counts tree.old) (T.counts tree.new)) }
     ensures kept { OnOk result (IsNoFault (T.counts tree.old) (T.counts tree.new)) }
 
-    // Where the files of the actions done leave room for the intent and all that may wait, no call
-    // is a misuse.
+    // If the intent and the staged files have free paths beside the files of the actions done, no
+    // call is a misuse.
     ensures proper { IfObservable (T.history tree.old) (λ v. (files : Files)
         → IsActing (acting_stage intent.now acted) files v → HasRoomBeside files
         → (T.counts tree.new).misuses ≡ (T.counts tree.old).misuses) }
@@ -73,8 +73,8 @@ pub(crate) fn act<T: Tree>(
     Ok(acted)
 }
 
-/// Does the removal with this index, where so many removals are done. The clauses are those of
-/// `act`, where a removal is left.
+/// Does the removal with this index, if the removals before it are done. The clauses are those of
+/// `act`, for a removal.
 fn remove_one<T: Tree>(intent: &PreparedIntent, i: usize, tree: &mut T) -> Result<(), Disk>
     requires { i < length intent.now.removals }
     ensures moments { IfObservable (T.history tree.old) (λ v. (ignored : List ℕ → Bool)
@@ -96,7 +96,7 @@ fn remove_one<T: Tree>(intent: &PreparedIntent, i: usize, tree: &mut T) -> Resul
     ensures others { IfObservable (T.history tree.old) (λ v.
         HasNow (T.history tree.new) (KeepsFilesBut (IsOfAction intent.now i) v)) }
 
-    // No count of faults falls; a fault of the tree is answered only if that count rose, and Ok
+    // No count of faults falls; a fault of the tree is returned only if that count rose, and Ok
     // only if it did not.
     ensures goes_on { GoesOn (T.counts tree.old) (T.counts tree.new) }
     ensures cause { OnErr result (HasCause (T.counts tree.old) (T.counts tree.new)) }
@@ -113,8 +113,8 @@ fn remove_one<T: Tree>(intent: &PreparedIntent, i: usize, tree: &mut T) -> Resul
     remove(tree, intent.removal(i))
 }
 
-/// Does the move of the write with this index, where the removals are done and so many writes. The
-/// clauses are those of `act`, where only moves are left.
+/// Does the move of the write with this index, if the removals and the moves before it are done.
+/// The clauses are those of `act`, for a move.
 fn move_one<T: Tree>(
     intent: &PreparedIntent,
     j: usize,
@@ -142,14 +142,14 @@ fn move_one<T: Tree>(
     ensures others { IfObservable (T.history tree.old) (λ v.
         HasNow (T.history tree.new) (KeepsFilesBut (IsOfAction intent.now acted) v)) }
 
-    // No count of faults falls; a fault of the tree is answered only if that count rose, and Ok
+    // No count of faults falls; a fault of the tree is returned only if that count rose, and Ok
     // only if it did not.
     ensures goes_on { GoesOn (T.counts tree.old) (T.counts tree.new) }
     ensures cause { OnErr result (HasCause (T.counts tree.old) (T.counts tree.new)) }
     ensures kept { OnOk result (IsNoFault (T.counts tree.old) (T.counts tree.new)) }
 
-    // Where the files of the actions done leave room for the intent and all that may wait, no call
-    // is a misuse.
+    // If the intent and the staged files have free paths beside the files of the actions done, no
+    // call is a misuse.
     ensures proper { IfObservable (T.history tree.old) (λ v. (files : Files)
         → IsActing (acting_stage intent.now acted) files v → HasRoomBeside files
         → (T.counts tree.new).misuses ≡ (T.counts tree.old).misuses) }
@@ -161,18 +161,18 @@ fn move_one<T: Tree>(
     move_waiting(tree, intent.stage_name(j + 1), intent.write(j))
 }
 
-/// Moves the file that waits at a place to its name; one that is absent was moved before.
+/// Moves the staged file at a place to its name; if it is absent, it was moved before.
 fn move_waiting<T: Tree>(tree: &mut T, place: &Name, name: &Name) -> Result<(), Disk>
     ensures moves { MovesIfThere place.now name.now (T.history tree.old) (T.history tree.new)
         result }
 
-    // No count of faults falls; a fault of the tree is answered only if that count rose, and Ok
+    // No count of faults falls; a fault of the tree is returned only if that count rose, and Ok
     // only if it did not.
     ensures goes_on { GoesOn (T.counts tree.old) (T.counts tree.new) }
     ensures cause { OnErr result (HasCause (T.counts tree.old) (T.counts tree.new)) }
     ensures kept { OnOk result (IsNoFault (T.counts tree.old) (T.counts tree.new)) }
 
-    // Where the file may be moved, no call is a misuse.
+    // If the file may be moved, no call is a misuse.
     ensures proper { IfObservable (T.history tree.old) (λ v.
         (IsSome (v.names place.now) → CanRename place.now name.now v)
         → (T.counts tree.new).misuses ≡ (T.counts tree.old).misuses) }

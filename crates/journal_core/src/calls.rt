@@ -1,13 +1,13 @@
-//! The calls of a tree that change it, each under a name of its own, so that a caller's proof can
-//! cite their clauses.
-//! What each call does is in `docs/crash-safety.md`, "What each call does"; the contract is
-//! that of the same call of the trait `Tree` of `base_core`.
+//! The calls that change a tree, each as a function, so that a caller's proof can cite their
+//! clauses.
+//! What each call does is in `docs/crash-safety.md`, "What each call does"; the contract is that of
+//! the same call of the trait `Tree` of `base_core`.
 ghost use Rattle.base_core.specs.Calls.{IsCounted, Moves};
 ghost use Rattle.base_core.specs.Tree.{after_append, after_create, after_failed_append, after_remove, after_rename, after_sync, after_sync_names, same_state, Anywhere, CanCreate, CanRename, HasName};
 
 use base_core::{Disk, Name, Tree};
 
-/// Takes the name away; an absent one is no fault.
+/// Removes the name; an absent one is no fault.
 pub fn remove<T: Tree>(tree: &mut T, name: &Name) -> Result<(), Disk>
     ensures moves { Moves Anywhere (after_remove name.now) (after_remove name.now)
         (T.history tree.old) (T.history tree.new) result }
@@ -38,7 +38,7 @@ pub fn append<T: Tree>(tree: &mut T, name: &Name, bytes: &[u8]) -> Result<(), Di
     tree.append(name, bytes)
 }
 
-/// Makes the bytes of the file last, so that a crash leaves them.
+/// Makes the bytes of the file durable: a crash keeps them.
 pub fn sync_file<T: Tree>(tree: &mut T, name: &Name) -> Result<(), Disk>
     ensures moves { Moves (HasName name.now) (after_sync name.now) same_state
         (T.history tree.old) (T.history tree.new) result }
@@ -58,7 +58,7 @@ pub fn rename<T: Tree>(tree: &mut T, from: &Name, to: &Name) -> Result<(), Disk>
     tree.rename(from, to)
 }
 
-/// Makes all names last, so that a crash undoes no change of them.
+/// Makes all names durable: no crash undoes a change of them.
 pub fn sync_all_names<T: Tree>(tree: &mut T) -> Result<(), Disk>
     ensures moves { Moves Anywhere after_sync_names same_state (T.history tree.old)
         (T.history tree.new) result }

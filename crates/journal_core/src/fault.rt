@@ -1,5 +1,5 @@
-//! Why a root is not recovered, and what a failed reading and a failed tree mean for it. The rule
-//! stands in `docs/crash-safety.md`, "Recovery", the row of a bad intent.
+//! Why a root is not recovered, and the errors of a read and of a tree as such faults. The rule is
+//! in `docs/crash-safety.md`, "Recovery", the row of a bad intent.
 ghost use Rattle.std.specs.Prelude.{◌≡◌};
 ghost use Rattle.journal_core.specs.declared.fault.RecoverFault.TheVariants.{Disk as DiskFault, Memory as MemoryFault};
 
@@ -10,18 +10,19 @@ use std::alloc::AllocError;
 /// Why a root is not recovered.
 #[derive(Clone, Copy, Drop)]
 pub enum RecoverFault {
-    /// The intent is no intent container, for the first test that failed. Nothing has changed.
+    /// The journal is corrupt: the intent is no intent container, for the first test that failed.
+    /// Nothing has changed.
     IntentBad(Cause),
-    /// The tree failed.
+    /// An I/O error of the tree.
     Disk,
-    /// There was no memory.
+    /// Out of memory.
     Memory,
 }
 
 impl From<Disk> for RecoverFault {
     ghost from_gives = { λ _ fault. fault ≡ DiskFault };
 
-    /// A failed call of the tree is a fault of it.
+    /// A failed call of the tree as such a fault.
     fn from(_: Disk) -> RecoverFault {
         RecoverFault::Disk
     }
@@ -30,7 +31,7 @@ impl From<Disk> for RecoverFault {
 impl From<AllocError> for RecoverFault {
     ghost from_gives = { λ _ fault. fault ≡ MemoryFault };
 
-    /// Where no memory was given the recovery has none.
+    /// Out of memory as such a fault.
     fn from(_: AllocError) -> RecoverFault {
         RecoverFault::Memory
     }
@@ -41,7 +42,7 @@ impl From<ReadFault> for RecoverFault {
 
     ghost from_gives = { λ given fault. fault ≡ recover_fault_of given };
 
-    /// An intent that cannot be read is a bad one, or there was no memory for it.
+    /// A failed read of the intent as such a fault: it is corrupt, or out of memory.
     fn from(fault: ReadFault) -> RecoverFault {
         match fault {
             ReadFault::Bad(cause) => RecoverFault::IntentBad(cause),
@@ -55,7 +56,7 @@ impl From<TreeFault> for RecoverFault {
 
     ghost from_gives = { λ given fault. fault ≡ recover_fault_of_tree given };
 
-    /// A listing that failed is a fault of the tree, or there was no memory for it.
+    /// A failed listing as such a fault: an I/O error, or out of memory.
     fn from(fault: TreeFault) -> RecoverFault {
         match fault {
             TreeFault::Disk => RecoverFault::Disk,

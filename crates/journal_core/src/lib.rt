@@ -1,10 +1,11 @@
-//! Changes of a tree that a crash cannot cut in two: several files changed by a stage; and what the
-//! files stand for, which `journal_recovery` and `file_replacement` build on.
+//! Changes of a tree that a crash cannot cut in two: several files are changed by a stage. It also
+//! defines what files stand for, that is, what recovery yields; `journal_recovery` and
+//! `file_replacement` build on that.
 //!
 //! The contracts cite `Recovery` (the state that files stand for, and what a crash leaves of it),
-//! `Replacing` and `Reading` (a whole file in the place of another), `Staged` (a stage, its
-//! moments, and what a recovery leaves) and `Quiet` (moments at which nothing happens to the state)
-//! of `specs/`, and `Intent` of `journal_intent`.
+//! `Replacing` and `Reading` (replacing a whole file), `Staged` (a stage, its moments, and what a
+//! recovery leaves), `Quiet` (moments at which the state does not change) and `Targets` (the names
+//! that are asked for) of `specs/`, and `Intent` of `journal_intent`.
 //! The rules are in `docs/crash-safety.md`, from "What files stand for" to "Recovery".
 #![tactic(auto)]
 
@@ -14,6 +15,7 @@ mod fault;
 mod laws;
 mod publishing;
 mod stage;
+mod targets;
 
 pub use fault::RecoverFault;
 pub use journal_intent::{
@@ -30,3 +32,4 @@ pub use laws::{
     what_is_not_synced_is_not_safe,
 };
 pub use stage::{Stage, apply_all};
+pub use targets::{check_target, check_targets};

@@ -1,6 +1,6 @@
-//! The intent of a stage comes to are under its name.
+//! The commit of a stage's intent: it is moved to its name.
 //! The rules are in `docs/crash-safety.md`, "A change of several files", step 2 of the table, and
-//! the syncs before and behind the rename of the intent.
+//! the syncs before and after the rename of the intent.
 ghost use Rattle.std.specs.Prelude.{◌≡◌, ◌⊎◌, ◌∷◌, [], ℕ, Bool, List, None, IsSome, OnOk, OnErr};
 ghost use Rattle.base_core.specs.Calls.{HasNow, IfObservable};
 ghost use Rattle.base_core.specs.Crash.{IsOrderly, Since};
@@ -21,9 +21,9 @@ use crate::laws::Journal;
 use base_core::{Disk, Name, Tree, a_crash_may_leave_the_files_as_read, order_outlasts_a_crash};
 use journal_intent::PreparedIntent;
 
-/// Writes the intent as the waiting file 0, and moves it to its name. Here a change is published:
-/// from the moment on at which the intent is read, a recovery does its actions. The clauses are
-/// those of `Stage::publish`, for a stage all of whose files wait.
+/// Writes the intent as the staged file 0, and moves it to its name. This commits (publishes) the
+/// change: from the moment at which the intent is read, a recovery does its actions. The clauses
+/// are those of `Stage::publish`, for a stage all of whose files are staged.
 pub(crate) fn publish_intent<T: Tree>(tree: &mut T, intent: &PreparedIntent) -> Result<(), Disk>
     ensures moments { IfObservable (T.history tree.old) (λ v. (ignored : List ℕ → Bool)
         (contents : List (List ℕ)) (base : Files) → IsOrderly (RestsOn ignored) v
@@ -62,13 +62,13 @@ pub(crate) fn publish_intent<T: Tree>(tree: &mut T, intent: &PreparedIntent) -> 
     ensures only_intent { IfObservable (T.history tree.old) (λ v. OnOk result
         (HasNow (T.history tree.new) (KeepsFilesBut (λ q. q ≡ intent_name) v))) }
 
-    // No count of faults falls; a fault of the tree is answered only if that count rose, and Ok
+    // No count of faults falls; a fault of the tree is returned only if that count rose, and Ok
     // only if it did not.
     ensures goes_on { GoesOn (T.counts tree.old) (T.counts tree.new) }
     ensures cause { OnErr result (HasCause (T.counts tree.old) (T.counts tree.new)) }
     ensures kept { OnOk result (IsNoFault (T.counts tree.old) (T.counts tree.new)) }
 
-    // If there is room for the stage, no call is a misuse.
+    // If the paths of the stage are free, no call is a misuse.
     ensures proper { IfObservable (T.history tree.old) (λ v. (contents : List (List ℕ))
         (base : Files) → IsStaged (full_stage intent.now) contents None base v
         → HasRoomToStage base → (T.counts tree.new).misuses ≡ (T.counts tree.old).misuses) }
@@ -79,7 +79,7 @@ pub(crate) fn publish_intent<T: Tree>(tree: &mut T, intent: &PreparedIntent) -> 
     enter(tree, intent.stage_name(0), intent.name())
 }
 
-/// Makes the waiting file 0 with these bytes, and syncs it, so that no crash leaves other bytes
+/// Makes the staged file 0 with these bytes, and syncs it, so that no crash leaves other bytes
 /// under the intent's name.
 fn write_waiting<T: Tree>(tree: &mut T, place: &Name, bytes: &[u8]) -> Result<(), Disk>
     requires { place.now ≡ stage_name 0 }
@@ -98,13 +98,13 @@ fn write_waiting<T: Tree>(tree: &mut T, place: &Name, bytes: &[u8]) -> Result<()
     ensures absent { OnOk result
         (IfObservable (T.history tree.old) (λ v. v.names place.now ≡ None)) }
 
-    // No count of faults falls; a fault of the tree is answered only if that count rose, and Ok
+    // No count of faults falls; a fault of the tree is returned only if that count rose, and Ok
     // only if it did not.
     ensures goes_on { GoesOn (T.counts tree.old) (T.counts tree.new) }
     ensures cause { OnErr result (HasCause (T.counts tree.old) (T.counts tree.new)) }
     ensures kept { OnOk result (IsNoFault (T.counts tree.old) (T.counts tree.new)) }
 
-    // Where the file may be made, no call is a misuse.
+    // If the file may be made, no call is a misuse.
     ensures proper { IfObservable (T.history tree.old) (λ v. CanCreate place.now v
         → (T.counts tree.new).misuses ≡ (T.counts tree.old).misuses) }
 {
@@ -116,9 +116,9 @@ fn write_waiting<T: Tree>(tree: &mut T, place: &Name, bytes: &[u8]) -> Result<()
     sync_file(tree, place)
 }
 
-/// Moves the intent that waits to its name. The names are synced before, so that no crash keeps the
-/// intent without a file that waits for it, and behind, so that no crash undoes the publishing. The
-/// clauses are those of `publish_intent`, from the moment on at which all waits.
+/// Moves the staged intent to its name. The names are synced before, so that no crash keeps the
+/// intent without one of its staged files, and after, so that no crash undoes the publishing. The
+/// clauses are those of `publish_intent`, from the moment at which all files are staged.
 fn enter<T: Tree>(tree: &mut T, place: &Name, name: &Name) -> Result<(), Disk>
     requires place { place.now ≡ stage_name 0 }
     requires name { name.now ≡ intent_name }
@@ -150,13 +150,13 @@ fn enter<T: Tree>(tree: &mut T, place: &Name, name: &Name) -> Result<(), Disk>
     ensures moved { OnOk result
         (IfObservable (T.history tree.new) (λ w. w.names (stage_name 0) ≡ None)) }
 
-    // No count of faults falls; a fault of the tree is answered only if that count rose, and Ok
+    // No count of faults falls; a fault of the tree is returned only if that count rose, and Ok
     // only if it did not.
     ensures goes_on { GoesOn (T.counts tree.old) (T.counts tree.new) }
     ensures cause { OnErr result (HasCause (T.counts tree.old) (T.counts tree.new)) }
     ensures kept { OnOk result (IsNoFault (T.counts tree.old) (T.counts tree.new)) }
 
-    // Where the file may be moved, no call is a misuse.
+    // If the file may be moved, no call is a misuse.
     ensures proper { IfObservable (T.history tree.old) (λ v. CanRename place.now name.now v
         → (T.counts tree.new).misuses ≡ (T.counts tree.old).misuses) }
 {

@@ -1,4 +1,4 @@
-//! A stage: new files wait under names of their own until one step lets all of them count.
+//! A stage: new files wait in the staging area until one step commits all of them.
 //! The rules are in `docs/crash-safety.md`, "A change of several files".
 ghost use Rattle.std.specs.Prelude.{◌≡◌, ◌⊎◌, ◌≤◌, ◌<◌, ◌+◌, ◌++◌, ◌∷◌, [], ◌^◌, ℕ, Bool, true, false, List, Some, None, length, IfOk, OnOk, OnErr, IsErrOf, IsSome, nat_lt};
 ghost use Rattle.adb_schema.specs.Soundness.{first_fault};
@@ -33,17 +33,17 @@ use journal_intent::PreparedIntent;
 use std::alloc::Global;
 use std::marker::Model;
 
-/// New files that wait for their names, and the actions that are done once all of them wait: names
-/// are removed, and the waiting files are moved to their names.
+/// Staged files, and the actions to be done once all files are staged: names are removed, and the
+/// staged files are moved to their names.
 ///
-/// `begin` takes all the memory that a stage needs. Each write's file is then begun, appended to
-/// and ended, in the order of the writes; `publish` lets all actions count in one step; and
+/// `begin` allocates all the memory that a stage needs. Each write's file is then begun, appended
+/// to and ended, in the order of the writes; `publish` commits all actions in one step; and
 /// `apply_one` and `finish` do them. After a fault a stage may only be dropped, and the root is
 /// recovered.
 #[derive(Drop)]
 pub struct Stage {
     pub(crate) intent: PreparedIntent,
-    /// How many writes have their files.
+    /// How many writes have their staged files.
     pub(crate) staged: usize,
     /// Whether the file of the next write is begun.
     pub(crate) is_open: bool,
@@ -72,11 +72,11 @@ impl Model for Stage {
 }
 
 impl Stage {
-    /// A stage of these actions. It takes all the memory that it needs, and touches no tree.
+    /// A stage of these actions. It allocates all the memory that it needs, and calls no tree.
     ///
     /// # Errors
     ///
-    /// `TooLarge` exactly when the payload of the intent's container would pass a limit of the
+    /// `TooLarge` exactly if the payload of the intent's container would exceed a limit of the
     /// writer, with the counts there; or `Memory`.
     pub fn begin(alloc: Global, removals: &Names, writes: &Names) -> Result<Stage, WriteFault>
         requires { AreChangeNames (removals.now ++ writes.now) }
@@ -97,8 +97,8 @@ impl Stage {
         })
     }
 
-    /// The stage whose intent was found in a file: all its files were staged, it is published, and
-    /// none of its actions counts as done, since each may be done twice.
+    /// The stage of an intent that was found in a file: all its files were staged, it is published,
+    /// and none of its actions counts as done, since each may be done twice.
     pub fn found(alloc: Global, file: Vec<u8>) -> Result<Stage, RecoverFault>
         ensures intent { IfOk result (λ stage. read_intent file.items ≡ Some stage.intent) }
         ensures published { IfOk result (λ stage. stage.published ≡ true) }
@@ -128,8 +128,8 @@ impl Stage {
         self.acted < self.intent.removals_len() + self.intent.writes_len()
     }
 
-    /// The names of the stage's actions are free, and no write stands twice. There are fewer than
-    /// 2^63 actions, so that their count and the number behind it have 64 bits.
+    /// The names of the stage's actions are free, and no write is repeated. There are fewer than
+    /// 2^63 actions, so that their number and the next one have 64 bits.
     pub fn names_are_free(&self)
         ensures free { HasFreeNames self.now.intent }
         ensures few { action_count self.now.intent < 2 ^ 63 }
@@ -138,7 +138,7 @@ impl Stage {
         self.intent.names_are_free();
     }
 
-    /// The name under which the file of the next write waits: the writes are numbered from 1.
+    /// The name of the next write's staged file: the writes are numbered from 1.
     fn next_name(&self) -> &Name
         requires { self.now.staged < length self.now.intent.writes }
         ensures { IsNextName result.now self.now }
@@ -148,7 +148,7 @@ impl Stage {
         self.intent.stage_name(self.staged + 1)
     }
 
-    /// The name under which the file that is begun waits.
+    /// The name of the staged file that is begun.
     fn open_name(&self) -> &Name
         requires { self.now.is_open ≡ true }
         ensures { IsNextName result.now self.now }
@@ -163,8 +163,8 @@ impl Stage {
         requires closed { self.old.is_open ≡ false }
         requires more { self.old.staged < length self.old.intent.writes }
 
-        // From an orderly tree on, each moment is orderly, and nothing has happened to the state.
-        // Once it has answered Ok, an empty file waits for the next write.
+        // From an orderly tree on, each moment is orderly, and the state is unchanged. Once it has
+        // returned Ok, an empty file is staged for the next write.
         ensures moments { IfObservable (T.history tree.old) (λ v. (ignored : List ℕ → Bool)
             (contents : List (List ℕ)) (base : Files) → IsOrderly (RestsOn ignored) v
             → IsStaged self.old contents None base v
@@ -174,8 +174,8 @@ impl Stage {
             → OnOk result (HasNow (T.history tree.new)
             (IsStaged self.new contents (Some []) base))) }
 
-        // At each moment, whatever it answers, the files as read stay as they are under every other
-        // name, and so does what a crash leaves of the names.
+        // At each moment, whatever it returns, the files as read are unchanged under every other
+        // name, and so is what a crash leaves of the names.
         ensures others { IfObservable (T.history tree.old) (λ v.
             Since (KeepsFilesBut (λ q. q ≡ stage_name (self.old.staged + 1)) v)
             (T.history tree.old) (T.history tree.new)) }
@@ -185,13 +185,13 @@ impl Stage {
         ensures view { OnOk result (self.new ≡ record self.old { is_open = true }) }
         ensures err { OnErr result (self.new ≡ self.old) }
 
-        // No count of faults falls; a fault of the tree is answered only if that count rose, and
+        // No count of faults falls; a fault of the tree is returned only if that count rose, and
         // Ok only if it did not.
         ensures goes_on { GoesOn (T.counts tree.old) (T.counts tree.new) }
         ensures cause { OnErr result (HasCause (T.counts tree.old) (T.counts tree.new)) }
         ensures kept { OnOk result (IsNoFault (T.counts tree.old) (T.counts tree.new)) }
 
-        // If there is room for the stage, no call is a misuse.
+        // If the paths of the stage are free, no call is a misuse.
         ensures proper { IfObservable (T.history tree.old) (λ v. (contents : List (List ℕ))
             (base : Files) → IsStaged self.old contents None base v → HasRoomToStage base
             → (T.counts tree.new).misuses ≡ (T.counts tree.old).misuses) }
@@ -208,8 +208,8 @@ impl Stage {
     pub fn file_append<T: Tree>(&mut self, tree: &mut T, piece: &[u8]) -> Result<(), Disk>
         requires { self.old.is_open ≡ true }
 
-        // From an orderly tree on, each moment is orderly, and nothing has happened to the state.
-        // Once it has answered Ok, the piece stands behind the bytes so far.
+        // From an orderly tree on, each moment is orderly, and the state is unchanged. Once it has
+        // returned Ok, the piece is added to the bytes so far.
         ensures moments { IfObservable (T.history tree.old) (λ v. (ignored : List ℕ → Bool)
             (contents : List (List ℕ)) (so_far : List ℕ) (base : Files)
             → IsOrderly (RestsOn ignored) v → IsStaged self.old contents (Some so_far) base v
@@ -219,8 +219,8 @@ impl Stage {
             → OnOk result (HasNow (T.history tree.new)
             (IsStaged self.new contents (Some (so_far ++ piece.now)) base))) }
 
-        // Where the file stands under no other name, the files as read stay as they are under each,
-        // at each moment; and no name changes.
+        // If the file is under no other name, the files as read are unchanged under each, at each
+        // moment; and no name changes.
         ensures others { IfObservable (T.history tree.old) (λ v.
             IsAlone (stage_name (self.old.staged + 1)) v
             → Since (KeepsFilesBut (λ q. q ≡ stage_name (self.old.staged + 1)) v)
@@ -230,7 +230,7 @@ impl Stage {
         ensures view { OnOk result (self.new ≡ self.old) }
         ensures err { OnErr result (self.new ≡ self.old) }
 
-        // No count of faults falls; a fault of the tree is answered only if that count rose, and
+        // No count of faults falls; a fault of the tree is returned only if that count rose, and
         // Ok only if it did not.
         ensures goes_on { GoesOn (T.counts tree.old) (T.counts tree.new) }
         ensures cause { OnErr result (HasCause (T.counts tree.old) (T.counts tree.new)) }
@@ -247,12 +247,12 @@ impl Stage {
         append(tree, self.open_name(), piece)
     }
 
-    /// The file that is begun is whole: its bytes are made to last.
+    /// Ends the file that is begun: its bytes are made durable.
     pub fn file_end<T: Tree>(&mut self, tree: &mut T) -> Result<(), Disk>
         requires { self.old.is_open ≡ true }
 
-        // From an orderly tree on, each moment is orderly, and nothing has happened to the state.
-        // Once it has answered Ok, the bytes so far wait for this write, synced.
+        // From an orderly tree on, each moment is orderly, and the state is unchanged. Once it has
+        // returned Ok, the bytes so far are staged for this write, synced.
         ensures moments { IfObservable (T.history tree.old) (λ v. (ignored : List ℕ → Bool)
             (contents : List (List ℕ)) (so_far : List ℕ) (base : Files)
             → IsOrderly (RestsOn ignored) v → IsStaged self.old contents (Some so_far) base v
@@ -262,7 +262,7 @@ impl Stage {
             → OnOk result (HasNow (T.history tree.new)
             (IsStaged self.new (contents ++ so_far ∷ []) None base))) }
 
-        // At each moment, whatever it answers, the files as read stay as they are, and no name
+        // At each moment, whatever it returns, the files as read are unchanged, and no name
         // changes.
         ensures others { IfObservable (T.history tree.old) (λ v.
             Since (λ w. files_of w ≡ files_of v) (T.history tree.old) (T.history tree.new)) }
@@ -272,7 +272,7 @@ impl Stage {
             (self.new ≡ record self.old { staged = self.old.staged + 1; is_open = false }) }
         ensures err { OnErr result (self.new ≡ self.old) }
 
-        // No count of faults falls; a fault of the tree is answered only if that count rose, and
+        // No count of faults falls; a fault of the tree is returned only if that count rose, and
         // Ok only if it did not.
         ensures goes_on { GoesOn (T.counts tree.old) (T.counts tree.new) }
         ensures cause { OnErr result (HasCause (T.counts tree.old) (T.counts tree.new)) }
@@ -292,14 +292,14 @@ impl Stage {
         Ok(())
     }
 
-    /// The point of no return: the intent is written as a waiting file of its own, and moves to
-    /// its name. No action is done yet.
+    /// The commit, which cannot be taken back: the intent is written as a staged file of its own,
+    /// and moved to its name. No action is done yet.
     pub fn publish<T: Tree>(&mut self, tree: &mut T) -> Result<(), Disk>
         requires closed { self.old.is_open ≡ false }
         requires all { self.old.staged ≡ length self.old.intent.writes }
 
-        // At each moment a crash leaves a state from before or that of the actions done, and one
-        // from before as long as no intent was read that was made since and stands for them.
+        // At each moment a crash leaves a state from before or that of the actions done; it leaves
+        // one from before as long as no intent of this call that stands for them was read.
         ensures moments { IfObservable (T.history tree.old) (λ v. (ignored : List ℕ → Bool)
             (contents : List (List ℕ)) (base : Files) → IsOrderly (RestsOn ignored) v
             → IsStaged self.old contents None base v
@@ -311,7 +311,7 @@ impl Stage {
             (after_actions self.old.intent (files_of v)) v
             (T.history tree.old) (T.history tree.new))) }
 
-        // Once it has answered Ok, each crash leaves the state of the actions done.
+        // Once it has returned Ok, each crash leaves the state of the actions done.
         ensures settled { IfObservable (T.history tree.old) (λ v. (ignored : List ℕ → Bool)
             (contents : List (List ℕ)) (base : Files) → IsOrderly (RestsOn ignored) v
             → IsStaged self.old contents None base v → OnOk result (HasNow (T.history tree.new)
@@ -321,23 +321,23 @@ impl Stage {
             → OnOk result (HasNow (T.history tree.new)
             (IsActing self.new (after_actions self.old.intent (files_of v))))) }
 
-        // As soon as the intent is read, every other change of names lasts.
+        // As soon as the intent is read, every other change of names is durable.
         ensures last { IfObservable (T.history tree.old) (λ v. v.names intent_name ≡ None
             → Since (λ w. IsSome (w.names intent_name)
             → NamesLastBut (intent_name ∷ stage_name 0 ∷ []) w)
             (T.history tree.old) (T.history tree.new)) }
 
-        // At each moment at which it is read, the files as read stand for those of the actions
-        // done.
+        // At each moment at which it is read, recovery of the files as read yields those of the
+        // actions done.
         ensures reads { IfObservable (T.history tree.old) (λ v. (contents : List (List ℕ))
             (base : Files) → IsStaged self.old contents None base v
             → Since (λ w. IsSome (w.names intent_name)
             → RecoversTo (after_actions self.old.intent (files_of v)) w)
             (T.history tree.old) (T.history tree.new)) }
 
-        // At each moment, whatever it answers, the files as read stay as they are under every name
-        // but the intent's and that under which it is written, and so does what a crash leaves of
-        // the names; once it has answered Ok, the files stay under this name too.
+        // At each moment, whatever it returns, the files as read are unchanged under every name
+        // except the intent's and that under which it is written, and so is what a crash leaves of
+        // the names. Once it has returned Ok, the files are unchanged under this name, too.
         ensures others { IfObservable (T.history tree.old) (λ v.
             Since (KeepsFilesBut (λ q. (q ≡ intent_name) ⊎ (q ≡ stage_name 0)) v)
             (T.history tree.old) (T.history tree.new)) }
@@ -349,13 +349,13 @@ impl Stage {
         ensures view { OnOk result (self.new ≡ record self.old { published = true; acted = 0 }) }
         ensures err { OnErr result (self.new ≡ self.old) }
 
-        // No count of faults falls; a fault of the tree is answered only if that count rose, and
+        // No count of faults falls; a fault of the tree is returned only if that count rose, and
         // Ok only if it did not.
         ensures goes_on { GoesOn (T.counts tree.old) (T.counts tree.new) }
         ensures cause { OnErr result (HasCause (T.counts tree.old) (T.counts tree.new)) }
         ensures kept { OnOk result (IsNoFault (T.counts tree.old) (T.counts tree.new)) }
 
-        // If there is room for the stage, no call is a misuse.
+        // If the paths of the stage are free, no call is a misuse.
         ensures proper { IfObservable (T.history tree.old) (λ v. (contents : List (List ℕ))
             (base : Files) → IsStaged self.old contents None base v → HasRoomToStage base
             → (T.counts tree.new).misuses ≡ (T.counts tree.old).misuses) }
@@ -366,12 +366,12 @@ impl Stage {
         Ok(())
     }
 
-    /// Does the next action; true exactly when one was left.
+    /// Does the next action; returns true exactly if one was left.
     pub fn apply_one<T: Tree>(&mut self, tree: &mut T) -> Result<bool, Disk>
         requires { self.old.published ≡ true }
 
-        // From an orderly tree on, each moment is orderly, and nothing has happened to the state.
-        // Once it has answered Ok, the stage's count of actions done is true of the tree.
+        // From an orderly tree on, each moment is orderly, and the state is unchanged. Once it has
+        // returned Ok, the stage's count of actions done is true of the tree.
         ensures moments { IfObservable (T.history tree.old) (λ v. (ignored : List ℕ → Bool)
             (files : Files) → IsOrderly (RestsOn ignored) v → IsActing self.old files v
             → Since (IsStill ignored v) (T.history tree.old) (T.history tree.new)) }
@@ -379,26 +379,27 @@ impl Stage {
             → IsActing self.old files v
             → OnOk result (HasNow (T.history tree.new) (IsActing self.new files))) }
 
-        // Whether the tree is orderly or not, the files as read stand for the same at each moment.
+        // Whether the tree is orderly or not, recovery of the files as read yields the same at each
+        // moment.
         ensures reads { IfObservable (T.history tree.old) (λ v. (files : Files)
             → IsActing self.old files v
             → Since (RecoversTo files) (T.history tree.old) (T.history tree.new)) }
 
-        // At each moment a name that does not wait has its old bytes or its new ones.
+        // At each moment a name outside the staging area has its old bytes or its new ones.
         ensures bytes { IfObservable (T.history tree.old) (λ v. (files : Files)
             → IsActing self.old files v
             → KeepsOldOrNewBytes files v (T.history tree.old) (T.history tree.new)) }
 
-        // At each moment the intent stays, and each file that waits stays or goes.
+        // At each moment the intent is unchanged, and each staged file is unchanged or gone.
         ensures waiting { IfObservable (T.history tree.old) (λ v.
             Since (KeepsIntent v) (T.history tree.old) (T.history tree.new)) }
 
-        // Whatever it answers, it touches no other name than those of its action.
+        // Whatever it returns, it changes only the names of its action.
         ensures others { IfObservable (T.history tree.old) (λ v. HasNow (T.history tree.new)
             (KeepsFilesBut (IsOfAction self.old.intent self.old.acted) v)) }
 
-        // True is answered exactly when an action was left, which then counts as done; where none
-        // was left no call is made. A call that fails leaves the stage as it was.
+        // True is returned exactly if an action was left, which then counts as done; if none was
+        // left, no call is made. A call that fails leaves the stage as it was.
         ensures answer { IfOk result
             (λ was_left. was_left ≡ nat_lt self.old.acted (action_count self.old.intent)) }
         ensures more { self.old.acted < action_count self.old.intent
@@ -407,14 +408,14 @@ impl Stage {
             → OnOk result (self.new ≡ self.old) × (tree.new ≡ tree.old) }
         ensures err { OnErr result (self.new ≡ self.old) }
 
-        // No count of faults falls; a fault of the tree is answered only if that count rose, and
+        // No count of faults falls; a fault of the tree is returned only if that count rose, and
         // Ok only if it did not.
         ensures goes_on { GoesOn (T.counts tree.old) (T.counts tree.new) }
         ensures cause { OnErr result (HasCause (T.counts tree.old) (T.counts tree.new)) }
         ensures kept { OnOk result (IsNoFault (T.counts tree.old) (T.counts tree.new)) }
 
-        // Where the files of the actions done leave room for the intent and all that may wait, no
-        // call is a misuse.
+        // If the intent and the staged files have free paths beside the files of the actions done,
+        // no call is a misuse.
         ensures proper { IfObservable (T.history tree.old) (λ v. (files : Files)
             → IsActing self.old files v → HasRoomBeside files
             → (T.counts tree.new).misuses ≡ (T.counts tree.old).misuses) }
@@ -425,14 +426,14 @@ impl Stage {
         Ok(was_left)
     }
 
-    /// Behind the last action: the names are made to last, and the intent goes.
+    /// After the last action: makes the names durable, and removes the intent.
     pub fn finish<T: Tree>(&mut self, tree: &mut T) -> Result<(), Disk>
         requires published { self.old.published ≡ true }
         requires all { self.old.acted ≡ action_count self.old.intent }
 
-        // From an orderly tree on, each moment is orderly, and nothing has happened to the state.
-        // Once it has answered Ok, each crash leaves the state of the actions done, the files as
-        // read are these, and no intent is read.
+        // From an orderly tree on, each moment is orderly, and the state is unchanged. Once it has
+        // returned Ok, each crash leaves the state of the actions done, the files as read are
+        // these, and no intent is read.
         ensures moments { IfObservable (T.history tree.old) (λ v. (ignored : List ℕ → Bool)
             (files : Files) → IsOrderly (RestsOn ignored) v → IsActing self.old files v
             → Since (IsStill ignored v) (T.history tree.old) (T.history tree.new)) }
@@ -443,20 +444,21 @@ impl Stage {
             → IsActing self.old files v → OnOk result (HasNow (T.history tree.new)
             (λ w. (files_of w ≡ files) × (w.names intent_name ≡ None)))) }
 
-        // Whether the tree is orderly or not, the files as read stand for the same at each moment.
+        // Whether the tree is orderly or not, recovery of the files as read yields the same at each
+        // moment.
         ensures reads { IfObservable (T.history tree.old) (λ v. (files : Files)
             → IsActing self.old files v
             → Since (RecoversTo files) (T.history tree.old) (T.history tree.new)) }
 
-        // As soon as no intent is read, every other change of names lasts; and once it has answered
-        // Ok, no crash brings the intent back.
+        // As soon as no intent is read, every other change of names is durable; and once it has
+        // returned Ok, no crash restores the intent.
         ensures last { IfObservable (T.history tree.old) (λ v. IsSome (v.names intent_name)
             → Since (λ w. w.names intent_name ≡ None → NamesLastBut (intent_name ∷ []) w)
             (T.history tree.old) (T.history tree.new)) }
         ensures gone { OnOk result (IfObservable (T.history tree.new) (IsInNoMap intent_name)) }
 
-        // At each moment the intent and what waits are as they were or are gone, and no other name
-        // has changed; the stage stays as it is, whatever it answers.
+        // At each moment the intent and the staged files are unchanged or gone, and no other name
+        // has changed; the stage is unchanged, whatever it returns.
         ensures waiting { IfObservable (T.history tree.old) (λ v.
             Since (IsLessWaiting v) (T.history tree.old) (T.history tree.new)) }
         ensures others { IfObservable (T.history tree.old) (λ v. HasNow (T.history tree.new)
@@ -466,7 +468,7 @@ impl Stage {
             (T.history tree.old) (T.history tree.new)) }
         ensures view { self.new ≡ self.old }
 
-        // No count of faults falls; a fault of the tree is answered only if that count rose, and
+        // No count of faults falls; a fault of the tree is returned only if that count rose, and
         // Ok only if it did not.
         ensures goes_on { GoesOn (T.counts tree.old) (T.counts tree.new) }
         ensures cause { OnErr result (HasCause (T.counts tree.old) (T.counts tree.new)) }
@@ -485,8 +487,8 @@ impl Stage {
     }
 }
 
-/// Does all actions of a published stage that are left. The clauses are those of `apply_one`, once
-/// for all of them.
+/// Does all actions of a published stage that are left. The clauses are those of `apply_one`, for
+/// all of them.
 pub fn apply_all<T: Tree>(stage: &mut Stage, tree: &mut T) -> Result<(), Disk>
     requires published { stage.old.published ≡ true }
     requires within { stage.old.acted ≤ action_count stage.old.intent }
@@ -507,14 +509,14 @@ pub fn apply_all<T: Tree>(stage: &mut Stage, tree: &mut T) -> Result<(), Disk>
     ensures all { OnOk result (stage.new.acted ≡ action_count stage.new.intent) }
     ensures published { OnOk result (stage.new.published ≡ true) }
 
-    // No count of faults falls; a fault of the tree is answered only if that count rose, and Ok
+    // No count of faults falls; a fault of the tree is returned only if that count rose, and Ok
     // only if it did not.
     ensures goes_on { GoesOn (T.counts tree.old) (T.counts tree.new) }
     ensures cause { OnErr result (HasCause (T.counts tree.old) (T.counts tree.new)) }
     ensures kept { OnOk result (IsNoFault (T.counts tree.old) (T.counts tree.new)) }
 
-    // Where the files of the actions done leave room for the intent and all that may wait, no call
-    // is a misuse.
+    // If the intent and the staged files have free paths beside the files of the actions done, no
+    // call is a misuse.
     ensures proper { IfObservable (T.history tree.old) (λ v. (files : Files)
         → IsActing stage.old files v → HasRoomBeside files
         → (T.counts tree.new).misuses ≡ (T.counts tree.old).misuses) }

@@ -1,6 +1,6 @@
--- What the actions of an intent need of its names.
+-- What the actions of an intent require of its names.
 -- The rules are in `docs/formats.md`, "The texts", the row of 1001 and 1002, and "Names that stand
--- twice"; what they are for in `docs/crash-safety.md`, "A change of several files".
+-- twice"; their purpose is in `docs/crash-safety.md`, "A change of several files".
 use Rattle.std.specs.Prelude.{◌≡◌, ◌⊎◌, ◌≢◌, ℕ, zero, suc, ◌+◌, true, false, List, [], ◌∷◌}
 use Rattle.std.specs.Str.{bytes_eq}
 use Rattle.std.specs.List.{list_any}
@@ -17,13 +17,14 @@ IsOneOf name names = list_any (bytes_eq name) names ≡ true
 abbrev pub IsNoneOf : List ℕ → List (List ℕ) → Type 0
 IsNoneOf name names = list_any (bytes_eq name) names ≡ false
 
--- a free name: neither the intent's own nor one below the stage, so not that of a waiting file either
+-- a free name: neither the intent's own nor one in the staging area, so not that of a staged file
+-- either
 pub record IsFreeName (name : List ℕ) : Type 0 where
   pub no_intent : name ≢ intent_name
   pub unstaged : is_staged name ≡ false
   pub no_place : (k : ℕ) → name ≢ stage_name k
 
--- a taken name: the intent's own, or that of a waiting file
+-- a taken name: the intent's own, or that of a staged file
 abbrev pub IsTakenName : List ℕ → Type 0
 IsTakenName name = (name ≡ intent_name) ⊎ ((k : ℕ) × (name ≡ stage_name k))
 
@@ -32,19 +33,19 @@ abbrev pub AreFreeNames : List (List ℕ) → Type 0
 AreFreeNames [] = Unit {0}
 AreFreeNames (name ∷ names) = IsFreeName name × AreFreeNames names
 
--- each of these names stands once among them
+-- none of these names is repeated
 abbrev pub AreOnce : List (List ℕ) → Type 0
 AreOnce [] = Unit {0}
 AreOnce (name ∷ names) = IsNoneOf name names × AreOnce names
 
--- the names of an intent are free, no write stands twice, and no name is both written and removed
+-- the names of an intent are free, no write is repeated, and no name is both written and removed
 pub record HasFreeNames (intent : Intent) : Type 0 where
   pub removals : AreFreeNames intent.removals
   pub writes : AreFreeNames intent.writes
   pub once : AreOnce intent.writes
   pub apart : (name : List ℕ) → IsOneOf name intent.writes → IsNoneOf name intent.removals
 
--- the names of so many waiting files, from number k on
+-- the names of this many staged files, from number k on
 abbrev pub stage_names_from : ℕ → ℕ → List (List ℕ)
 stage_names_from k zero = []
 stage_names_from k (suc n) = stage_name k ∷ stage_names_from (k + 1) n

@@ -1,7 +1,7 @@
--- The intent: what a change of several files has still to do, the file that says so, and the names
--- under which new files wait.
--- The rules are in `docs/crash-safety.md`, "What files stand for" and "A change of several files",
--- the table of names; of the container in `docs/formats.md`, "Schemas", table 10.
+-- The intent: the journal entry of a change of several files, the file that encodes it, and the names
+-- under which new files are staged.
+-- The rules are in `docs/crash-safety.md`, "What files stand for" and "A change of several files", the
+-- table of names; of the container in `docs/formats.md`, "Schemas", table 10.
 use Rattle.std.specs.Prelude.{◌≡◌, ℕ, Bool, List, ◌++◌, map, Option, Some, None, codes, decimal, nat_eq, true, false, AllPairs}
 use Rattle.std.specs.Str.{bytes_eq}
 use Rattle.std.specs.List.{starts_with, All}
@@ -16,26 +16,26 @@ use Rattle.adb_view.specs.declared.tables.Which.TheVariants.{Intent as IntentTab
 
 -- ---- names
 
--- the name of the intent: the file that says what a change has still to do
+-- the name of the intent, the journal entry that says what a change has still to do
 abbrev pub intent_name : List ℕ
 intent_name = codes "lib/apk/intent"
 
--- the stage's folder, in which new files wait for their names
+-- the folder of the staging area, in which new files wait to be moved to their names
 abbrev pub stage_folder : List ℕ
 stage_folder = codes "lib/apk/stage"
 
--- whether a name lies below the folder where new files wait
+-- whether a name is in the staging area
 abbrev pub is_staged : List ℕ → Bool
 is_staged name = starts_with nat_eq name (stage_folder ++ codes "/")
 
--- the name of the file that waits as number k, in decimal digits
+-- the name of the staged file with number k, in decimal digits
 abbrev pub stage_name : ℕ → List ℕ
 stage_name k = stage_folder ++ (codes "/" ++ decimal k)
 
 -- ---- the intent
 
--- an intent: the names to be removed, and the names to be written, whose new files wait as number 1, 2,
--- and so on
+-- an intent: the names to be removed, and the names to be written, whose new files are staged as number
+-- 1, 2, and so on
 pub record Intent : Type 0 where
   pub removals : List (List ℕ)
   pub writes : List (List ℕ)
@@ -52,13 +52,13 @@ abbrev pub intent_unless : Option Cause → Plain → Option Intent
 intent_unless None v = Some (intent_in v)
 intent_unless (Some cause) v = None
 
--- the intent that a file's bytes spell, or none if they are no intent container
+-- the intent that a file's bytes encode, or none if they are no intent container
 unfoldable pub read_intent : List ℕ → Option Intent
 read_intent file = intent_unless (first_fault IntentTable file)
     (root_value IntentTable (payload_in file))
 
--- the names of a change: each is one that a change may have, which excludes the intent's and those
--- below the stage, and none stands twice
+-- the names of a change: each is one that a change may have, which excludes the intent's and those in
+-- the staging area, and none is repeated
 pub record AreChangeNames (names : List (List ℕ)) : Type 0 where
   pub each : All (λ name. is_change_name name ≡ true) names
   pub once : AllPairs (λ a b. bytes_eq a b ≡ false) names

@@ -1,11 +1,10 @@
--- The plain value of an intent, which its container holds.
+-- The plain value of an intent, as in its container.
 -- The rule is in `docs/formats.md`, "Schemas", table 10.
 use Rattle.std.specs.Prelude.{ℕ, List}
 use Rattle.adb_view.specs.Plain.{Plain, Plains, none, more, arr_value, obj_value, text_plains}
 use Rattle.journal_intent.specs.Intent.{Intent}
 
--- the plain value of an intent: an object of the array of its removals, and behind it that of its
--- writes
+-- the plain value of an intent: an object of two arrays, its removals and its writes
 abbrev pub value_of_intent : Intent → Plain
 value_of_intent intent =
     obj_value (more (arr_value (text_plains intent.removals))

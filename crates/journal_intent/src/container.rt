@@ -1,5 +1,5 @@
-//! The container of an intent is written, and is read back as this intent. The rules are in
-//! `docs/formats.md`, "Schemas", table 10, and "Canonical layout".
+//! An intent is written as a container, and read back. The rules are in `docs/formats.md`,
+//! "Schemas", table 10, and "Canonical layout".
 ghost use Rattle.std.specs.Prelude.{◌≡◌, ◌++◌, ◌<◌, ◌+◌, ◌^◌, ℕ, List, Some, None, length, IfOk, OnOk, IsErrOf};
 ghost use Rattle.adb_schema.specs.declared.read.TheConstants.{INTENT_WORD};
 ghost use Rattle.adb_values.specs.Drafts.{draft_with};
@@ -22,7 +22,7 @@ use std::alloc::{AllocError, Global};
 ///
 /// # Errors
 ///
-/// `TooLarge` exactly when the payload passes a limit of the writer, or `Memory`.
+/// `TooLarge` exactly if the payload exceeds a limit of the writer, or `Memory`.
 pub(crate) fn intent_file(
     alloc: Global,
     removals: &Names,
@@ -36,7 +36,7 @@ pub(crate) fn intent_file(
         ≡ Some (bytes, values) }
     ensures fits { OnOk result
         (overflow_of (value_of_intent (intent_of_lists removals.now writes.now)) ≡ None) }
-    // The count of all names, and the number behind it, have 64 bits.
+    // The number of names, and the next number, have 64 bits.
     ensures few { OnOk result (length removals.now + length writes.now < 2 ^ 63) }
 {
     // A law that the proof needs; it computes nothing.

@@ -1,10 +1,10 @@
-//! The intent: the one file that says what a change of several files has still to do, and the names
-//! that its actions need.
+//! The intent, which is the journal entry of a change of several files (`lib/apk/intent`), and the
+//! names that its actions need.
 //!
 //! `PreparedIntent` is an intent with all the memory that its actions need: made of two lists of
 //! names, or read from a file. The contracts cite `Intent` (the names, the intent and the file that
-//! spells it), `IntentValue` (the plain value of its container) and `FreeNames` (what the actions
-//! need of the names) of `specs/`.
+//! encodes it), `IntentValue` (the plain value of its container) and `FreeNames` (what the actions
+//! require of the names) of `specs/`.
 //! The rules are in `docs/crash-safety.md`, "What files stand for" and "A change of several
 //! files".
 #![tactic(auto)]

@@ -1,4 +1,4 @@
-//! The lists of an intent are read from its container.
+//! Reads the lists of an intent from its container.
 //! The rules are in `docs/formats.md`, "Schemas", table 10, and "Tests of a container".
 ghost use Rattle.std.specs.Prelude.{◌≡◌, ◌<◌, ◌+◌, ◌^◌, Some, None, length, map, IfOk, IfErr, OnOk};
 ghost use Rattle.adb_fields.specs.ListValue.{list_value};
@@ -25,16 +25,15 @@ pub(crate) struct IntentLists {
     pub(crate) writes: Names,
 }
 
-/// The two lists that an intent's container holds.
+/// The two lists of an intent's container.
 ///
 /// # Errors
 ///
-/// `Bad` exactly when the file is no intent container, with the first test that failed; or
-/// `Memory`.
+/// `Bad` exactly if the file is no intent container, with the first test that failed; or `Memory`.
 pub(crate) fn read_lists(alloc: Global, file: &[u8]) -> Result<IntentLists, ReadFault>
     ensures intent { IfOk result
         (λ lists. read_intent file.now ≡ Some (intent_of_lists lists.removals lists.writes)) }
-    // The count of all names, and the number behind it, have 64 bits.
+    // The number of names, and the next number, have 64 bits.
     ensures few { IfOk result (λ lists. length lists.removals + length lists.writes < 2 ^ 63) }
     ensures bad { IfErr result (λ fault. IsReadFault fault (first_fault IntentTable file.now)) }
     ensures good { OnOk result (first_fault IntentTable file.now ≡ None) }
@@ -53,7 +52,7 @@ fn names_in<'a>(alloc: Global, list: List<'a, &'a [u8]>) -> Result<Names, AllocE
     requires { AllNamed (entries_in (list_value list)) }
     ensures value { IfOk result
         (λ names. names ≡ map text_in (list_of (entries_in (list_value list.entry)))) }
-    // A list in a payload counts its entries in 32 bits.
+    // A list of a payload counts its entries in 32 bits.
     ensures few { IfOk result (λ names. length names < 2 ^ 32) }
 {
     let mut names = Names::new(alloc);

@@ -1,5 +1,5 @@
-//! The fixed names of a change: that of the intent, the folder of the stage, and those of the files
-//! that wait in it. Laws say what follows of them and of an intent that is read.
+//! The fixed names of a change: those of the intent, of the staging area's folder, and of the
+//! staged files. Laws say what follows for them and for an intent that is read.
 //! The rules are in `docs/crash-safety.md`, "A change of several files", the table of names; the
 //! law of free names in `docs/formats.md`, "The texts" and "Names that stand twice".
 
@@ -24,14 +24,14 @@ pub fn intent_name(alloc: Global) -> Result<Name, AllocError>
     Name::of(alloc, b"lib/apk/intent")
 }
 
-/// The folder in which new files wait, `lib/apk/stage`.
+/// The folder of the staging area, `lib/apk/stage`.
 pub fn stage_folder(alloc: Global) -> Result<Name, AllocError>
     ensures { IfOk result (λ name. name ≡ stage_folder) }
 {
     Name::of(alloc, b"lib/apk/stage")
 }
 
-/// The names of so many waiting files, from number 0 on.
+/// The names of this many staged files, from number 0 on.
 pub(crate) fn stage_names(alloc: Global, count: usize) -> Result<Names, AllocError>
     ensures { IfOk result (λ names. names ≡ stage_names_from 0 count) }
 {
@@ -42,7 +42,7 @@ pub(crate) fn stage_names(alloc: Global, count: usize) -> Result<Names, AllocErr
     Ok(names)
 }
 
-/// The name of the waiting file with this number.
+/// The name of the staged file with this number.
 fn stage_name(alloc: Global, k: usize) -> Result<Name, AllocError>
     ensures { IfOk result (λ name. name ≡ stage_name k) }
 {
@@ -58,8 +58,7 @@ pub fn an_intent_is_read_from_a_sound_container()
         → read_intent file ≡ None }
 {}
 
-/// The files that wait for an intent's actions stand below the stage's folder, each under a name of
-/// its own.
+/// The staged files of an intent's actions are in the staging area, each under a name of its own.
 pub fn each_waiting_file_has_its_own_name()
     // The numbers are those of the program, of 64 bits.
     ensures apart { (j k : ℕ) → j < 2 ^ 64 → k < 2 ^ 64 → stage_name j ≡ stage_name k → j ≡ k }
@@ -68,14 +67,14 @@ pub fn each_waiting_file_has_its_own_name()
     ensures named { (k : ℕ) → is_name (stage_name k) ≡ true }
 {}
 
-/// The intent and the files that wait may stand beside one another: none has a name that is a
-/// folder of another's.
+/// The intent and the staged files can exist together: none has a name that is a folder of
+/// another's.
 pub fn no_taken_name_is_a_folder_of_another()
     ensures { (p q : List ℕ) → IsTakenName p → IsTakenName q → IsFolderOf p q → ⊥ }
 {}
 
-/// An intent that is read has names that a change may have, each once: none is the intent's own
-/// name or that of a waiting file, no write stands twice, and none is removed.
+/// An intent that is read has names that a change may have: none is the intent's own name or that
+/// of a staged file, no write is repeated, and no written name is removed.
 pub fn a_read_intent_has_free_names()
     ensures { (file : List ℕ) (intent : Intent) → read_intent file ≡ Some intent
         → HasFreeNames intent }
@@ -84,7 +83,7 @@ pub fn a_read_intent_has_free_names()
     sound_containers_hold_sound_values();
 }
 
-/// The names of a change that is to be made are free, no write stands twice, and none is removed.
+/// The names of a planned change are free, no write is repeated, and no written name is removed.
 pub fn the_names_of_a_change_are_free()
     ensures { (removals writes : List (List ℕ)) → AreChangeNames (removals ++ writes)
         → HasFreeNames (intent_of_lists removals writes) }

@@ -1,5 +1,5 @@
-//! An intent with all the memory that its actions need. The rules are in `docs/crash-safety.md`,
-//! "A change of several files": memory is taken when a stage begins, and never later.
+//! An intent with all the memory that its actions need. The rules are in `docs/crash-safety.md`, "A
+//! change of several files": memory is allocated when a stage begins, and never later.
 ghost use Rattle.std.specs.Prelude.{◌≡◌, ◌++◌, ◌≤◌, ◌<◌, ◌+◌, ◌^◌, ℕ, List, Some, None, length, slice_get, IfOk, IfErr, OnOk, IsErrOf};
 ghost use Rattle.adb_schema.specs.ReadFaults.{IsReadFault};
 ghost use Rattle.adb_schema.specs.Soundness.{first_fault};
@@ -19,20 +19,20 @@ use std::alloc::{AllocError, Global};
 use std::marker::Model;
 
 /// An intent with all the memory that its actions need: its lists, its container, and the names of
-/// the files that wait.
+/// the staged files.
 #[derive(Drop)]
 pub struct PreparedIntent {
     /// The names to be removed.
     removals: Names,
     /// The names to be written.
     writes: Names,
-    /// The names of the waiting files, from number 0 on, which is the intent's own.
+    /// The names of the staged files, from number 0 on, which is the intent's own.
     stage_names: Names,
     /// The name of the intent.
     name: Name,
-    /// The container that spells the intent.
+    /// The container that encodes the intent.
     file: Vec<u8>,
-    // The names are these for each intent, the file spells it, and there are few enough names.
+    // These are the names of each intent, the file encodes it, and there are few enough names.
     ghost waiting: { stage_names ≡ stage_names_from 0 (length writes + 1) },
     ghost named: { name ≡ intent_name },
     ghost spelled: { read_intent file.items ≡ Some (intent_of_lists removals writes) },
@@ -52,7 +52,7 @@ impl PreparedIntent {
     ///
     /// # Errors
     ///
-    /// `TooLarge` exactly when the payload of its container passes a limit of the writer, with the
+    /// `TooLarge` exactly if the payload of its container exceeds a limit of the writer, with the
     /// counts there; or `Memory`.
     pub fn of_names(
         alloc: Global,
@@ -77,11 +77,11 @@ impl PreparedIntent {
         Ok(intent)
     }
 
-    /// The intent that this file spells.
+    /// The intent that this file encodes.
     ///
     /// # Errors
     ///
-    /// `Bad` exactly when the file is no intent container, with the first test that failed; or
+    /// `Bad` exactly if the file is no intent container, with the first test that failed; or
     /// `Memory`.
     pub fn of_file(alloc: Global, file: Vec<u8>) -> Result<PreparedIntent, ReadFault>
         ensures intent { IfOk result (λ intent. read_intent file.items ≡ Some intent) }
@@ -94,7 +94,7 @@ impl PreparedIntent {
         Ok(intent)
     }
 
-    /// The intent of these lists, and of the file that spells them.
+    /// The intent of these lists, and of the file that encodes them.
     fn of_lists(
         alloc: Global,
         lists: IntentLists,
@@ -130,7 +130,7 @@ impl PreparedIntent {
         self.writes.len()
     }
 
-    /// The name that the removal with this index takes away; so many removals stand before it.
+    /// The name that the removal with this index, counted from 0, removes.
     pub fn removal(&self, i: usize) -> &Name
         requires { i < length self.now.removals }
         ensures { slice_get self.now.removals i ≡ Some result.now }
@@ -138,8 +138,8 @@ impl PreparedIntent {
         self.removals.get(i)
     }
 
-    /// The name that the write with this index gets; so many writes stand before it, and its file
-    /// waits under a number that is one more.
+    /// The name of the write with this index, counted from 0. Its staged file has a number that is
+    /// one more.
     pub fn write(&self, i: usize) -> &Name
         requires { i < length self.now.writes }
         ensures { slice_get self.now.writes i ≡ Some result.now }
@@ -147,7 +147,7 @@ impl PreparedIntent {
         self.writes.get(i)
     }
 
-    /// The name of the waiting file with this number: 0 for the intent's container, and from 1 on
+    /// The name of the staged file with this number: 0 for the intent's container, and from 1 on
     /// for the writes.
     pub fn stage_name(&self, k: usize) -> &Name
         requires { k ≤ length self.now.writes }
@@ -170,15 +170,14 @@ impl PreparedIntent {
         &self.file
     }
 
-    /// The names of the intent are free, each write stands once, and there are fewer than 2^63 of
-    /// them.
+    /// The names of the intent are free, no write is repeated, and there are fewer than 2^63 names.
     pub fn names_are_free(&self)
         ensures free { HasFreeNames self.now }
         ensures few { length self.now.removals + length self.now.writes < 2 ^ 63 }
     {
         // A law that the proof needs; it computes nothing.
         a_read_intent_has_free_names();
-        // The proof needs that the file spells this intent.
+        // The proof needs that the file encodes this intent.
         let _ = &self.file;
     }
 }

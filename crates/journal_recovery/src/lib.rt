@@ -1,4 +1,4 @@
-//! The recovery of a root: what an earlier change left to do is done, and nothing waits any more.
+//! The recovery of a root: an interrupted change is finished, and staged files are removed.
 //!
 //! The contracts cite `Recovery` (what files stand for), `Quiet`, `Staged` and `Kept` of
 //! `journal_core`.

@@ -1,4 +1,4 @@
-//! What an earlier change left to do is done, and nothing waits any more.
+//! Finishes an interrupted change, and removes staged files.
 //! The rules are in `docs/crash-safety.md`, "Recovery"; which actions an intent has, in "A change
 //! of several files".
 ghost use Rattle.std.specs.Prelude.{◌≡◌, [], ℕ, Bool, true, List, Some, None, IsSome, OnOk, OnErr, IsErrOf};
@@ -24,51 +24,52 @@ use journal_core::{Journal, RecoverFault, Stage, apply_all};
 use journal_intent::{intent_name, stage_folder};
 use std::alloc::{AllocError, Global};
 
-/// Finishes what the intent says, if there is one, and takes away all that waits.
+/// Does the actions of the intent, if there is one, and removes all staged files.
 ///
 /// # Errors
 ///
-/// `IntentBad` where the intent is no intent container; then nothing has changed.
+/// `IntentBad` if the intent is no intent container; then nothing has changed.
 pub fn recover<T: Tree>(alloc: Global, tree: &mut T) -> Result<(), RecoverFault>
-    // Where the tree is orderly at the start: at each moment it is orderly, each crash leaves a
-    // state that one at the start might have left, and the files as read keep their state.
+    // If the tree is orderly at the start: at each moment it is orderly, each crash leaves a state
+    // that one at the start might have left, and the files as read keep their state.
     ensures moments { IfObservable (T.history tree.old) (λ v. (ignored : List ℕ → Bool)
         → IsOrderly (RestsOn ignored) v
         → Since (IsStill ignored v) (T.history tree.old) (T.history tree.new)) }
 
-    // Whether the tree is orderly or not, the files as read stand for the same at each moment, but
-    // for what waits.
+    // Whether the tree is orderly or not, recovery of the files as read yields the same at each
+    // moment, apart from staged files.
     ensures reads { IfObservable (T.history tree.old) (λ v.
         Since (λ w. unstaged_files (files_of w) ≡ unstaged_files (files_of v))
         (T.history tree.old) (T.history tree.new)) }
 
-    // At each moment a name that does not wait has its old bytes or its recovered ones.
+    // At each moment a name outside the staging area has its old bytes or those that recovery
+    // yields.
     ensures bytes { IfObservable (T.history tree.old) (λ v.
         Since (HasOldOrNewBytes (files_of v) (unstaged_files (files_of v)))
         (T.history tree.old) (T.history tree.new)) }
 
-    // Once it has answered Ok, the files as read have the intent done and nothing that waits; and
-    // no intent is read.
+    // Once it has returned Ok, the files as read have the intent done and nothing staged; and no
+    // intent is read.
     ensures files { IfObservable (T.history tree.old) (λ v.
         OnOk result (HasNow (T.history tree.new) (λ w. (files_of w ≡ unstaged_files (files_of v))
         × (w.names intent_name ≡ None)))) }
 
-    // Where it found an intent, each crash leaves their state.
+    // If it found an intent, each crash leaves their state.
     ensures settled { IfObservable (T.history tree.old) (λ v. (ignored : List ℕ → Bool)
         → IsOrderly (RestsOn ignored) v → IsSome (intent_of (files_of v))
         → OnOk result (HasNow (T.history tree.new) (IsSettled ignored (files_of v)))) }
 
-    // Whatever it answers, what waits only goes.
+    // Whatever it returns, staged files are only removed.
     ensures waiting { IfObservable (T.history tree.old) (λ v.
         Since (IsLessWaiting v) (T.history tree.old) (T.history tree.new)) }
 
-    // Where it found an intent: as soon as none is read, a crash undoes no change of a name that
-    // does not wait.
+    // If it found an intent: as soon as none is read, a crash undoes no change of a name outside
+    // the staging area.
     ensures last { IfObservable (T.history tree.old) (λ v. IsSome (v.names intent_name)
         → Since (λ w. w.names intent_name ≡ None → ShownNamesLast w)
         (T.history tree.old) (T.history tree.new)) }
 
-    // Once it has answered Ok, no crash brings an intent back that it found.
+    // Once it has returned Ok, no crash restores an intent that it found.
     ensures gone { IfObservable (T.history tree.old) (λ v. IsSome (v.names intent_name)
         → OnOk result (HasNow (T.history tree.new) (IsInNoMap intent_name))) }
 
@@ -76,8 +77,8 @@ pub fn recover<T: Tree>(alloc: Global, tree: &mut T) -> Result<(), RecoverFault>
     ensures idle { IfObservable (T.history tree.old) (λ v. v.names intent_name ≡ None
         → IsEmptyStage v.names → T.history tree.new ≡ T.history tree.old) }
 
-    // The intent is refused exactly when it is no intent container. There nothing changes,
-    // whatever is answered.
+    // The intent is refused exactly if it is no intent container. Then nothing changes, whatever is
+    // returned.
     ensures bad { (cause : Cause) → IsErrOf result (RecoverFault.IntentBad cause)
         → (T.history tree.new ≡ T.history tree.old)
         × IfObservable (T.history tree.old) (λ v. IsIntentFault (files_of v) cause) }
@@ -88,7 +89,7 @@ pub fn recover<T: Tree>(alloc: Global, tree: &mut T) -> Result<(), RecoverFault>
     ensures found { (cause : Cause) → IsErrOf result (RecoverFault.IntentBad cause)
         → (file : List ℕ) × (first_fault IntentTable file ≡ Some cause) }
 
-    // No count of faults falls; a fault of the tree is answered only if that count rose, and Ok
+    // No count of faults falls; a fault of the tree is returned only if that count rose, and Ok
     // only if it did not.
     ensures goes_on { GoesOn (T.counts tree.old) (T.counts tree.new) }
     ensures disk { IsErrOf result RecoverFault.Disk
@@ -99,7 +100,7 @@ pub fn recover<T: Tree>(alloc: Global, tree: &mut T) -> Result<(), RecoverFault>
     ensures refused { (cause : Cause) → IsErrOf result (RecoverFault.IntentBad cause)
         → IsNoFault (T.counts tree.old) (T.counts tree.new) }
 
-    // Where an intent that is found has room for its actions, no call is a misuse.
+    // If an intent that is found has free paths for its actions, no call is a misuse.
     ensures proper { IfObservable (T.history tree.old) (λ v. HasRoomToReplay (files_of v)
         → (T.counts tree.new).misuses ≡ (T.counts tree.old).misuses) }
 {
@@ -108,8 +109,8 @@ pub fn recover<T: Tree>(alloc: Global, tree: &mut T) -> Result<(), RecoverFault>
     Ok(())
 }
 
-/// Does the actions of the intent and takes it away, if one stands there. The clauses are those of
-/// `recover`, but that what waits without an intent stays.
+/// Does the actions of the intent and removes it, if there is one. The clauses are those of
+/// `recover`, but without an intent the staged files are kept.
 fn replay<T: Tree>(alloc: Global, tree: &mut T) -> Result<(), RecoverFault>
     ensures moments { IfObservable (T.history tree.old) (λ v. (ignored : List ℕ → Bool)
         → IsOrderly (RestsOn ignored) v
@@ -145,7 +146,7 @@ fn replay<T: Tree>(alloc: Global, tree: &mut T) -> Result<(), RecoverFault>
     ensures found { (cause : Cause) → IsErrOf result (RecoverFault.IntentBad cause)
         → (file : List ℕ) × (first_fault IntentTable file ≡ Some cause) }
 
-    // No count of faults falls; a fault of the tree is answered only if that count rose, and Ok
+    // No count of faults falls; a fault of the tree is returned only if that count rose, and Ok
     // only if it did not.
     ensures goes_on { GoesOn (T.counts tree.old) (T.counts tree.new) }
     ensures disk { IsErrOf result RecoverFault.Disk
@@ -156,7 +157,7 @@ fn replay<T: Tree>(alloc: Global, tree: &mut T) -> Result<(), RecoverFault>
     ensures refused { (cause : Cause) → IsErrOf result (RecoverFault.IntentBad cause)
         → IsNoFault (T.counts tree.old) (T.counts tree.new) }
 
-    // Where an intent that is found has room for its actions, no call is a misuse.
+    // If an intent that is found has free paths for its actions, no call is a misuse.
     ensures proper { IfObservable (T.history tree.old) (λ v. HasRoomToReplay (files_of v)
         → (T.counts tree.new).misuses ≡ (T.counts tree.old).misuses) }
 {
@@ -167,9 +168,9 @@ fn replay<T: Tree>(alloc: Global, tree: &mut T) -> Result<(), RecoverFault>
     }
 }
 
-/// Does the actions of the intent that this file spells, all of them, since which were done before
-/// is not told, and takes the intent away. The clauses are those of `replay`, where the file is
-/// what is under the intent's name.
+/// Does all actions of the intent that this file encodes, since it is not known which were done
+/// before, and removes the intent. The clauses are those of `replay`, for the file under the
+/// intent's name.
 fn replay_file<T: Tree>(alloc: Global, tree: &mut T, file: Vec<u8>) -> Result<(), RecoverFault>
     ensures moments { IfObservable (T.history tree.old) (λ v. (ignored : List ℕ → Bool)
         → IsOrderly (RestsOn ignored) v → files_of v intent_name ≡ Some file.items
@@ -200,7 +201,7 @@ fn replay_file<T: Tree>(alloc: Global, tree: &mut T, file: Vec<u8>) -> Result<()
     ensures bad_idle { (cause : Cause) → first_fault IntentTable file.items ≡ Some cause
         → T.history tree.new ≡ T.history tree.old }
 
-    // No count of faults falls; a fault of the tree is answered only if that count rose, and Ok
+    // No count of faults falls; a fault of the tree is returned only if that count rose, and Ok
     // only if it did not.
     ensures goes_on { GoesOn (T.counts tree.old) (T.counts tree.new) }
     ensures disk { IsErrOf result RecoverFault.Disk
@@ -211,7 +212,7 @@ fn replay_file<T: Tree>(alloc: Global, tree: &mut T, file: Vec<u8>) -> Result<()
     ensures refused { (cause : Cause) → IsErrOf result (RecoverFault.IntentBad cause)
         → IsNoFault (T.counts tree.old) (T.counts tree.new) }
 
-    // Where an intent that is found has room for its actions, no call is a misuse.
+    // If an intent that is found has free paths for its actions, no call is a misuse.
     ensures proper { IfObservable (T.history tree.old) (λ v. files_of v intent_name
         ≡ Some file.items → HasRoomToReplay (files_of v)
         → (T.counts tree.new).misuses ≡ (T.counts tree.old).misuses) }
@@ -222,8 +223,8 @@ fn replay_file<T: Tree>(alloc: Global, tree: &mut T, file: Vec<u8>) -> Result<()
     Ok(())
 }
 
-/// Takes away every name below the stage, once no intent is read: so nothing happens to the state,
-/// and no other name changes.
+/// Removes every staged file, once no intent is read: so the state is unchanged, and no other name
+/// changes.
 fn empty_stage<T: Tree>(alloc: Global, tree: &mut T) -> Result<(), TreeFault>
     ensures moments { IfObservable (T.history tree.old) (λ v. (ignored : List ℕ → Bool)
         → IsOrderly (RestsOn ignored) v → v.names intent_name ≡ None
@@ -242,7 +243,7 @@ fn empty_stage<T: Tree>(alloc: Global, tree: &mut T) -> Result<(), TreeFault>
     ensures idle { IfObservable (T.history tree.old) (λ v. IsEmptyStage v.names
         → T.history tree.new ≡ T.history tree.old) }
 
-    // No count of faults falls; a fault of the tree is answered only if that count rose, and Ok
+    // No count of faults falls; a fault of the tree is returned only if that count rose, and Ok
     // only if it did not.
     ensures goes_on { GoesOn (T.counts tree.old) (T.counts tree.new) }
     ensures disk { IsErrOf result TreeFault.Disk
@@ -262,7 +263,7 @@ fn empty_stage<T: Tree>(alloc: Global, tree: &mut T) -> Result<(), TreeFault>
     Ok(())
 }
 
-/// Takes these names away, which all lie below the stage. The clauses are those of `empty_stage`.
+/// Removes these names, which are all in the staging area. The clauses are those of `empty_stage`.
 fn remove_all<T: Tree>(tree: &mut T, names: &Names) -> Result<(), Disk>
     ensures moments { IfObservable (T.history tree.old) (λ v. (ignored : List ℕ → Bool)
         → IsOrderly (RestsOn ignored) v → v.names intent_name ≡ None → AllStaged names.now
@@ -281,7 +282,7 @@ fn remove_all<T: Tree>(tree: &mut T, names: &Names) -> Result<(), Disk>
         → HasNow (T.history tree.new) (IsInNoMap intent_name))) }
     ensures none { names.now ≡ [] → T.history tree.new ≡ T.history tree.old }
 
-    // No count of faults falls; a fault of the tree is answered only if that count rose, and Ok
+    // No count of faults falls; a fault of the tree is returned only if that count rose, and Ok
     // only if it did not.
     ensures goes_on { GoesOn (T.counts tree.old) (T.counts tree.new) }
     ensures cause { OnErr result (HasCause (T.counts tree.old) (T.counts tree.new)) }

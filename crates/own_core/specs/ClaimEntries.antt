@@ -1,7 +1,7 @@
--- What claims of members speak of.
--- Claims and owners stand in `docs/commands.md`, "Files that several packages list"; folders, files
--- and their entries in `docs/formats.md`, "Schemas", tables 4, 5 and 7. Serves the contracts of
--- this crate.
+-- The files of claims and their entries.
+-- Claims and owners are defined in `docs/commands.md`, "Files that several packages list"; folders,
+-- files and their entries in `docs/formats.md`, "Schemas", tables 4, 5 and 7. It serves the contracts
+-- of this crate.
 use Rattle.std.specs.Prelude.{◌≡◌, ℕ, ◌-◌, ◌<◌, ◌≤◌, Bool, false, ◌&&◌, List, Option, Some, None, slice_get}
 use Rattle.base_core.specs.Name.{IsName}
 use Rattle.adb_view.specs.Plain.{Plain, null}
@@ -29,42 +29,42 @@ pub record HasFileAt (folders : Plain) (folder file : ℕ) : Type 0 where
 
 -- ---- claims
 
--- the folders that a member lists: Null, as if it listed nothing, where there is no member
+-- the folders that a member lists; Null, as if it listed nothing, if there is no member
 abbrev pub folders_if_any : Option Member → Plain
 folders_if_any None = null
 folders_if_any (Some m) = entry_in m.pkg PACKAGE_PATHS
 
--- the entry of the file that a claim speaks of
+-- the entry of the file of a claim
 unfoldable pub claim_entry : List Member → PathClaim → Plain
 claim_entry members c = listed_file_at (folders_if_any (slice_get members c.member)) c.folder c.file
 
--- a claim speaks of a file of one of the members, whose path is a name
+-- a claim is of a file of one of the members, whose path is a name
 pub record IsClaimOf (members : List Member) (c : PathClaim) : Type 0 where
   pub member : Member
   pub at : slice_get members c.member ≡ Some member
   pub place : HasFileAt (entry_in member.pkg PACKAGE_PATHS) c.folder c.file
   pub name : IsName c.path
 
--- each of these claims speaks of a file of one of the members
+-- each of these claims is of a file of one of the members
 abbrev pub AreClaimsOf : List Member → List PathClaim → Type 0
 AreClaimsOf members cs = (i : ℕ) (c : PathClaim) → slice_get cs i ≡ Some c → IsClaimOf members c
 
--- ---- members that come
+-- ---- added members
 
--- whether a member comes; not if there is none
+-- whether a member is added; not if there is none
 abbrev pub comes_if_any : Option Member → Bool
 comes_if_any None = false
 comes_if_any (Some m) = is_coming m
 
--- whether the member at a place comes
+-- whether the member at a place is added
 abbrev pub comes_at : List Member → ℕ → Bool
 comes_at members place = comes_if_any (slice_get members place)
 
--- whether a claim is that of a member which comes, and of a reserved path
+-- whether a claim is that of an added member, and of a reserved path
 abbrev pub is_reserved_coming : List Member → PathClaim → Bool
 is_reserved_coming members c = is_reserved c.path && comes_at members c.member
 
--- whether a claim is that of its path's owner, and this member comes
+-- whether a claim is that of its path's owner, and this member is added
 unfoldable pub is_of_coming_owner : List Member → PathClaim → Bool
 is_of_coming_owner members c =
     is_member c.member (owner_of_path members c.path) && comes_at members c.member

@@ -1,6 +1,6 @@
--- What becomes of files that come, claim by claim.
--- The rule is in `docs/commands.md`, "What a change does with files", **Files below `etc/` are
--- the user's**, and is said by *fate_by* of `change_files`.
+-- What is done with added files, claim by claim.
+-- The rule is in `docs/commands.md`, "What a change does with files", **Files below `etc/` are the
+-- user's**; *fate_by* of `change_files` defines it.
 use Rattle.std.specs.Prelude.{ℕ, Bool, true, false, not, ◌&&◌, nat_le, List, [], ◌∷◌, length, Option, Some, None, cond}
 use Rattle.adb_view.specs.Plain.{Plain}
 use Rattle.path_claims.specs.Claims.{PathClaim}
@@ -19,8 +19,8 @@ fate_seen GoesIn = goes_in
 fate_seen GivesWay = gives_way
 fate_seen GoesAside = goes_aside
 
--- the fate of the file that a claim of a coming owner speaks of, by what is under its path
--- (`found`; none where no file stands there)
+-- the fate of the file of an added owner's claim, given the file under its path (`found`; none if there
+-- is no file)
 abbrev pub claim_fate : FileChange → PathClaim → Option (List ℕ) → Fates.Fate
 claim_fate change c found = fate_by change c.path (claim_entry change.members c) found
 
@@ -30,14 +30,14 @@ abbrev pub is_free_beside : FileChange → List ℕ → Bool
 is_free_beside change path =
     nat_le (length (aside_name path)) longest_name && not (is_claimed change (aside_name path))
 
--- what the code has read of an entry is that of the entry, or there is none
+-- a `ListedFile` describes the entry, or there is neither
 abbrev pub IsOfEntryIfAny : Option ListedFile → Option Plain → Type 0
 IsOfEntryIfAny None None = Unit {0}
 IsOfEntryIfAny None (Some entry) = ⊥
 IsOfEntryIfAny (Some listed) None = ⊥
 IsOfEntryIfAny (Some listed) (Some entry) = IsOfEntry listed entry
 
--- ---- claims by what becomes of them
+-- ---- claims by their fates
 
 -- whether two fates are the same
 abbrev pub is_fate : Fates.Fate → Fates.Fate → Bool
@@ -46,7 +46,7 @@ is_fate gives_way gives_way = true
 is_fate goes_aside goes_aside = true
 is_fate f g = false
 
--- those of some claims whose marks pass a test; one mark stands for each claim
+-- the claims whose marks pass a test; there is one mark for each claim
 abbrev pub marked_claims : {X : Type 0} → (X → Bool) → List PathClaim → List X → List PathClaim
 marked_claims test [] marks = []
 marked_claims test (c ∷ cs) [] = []

@@ -1,21 +1,21 @@
--- What is said of claims by the files under their paths.
--- No rule of a document: serves the contracts of `src/fate.rt` and `src/parts.rt`, which hold over
--- any tree, also one that does not tell its files.
+-- Values of claims that depend on the files under their paths.
+-- No document has a rule for this: it serves the contracts of `src/fate.rt` and `src/parts.rt`, which
+-- hold over any tree, even one whose files are not observable.
 use Rattle.std.specs.Prelude.{◌≡◌, ℕ, List, [], ◌∷◌, map, Option}
 use Rattle.base_core.specs.Calls.{IfObservable}
 use Rattle.base_core.specs.Files.{Files}
 use Rattle.base_core.specs.Tree.{TreeState, files_of}
 use Rattle.path_claims.specs.Claims.{PathClaim}
 
--- a value is what `said` says of a claim by the file that was found under its path, or by its
--- absence: the tree's, where it tells its files
+-- a value is what `said` says of a claim, given some file under its path or its absence: the tree's, if
+-- its files are observable
 pub record IsByFile {Y : Type 0} (said : PathClaim → Option (List ℕ) → Y) (history : List TreeState)
     (c : PathClaim) (y : Y) : Type 0 where
   pub found : Option (List ℕ)
   pub told : IfObservable history (λ v. found ≡ files_of v c.path)
   pub is : y ≡ said c found
 
--- the values are what is said of some claims, one for each, in their order
+-- the values are what `said` says of some claims, one for each, in their order
 abbrev pub AreByFiles :
     {Y : Type 0} → (PathClaim → Option (List ℕ) → Y) → List TreeState → List PathClaim → List Y → Type 0
 AreByFiles said history [] [] = Unit {0}
@@ -23,6 +23,6 @@ AreByFiles said history [] (y ∷ ys) = ⊥
 AreByFiles said history (c ∷ cs) [] = ⊥
 AreByFiles said history (c ∷ cs) (y ∷ ys) = IsByFile said history c y × AreByFiles said history cs ys
 
--- what is said of some claims by files that are known
+-- what `said` says of some claims, given known files
 abbrev pub said_of : {Y : Type 0} → (PathClaim → Option (List ℕ) → Y) → Files → List PathClaim → List Y
 said_of said files cs = map (λ c. said c (files c.path)) cs

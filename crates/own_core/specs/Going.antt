@@ -1,6 +1,6 @@
--- What becomes of the files that were listed before, claim by claim.
--- The rules are in `docs/commands.md`, "What a change does with files": which files are removed,
--- and which of those below `etc/` stay.
+-- What is done with the files that were listed before, claim by claim.
+-- The rules are in `docs/commands.md`, "What a change does with files": which files are removed, and
+-- which of those below `etc/` are kept.
 use Rattle.std.specs.Prelude.{ℕ, Bool, not, ◌&&◌, List, Option, option_and_then, is_some}
 use Rattle.std.specs.List.{find}
 use Rattle.db_core.specs.Members.{staying_members}
@@ -20,9 +20,8 @@ is_beside asides name =
 abbrev pub is_left : FileChange → List PathClaim → List ℕ → Bool
 is_left change asides path = not (is_claimed change path) && not (is_beside asides path)
 
--- whether the file that a claim of a package before the change speaks of stays: it is
--- configuration, the user changed it, and changed files do not go with their packages; `found` is
--- what is under its path
+-- whether the file of a claim of a package before the change is kept: it is configuration, the user
+-- changed it, and there is no `--purge`; `found` is the file under its path
 abbrev pub does_stay : FileChange → PathClaim → Option (List ℕ) → Bool
 does_stay change c found =
     is_guarded c.path

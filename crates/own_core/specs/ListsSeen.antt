@@ -1,6 +1,6 @@
--- The lists of a plan, by the parts of a change.
--- No rule of a document: serves the contract of `lists_of` in `src/planning.rt`; the parts are
--- those of `Parts`, and *ArePlanLists* of `Planned` says the lists by the rule.
+-- The lists of a plan, given the parts of a change.
+-- No document has a rule for this: it serves the contract of `lists_of` in `src/planning.rt`; the parts
+-- are those of `Parts`, and *ArePlanLists* of `Planned` defines the lists by the rule.
 use Rattle.std.specs.Prelude.{◌≡◌, Bool, List, ◌++◌, map}
 use Rattle.base_core.specs.Sorted.{sorted_by}
 use Rattle.own_core.specs.Parts.{asides_of, ins_of, kept_of_parts, removed_of}
@@ -8,8 +8,8 @@ use Rattle.own_core.specs.WritesSeen.{aside_write, claim_write, write_cmp, write
 use Rattle.own_core.specs.declared.planning.FilePlan.{FilePlan}
 use Rattle.own_core.specs.declared.parts.Parts.{Parts}
 
--- the plan has what goes in, is laid beside, is removed and is kept by these parts, and these
--- flags; only the writes have to be put in order, since they join two of the parts
+-- the plan has the files that take their paths, are laid beside, removed and kept by these parts, and
+-- these flags; only the writes are sorted, since they join two of the parts
 pub record AreListsOfParts (parts : Parts) (flags : List Bool) (plan : FilePlan) : Type 0 where
   pub removals : plan.removals ≡ map (λ c. c.path) (removed_of parts)
   pub writes : writes_in plan.writes

@@ -1,6 +1,6 @@
--- What a change does with names, by the parts of its files.
--- The rule is in `docs/commands.md`, "What a change does with files", test 2. Serves the
--- contracts of `src/clashes.rt`.
+-- The names of a change, given the parts of its files.
+-- The rule is in `docs/commands.md`, "What a change does with files", test 2. It serves the contracts
+-- of `src/clashes.rt`.
 use Rattle.std.specs.Prelude.{◌&&◌, ◌||◌, ◌++◌, ◌∷◌, [], ℕ, Bool, not, List, map, bytes_eq, is_some}
 use Rattle.std.specs.List.{filter, find, list_any}
 use Rattle.db_core.specs.Seen.{members_of}
@@ -16,8 +16,8 @@ use Rattle.own_core.specs.Sides.{claims_after, claims_before}
 use Rattle.own_core.specs.declared.change.Change.{Change}
 use Rattle.own_core.specs.declared.parts.Parts.{Parts}
 
--- the names that count as written: the database, the world, the paths that members which come list,
--- and the names beside others
+-- the names that count as written: the database, the world, the paths that added members list, and the
+-- names beside others
 abbrev pub names_written_by : Change → Parts → List (List ℕ)
 names_written_by change parts =
     database_name ∷ world_name ∷ [] ++ map (λ c. c.path)
@@ -32,7 +32,7 @@ is_let_go_by change parts name =
     && not (is_some (find (is_of_path name) (claims_after change))
     || is_some (find (is_of_path name) (kept_of_parts parts)))
 
--- which names count as written and which are let go, as the search for clashes asks
+-- which names count as written and which are let go, as the search for clashes needs them
 abbrev pub names_changed_by : Change → Parts → NameChange
 names_changed_by change parts = record {
   counts_as_written = λ name.

@@ -1,5 +1,5 @@
--- The files that come and those that go, as the program holds them.
--- The rules are in `docs/commands.md`, "What a change does with files". Serves the contract of
+-- The added files and those that are left over, as values of the program.
+-- The rules are in `docs/commands.md`, "What a change does with files". It serves the contract of
 -- `parts_of` in `src/parts.rt`.
 use Rattle.std.specs.Prelude.{◌≡◌, Bool, true, false, List, map}
 use Rattle.std.specs.List.{filter}
@@ -27,18 +27,17 @@ asides_of parts = map claim_seen parts.asides.items
 abbrev pub removed_of : Parts → List PathClaim
 removed_of parts = map claim_seen parts.removed.items
 
--- the claims of the files that stay, since the user changed them
+-- the claims of the files that are kept, since the user changed them
 abbrev pub kept_of_parts : Parts → List PathClaim
 kept_of_parts parts = map claim_seen parts.kept.items
 
--- the claims of paths that are left over, where the files of the claims `asides` are laid beside
--- others
+-- the claims of paths that are left over, if the files of the claims `asides` are laid beside others
 abbrev pub left_claims_by : Change → List PathClaim → List PathClaim
 left_claims_by change asides =
     filter (λ c. is_left (file_change_of change) asides c.path) (claims_before change)
 
--- the files of a change are parted: those that come by their fates, and those that are left over by
--- whether they stay
+-- the files of a change are divided: the added ones by their fates, and those that are left over by
+-- whether they are kept
 pub record AreParts (change : Change) (history : List TreeState) (coming : List PathClaim)
     (parts : Parts) : Type 0 where
   pub fates : List Fates.Fate

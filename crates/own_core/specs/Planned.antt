@@ -1,7 +1,7 @@
--- What a plan of a change says, and why there is none.
--- The rules are in `docs/commands.md`, "What a change does with files", and are said by
--- `change_files`, `path_clashes` and `file_owners`; this file says which of them a plan or a
--- refusal promises, and over which files.
+-- What a plan of a change ensures, and why there is none.
+-- The rules are in `docs/commands.md`, "What a change does with files", and are defined in
+-- `change_files`, `path_clashes` and `file_owners`; this file says which of them a plan or a refusal
+-- ensures, and over which files.
 use Rattle.std.specs.Prelude.{◌≡◌, ℕ, Bool, true, false, List, map, Option, Some, None, All, Contains, option_map, slice_get}
 use Rattle.adb_schema.specs.Reserved.{is_reserved}
 use Rattle.adb_view.specs.FieldIndexes.{PACKAGE_PATHS}
@@ -35,8 +35,8 @@ change_by old after purge =
 
 -- ---- a plan
 
--- over these files the lists of a plan are those of the change: what is removed, written, laid
--- beside and kept
+-- over these files the lists of a plan are those of the change: the removed, written, laid beside and
+-- kept files
 pub record ArePlanLists (change : FileChange) (files : Files) (plan : FilePlan) : Type 0 where
   pub removals : plan.removals ≡ removals_of change files
   pub writes : writes_in plan.writes ≡ file_writes_of change files
@@ -44,7 +44,7 @@ pub record ArePlanLists (change : FileChange) (files : Files) (plan : FilePlan) 
   pub kept : plan.kept ≡ kept_of change files
 
 -- the lists of a plan are those of the change over some files, and over some no name is a folder of
--- another; where the tree tells its files both are these
+-- another; if the tree's files are observable, both are these
 pub record IsPlanOf (change : FileChange) (history : List TreeState) (plan : FilePlan) : Type 0 where
   pub files : Files
   pub told : IfObservable history (λ v. files ≡ files_of v)
@@ -52,8 +52,8 @@ pub record IsPlanOf (change : FileChange) (history : List TreeState) (plan : Fil
   pub no_clash : IfObservable history (λ v. HasNoClash (name_change change files) files)
   pub may_have_none : MayBeClashOf (name_change change files) None
 
--- what a plan promises of the members alone: each file is told whether its package owns it, no
--- package that comes lists a reserved path, and no path is contested
+-- what a plan ensures of the members alone: for each file it says whether its package owns it, no added
+-- package lists a reserved path, and no path is contested
 pub record IsPlanFor (members : List Member) (plan : FilePlan) : Type 0 where
   pub owned : plan.owned ≡ owned_of members
   pub allowed : first_reserved members ≡ None
@@ -68,8 +68,8 @@ pub record IsOpenName (name : List ℕ) : Type 0 where
   pub named : IsName name
   pub unreserved : is_reserved name ≡ false
 
--- what a plan removes and what it writes are names that a package may list, in byte order, and none
--- is both
+-- the removed and the written names of a plan are names that a package may list, in byte order, and
+-- none is both
 pub record HasOwnNames (plan : FilePlan) : Type 0 where
   pub removals : All IsOpenName plan.removals
   pub writes : All IsOpenName (written_names plan)
@@ -77,14 +77,14 @@ pub record HasOwnNames (plan : FilePlan) : Type 0 where
   pub writes_rise : IsRising (written_names plan)
   pub apart : (name : List ℕ) → Contains plan.removals name → Contains (written_names plan) name → ⊥
 
--- the member of a write comes, and has the file at the write's positions
+-- the member of a write is added, and has the file at the write's positions
 pub record IsOfComingFile (members : List Member) (w : FileWrite) : Type 0 where
   pub member : Member
   pub at : slice_get members w.member ≡ Some member
   pub comes : is_coming member ≡ true
   pub place : HasFileAt (entry_in member.pkg PACKAGE_PATHS) w.folder w.file
 
--- each file that a plan writes is one of a member that comes
+-- each file that a plan writes is one of an added member
 abbrev pub HasSources : List Member → FilePlan → Type 0
 HasSources members plan = All (IsOfComingFile members) (writes_in plan.writes)
 
@@ -102,7 +102,7 @@ pub record IsContest (members : List Member) (path first second : List ℕ) : Ty
   pub lister : member_name_at members contest.rivals.first ≡ Some first
   pub other : member_name_at members contest.rivals.second ≡ Some second
 
--- the fault tells of a contested path with its rivals; a fault of another kind does not
+-- a fault with a contested path has its rivals; a fault of another kind does not say so
 abbrev pub IsOwnedBy : List Member → PlanFault → Type 0
 IsOwnedBy members (Reserved path) = ⊥
 IsOwnedBy members (PathClash path other) = ⊥
@@ -110,8 +110,8 @@ IsOwnedBy members (Owned path first second) = IsContest members path first secon
 IsOwnedBy members Disk = ⊥
 IsOwnedBy members Memory = ⊥
 
--- over these files: a clash of names that is told is the first one, and where a contested path is
--- told there is no clash, which would come before it
+-- over these files: a clash of names is the first one; and if a contested path is reported, there is no
+-- clash, which would have priority
 abbrev pub IsRefusalOf : FileChange → Files → PlanFault → Type 0
 IsRefusalOf change files (Reserved path) = Unit {0}
 IsRefusalOf change files (PathClash path other) =
@@ -120,16 +120,16 @@ IsRefusalOf change files (Owned path first second) = HasNoClash (name_change cha
 IsRefusalOf change files Disk = Unit {0}
 IsRefusalOf change files Memory = Unit {0}
 
--- the clash, or that there is none, may be what is found among the names after the change; where
--- the tree tells its files these decide
+-- the clash, or that there is none, is found among the names after the change over some files: the
+-- tree's, if they are observable
 pub record IsClashBySome (change : FileChange) (history : List TreeState)
     (clash : Option NamePair) : Type 0 where
   pub files : Files
   pub told : IfObservable history (λ v. files ≡ files_of v)
   pub may : MayBeClashOf (name_change change files) clash
 
--- over any tree: a clash of names is told only if there may be one, and a contested path only
--- where there may be none
+-- over any tree: a clash of names is reported only if there may be one, and a contested path only if
+-- there may be none
 abbrev pub MayBeRefusalOf : FileChange → List TreeState → PlanFault → Type 0
 MayBeRefusalOf change history (Reserved path) = Unit {0}
 MayBeRefusalOf change history (PathClash path other) =
@@ -138,8 +138,8 @@ MayBeRefusalOf change history (Owned path first second) = IsClashBySome change h
 MayBeRefusalOf change history Disk = Unit {0}
 MayBeRefusalOf change history Memory = Unit {0}
 
--- over any tree, by the members alone: a reserved path is the first, another fault is told only
--- if there is none (lack of memory aside), and a contested path has the names of its rivals
+-- over any tree, by the members alone: a reserved path is the first; another fault, except out of
+-- memory, is reported only if there is none; and a contested path has the names of its rivals
 abbrev pub IsRefusalFor : List Member → PlanFault → Type 0
 IsRefusalFor members (Reserved path) = first_reserved members ≡ Some path
 IsRefusalFor members (PathClash path other) = first_reserved members ≡ None

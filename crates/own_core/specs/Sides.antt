@@ -1,6 +1,6 @@
--- The claims of the packages before a change and after it, as the program holds them.
--- No rule of a document: serves the contracts of this crate; *FileChange* of `change_files` is what
--- both sides come to.
+-- The claims of the packages before a change and after it, as values of the program.
+-- No document has a rule for this: it serves the contracts of this crate; both sides denote a
+-- *FileChange* of `change_files`.
 use Rattle.std.specs.Prelude.{◌≡◌, List, map}
 use Rattle.base_core.specs.Sorted.{sorted_by}
 use Rattle.db_core.specs.Members.{staying_members}
@@ -13,7 +13,7 @@ use Rattle.change_files.specs.FileChange.{FileChange}
 use Rattle.own_core.specs.ClaimEntries.{AreClaimsOf}
 use Rattle.own_core.specs.declared.change.Change.{Change}
 
--- the change of files that the packages before and after come to
+-- the change of files that the packages before and after denote
 abbrev pub file_change_of : Change → FileChange
 file_change_of c =
     record { old = packages_of c.db.now; members = members_of c.members.now; purge = c.purge }
@@ -26,8 +26,7 @@ claims_before c = map claim_seen c.before.now
 abbrev pub claims_after : Change → List PathClaim
 claims_after c = map claim_seen c.after.now
 
--- the claims of a change are those of its packages: before the change one for each path, after it
--- all
+-- the claims of a change are those of its packages: before the change one for each path, after it all
 pub record HasClaims (c : Change) : Type 0 where
   pub before : HasFirsts (sorted_by claim_cmp (claims_in (staying_members (packages_of c.db.now))))
       (claims_before c)

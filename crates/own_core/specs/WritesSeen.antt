@@ -1,6 +1,6 @@
--- What writes of the program stand for.
--- The rule is in `docs/commands.md`, "What a change does with files": a file that is written
--- takes its path, or is laid beside as `PATH.apk-new`.
+-- What writes of the program denote.
+-- The rule is in `docs/commands.md`, "What a change does with files": a file that is written takes its
+-- path, or is laid beside as `PATH.apk-new`.
 use Rattle.std.specs.Prelude.{◌≡◌, ℕ, ◌≤◌, List, Some, length, map, slice_get}
 use Rattle.std.specs.Ordering.{on}
 use Rattle.std.specs.declared.cmp.Ordering.{Ordering}
@@ -20,7 +20,7 @@ write_seen w = record { name = w.name; member = w.member; folder = w.path; file 
 abbrev pub writes_in : Writes → List FileWrite
 writes_in writes = map write_seen writes.writes.items
 
--- the write of the file that a claim speaks of, under a name
+-- the write of the file of a claim, under a name
 abbrev pub write_by : List ℕ → PathClaim → FileWrite
 write_by name c = record { name = name; member = c.member; folder = c.folder; file = c.file }
 

@@ -1,6 +1,6 @@
 //! A change of packages, with the files that they list.
-//! Which packages and files these are, stands in `docs/commands.md`, "Files that several packages
-//! list"; what is asked of the lists of claims, in *HasClaims* of `specs/Sides.antt`.
+//! `docs/commands.md`, "Files that several packages list", says which packages and files these are;
+//! *HasClaims* of `specs/Sides.antt`, what holds of the lists of claims.
 
 use db_core::{Db, Members};
 use path_claims::Claim;
@@ -11,12 +11,12 @@ use path_claims::Claim;
 pub struct Change<'c, 'o, 'n> {
     /// The database before the change.
     pub db: &'c Db<'o>,
-    /// The packages after the change: those that stay and those that come.
+    /// The kept and added packages after the change.
     pub members: &'c Members<'n>,
     /// What the packages before the change list, one claim for each path.
     pub before: &'c [Claim<'o>],
     /// All claims of the packages after the change.
     pub after: &'c [Claim<'n>],
-    /// Whether configuration that the user changed goes with its package (`del --purge`).
+    /// Whether configuration that the user changed is removed with its package (`del --purge`).
     pub purge: bool,
 }

@@ -1,7 +1,7 @@
-//! The names that a change writes and lets go of, among which `path_clashes` looks for one that is
-//! a folder of another.
-//! The rule is in `docs/commands.md`, "What a change does with files", test 2: which names
-//! there are afterwards. The words *lets go* and *counts as written* stand in `docs/names.md`, "The
+//! The names that a change writes and lets go of, among which `path_clashes` searches for one that
+//! is a folder of another.
+//! The rule is in `docs/commands.md`, "What a change does with files", test 2: which names are
+//! present afterwards. The terms *lets go* and *counts as written* are in `docs/names.md`, "The
 //! installed database and a change of it".
 
 ghost use Rattle.std.specs.Prelude.{◌≡◌, ◌&&◌, ◌||◌, ◌++◌, ◌∷◌, [], not, is_some, IfOk, OnOk, map};
@@ -43,7 +43,7 @@ pub(crate) fn names_beside(alloc: Global, asides: &[Claim<'_>]) -> Result<Names,
     Ok(names)
 }
 
-/// Adds the paths that members which come list, by the claims of all members.
+/// Adds the paths that added members list, by the claims of all members.
 fn add_coming<'a>(
     paths: &mut Vec<FilePath<'a>>,
     members: &Members<'_>,
@@ -76,7 +76,7 @@ fn add_names<'a>(paths: &mut Vec<FilePath<'a>>, names: &'a Names) -> Result<(), 
     Ok(())
 }
 
-/// Puts paths into byte order.
+/// Sorts paths in byte order.
 fn sort_paths(paths: &mut Vec<FilePath<'_>>) -> Result<(), AllocError>
     ensures { OnOk result (map joined_path paths.new.items
         ≡ sorted_by bytes_cmp (map joined_path paths.old.items)) }
@@ -85,8 +85,8 @@ fn sort_paths(paths: &mut Vec<FilePath<'_>>) -> Result<(), AllocError>
     Ok(())
 }
 
-/// The names that count as written, in byte order: the paths that members which come list, the
-/// names of files that are laid beside others, the database and the world.
+/// The names that count as written, in byte order: the paths that added members list, the names of
+/// files that are laid beside others, the database and the world.
 pub(crate) fn written_paths<'a>(
     alloc: Global,
     members: &Members<'_>,
@@ -114,17 +114,17 @@ pub(crate) fn written_paths<'a>(
     Ok(paths)
 }
 
-/// What a change lets go of: the paths that packages before list, that no package lists any more
-/// and where no file is kept.
+/// The paths that a change lets go of: packages before list them, no package lists them any more,
+/// and no file is kept there.
 #[derive(Clone, Copy)]
 pub(crate) struct LetGoPaths<'c, 'o, 'n> {
     /// The files that the old database lists, one of each path.
     pub(crate) before: &'c [Claim<'o>],
     /// The files that packages list after the change.
     pub(crate) after: &'c [Claim<'n>],
-    /// The files that stay, since the user changed them.
+    /// The files that are kept, since the user changed them.
     pub(crate) kept: &'c [Claim<'o>],
-    // All three are in the order of paths, so that a path is found by halving.
+    // All three are in the order of paths, for binary search.
     ghost before_sorted: { IsSorted claim_cmp (map claim_seen before.now) },
     ghost after_sorted: { IsSorted claim_cmp (map claim_seen after.now) },
     ghost kept_sorted: { IsSorted claim_cmp (map claim_seen kept.now) },

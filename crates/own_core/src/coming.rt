@@ -1,4 +1,4 @@
-//! The files that come: claims by which members that come list paths that they own.
+//! The added files: claims by which added members list paths that they own.
 //! The rules are in `docs/commands.md`, "Files that several packages list" (owners) and "What a
 //! change does with files" ("each file that a package which comes owns is written").
 
@@ -17,7 +17,7 @@ use db_core::Members;
 use path_claims::Claim;
 use std::alloc::{AllocError, Global};
 
-/// Whether the member of a claim comes: it has the id of a package that is read.
+/// Whether the member of a claim is added: it has the id of a package that is read.
 pub fn comes(members: &Members<'_>, claim: &Claim<'_>) -> bool
     requires { IsClaimOf (members_of members.now) (claim_seen claim.now) }
     ensures { result ≡ comes_at (members_of members.now) claim.now.member }
@@ -25,8 +25,8 @@ pub fn comes(members: &Members<'_>, claim: &Claim<'_>) -> bool
     members.id(claim.member as usize).is_some()
 }
 
-/// Whether a claim is that of its path's owner (`owner` is the owner's place), and this member
-/// comes.
+/// Whether a claim is that of its path's owner (`owner` is the owner's place), and this member is
+/// added.
 #[tactic(auto, unfolding(crate::specs::ClaimEntries::is_of_coming_owner))]
 fn is_of_coming_owner(members: &Members<'_>, claim: &Claim<'_>, owner: Option<u32>) -> bool
     requires file { IsClaimOf (members_of members.now) (claim_seen claim.now) }
@@ -39,8 +39,8 @@ fn is_of_coming_owner(members: &Members<'_>, claim: &Claim<'_>, owner: Option<u3
     }
 }
 
-/// Those of some claims that are of a path's owner which comes, in their order. `owners` has for
-/// each claim the place of the owner of its path, or none.
+/// The claims of added owners of their paths, in their order. `owners` has for each claim the place
+/// of the owner of its path, or none.
 fn owned_claims<'n>(
     alloc: Global,
     members: &Members<'n>,
@@ -62,7 +62,7 @@ fn owned_claims<'n>(
     Ok(owned)
 }
 
-/// For each path whose owner comes, the claim by which the owner lists it, in the order of paths.
+/// For each path with an added owner, the claim by which the owner lists it, in the order of paths.
 /// `owners` has for each claim the place of the owner of its path, or none.
 pub fn coming_claims<'n>(
     alloc: Global,

@@ -1,7 +1,6 @@
-//! What the entries of files say, to which claims lead.
-//! What an entry says of a file's bytes, is in `docs/commands.md`, "What a change does with
-//! files", **Files below `etc/` are the user's**; the fields of an entry in `docs/formats.md`,
-//! "Schemas", table 4.
+//! The entries of files to which claims lead.
+//! `docs/commands.md`, "What a change does with files", **Files below `etc/` are the user's**, says
+//! what an entry says of a file's bytes; `docs/formats.md`, "Schemas", table 4, has its fields.
 
 ghost use Rattle.std.specs.Prelude.{◌-◌, ◌<◌, ◌≤◌};
 ghost use Rattle.adb_fields.specs.ListValue.{list_value};
@@ -20,7 +19,7 @@ use file_guard::{ListedFile, listed_file};
 use path_claims::Claim;
 use std::marker::PhantomData;
 
-/// What the entry of the file at a position of a folder says; positions count from 1.
+/// The entry of the file at a position of a folder; positions count from 1.
 fn listed_in_files<'a>(files: &List<'a, FileInfo<'a>>, file: u32) -> ListedFile<'a>
     requires low { 0 < file }
     requires high { file ≤ count_of (entries_in (list_value files.now)) }
@@ -30,8 +29,8 @@ fn listed_in_files<'a>(files: &List<'a, FileInfo<'a>>, file: u32) -> ListedFile<
     listed_file(&file)
 }
 
-/// What the entry of a file of some folders says, by the positions of its folder and of the file in
-/// it, which count from 1.
+/// The entry of a file of some folders, by the positions of its folder and of the file in it, which
+/// count from 1.
 fn listed_in_folders<'a>(folders: &List<'a, DirInfo<'a>>, folder: u32, file: u32) -> ListedFile<'a>
     requires { HasFileAt (list_value folders.now) folder file }
     ensures { IsOfEntry result (listed_file_at (list_value folders.now) folder file) }
@@ -40,7 +39,7 @@ fn listed_in_folders<'a>(folders: &List<'a, DirInfo<'a>>, folder: u32, file: u32
     listed_in_files(&folder.files(), file)
 }
 
-/// What the entry of a package's file says that a claim speaks of.
+/// The entry of a package's file for a claim.
 fn listed_in<'a>(pkg: &PackageView<'a>, claim: &Claim<'_>) -> ListedFile<'a>
     requires { HasFileAt (entry_in (package_value pkg.now) PACKAGE_PATHS) claim.now.folder
         claim.now.file }
@@ -51,7 +50,7 @@ fn listed_in<'a>(pkg: &PackageView<'a>, claim: &Claim<'_>) -> ListedFile<'a>
     listed_in_folders(&pkg.paths(), claim.folder, claim.file)
 }
 
-/// What the entry of the file says that a claim of a member after the change speaks of.
+/// The entry of the file for a claim of a member after the change.
 #[tactic(auto, unfolding(crate::specs::ClaimEntries::claim_entry))]
 pub(crate) fn listed_after<'a>(members: &Members<'a>, claim: &Claim<'_>) -> ListedFile<'a>
     requires { IsClaimOf (members_of members.now) (claim_seen claim.now) }
@@ -60,9 +59,9 @@ pub(crate) fn listed_after<'a>(members: &Members<'a>, claim: &Claim<'_>) -> List
     listed_in(members.view(claim.member as usize), claim)
 }
 
-/// What the entry of the file says that a claim of a database's package speaks of. The mark serves
-/// the borrow checker alone, which does not know the parts of a view that is made and lent here
-/// unless the signature names the view as an argument.
+/// The entry of the file for a claim of a database's package. The mark serves only the borrow
+/// checker: it does not know the parts of a view that is made and lent here unless the signature
+/// names the view as an argument.
 #[tactic(auto, unfolding(crate::specs::ClaimEntries::claim_entry))]
 pub(crate) fn listed_before<'a>(
     db: &Db<'a>,

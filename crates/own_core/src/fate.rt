@@ -1,6 +1,6 @@
-//! What becomes of each file that comes.
-//! The rule is in `docs/commands.md`, "What a change does with files", **Files below `etc/` are
-//! the user's**: when a file counts as changed, and where the new one is laid then.
+//! What is done with each added file.
+//! The rule is in `docs/commands.md`, "What a change does with files", **Files below `etc/` are the
+//! user's**: when a file counts as changed, and where the new one is laid then.
 
 ghost use Rattle.std.specs.Prelude.{◌≡◌, ◌↔◌, ◌∷◌, ◌++◌, [], Option, true, false, map, IfOk, IsTrue, IsSomeAnd, OnOk};
 ghost use Rattle.adb_fields.specs.JoinedPath.{joined_path};
@@ -27,18 +27,18 @@ use path_claims::Claim;
 use std::alloc::{AllocError, Global};
 use std::marker::PhantomData;
 
-/// What becomes of a file that comes, and of the one that is under its path.
+/// What is done with an added file, and with the one under its path.
 #[derive(Clone, Copy)]
 pub(crate) enum Fate {
     /// The file takes the path.
     GoesIn,
-    /// The user's file stays, and the new one is left out.
+    /// The user's file is kept, and the new one is left out.
     GivesWay,
-    /// The user's file stays, and the new one is laid beside it as `PATH.apk-new`.
+    /// The user's file is kept, and the new one is laid beside it as `PATH.apk-new`.
     GoesAside,
 }
 
-/// What the database before the change says of a path, if one of its packages lists the path.
+/// The entry of the database before the change for a path, if one of its packages lists the path.
 fn listed_so_far<'o>(change: &Change<'_, 'o, '_>, path: &FilePath<'_>) -> Option<ListedFile<'o>>
     requires { HasClaims change.now }
     ensures { IsOfEntryIfAny result (old_entry (file_change_of change.now) (joined_path path.now)) }
@@ -69,8 +69,8 @@ fn is_free_beside(
     Ok(find_claim(change.after, &beside).is_none())
 }
 
-/// Whether the new entry says the same of a file as the one before, if there was one: then the
-/// package's file did not change.
+/// Whether the new entry agrees with the old one, if there was one: then the package's file did not
+/// change.
 fn agrees_with_old(new: &ListedFile<'_>, old: &Option<ListedFile<'_>>) -> bool
     ensures { (entry : Plain) (before : Option Plain) → IsOfEntry new.now entry
         → IsOfEntryIfAny old.now before → result ≡ agrees_with_old before entry }
@@ -81,9 +81,9 @@ fn agrees_with_old(new: &ListedFile<'_>, old: &Option<ListedFile<'_>>) -> bool
     }
 }
 
-/// What becomes of a file that comes where the user changed the one under its path: it is left out
-/// where it does not differ from the one that was installed, or cannot be laid beside; else it is
-/// laid beside.
+/// What is done with an added file if the user changed the one under its path. It is left out if it
+/// does not differ from the installed version, or cannot be laid beside; otherwise it is laid
+/// beside.
 fn fate_beside(
     alloc: Global,
     change: &Change<'_, '_, '_>,
@@ -102,8 +102,8 @@ fn fate_beside(
     Ok(Fate::GoesAside)
 }
 
-/// Whether a file stands there whose bytes are neither those that the new entry tells nor those
-/// that the old one tells. `found` is none where no file stands there.
+/// Whether the file's bytes are neither those of the new entry nor those of the old one. `found` is
+/// none if there is no file.
 pub(crate) fn is_changed(found: Option<Comparison>) -> bool
     ensures { IsTrue result ↔ IsSomeAnd found (λ c. (c.as_new ≡ false) × (c.as_old ≡ false)) }
 {
@@ -113,8 +113,8 @@ pub(crate) fn is_changed(found: Option<Comparison>) -> bool
     }
 }
 
-/// What becomes of a file of configuration that comes: the file under its path is read, and
-/// compared with both entries.
+/// What is done with an added configuration file: the file under its path is read, and compared
+/// with both entries.
 fn guarded_fate<T: Tree>(
     alloc: Global,
     tree: &mut T,
@@ -133,7 +133,7 @@ fn guarded_fate<T: Tree>(
     let new = listed_after(change.members, claim);
     let old = listed_so_far(change, &claim.path);
     let found = compare_file(tree, &name, Some(new), old)?;
-    // The user changed the file: its bytes stay.
+    // The user changed the file: its bytes are kept.
     if is_changed(found) {
         let fate = fate_beside(alloc, change, &name, &new, &old)?;
         return Ok(fate);
@@ -141,7 +141,7 @@ fn guarded_fate<T: Tree>(
     Ok(Fate::GoesIn)
 }
 
-/// What becomes of a file that comes; one that is not below `etc` takes its path, and nothing is
+/// What is done with an added file; one that is not below `etc` takes its path, and nothing is
 /// read.
 fn fate_of<T: Tree>(
     alloc: Global,
@@ -162,7 +162,7 @@ fn fate_of<T: Tree>(
     Ok(Fate::GoesIn)
 }
 
-/// Puts the fate of a file behind the others.
+/// Adds the fate of a file to the others.
 fn add_fate(fates: &mut Vec<Fate>, fate: Fate) -> Result<(), AllocError>
     ensures { OnOk result (fates.new.items ≡ fates.old.items ++ fate ∷ []) }
 {
@@ -170,7 +170,7 @@ fn add_fate(fates: &mut Vec<Fate>, fate: Fate) -> Result<(), AllocError>
     Ok(())
 }
 
-/// What becomes of each file that comes, in their order.
+/// What is done with each added file, in their order.
 pub(crate) fn fates_of<T: Tree>(
     alloc: Global,
     tree: &mut T,

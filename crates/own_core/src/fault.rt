@@ -10,7 +10,7 @@ use std::alloc::AllocError;
 /// Why there is no plan of a change.
 #[derive(Drop)]
 pub enum PlanFault {
-    /// A package that comes lists a path that no package may hold. `path` is the first one in byte
+    /// An added package lists a path that no package may have. `path` is the first one in byte
     /// order.
     Reserved {
         path: Name,
@@ -28,9 +28,9 @@ pub enum PlanFault {
         first: Text,
         second: Text,
     },
-    /// The tree failed.
+    /// An I/O error of the tree.
     Disk,
-    /// There was no memory.
+    /// Out of memory.
     Memory,
 }
 
@@ -40,7 +40,7 @@ impl From<AllocError> for PlanFault {
 
     ghost from_gives = { λ _ fault. fault ≡ Memory };
 
-    // The fault that lack of memory is.
+    // Out of memory as such a fault.
     fn from(_: AllocError) -> PlanFault {
         PlanFault::Memory
     }
@@ -52,7 +52,7 @@ impl From<TreeFault> for PlanFault {
 
     ghost from_gives = { λ failed fault. fault ≡ fault_of_tree failed };
 
-    // The fault that a failed read of the tree is.
+    // A failed read of the tree as such a fault.
     fn from(failed: TreeFault) -> PlanFault {
         match failed {
             TreeFault::Disk => PlanFault::Disk,

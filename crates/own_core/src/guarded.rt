@@ -1,6 +1,6 @@
-//! Configuration, which the user may change, and the names beside it.
-//! The rule is in `docs/commands.md`, "What a change does with files", **Files below `etc/` are
-//! the user's**.
+//! Protected configuration files, and the names beside them.
+//! The rule is in `docs/commands.md`, "What a change does with files", **Files below `etc/` are the
+//! user's**.
 
 ghost use Rattle.std.specs.Prelude.{◌≡◌, ◌≤◌, IfOk, length, option_map};
 ghost use Rattle.adb_fields.specs.JoinedPath.{joined_path};
@@ -14,11 +14,11 @@ use std::alloc::{AllocError, Global};
 /// How many bytes a name may have at most (`docs/commands.md`, "Words").
 pub(crate) const LONGEST_NAME: usize = 1024;
 
-/// What stands behind the path in the name of a file that is laid beside another one.
+/// The ending of the name of a file that is laid beside another one.
 const ASIDE_ENDING: &[u8] = b".apk-new";
 
-/// Whether a path is that of configuration: it is below `etc`. The path is its folder and its name,
-/// or has all in its name.
+/// Whether a path is that of configuration: it is below `etc`. The path has a folder and a name, or
+/// all of it is in the name.
 pub(crate) fn is_guarded(path: &FilePath<'_>) -> bool
     ensures { result ≡ is_guarded (joined_path path.now) }
 {
@@ -46,8 +46,8 @@ pub fn name_beside(alloc: Global, name: &Name) -> Result<Name, AllocError>
     Name::of(alloc, &bytes)
 }
 
-/// The path beside which a file of this path would lie: what stands in front of the ending. None
-/// where the path does not end so.
+/// The path beside which a file of this path would be laid: the part before the ending. None if the
+/// path does not have the ending.
 pub(crate) fn path_beside<'a>(path: &FilePath<'a>) -> Option<FilePath<'a>>
     ensures { option_map joined_path result ≡ path_beside (joined_path path.now) }
 {

@@ -1,6 +1,6 @@
-//! The files that come by what becomes of them, and the files that go.
+//! The added files by their fates, and the files that are left over.
 //! The rules are in `docs/commands.md`, "What a change does with files": what is removed ("a file
-//! that the old database lists and that no package lists any more"), and what stays below `etc/`.
+//! that the old database lists and that no package lists any more"), and what is kept below `etc/`.
 
 ghost use Rattle.std.specs.Prelude.{◌≡◌, IfOk, OnOk, Some, [], ◌∷◌, ◌++◌, length, map};
 ghost use Rattle.std.specs.List.{filter};
@@ -43,8 +43,8 @@ fn is_fate(one: Fate, other: Fate) -> bool
     }
 }
 
-/// The claims of the files that come with this fate, in the order of their paths. `fates` has the
-/// fate of each.
+/// The claims of the added files with this fate, in the order of their paths. `fates` has the fate
+/// of each.
 fn claims_with<'n>(
     alloc: Global,
     coming: &[Claim<'n>],
@@ -76,8 +76,8 @@ fn is_beside(asides: &[Claim<'_>], path: &FilePath<'_>) -> bool
     }
 }
 
-/// Whether no package lists a path any more, and nothing is laid beside another one there. Paths
-/// that are asked for in their order are looked for from `next` on.
+/// Whether no package lists a path any more, and nothing is laid beside another one there. If paths
+/// are tested in their order, each search starts at `next`.
 fn is_left(
     change: &Change<'_, '_, '_>,
     asides: &[Claim<'_>],
@@ -109,7 +109,7 @@ fn left_claims<'o>(
         (claims_before change.now)) }
 {
     let mut left = Vec::new(alloc);
-    // Paths are asked for in their order, so each search goes on where the last one ended.
+    // Paths are searched in their order, so each search starts where the last one ended.
     let mut next = 0;
     for i in 0..change.before.len() {
         if is_left(change, asides, &change.before[i].path, &mut next) {
@@ -119,8 +119,8 @@ fn left_claims<'o>(
     Ok(left)
 }
 
-/// Whether the user's file stays under a path that is left over: it is configuration, the user
-/// changed it, and changed files do not go with their packages.
+/// Whether the user's file is kept under a path that is left over: it is configuration, the user
+/// changed it, and there is no `--purge`.
 fn does_stay<T: Tree>(
     alloc: Global,
     tree: &mut T,
@@ -133,7 +133,7 @@ fn does_stay<T: Tree>(
     ensures tree { OnlyReads TreeFault.Disk (T.history tree.old) (T.history tree.new)
         (T.counts tree.old) (T.counts tree.new) result }
 {
-    // Only configuration may stay, and not with `--purge`: no file is read.
+    // Only configuration may be kept, and not with `--purge`: no file is read.
     if change.purge || !is_guarded(&claim.path) {
         return Ok(false);
     }
@@ -143,7 +143,7 @@ fn does_stay<T: Tree>(
     Ok(is_changed(found))
 }
 
-/// Puts a flag behind the others.
+/// Adds a flag to the others.
 fn add_flag(flags: &mut Vec<bool>, flag: bool) -> Result<(), AllocError>
     ensures { OnOk result (flags.new.items ≡ flags.old.items ++ flag ∷ []) }
 {
@@ -151,7 +151,7 @@ fn add_flag(flags: &mut Vec<bool>, flag: bool) -> Result<(), AllocError>
     Ok(())
 }
 
-/// For each claim of a path that is left over, whether the user's file stays there.
+/// For each claim of a path that is left over, whether the user's file is kept there.
 fn stays_of<T: Tree>(
     alloc: Global,
     tree: &mut T,
@@ -200,7 +200,7 @@ fn claims_where<'o>(
     Ok(some)
 }
 
-/// The files of a change by what becomes of them, in the order of paths.
+/// The files of a change by what is done with them, in the order of paths.
 #[derive(Drop)]
 pub struct Parts<'o, 'n> {
     /// The files that take their paths.
@@ -209,12 +209,12 @@ pub struct Parts<'o, 'n> {
     pub asides: Vec<Claim<'n>>,
     /// The files that are removed.
     pub removed: Vec<Claim<'o>>,
-    /// The files that stay, since the user changed them.
+    /// The files that are kept, since the user changed them.
     pub kept: Vec<Claim<'o>>,
 }
 
-/// Parts the files of a change: those that come (`coming`) by their fates, and those that are left
-/// over by whether the user's file stays. Files of configuration are read, each once.
+/// Divides the files of a change: the added ones (`coming`) by their fates, and those that are left
+/// over by whether the user's file is kept. Configuration files are read, each once.
 pub fn parts_of<'o, 'n, T: Tree>(
     alloc: Global,
     tree: &mut T,

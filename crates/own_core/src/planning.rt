@@ -1,6 +1,6 @@
 //! The plan of files of a change.
-//! The rules are in `docs/commands.md`, "What a change does with files": the tests, in their
-//! order, and then what is written, removed, laid beside and kept.
+//! The rules are in `docs/commands.md`, "What a change does with files": the tests, in their order,
+//! and then what is written, removed, laid beside and kept.
 
 ghost use Rattle.std.specs.Prelude.{◌≡◌, ◌<◌, All, IfErr, IfOk, None, Some, length, map, option_map};
 ghost use Rattle.std.specs.List.{filter};
@@ -51,11 +51,11 @@ pub struct FilePlan {
     pub(crate) removals: Names,
     /// What is written, in byte order of the names.
     pub(crate) writes: Writes,
-    /// Whether each listed file belongs to its package.
+    /// For each listed file, whether its package owns it.
     pub(crate) owned: Owned,
     /// The paths beside which a file is laid, in byte order.
     pub(crate) aside: Names,
-    /// The paths at which the user's file stays though its package is gone, in byte order.
+    /// The paths at which the user's file is kept although its package is removed, in byte order.
     pub(crate) kept: Names,
 }
 
@@ -89,7 +89,7 @@ impl FilePlan {
         &self.aside
     }
 
-    /// The paths at which the user's file stays though its package is gone, in byte order.
+    /// The paths at which the user's file is kept although its package is removed, in byte order.
     pub fn kept(&self) -> &Names
         ensures { result.now ≡ self.now.kept }
     {
@@ -97,8 +97,7 @@ impl FilePlan {
     }
 }
 
-/// The first two names after the change of which one is a folder of the other; none where no two
-/// are.
+/// The first two names after the change of which one is a folder of the other, if there are any.
 fn clash_of<T: Tree>(
     alloc: Global,
     tree: &mut T,
@@ -113,11 +112,11 @@ fn clash_of<T: Tree>(
         (map claim_seen coming.now) }
     requires parts { AreParts change.now (T.history tree.old) (map claim_seen coming.now)
         parts.now }
-    // Over the files of a tree that tells them the answer is the first clash.
+    // If the tree's files are observable, the answer is the first clash.
     ensures clash { IfOk result (λ found. IfObservable (T.history tree.old) (λ v. IsClashOf
         (name_change (file_change_of change.now) (files_of v)) (files_of v)
         (option_map clash_seen found))) }
-    // Over any tree, also one that shows no files, the answer may be the first clash.
+    // Over any tree, even one whose files are not observable, the answer may be the first clash.
     ensures may { IfOk result (λ found.
         MayBeClashOf (names_changed_by change.now parts.now) (option_map clash_seen found)) }
     ensures tree { OnlyReads TreeFault.Disk (T.history tree.old) (T.history tree.new)
@@ -133,7 +132,7 @@ fn clash_of<T: Tree>(
     first_clash(alloc, tree, &written, &let_go)
 }
 
-/// Whether a claim is of a member that comes, and of a reserved path.
+/// Whether a claim is of an added member, and of a reserved path.
 fn is_reserved_coming(members: &Members<'_>, claim: &Claim<'_>) -> bool
     requires { IsClaimOf (members_of members.now) (claim_seen claim.now) }
     ensures { result ≡ is_reserved_coming (members_of members.now) (claim_seen claim.now) }
@@ -141,7 +140,7 @@ fn is_reserved_coming(members: &Members<'_>, claim: &Claim<'_>) -> bool
     is_reserved_file(claim.path.folder, claim.path.name) && comes(members, claim)
 }
 
-/// The first reserved path in byte order that a package which comes lists.
+/// The first reserved path in byte order that an added package lists.
 fn first_reserved(
     alloc: Global,
     members: &Members<'_>,
@@ -170,7 +169,7 @@ fn member_name_at(alloc: Global, members: &Members<'_>, place: u32) -> Result<Te
     Text::of(alloc, view.info().name())
 }
 
-/// The refusal of a change where no package owns a path: the path and the names of its rivals.
+/// The refusal of a change with a contested path: the path and the names of its rivals.
 fn contest(
     alloc: Global,
     members: &Members<'_>,
@@ -191,8 +190,7 @@ fn contest(
     })
 }
 
-/// The plan of a change against which nothing stands: the lists that its parts are, with the flags
-/// `owned`.
+/// The plan of a change that is not refused: the lists of its parts, with the flags `owned`.
 fn lists_of(alloc: Global, parts: &Parts<'_, '_>, owned: Vec<bool>) -> Result<FilePlan, AllocError>
     requires removed { HaveNames (removed_of parts.now) }
     requires kept { HaveNames (kept_of_parts parts.now) }
@@ -213,8 +211,8 @@ fn lists_of(alloc: Global, parts: &Parts<'_, '_>, owned: Vec<bool>) -> Result<Fi
     })
 }
 
-/// The plan of a change in which no package that comes lists a reserved path: there is none where
-/// names clash, and then where no package owns a path.
+/// The plan of a change in which no added package lists a reserved path. It is refused if names
+/// clash, and then if no package owns a path.
 fn plan_of_claims<T: Tree>(
     alloc: Global,
     tree: &mut T,
@@ -230,7 +228,7 @@ fn plan_of_claims<T: Tree>(
     requires contested { option_map contested_seen contested.now
         ≡ contested_of (members_of change.now.members.now) }
     requires owned { owned.items ≡ owned_of (members_of change.now.members.now) }
-    // Test 1 was made: no package that comes lists a reserved path.
+    // Test 1 was passed: no added package lists a reserved path.
     requires unreserved { first_reserved (members_of change.now.members.now) ≡ None }
     requires named { All (λ l. IsName l.path)
         (member_listings (members_of change.now.members.now)) }
@@ -259,14 +257,14 @@ fn plan_of_claims<T: Tree>(
 }
 
 /// Plans the files of a change of packages: which names are removed, which get the contents of
-/// which files, and which configuration stays as the user made it. With `purge` configuration that
-/// the user changed goes with its package. The call only reads the tree: the files of configuration
-/// of packages that come or go, and near the names that are written.
+/// which files, and which configuration is kept as the user made it. With `purge`, configuration
+/// that the user changed is removed with its package. The call only reads the tree: the
+/// configuration files of added and removed packages, and the names near those that are written.
 ///
 /// # Errors
 ///
-/// `Reserved` before any look at the tree; then `PathClash`; then `Owned`. `Disk` if the tree
-/// failed, `Memory` if there was no memory.
+/// `Reserved` before any read of the tree; then `PathClash`; then `Owned`. `Disk` if the tree
+/// failed, `Memory` if out of memory.
 pub fn plan<'c, T: Tree>(
     alloc: Global,
     old: &'c Db<'_>,
@@ -274,26 +272,27 @@ pub fn plan<'c, T: Tree>(
     tree: &mut T,
     purge: bool,
 ) -> Result<FilePlan, PlanFault>
-    // Over the files of a tree that tells them, and else over some, the lists are the change's.
+    // The lists are the change's over the tree's files if they are observable, and otherwise over
+    // some.
     ensures plan { IfOk result
         (IsPlanOf (change_by old.now after.now purge) (T.history tree.old)) }
-    // What is removed and what is written are names that a package may list, and none is both.
+    // The removed and written names are names that a package may list, and none is both.
     ensures names { IfOk result HasOwnNames }
-    // Each write has its contents from a file of a package that comes.
+    // The contents of each write are a file of an added package.
     ensures sources { IfOk result (HasSources (members_of after.now)) }
-    // Each file has its owner, and neither a reserved nor a contested path stands.
+    // Each file has its owner, and no path is reserved or contested.
     ensures lists { IfOk result (IsPlanFor (members_of after.now)) }
-    // Over the files of a tree that tells them: a clash is the first one, and comes before a
+    // If the tree's files are observable: a clash is the first one, and has priority over a
     // contested path.
     ensures refusal { IfErr result (λ fault. IfObservable (T.history tree.old) (λ v.
         IsRefusalOf (change_by old.now after.now purge) (files_of v) fault)) }
-    // The same over some files, where the tree does not tell them.
+    // The same over some files, if the tree's are not observable.
     ensures may { IfErr result
         (MayBeRefusalOf (change_by old.now after.now purge) (T.history tree.old)) }
-    // What was found in the packages alone: a reserved path comes first, and a contested one has
-    // its rivals.
+    // What the packages alone show: a reserved path has priority, and a contested one has its
+    // rivals.
     ensures cause { IfErr result (IsRefusalFor (members_of after.now)) }
-    // The tree is only read, and `Disk` has a fault of it for its cause.
+    // The tree is only read, and `Disk` has a fault of the tree as its cause.
     ensures tree { OnlyReads PlanFault.Disk (T.history tree.old) (T.history tree.new)
         (T.counts tree.old) (T.counts tree.new) result }
 {

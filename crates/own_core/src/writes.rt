@@ -1,7 +1,7 @@
-//! The names at which files that come are written, and whose contents they get.
-//! The rules are in `docs/commands.md`, "What a change does with files": "each file that a
-//! package which comes owns is written", and if one is laid beside as `PATH.apk-new`. Positions
-//! of folders and files count as in `docs/formats.md`, "The other blocks".
+//! The names at which added files are written, and whose contents they get.
+//! The rules are in `docs/commands.md`, "What a change does with files": "each file that a package
+//! which comes owns is written", and if one is laid beside as `PATH.apk-new`. Positions of folders
+//! and files count as in `docs/formats.md`, "The other blocks".
 
 ghost use Rattle.std.specs.Prelude.{◌≡◌, ◌<◌, ◌==◌, ◌++◌, ◌∷◌, [], IfOk, OnOk, Some, length, map, slice_get};
 ghost use Rattle.base_core.specs.Sorted.{sorted_by};
@@ -60,7 +60,7 @@ impl Writes {
     }
 }
 
-/// Adds a write of the file that a claim speaks of, under a name.
+/// Adds a write of the file of a claim, under a name.
 fn add_write(writes: &mut Vec<Write>, name: Name, claim: &Claim<'_>) -> Result<(), AllocError>
     ensures { OnOk result (map write_seen writes.new.items
         ≡ map write_seen writes.old.items ++ write_by name (claim_seen claim.now) ∷ []) }
@@ -105,7 +105,7 @@ fn add_beside(
     Ok(())
 }
 
-/// Puts writes into the byte order of their names.
+/// Sorts writes by their names, in byte order.
 fn sort_writes(writes: &mut Vec<Write>) -> Result<(), AllocError>
     ensures { OnOk result (map write_seen writes.new.items
         ≡ sorted_by write_cmp (map write_seen writes.old.items)) }

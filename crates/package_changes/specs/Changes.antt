@@ -1,4 +1,4 @@
--- What becomes of each package where a selection takes the place of the packages before.
+-- What happens to each package if a selection replaces the packages before.
 -- The rules are in `docs/selection.md`, "What there is to choose from" (when a candidate is the
 -- installed package), in `docs/commands.md`, "`add` and `del`" and "`upgrade` and `fix`", and in
 -- `docs/formats.md`, "Versions" (their order).
@@ -18,8 +18,8 @@ use Rattle.std.specs.Option.{option_cmp}
 use Rattle.version_core.specs.Order.{version_cmp}
 use Rattle.report_core.specs.Reports.{Change, Downgrade, Install, Purge, Reinstall, Replace, Upgrade}
 
--- what is replaced by what: the packages before, the selected candidates, and the names that are to
--- be installed again
+-- a replacement: the packages before, the selected candidates, and the names that are to be installed
+-- again
 pub record Replacement : Type 0 where
   pub before : List Plain
   pub selected : List Candidate
@@ -39,31 +39,30 @@ abbrev pub is_installed_as : List ℕ → List ℕ → Candidate → Bool
 is_installed_as version id c =
     not (is_some c.repository) || (bytes_eq version (selected_version c) && is_same_id id c.id)
 
--- whether a candidate is this very package of the database, so that the package stays as it is
+-- whether a candidate is this very package of the database, so that the package is kept as it is
 abbrev pub is_same_selected : Plain → Candidate → Bool
 is_same_selected pkg c = is_installed_as (version_text pkg) (installed_id pkg) c
 
--- what becomes of a package that goes from one version to another, by their order
+-- the change of a package from one version to another, by their order
 abbrev pub version_change : List ℕ → List ℕ → List ℕ → Ordering → Change
 version_change name old new Less = Upgrade name old new
 version_change name old new Equal = Replace name old new
 version_change name old new Greater = Downgrade name old new
 
--- the order of the texts of two versions; a text that is no version comes first, and no tested
--- container has one
+-- the order of the texts of two versions; a text that is no version is first, and no tested container
+-- has one
 abbrev pub version_text_cmp : List ℕ → List ℕ → Ordering
 version_text_cmp old new = option_cmp version_cmp (version_of_text old) (version_of_text new)
 
--- what becomes of a package whose candidate is selected: none where the candidate is the package,
--- unless it is to be installed again
+-- the change of a package whose candidate is selected: none if the candidate is the package, unless it
+-- is to be installed again
 abbrev pub unless_same : List ℕ → Plain → Candidate → Bool → Bool → Option Change
 unless_same name pkg c is_same is_again =
     if not is_same then Some (version_change name (version_text pkg) (selected_version c)
     (version_text_cmp (version_text pkg) (selected_version c)))
     else if is_again then Some (Reinstall name (selected_version c)) else None
 
--- what becomes of a name, by the package before and the selected candidate, of which either may be
--- lacking
+-- the change of a name, given the package before and the selected candidate, if there are any
 abbrev pub change_between : Bool → List ℕ → Option Plain → Option Candidate → Option Change
 change_between is_again name None None = None
 change_between is_again name None (Some c) = Some (Install name (selected_version c))
@@ -71,7 +70,7 @@ change_between is_again name (Some pkg) None = Some (Purge name (version_text pk
 change_between is_again name (Some pkg) (Some c) =
     unless_same name pkg c (is_same_selected pkg c) is_again
 
--- what becomes of the package of this name, if anything does
+-- the change of the package of this name, if it changes
 unfoldable pub change_of_name : Replacement → List ℕ → Option Change
 change_of_name r name =
     change_between (list_any (bytes_eq name) r.again) name

@@ -1,5 +1,5 @@
--- The changes that a selection leads to, with the places of the packages that they are of.
--- The rules are those of *Changes*; *placed* stands in `docs/names.md`, "What a change comes to".
+-- The changes of a selection, with the places of their packages.
+-- The rules are those of *Changes*; *placed* is defined in `docs/names.md`, "What a change comes to".
 use Rattle.std.specs.Prelude.{ℕ, List, Option, bytes_eq, map, option_map, option_and_then, slice_get}
 use Rattle.std.specs.List.{filter_map, find, list_any, position_from}
 use Rattle.adb_view.specs.Plain.{Plain}
@@ -9,8 +9,8 @@ use Rattle.candidate_core.specs.Rank.{SealedPool, candidate_at, is_at}
 use Rattle.report_core.specs.Reports.{Change}
 use Rattle.package_changes.specs.Changes.{Replacement, change_between, is_selected_named, names_on_both_sides}
 
--- what is replaced by what, by places: the packages before, the candidates, the places of the
--- selected ones among them, and the names that are to be installed again
+-- a replacement, by places: the packages before, the candidates, the places of the selected ones among
+-- them, and the names that are to be installed again
 pub record PlacedReplacement : Type 0 where
   pub before : List Plain
   pub pool : SealedPool
@@ -21,7 +21,7 @@ pub record PlacedReplacement : Type 0 where
 abbrev pub candidates_at : SealedPool → List ℕ → List Candidate
 candidates_at pool places = filter_map (candidate_at pool) places
 
--- a replacement with the candidates in place of their places
+-- a replacement with the candidates themselves instead of their places
 abbrev pub replacement_of : PlacedReplacement → Replacement
 replacement_of p =
     record { before = p.before; selected = candidates_at p.pool p.trace; again = p.again }
@@ -30,14 +30,14 @@ replacement_of p =
 abbrev pub selected_place : SealedPool → List ℕ → List ℕ → Option ℕ
 selected_place pool trace name = find (is_at pool (is_selected_named name)) trace
 
--- what becomes of a package (`change`); its place among the packages before, counted from 0, if it
--- was there (`old`); and the place of its candidate, if one is selected (`new`)
+-- the change of a package (`change`); its place among the packages before, counted from 0, if it was
+-- there (`old`); and the place of its candidate, if one is selected (`new`)
 pub record PlacedChange : Type 0 where
   pub change : Change
   pub old : Option ℕ
   pub new : Option ℕ
 
--- what becomes of the package of this name, with its two places; none where the package stays
+-- the change of the package of this name, with its two places; none if the package is kept
 abbrev pub placed_change_with :
     List Plain → SealedPool → List (List ℕ) → List ℕ → Option ℕ → Option ℕ → Option PlacedChange
 placed_change_with before pool again name old new =
@@ -45,8 +45,7 @@ placed_change_with before pool again name old new =
     (change_between (list_any (bytes_eq name) again) name (option_and_then (slice_get before) old)
     (option_and_then (candidate_at pool) new))
 
--- what becomes of the package of this name, with its places on both sides; none where the package
--- stays
+-- the change of the package of this name, with its places on both sides; none if the package is kept
 unfoldable pub placed_change_of : PlacedReplacement → List ℕ → Option PlacedChange
 placed_change_of p name =
     placed_change_with p.before p.pool p.again name
@@ -58,15 +57,15 @@ placed_changes_of p = filter_map (placed_change_of p) (names_on_both_sides (repl
 
 -- ---- each name on both sides
 
--- a name of a package before or of a selected candidate; what becomes of the package, if anything
--- does; and its two places, as above
+-- a name of a package before or of a selected candidate; the change of the package, if it changes; and
+-- its two places, as above
 pub record PlacedName : Type 0 where
   pub name : List ℕ
   pub change : Option Change
   pub old : Option ℕ
   pub new : Option ℕ
 
--- what becomes of the package of this name, with its two places, also where it stays
+-- what happens to the package of this name, with its two places, even if it is kept
 abbrev pub placed_name_with :
     List Plain → SealedPool → List (List ℕ) → List ℕ → Option ℕ → Option ℕ → PlacedName
 placed_name_with before pool again name old new = record {
@@ -77,13 +76,13 @@ placed_name_with before pool again name old new = record {
   new = new;
 }
 
--- what becomes of the package of this name, with its places on both sides, also where it stays
+-- what happens to the package of this name, with its places on both sides, even if it is kept
 unfoldable pub placed_name_of : PlacedReplacement → List ℕ → PlacedName
 placed_name_of p name =
     placed_name_with p.before p.pool p.again name
     (position_from (is_package_named name) 0 p.before) (selected_place p.pool p.trace name)
 
--- the names on both sides with what becomes of them, in byte order
+-- the names on both sides with their changes, in byte order
 unfoldable pub placed_names_of : PlacedReplacement → List PlacedName
 placed_names_of p = map (placed_name_of p) (names_on_both_sides (replacement_of p))
 

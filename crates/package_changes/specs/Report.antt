@@ -1,5 +1,5 @@
--- The report of a change that is only simulated (apk(8)). The lines stand in `docs/commands.md`,
--- "`add` and `del`", what is reported, where `--simulate` leaves some out.
+-- The report of a change that is only simulated (apk(8)). The lines are defined in `docs/commands.md`,
+-- "`add` and `del`", what is reported, which also says which ones `--simulate` leaves out.
 use Rattle.std.specs.Prelude.{ℕ, Bool, not, ◌&&◌, List, ◌++◌, length, map, bytes_eq, sum_by}
 use Rattle.std.specs.List.{filter, flat_map, list_any}
 use Rattle.adb_view.specs.Plain.{Plain}
@@ -16,9 +16,9 @@ use Rattle.package_changes.specs.Changes.{Replacement, changes_of, is_selected_n
 abbrev pub candidate_size : Candidate → ℕ
 candidate_size c = int_in (entry_in c.info INFO_INSTALLED_SIZE)
 
--- ---- packages that were to go and stay
+-- ---- kept packages that were to be removed
 
--- whether the first candidate has a positive dependency that the second meets
+-- whether the first candidate has a positive dependency that the second satisfies
 abbrev pub needs_candidate : Candidate → Candidate → Bool
 needs_candidate c needed =
     list_any (λ (d : Dependency). not d.conflict && meets_dependency d needed) c.depends
@@ -42,21 +42,21 @@ selected_stay_lines selected name =
 abbrev pub was_installed : List Plain → List ℕ → Bool
 was_installed before name = list_any (is_package_named name) before
 
--- The lines on the names that were to go, in byte order, each once: those that stay. What was not
--- installed does not stay.
+-- The lines on the names that were to be removed, in byte order, each once: those that are kept. A name
+-- that was not installed has no line.
 abbrev pub stay_lines : List Plain → List Candidate → List (List ℕ) → List ℕ
 stay_lines before selected to_go =
     flat_map (selected_stay_lines selected) (filter (was_installed before) (names_in_order to_go))
 
 -- ---- the report
 
--- the last line of a simulated report: how many bytes and packages there are after the change, by
--- what the candidates say
+-- the last line of a simulated report: how many bytes and packages there are after the change, by the
+-- sizes of the candidates
 abbrev pub selected_sum_line : List Candidate → List ℕ
 selected_sum_line selected = report_line (sum_text (sum_by candidate_size selected) (length selected))
 
--- the whole report of a simulated change: what becomes of each package, what stays of the names
--- that were to go, and the sum
+-- the whole report of a simulated change: the change of each package, the kept ones of the names that
+-- were to be removed, and the sum
 unfoldable pub simulated_report : Replacement → List (List ℕ) → List ℕ
 simulated_report r to_go =
     change_lines (changes_of r) ++ stay_lines r.before r.selected to_go ++ selected_sum_line r.selected

@@ -1,5 +1,5 @@
--- What the changes of the program stand for.
--- No rule of a document: serves the contracts of `src/`, whose texts are slices.
+-- What the changes of the program denote.
+-- No document has a rule for this: it serves the contracts of `src/`, whose texts are slices.
 use Rattle.std.specs.Prelude.{ℕ, List, map, option_map}
 use Rattle.db_core.specs.Seen.{packages_of}
 use Rattle.db_core.specs.declared.db.Db.{Db}
@@ -13,7 +13,7 @@ use Rattle.package_changes.specs.declared.changes.Changes.{Changes}
 use Rattle.package_changes.specs.declared.placed.PlacedName.{PlacedName as NameOfCode}
 use Rattle.package_changes.specs.declared.placed.PlacedNames.{PlacedNames}
 
--- what becomes of a package, as contracts see it: with texts in place of slices
+-- the change of a package, as contracts see it: with texts in place of slices
 abbrev pub change_seen : Change → Texts.Change
 change_seen (Install name version) = Texts.Install name.now version.now
 change_seen (Reinstall name version) = Texts.Reinstall name.now version.now
@@ -30,7 +30,7 @@ placed_change_seen p = record { change = change_seen p.change; old = p.old; new 
 abbrev pub changes_seen : Changes → List PlacedChange
 changes_seen changes = map placed_change_seen changes.list.items
 
--- a name with what becomes of its package, as contracts see it, also where the package stays
+-- a name with its package's change, as contracts see it, even if the package is kept
 abbrev pub placed_name_seen : NameOfCode → PlacedName
 placed_name_seen n = record {
   name = n.name.now;
@@ -43,8 +43,7 @@ placed_name_seen n = record {
 abbrev pub placed_names_seen : PlacedNames → List PlacedName
 placed_names_seen names = map placed_name_seen names.list.items
 
--- the replacement that a database, a pool, a selection and the names that are to be installed again
--- say
+-- the replacement by a database, a pool, a selection and the names that are to be installed again
 abbrev pub replacement_by : Db → SealedPool → List ℕ → List (List ℕ) → PlacedReplacement
 replacement_by db pool trace again =
     record { before = packages_of db; pool = pool; trace = trace; again = again }

@@ -17,7 +17,7 @@ abbrev pub place_beside : List ℕ → List (List ℕ × ℕ) → Option ℕ
 place_beside name [] = None
 place_beside name (e ∷ es) = if bytes_eq e.0 name then Some e.1 else place_beside name es
 
--- what becomes of the package of a name, where the selected candidates have these names and places
+-- what happens to the package of a name, if the selected candidates have these names and places
 abbrev pub placed_name_at :
     List Plain → SealedPool → List (List ℕ) → List (List ℕ × ℕ) → List ℕ → PlacedName
 placed_name_at before pool again selected name =

@@ -1,4 +1,4 @@
-//! What becomes of one package.
+//! What happens to one package.
 //! The rules are in `docs/selection.md`, "What there is to choose from" (when a candidate is the
 //! installed package), in `docs/formats.md`, "Versions" (their order), and in `docs/names.md`,
 //! "What a change comes to" (*what becomes of a package*).
@@ -20,28 +20,28 @@ use std::cmp::Ordering;
 use std::marker::PhantomData;
 use version_core::Version;
 
-/// What becomes of a package: its name, and its version; of the last three, the version before and
+/// What happens to a package: its name, and its version; for the last three, the version before and
 /// that after.
 #[derive(Clone, Copy)]
 pub enum Change<'a> {
-    /// The package comes.
+    /// The package is installed.
     Install(&'a [u8], &'a [u8]),
-    /// The package comes again, in the version that it has.
+    /// The package is installed again, in the same version.
     Reinstall(&'a [u8], &'a [u8]),
-    /// The package goes.
+    /// The package is removed.
     Purge(&'a [u8], &'a [u8]),
-    /// A greater version takes the place of the old one.
+    /// A greater version replaces the old one.
     Upgrade(&'a [u8], &'a [u8], &'a [u8]),
-    /// A smaller version takes the place of the old one.
+    /// A smaller version replaces the old one.
     Downgrade(&'a [u8], &'a [u8], &'a [u8]),
-    /// A version that is equal in order takes the place of the old one.
+    /// A version that is equal in order replaces the old one.
     Replace(&'a [u8], &'a [u8], &'a [u8]),
 }
 
-/// What becomes of a package, and if it is found.
+/// A change of a package, with its places.
 #[derive(Clone, Copy)]
 pub struct PlacedChange<'a> {
-    /// What becomes of the package.
+    /// What happens to the package.
     pub change: Change<'a>,
     /// The place in the database of the package before, counted from 0, if it was there.
     pub old: Option<usize>,
@@ -61,19 +61,19 @@ impl<'a> PlacedChange<'a> {
     }
 }
 
-/// What is compared of a package of the database.
+/// The fields of a database's package that are compared.
 #[derive(Clone, Copy)]
 pub(crate) struct OldPackage<'a> {
     /// The text of the package's version.
     version: &'a [u8],
-    /// The id of the package, which may be lacking.
+    /// The id of the package, if it has one.
     id: &'a [u8],
 }
 
 impl<'a> OldPackage<'a> {
-    /// What is compared of a package of the database. The mark serves the borrow checker alone,
-    /// which does not know the parts of a view that is made and lent here unless the signature
-    /// names the view.
+    /// The fields of a database's package that are compared. The mark serves only the borrow
+    /// checker: it does not know the parts of a view that is made and lent here unless the
+    /// signature names the view.
     pub(crate) fn of(pkg: &PackageView<'a>, _mark: PhantomData<PackageView<'a>>) -> OldPackage<'a>
         ensures version { result.version.now ≡ version_text (package_value pkg.now) }
         ensures id { result.id.now ≡ installed_id (package_value pkg.now) }
@@ -86,7 +86,7 @@ impl<'a> OldPackage<'a> {
     }
 }
 
-/// What becomes of a candidate whose name no package of the database has.
+/// The change of a candidate whose name no package of the database has.
 pub(crate) fn install<'a>(name: &'a [u8], new: &Candidate<'a>) -> Change<'a>
     ensures { change_seen result
         ≡ Texts.Install name.entry.now (selected_version (candidate_value new.now)) }
@@ -94,8 +94,8 @@ pub(crate) fn install<'a>(name: &'a [u8], new: &Candidate<'a>) -> Change<'a>
     Change::Install(name, new.info.version())
 }
 
-/// What becomes of the package of the database at a place, counted from 0, for which no candidate
-/// is selected: it goes.
+/// The change of the package of the database at a place, counted from 0, for which no candidate is
+/// selected: it is removed.
 pub(crate) fn purge<'a>(
     name: &'a [u8],
     db: &Db<'a>,
@@ -111,10 +111,10 @@ pub(crate) fn purge<'a>(
     Change::Purge(name, old.version)
 }
 
-/// What becomes of the package of the database at a place, counted from 0, whose name a selected
-/// candidate has: nothing where the candidate is the package, or a reinstallation where its name is
-/// to be installed again; else an upgrade, a downgrade, or a replacement by a version that is equal
-/// in order.
+/// The change of the package of the database at a place, counted from 0, whose name a selected
+/// candidate has. If the candidate is the package, there is none, or a reinstallation if its name
+/// is to be installed again; otherwise it is an upgrade, a downgrade, or a replacement by a version
+/// that is equal in order.
 pub(crate) fn replace<'a>(
     name: &'a [u8],
     db: &Db<'a>,
@@ -155,7 +155,7 @@ fn is_same_selected(old: &OldPackage<'_>, new: &Candidate<'_>) -> bool
     is_same_id(old.id, new.info.hashes())
 }
 
-/// Whether two ids are the same: both are there, and one is a front of the other, since an index
+/// Whether two ids are the same: both are present, and one is a prefix of the other, since an index
 /// may keep 20 of 32 bytes.
 pub fn is_same_id(one: &[u8], other: &[u8]) -> bool
     ensures { result ≡ is_same_id one.now other.now }
@@ -178,7 +178,7 @@ fn version_change<'a>(name: &'a [u8], old: &'a [u8], new: &'a [u8]) -> Change<'a
     }
 }
 
-/// The order of the texts of two versions; a text that is no version comes first.
+/// The order of the texts of two versions; a text that is no version is first.
 fn version_text_cmp(old: &[u8], new: &[u8]) -> Ordering
     ensures { result ≡ version_text_cmp old.now new.now }
 {

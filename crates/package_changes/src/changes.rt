@@ -1,6 +1,6 @@
-//! What becomes of each package that changes.
+//! The packages that change.
 //! The rule is in `docs/commands.md`, "`add` and `del`", **What is reported**: a line for each
-//! package that changes, in byte order of the names. `PlacedNames` has the packages that stay too.
+//! package that changes, in byte order of the names. `PlacedNames` has the kept packages, too.
 ghost use Rattle.package_changes.specs.Changes.{changes_of};
 ghost use Rattle.package_changes.specs.Placed.{change_in, placed_changes_of, replacement_of};
 ghost use Rattle.package_changes.specs.Seen.{changes_seen, placed_change_seen, placed_name_seen, placed_names_seen, replacement_by};
@@ -23,9 +23,8 @@ pub struct Changes<'a> {
 }
 
 impl<'a> Changes<'a> {
-    /// What becomes of each package where the candidates of a selection take the place of the
-    /// packages of a database, and some names are to be installed again. It takes as long as
-    /// `PlacedNames::of`.
+    /// The changes if the candidates of a selection replace the packages of a database, and some
+    /// names are to be installed again. It takes as long as `PlacedNames::of`.
     pub fn of(
         alloc: Global,
         db: &Db<'a>,
@@ -33,7 +32,7 @@ impl<'a> Changes<'a> {
         trace: &Trace,
         again: &Words,
     ) -> Result<Changes<'a>, AllocError>
-        // What becomes of each package, by the rule.
+        // The change of each package, by the rule.
         ensures changes { IfOk result (λ changes. map (λ c. c.change) (changes_seen changes)
             ≡ changes_of (replacement_of (replacement_by db.now pool.now trace.now again.now))) }
         // The same with the places of each package on both sides.
@@ -44,7 +43,7 @@ impl<'a> Changes<'a> {
         Changes::of_names(alloc, &names)
     }
 
-    /// The changes of those names whose packages do not stay, in the order of the names.
+    /// The changes of those names whose packages change, in the order of the names.
     pub fn of_names(alloc: Global, names: &PlacedNames<'a>) -> Result<Changes<'a>, AllocError>
         ensures { IfOk result (λ changes. changes_seen changes
             ≡ filter_map change_in (placed_names_seen names.now)) }
@@ -79,7 +78,7 @@ impl<'a> Changes<'a> {
     }
 }
 
-/// Puts the change of a name behind the others, if there is one.
+/// Adds the change of a name to the others, if there is one.
 fn push_change<'a>(
     list: &mut Vec<PlacedChange<'a>>,
     name: &PlacedName<'a>,

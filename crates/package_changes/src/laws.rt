@@ -1,7 +1,6 @@
-//! What follows from the definitions: a law is a function that does nothing, and its contract says
-//! it.
-//! No rule of a document: the law joins *Placed*, which knows packages by their places, to
-//! *Changes*, which knows them by their names.
+//! Laws: each is a function that does nothing; its contract is what it says.
+//! No document has a rule for this: the law joins *Placed*, which knows packages by their places,
+//! to *Changes*, which knows them by their names.
 ghost use Rattle.db_core.specs.Packages.{is_package_named};
 ghost use Rattle.package_changes.specs.Changes.{change_of_name, is_selected_named};
 ghost use Rattle.package_changes.specs.Placed.{PlacedReplacement, candidates_at, new_candidate, old_package, placed_name_of, replacement_of};
@@ -13,7 +12,7 @@ ghost use Rattle.std.specs.Prelude.{◌≡◌, ℕ, List};
 pub fn places_lead_to_packages_and_candidates()
     // A name that is placed is the name.
     ensures name { (p : PlacedReplacement) (name : List ℕ) → (placed_name_of p name).name ≡ name }
-    // What becomes of its package is what *Changes* says.
+    // Its package's change is what *Changes* says.
     ensures change { (p : PlacedReplacement) (name : List ℕ)
         → (placed_name_of p name).change ≡ change_of_name (replacement_of p) name }
     // Its place before leads to the first package before of that name.

@@ -1,14 +1,14 @@
-//! What becomes of each package where a selection takes the place of the packages before, and the
-//! lines that report it. A database, a pool and a selection come in, changes with their places and
-//! reports go out: a line for each change, for each package that was to be removed and is kept, and
-//! the sum over the packages afterwards.
+//! What happens to each package if a selection replaces the packages before, and the lines that
+//! report it. It takes a database, a pool and a selection, and returns changes with their places,
+//! and reports: a line for each change, for each kept package that was to be removed, and the sum
+//! over the packages afterwards.
 //!
-//! The contracts cite `Changes` (what becomes of a package), `Placed` (the places of the packages
-//! that a change is of) and `Report` of `specs/`.
+//! The contracts cite `Changes` (what happens to a package), `Placed` (the places of the packages
+//! that change) and `Report` of `specs/`.
 //!
-//! The rules are in `docs/commands.md`, "`add` and `del`" (a line for each package that changes,
-//! in byte order of the names; what is reported), and "`upgrade` and `fix`" (what is installed
-//! again); the words in `docs/names.md`, "What a change comes to".
+//! The rules are in `docs/commands.md`, "`add` and `del`" (a line for each package that changes, in
+//! byte order of the names; what is reported), and "`upgrade` and `fix`" (what is installed again);
+//! the terms in `docs/names.md`, "What a change comes to".
 #![tactic(auto)]
 
 mod change;

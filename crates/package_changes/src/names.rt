@@ -1,5 +1,5 @@
 //! Names in byte order, each once.
-//! No rule of a document but that of the order: `docs/commands.md`, "`add` and `del`", reports
+//! Only their order has a rule in a document: `docs/commands.md`, "`add` and `del`", reports
 //! packages in byte order of their names. The contract is that of `names_in_order`, over the
 //! definition of that name in `change_files`.
 ghost use Rattle.change_files.specs.PlanLists.{names_in_order, without_repeats};
@@ -22,7 +22,7 @@ pub fn names_in_order<'a>(names: Vec<&'a [u8]>) -> Result<Vec<&'a [u8]>, AllocEr
     Ok(names)
 }
 
-/// Puts names into byte order.
+/// Sorts names in byte order.
 fn sort_names(names: &mut Vec<&[u8]>) -> Result<(), AllocError>
     ensures { IfOk result (λ _. map (λ n. n.now) names.new.items
         ≡ sorted_by bytes_cmp (map (λ n. n.now) names.old.items)) }
@@ -31,7 +31,7 @@ fn sort_names(names: &mut Vec<&[u8]>) -> Result<(), AllocError>
     Ok(())
 }
 
-/// Drops each name that stands behind the same one.
+/// Drops each name that follows the same one.
 fn drop_repeats(names: &mut Vec<&[u8]>)
     ensures { map (λ n. n.now) names.new.items
         ≡ without_repeats (map (λ n. n.now) names.old.items) }

@@ -1,6 +1,6 @@
-//! What becomes of each package, name by name, also of those that stay.
-//! The rules are in `docs/commands.md`, "`add` and `del`", **What is reported**, and "`upgrade`
-//! and `fix`"; *placed* in `docs/names.md`, "What a change comes to".
+//! What happens to each package, name by name, with the kept ones.
+//! The rules are in `docs/commands.md`, "`add` and `del`", **What is reported**, and "`upgrade` and
+//! `fix`"; *placed* in `docs/names.md`, "What a change comes to".
 ghost use Rattle.adb_fields.specs.Repeated.{package_name};
 ghost use Rattle.adb_schema.specs.Views.{package_value};
 ghost use Rattle.change_files.specs.PlanLists.{names_in_order};
@@ -28,12 +28,12 @@ use solve_core::Trace;
 use std::alloc::{AllocError, Global};
 use std::marker::PhantomData;
 
-/// A name of a package of the database or of a selected candidate, and what becomes of the package.
+/// A name of a package of the database or of a selected candidate, and what happens to the package.
 #[derive(Clone, Copy)]
 pub struct PlacedName<'a> {
     /// The name.
     pub name: &'a [u8],
-    /// What becomes of the package, if anything does.
+    /// The change of the package, if it changes.
     pub change: Option<Change<'a>>,
     /// The place in the database of the package before, counted from 0, if it was there.
     pub old: Option<usize>,
@@ -60,10 +60,9 @@ pub struct PlacedNames<'a> {
 }
 
 impl<'a> PlacedNames<'a> {
-    /// What becomes of each package where the candidates of a selection take the place of the
-    /// packages of a database, and some names are to be installed again. It takes time in
-    /// proportion to n log n in the number of packages, candidates and names that are to be
-    /// installed again.
+    /// What happens to each package if the candidates of a selection replace the packages of a
+    /// database, and some names are to be installed again. It takes time in proportion to n log n
+    /// in the number of packages, candidates and names to be installed again.
     pub fn of(
         alloc: Global,
         db: &Db<'a>,
@@ -133,8 +132,8 @@ fn push_old_names<'a>(names: &mut Vec<&'a [u8]>, db: &Db<'a>) -> Result<(), Allo
     Ok(())
 }
 
-/// The name of the package of a database at a place, counted from 0. The mark serves the borrow
-/// checker alone, which does not know the parts of a view that is made and lent here unless the
+/// The name of the package of a database at a place, counted from 0. The mark serves only the
+/// borrow checker: it does not know the parts of a view that is made and lent here unless the
 /// signature names the view.
 fn name_at<'a>(db: &Db<'a>, i: usize, _mark: PhantomData<PackageView<'a>>) -> &'a [u8]
     requires { i < length (packages_of db.now) }
@@ -187,7 +186,7 @@ fn push_selected_name<'a>(
     }
 }
 
-/// What becomes of the packages with these names, in the order of the names. `again` has the names
+/// What happens to the packages with these names, in the order of the names. `again` has the names
 /// of the packages that are to be installed again.
 fn placed_names<'a>(
     alloc: Global,
@@ -208,7 +207,7 @@ fn placed_names<'a>(
     Ok(list)
 }
 
-/// What becomes of the package with this name, whose selected candidate has the place `new`.
+/// What happens to the package with this name, whose selected candidate has the place `new`.
 /// `again` has the names of the packages that are to be installed again.
 fn placed_name<'a>(
     db: &Db<'a>,
@@ -231,7 +230,7 @@ fn placed_name<'a>(
     }
 }
 
-/// What becomes of the package with this name, which has the place `old` in the database and whose
+/// What happens to the package with this name, which has the place `old` in the database and whose
 /// candidate has the place `new`.
 fn change_between<'a>(
     db: &Db<'a>,

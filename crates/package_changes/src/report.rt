@@ -1,6 +1,6 @@
-//! The report of a change that is only simulated, the lines on what becomes of packages, and the
-//! sum. They stand in `docs/commands.md`, "`add` and `del`", what is reported, and
-//! "`upgrade` and `fix`".
+//! The report of a change that is only simulated, the lines on changes of packages, and the sum.
+//! They are defined in `docs/commands.md`, "`add` and `del`", what is reported, and "`upgrade` and
+//! `fix`".
 ghost use Rattle.package_changes.specs.Changes.{changes_of};
 ghost use Rattle.package_changes.specs.Placed.{candidates_at, replacement_of};
 ghost use Rattle.package_changes.specs.Report.{candidate_size, selected_sum_line, simulated_report};
@@ -22,8 +22,8 @@ use report_core::Report;
 use solve_core::Trace;
 use std::alloc::{AllocError, Global};
 
-/// The report of a change that is only simulated: its changes, the packages among `to_go` that were
-/// installed and stay, and the sum over the candidates that are selected.
+/// The report of a change that is only simulated: its changes, the installed packages among `to_go`
+/// that are kept, and the sum over the selected candidates.
 #[tactic(auto, unfolding(crate::specs::Report::simulated_report))]
 pub fn simulated_report(
     alloc: Global,
@@ -58,7 +58,7 @@ pub fn push_change_lines(report: &mut Report, changes: &Changes<'_>) -> Result<(
     Ok(())
 }
 
-/// Adds the line of a change, before which there are so many of `count`.
+/// Adds the line of a change, which is preceded by this many of `count`.
 fn push_change_line(
     report: &mut Report,
     before: usize,
@@ -87,7 +87,7 @@ fn push_number(report: &mut Report, number: u128, count: u128) -> Result<(), All
     Ok(())
 }
 
-/// Adds what becomes of a package: a word for that, its name, and its versions.
+/// Adds the change of a package: a word for it, its name, and its versions.
 fn push_change_text(report: &mut Report, change: &Change<'_>) -> Result<(), AllocError>
     ensures { OnOk result (report.new ≡ report.old ++ change_text (change_seen change.now)) }
 {
@@ -140,7 +140,7 @@ fn push_versions(
     Ok(())
 }
 
-/// Adds the last line of a simulated report, by what the candidates say.
+/// Adds the last line of a simulated report, by the sizes of the candidates.
 fn push_selected_sum(
     report: &mut Report,
     pool: &Sealed<'_>,
@@ -176,8 +176,8 @@ fn push_sum(report: &mut Report, bytes: u128, count: u128) -> Result<(), AllocEr
     Ok(())
 }
 
-/// The bytes that the selected candidates take when they are installed. A u128 holds the sum of any
-/// number of them.
+/// The bytes that the selected candidates take when they are installed. A u128 can hold the sum of
+/// any number of them.
 fn selected_size(pool: &Sealed<'_>, trace: &Trace) -> u128
     ensures { result ≡ sum_by candidate_size (candidates_at pool.now trace.now) }
 {
@@ -209,7 +209,7 @@ fn selected_count(pool: &Sealed<'_>, trace: &Trace) -> u128
     count
 }
 
-/// How many candidates stand at a place: one, or none.
+/// How many candidates there are at a place: one, or none.
 fn count_at(pool: &Sealed<'_>, id: CandId) -> u8
     ensures value { result ≡ option_map_or (λ _. 1) (candidate_at pool.now id) 0 }
     ensures one { result ≤ 1 }

@@ -1,7 +1,7 @@
 //! The selected candidates: each by its place, and all of them by their names.
-//! No rule of a document: the table serves `src/placed.rt`, so that each name is looked up once.
-//! That a selection has one candidate of a name at most, says `docs/selection.md`, "What satisfies
-//! world", 3.
+//! No document has a rule for this: the table serves `src/placed.rt`, so that each name is searched
+//! once. `docs/selection.md`, "What satisfies world", 3, says that a selection has at most one
+//! candidate of a name.
 ghost use Rattle.package_changes.specs.Changes.{is_selected_named};
 ghost use Rattle.package_changes.specs.Placed.{selected_place};
 ghost use Rattle.package_changes.specs.SelectedNames.{place_beside};

@@ -1,4 +1,4 @@
-//! Packages that were to go and stay, since others need them. The line stands in
+//! Packages that were to be removed and are kept, since others need them. The line is defined in
 //! `docs/commands.md`, "`add` and `del`", what is reported: `NAME stays`.
 ghost use Rattle.change_files.specs.PlanLists.{names_in_order};
 ghost use Rattle.db_core.specs.Seen.{packages_of};
@@ -21,8 +21,8 @@ use report_core::Report;
 use solve_core::Trace;
 use std::alloc::{AllocError, Global};
 
-/// Adds a line for each of some names that was a package's and is a selected candidate's, in byte
-/// order of the names, each once: that it stays, and which others need it. It walks over the
+/// Adds a line for each of these names that a package of the database and a selected candidate
+/// have, in byte order, each once: that it is kept, and which others need it. It walks over the
 /// selection once, and again for each line.
 pub fn push_stay_lines(
     alloc: Global,
@@ -242,7 +242,7 @@ fn is_in_need(needed: &Details<'_>, details: &Details<'_>) -> bool
     details.needs(needed)
 }
 
-/// Adds the line that tells that a package stays, and the names of those that need it.
+/// Adds the line that says that a package is kept, and the names of those that need it.
 fn push_stay_line(report: &mut Report, name: &[u8], names: &[&[u8]]) -> Result<(), AllocError>
     ensures { OnOk result (report.new ≡ report.old
         ++ report_line (stays_text name.now (map (λ n. n.now) names.now))) }
@@ -252,7 +252,7 @@ fn push_stay_line(report: &mut Report, name: &[u8], names: &[&[u8]]) -> Result<(
     Ok(())
 }
 
-/// Adds the text of the line that tells that a package stays, without its line end.
+/// Adds the text of the line that says that a package is kept, without its line end.
 fn push_stay_text(report: &mut Report, name: &[u8], names: &[&[u8]]) -> Result<(), AllocError>
     ensures { OnOk result (report.new
         ≡ report.old ++ stays_text name.now (map (λ n. n.now) names.now)) }

@@ -1,7 +1,6 @@
 -- The members that claim a path, and the one that owns it.
--- The rules are in `docs/commands.md`, "Files that several packages list"; the words *claim*,
--- *owner*, *contested* and *rivals* in `docs/names.md`, "The installed database and a change of
--- it".
+-- The rules are in `docs/commands.md`, "Files that several packages list"; the terms *claim*, *owner*,
+-- *contested* and *rivals* in `docs/names.md`, "The installed database and a change of it".
 use Rattle.std.specs.Prelude.{◌≡◌, ℕ, ◌==◌, Bool, false, List, map, Option, Some, None, is_none, option_map, option_and_then, slice_get, bytes_eq}
 use Rattle.std.specs.List.{filter, find}
 use Rattle.std.specs.Ordering.{on}
@@ -11,8 +10,8 @@ use Rattle.base_core.specs.Sorted.{sorted_by}
 use Rattle.path_claims.specs.Contest.{winner, first_rivals}
 use Rattle.path_claims.specs.declared.contest.Rivals.{Rivals}
 
--- a claim: a file that a member lists. The member's place counts from 0, those of the folder and of
--- the file in it count from 1; the number says how many claims stand before it
+-- a claim: a file that a member lists. The member's place counts from 0, those of the folder and of the
+-- file in it count from 1; the number says how many claims are before it
 pub record PathClaim : Type 0 where
   pub path : List ℕ
   pub member : ℕ
@@ -32,8 +31,8 @@ is_of_path path c = bytes_eq c.path path
 abbrev pub claimants : List PathClaim → List ℕ → List ℕ
 claimants claims path = map (λ c. c.member) (filter (is_of_path path) claims)
 
--- the owner of a path among some claims: the claimant that beats every other; none where no
--- claimant does
+-- the owner of a path among some claims: the candidate owner that beats every other one, if there is
+-- one
 abbrev pub owner_by : (ℕ → ℕ → Bool) → List PathClaim → List ℕ → Option ℕ
 owner_by beats claims path = winner beats (claimants claims path)
 
@@ -50,13 +49,13 @@ is_owner_by beats claims c = is_member c.member (owner_by beats claims c.path)
 unfoldable pub claim_cmp : PathClaim → PathClaim → Ordering
 claim_cmp = on (λ c. c.path) bytes_cmp
 
--- of the paths that no claimant owns, the first in byte order; none where each has an owner
+-- the first path in byte order that no candidate owns, if there is one
 abbrev pub contested_path : (ℕ → ℕ → Bool) → List PathClaim → Option (List ℕ)
 contested_path beats claims =
     find (λ path. is_none (owner_by beats claims path))
     (sorted_by bytes_cmp (map (λ c. c.path) claims))
 
--- a contested path, and its rivals: two claimants, the first of which does not beat the second
+-- a contested path, and its rivals: two candidate owners, the first of which does not beat the second
 pub record ContestedPath : Type 0 where
   pub path : List ℕ
   pub rivals : Rivals
@@ -67,7 +66,7 @@ contested_at beats claims path =
     option_map (λ rivals. record { path = path; rivals = rivals })
     (first_rivals beats (claimants claims path))
 
--- the first path in byte order that no claimant owns, with its rivals
+-- the first path in byte order that no candidate owns, with its rivals
 unfoldable pub contested_by : (ℕ → ℕ → Bool) → List PathClaim → Option ContestedPath
 contested_by beats claims =
     option_and_then (contested_at beats claims) (contested_path beats claims)

@@ -1,6 +1,5 @@
--- Of members that beat each other, the one that beats every other.
--- The rule is in `docs/commands.md`, "Files that several packages list". Which member beats
--- which is given as `beats`.
+-- The member that beats every other one, given which members beat which (`beats`).
+-- The rule is in `docs/commands.md`, "Files that several packages list".
 use Rattle.std.specs.Prelude.{◌≡◌, ℕ, ◌==◌, Bool, true, false, not, ◌||◌, List, [], ◌∷◌, Option, None, option_map}
 use Rattle.std.specs.List.{find, list_all}
 use Rattle.path_claims.specs.declared.contest.Rivals.{Rivals}
@@ -9,7 +8,7 @@ use Rattle.path_claims.specs.declared.contest.Rivals.{Rivals}
 abbrev pub beats_each : (ℕ → ℕ → Bool) → List ℕ → ℕ → Bool
 beats_each beats members x = list_all (λ y. (x == y) || beats x y) members
 
--- the member that beats each other one; none where no member does
+-- the member that beats each other one, if there is one
 unfoldable pub winner : (ℕ → ℕ → Bool) → List ℕ → Option ℕ
 winner beats members = find (beats_each beats members) members
 
@@ -17,8 +16,7 @@ winner beats members = find (beats_each beats members) members
 abbrev pub rivals_of : ℕ → ℕ → Rivals
 rivals_of x y = record { first = x; second = y }
 
--- the first of some members, and the first other one that it does not beat; none where it beats all
--- others
+-- the first of some members, and the first other one that it does not beat; none if it beats all others
 unfoldable pub first_rivals : (ℕ → ℕ → Bool) → List ℕ → Option Rivals
 first_rivals beats [] = None
 first_rivals beats (x ∷ members) =

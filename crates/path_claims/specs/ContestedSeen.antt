@@ -1,6 +1,6 @@
--- What a contested path of the program stands for.
--- No rule of a document: serves the contracts of `src/owner.rt`, whose path has its folder and its
--- name apart.
+-- What a contested path of the program denotes.
+-- No document has a rule for this: it serves the contracts of `src/owner.rt`, whose path has its folder
+-- and its name apart.
 use Rattle.adb_fields.specs.JoinedPath.{joined_path}
 use Rattle.path_claims.specs.Claims.{ContestedPath}
 use Rattle.path_claims.specs.declared.owner.Contested.{Contested}

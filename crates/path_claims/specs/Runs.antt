@@ -1,15 +1,15 @@
--- Claims of one path that stand together.
--- No rule of a document: serves the contracts of `src/claim.rt`, over claims in the order of their
--- paths.
+-- Adjacent claims of one path.
+-- No document has a rule for this: it serves the contracts of `src/claim.rt`, over claims in the order
+-- of their paths.
 use Rattle.std.specs.Prelude.{ℕ, zero, suc, Bool, true, not, List, [], ◌∷◌, Option, Some, None, cond, slice_get, bytes_eq}
 use Rattle.path_claims.specs.Claims.{PathClaim}
 
--- the elements from the front of a list on that pass, up to the first that does not
+-- the first elements of a list that pass, up to the first that does not
 abbrev pub passing_front : {X : Type 0} → (X → Bool) → List X → List X
 passing_front p [] = []
 passing_front p (x ∷ xs) = cond (p x) (x ∷ passing_front p xs) []
 
--- whether two claims have different paths; a claim that is lacking differs from each
+-- whether two claims have different paths; a missing claim differs from each
 abbrev pub differ_in_path : Option PathClaim → Option PathClaim → Bool
 differ_in_path None d = true
 differ_in_path (Some c) None = true

@@ -1,6 +1,6 @@
--- What the values of the program stand for.
--- No rule of a document: serves the contracts of `src/claim.rt`, whose paths have their folders and
--- names apart.
+-- What the values of the program denote.
+-- No document has a rule for this: it serves the contracts of `src/claim.rt`, whose paths have their
+-- folders and names apart.
 use Rattle.adb_fields.specs.JoinedPath.{joined_path}
 use Rattle.path_claims.specs.Claims.{PathClaim}
 use Rattle.path_claims.specs.declared.claim.Claim.{Claim}

@@ -1,7 +1,7 @@
 //! Claims in the order of their paths.
-//! What a claim is, is in `docs/commands.md`, "Files that several packages list": a package
-//! claims each file that it lists. The order serves `src/owner.rt`, so that the claims of one path
-//! stand together.
+//! `docs/commands.md`, "Files that several packages list", says what a claim is: a package claims
+//! each file that it lists. `src/owner.rt` needs the order, so that the claims of one path are
+//! adjacent.
 
 ghost use Rattle.std.specs.Prelude.{◌≡◌, ◌<◌, Some, IfOk, drop, length, map, slice_get};
 ghost use Rattle.adb_fields.specs.JoinedPath.{joined_path};
@@ -14,7 +14,7 @@ use adb_fields::FilePath;
 use std::alloc::{AllocError, Global};
 
 /// A file that a member lists. The member's place counts from 0, those of the folder and of the
-/// file in it count from 1. The number says how many claims stand before it in the list of all.
+/// file in it count from 1. The number says how many claims are before it in the list of all.
 #[derive(Clone, Copy)]
 pub struct Claim<'a> {
     /// The path of the file.
@@ -25,11 +25,11 @@ pub struct Claim<'a> {
     pub folder: u32,
     /// The position of the file in its folder, counted from 1.
     pub file: u32,
-    /// How many claims stand before this one in the list of all.
+    /// How many claims are before this one in the list of all.
     pub number: usize,
 }
 
-/// Puts claims into the order of their paths. Those of one path stay in the order that they have.
+/// Sorts claims by their paths. Those of one path keep their order.
 pub fn sort_claims(claims: &mut Vec<Claim<'_>>) -> Result<(), AllocError>
     ensures { IfOk result (λ _. map claim_seen claims.new.items
         ≡ sorted_by claim_cmp (map claim_seen claims.old.items)) }
@@ -49,7 +49,7 @@ pub fn begins_path(claims: &[Claim<'_>], i: usize) -> bool
     !claims[i - 1].path.compare(&claims[i].path).is_eq()
 }
 
-/// The claims from the front of a list on that have a path, up to the first that has another.
+/// The first claims of a list, up to the first that has another path.
 fn run_in_front<'c, 'a>(claims: &'c [Claim<'a>], path: &FilePath<'_>) -> &'c [Claim<'a>]
     ensures { map claim_seen result.now
         ≡ passing_front (is_of_path (joined_path path.now)) (map claim_seen claims.now) }
@@ -61,7 +61,7 @@ fn run_in_front<'c, 'a>(claims: &'c [Claim<'a>], path: &FilePath<'_>) -> &'c [Cl
     &claims[..end]
 }
 
-/// The claims from the one at a place on that have its path, up to the first that has another.
+/// The claims from the one at a place on, up to the first that has another path.
 pub fn run_at<'c, 'a>(claims: &'c [Claim<'a>], from: usize) -> &'c [Claim<'a>]
     requires { from < length claims.now }
     ensures { (c : PathClaim) → slice_get (map claim_seen claims.now) from ≡ Some c

@@ -1,7 +1,7 @@
-//! Which of several members, of which some beat others, beats every other one.
-//! The rule is in `docs/commands.md`, "Files that several packages list": "the one that beats
-//! every other owns it", and which two packages are reported where none does. Which member beats
-//! which, a `Contest` says.
+//! The member that beats every other one, given which members beat which.
+//! The rule is in `docs/commands.md`, "Files that several packages list": "the one that beats every
+//! other owns it", and which two packages are reported if none does. A `Contest` says which member
+//! beats which.
 
 ghost use Rattle.std.specs.Prelude.{◌≡◌, ◌==◌, ◌||◌, ℕ, Bool, map};
 ghost use Rattle.path_claims.specs.Contest.{IsOneWay, beats_each, first_rivals, winner};
@@ -28,8 +28,8 @@ pub struct Rivals {
     pub second: u32,
 }
 
-/// Of the members that claim a path the only one that can beat all others: whoever is not beaten by
-/// the one before takes its place.
+/// The only one of the members that claim a path that can beat all others: each member that the
+/// current one does not beat replaces it.
 fn left_over<C: Contest>(contest: &C, first: u32, claims: &[Claim<'_>]) -> u32
     ensures { result ≡ left_over (C.beats contest.now) first (map (λ c. c.member) claims.now) }
 {
@@ -64,10 +64,10 @@ fn is_same_or_beaten<C: Contest>(contest: &C, one: u32, other: u32) -> bool
     contest.beats(one, other)
 }
 
-/// Of the members that claim a path the one that beats every other; none where no member does. Each
-/// claim is asked of the contest at most twice.
+/// The member that beats every other one that claims a path, if there is one. The contest is asked
+/// at most twice for each claim.
 pub(crate) fn winner<C: Contest>(contest: &C, claims: &[Claim<'_>]) -> Option<u32>
-    // No two members beat each other: so one alone can be left over.
+    // No two members beat each other: so only one can be left over.
     requires { IsOneWay (C.beats contest.now) }
     ensures { result ≡ winner (C.beats contest.now) (map (λ c. c.member) claims.now) }
 {
@@ -82,8 +82,8 @@ pub(crate) fn winner<C: Contest>(contest: &C, claims: &[Claim<'_>]) -> Option<u3
     }
 }
 
-/// Of the members that claim a path the first, and the first other one that it does not beat; none
-/// where it beats all others.
+/// The first of the members that claim a path, and the first other one that it does not beat; none
+/// if it beats all others.
 pub(crate) fn first_rivals<C: Contest>(contest: &C, claims: &[Claim<'_>]) -> Option<Rivals>
     ensures { result ≡ first_rivals (C.beats contest.now) (map (λ c. c.member) claims.now) }
 {

@@ -1,6 +1,6 @@
 //! The owner of each path, and which claims are their owner's.
-//! The rule is in `docs/commands.md`, "Files that several packages list", also for the path
-//! that is reported where no member owns it.
+//! The rule is in `docs/commands.md`, "Files that several packages list"; it also says which path
+//! is reported if no member owns it.
 
 ghost use Rattle.std.specs.Prelude.{◌≡◌, ◌+◌, ◌<◌, ℕ, Bool, Option, Some, true, IfOk, is_none, length, map, option_and_then, option_map, slice_get, ◌==◌, List};
 ghost use Rattle.std.specs.List.Sorted.{IsSorted};
@@ -26,22 +26,22 @@ pub struct Contested<'a> {
     pub rivals: Rivals,
 }
 
-/// Claims in the order of their paths, and who owns these.
+/// Claims in the order of their paths, and the owners of these.
 #[derive(Drop)]
 pub struct Owners<'a> {
-    /// The claims in the order of their paths. Those of one path stand as in the list of all.
+    /// The claims in the order of their paths. Those of one path are in the order of the list of
+    /// all.
     pub claims: Vec<Claim<'a>>,
     /// For each of these claims the place of the member that owns its path, if one does.
     pub owners: Vec<Option<u32>>,
     /// For each claim in the list of all, whether its member owns its path.
     pub owned: Vec<bool>,
-    /// The first path in byte order that no member owns, with its rivals; none where each path has
-    /// an owner.
+    /// The first path in byte order that no member owns, with its rivals; none if each path has an
+    /// owner.
     pub contested: Option<Contested<'a>>,
 }
 
-/// The owner of a claim's path, where the owner of the path of the claim before it is known
-/// (`before`).
+/// The owner of a claim's path, given the owner of the path of the claim before it (`before`).
 fn owner_at<C: Contest>(
     contest: &C,
     claims: &[Claim<'_>],
@@ -57,7 +57,7 @@ fn owner_at<C: Contest>(
     ensures { (c : PathClaim) → slice_get (map claim_seen claims.now) i ≡ Some c
         → result ≡ owner_by (C.beats contest.now) (map claim_seen claims.now) c.path }
 {
-    // Claims of one path stand together, so the owner is that of the claim before.
+    // Claims of one path are adjacent, so the owner is that of the claim before.
     if !begins_path(claims, i) {
         return before;
     }
@@ -95,12 +95,12 @@ fn is_member(member: u32, owner: Option<u32>) -> bool
     }
 }
 
-/// Notes for each claim, by its number, whether its member is the owner of its path.
+/// Sets the flag of each claim, by its number: whether its member owns its path.
 fn mark_owned(flags: &mut [bool], claims: &[Claim<'_>], owners: &[Option<u32>])
     requires owners { length owners.now ≡ length claims.now }
     requires flags { (j : ℕ) (c : PathClaim) → slice_get (map claim_seen claims.now) j ≡ Some c
         → c.number < length flags.old }
-    // Claims of one number, of which there is one alone, get one flag.
+    // Each number belongs to one claim, so it gets one flag.
     requires same { (j k : ℕ) (c d : PathClaim) (o p : Option ℕ)
         → slice_get (map claim_seen claims.now) j ≡ Some c → slice_get owners.now j ≡ Some o
         → slice_get (map claim_seen claims.now) k ≡ Some d → slice_get owners.now k ≡ Some p
@@ -115,8 +115,8 @@ fn mark_owned(flags: &mut [bool], claims: &[Claim<'_>], owners: &[Option<u32>])
     }
 }
 
-/// The path of a claim, which is the first of its path, with the path's rivals; none where the
-/// first member beats all others.
+/// The path of a claim, which is the first of its path, with the path's rivals; none if the first
+/// member beats all others.
 fn contested_from<'a, C: Contest>(
     contest: &C,
     claims: &[Claim<'a>],
@@ -162,8 +162,7 @@ fn first_contested<'a, C: Contest>(
     None
 }
 
-/// The flags of claims by their numbers, which say whether a claim's member is the owner of its
-/// path.
+/// The flags of claims by their numbers: whether the claim's member owns its path.
 fn owned_flags(
     alloc: Global,
     claims: &[Claim<'_>],
@@ -187,13 +186,13 @@ fn owned_flags(
     Ok(flags)
 }
 
-/// Finds who owns the paths that members claim. It takes a few words for each claim, and compares
-/// as a sort does; each claim is asked of the contest at most twice, and one that is alone in its
-/// path not at all.
+/// Finds the owners of the paths that members claim. It takes a few words for each claim, and
+/// compares as a sort does. The contest is asked at most twice for each claim, and not at all for a
+/// path with one claim.
 ///
 /// # Errors
 ///
-/// Lack of memory.
+/// Out of memory.
 pub fn owners_of<'a, C: Contest>(
     alloc: Global,
     contest: &C,
@@ -201,14 +200,14 @@ pub fn owners_of<'a, C: Contest>(
 ) -> Result<Owners<'a>, AllocError>
     requires one_way { IsOneWay (C.beats contest.now) }
     requires numbered { AreNumbered (map claim_seen claims.items) }
-    // The claims in the order of their paths, those of one path in the order that they had.
+    // The claims in the order of their paths; those of one path keep their order.
     ensures claims { IfOk result (λ found. map claim_seen found.claims.items
         ≡ sorted_by claim_cmp (map claim_seen claims.entry.items)) }
     // For each of these the place of the member that owns its path, or none.
     ensures owners { IfOk result (λ found. found.owners.items
         ≡ map (λ c. owner_by (C.beats contest.now) (map claim_seen claims.entry.items) c.path)
         (map claim_seen found.claims.items)) }
-    // For each claim, in the order that the claims had, whether its member owns its path.
+    // For each claim, in the order of the call's claims, whether its member owns its path.
     ensures owned { IfOk result (λ found. found.owned.items
         ≡ map (is_owner_by (C.beats contest.now) (map claim_seen claims.entry.items))
         (map claim_seen claims.entry.items)) }
@@ -229,8 +228,8 @@ pub fn owners_of<'a, C: Contest>(
     })
 }
 
-/// Two members that claim a path, each of which beats every other one, are one member: so no path
-/// has two owners.
+/// Two members that claim a path, each of which beats every other one, are the same member: so no
+/// path has two owners.
 pub fn a_path_has_one_owner()
     ensures { (beats : ℕ → ℕ → Bool) (members : List ℕ) (x y : ℕ) → IsOneWay beats
         → list_any (λ z. x == z) members ≡ true → list_any (λ z. y == z) members ≡ true

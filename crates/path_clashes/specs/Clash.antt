@@ -4,13 +4,12 @@ use Rattle.std.specs.Prelude.{◌≡◌, ℕ, Bool, true, not, ◌&&◌, ◌||�
 use Rattle.base_core.specs.Files.{Files, IsFolderOf}
 use Rattle.base_core.specs.ByteOrder.{precedes}
 
--- what a change does with names: which count as written, and under which a file goes
+-- how a change treats names: which count as written, and under which a file is removed
 pub record NameChange : Type 0 where
   pub counts_as_written : List ℕ → Bool
   pub lets_go : List ℕ → Bool
 
--- whether a name is there after the change: a file stands under it and does not go, or it counts as
--- written
+-- whether a name is present after the change: a file is under it and is kept, or it counts as written
 abbrev pub is_name_after : NameChange → Files → List ℕ → Bool
 is_name_after change files name =
     (is_some (files name) && not (change.lets_go name)) || change.counts_as_written name
@@ -20,7 +19,7 @@ pub record NamePair : Type 0 where
   pub path : List ℕ
   pub other : List ℕ
 
--- a clash: the first name is a folder of the second, both are there after the change, and at least
+-- a clash: the first name is a folder of the second, both are present after the change, and at least
 -- one of them counts as written
 pub record IsClash (change : NameChange) (files : Files) (pair : NamePair) : Type 0 where
   pub folder : IsFolderOf pair.path pair.other
@@ -33,7 +32,7 @@ abbrev pub precedes_pair : NamePair → NamePair → Bool
 precedes_pair a b =
     precedes a.path b.path || (bytes_eq a.path b.path && precedes a.other b.other)
 
--- the first clash: no clash comes before it
+-- the first clash: no clash is before it
 pub record IsFirstClash (change : NameChange) (files : Files) (pair : NamePair) : Type 0 where
   pub is_one : IsClash change files pair
   pub first : (other : NamePair) → IsClash change files other → precedes_pair other pair ≡ true → ⊥

@@ -1,5 +1,5 @@
--- What a clash of the program stands for.
--- No rule of a document: serves the contracts of `src/clash.rt`.
+-- What a clash of the program denotes.
+-- No document has a rule for this: it serves the contracts of `src/clash.rt`.
 use Rattle.path_clashes.specs.Clash.{NamePair}
 use Rattle.path_clashes.specs.declared.clash.Clash.{Clash}
 

@@ -1,28 +1,27 @@
--- What is looked for near one name that counts as written: folders above it, names below it.
--- No rule of a document: serves the contracts of `src/near.rt` and `clash_near` in `src/clash.rt`.
--- That a clash has a written name, near which it is found, follows from *IsClash*.
+-- What is searched near one name that counts as written: folders above it, names below it.
+-- No document has a rule for this: it serves the contracts of `src/near.rt` and `clash_near` in
+-- `src/clash.rt`. By *IsClash* a clash has a written name, near which it is found.
 use Rattle.std.specs.Prelude.{◌≡◌, ◌⊎◌, ◌≤◌, ℕ, Bool, true, false, not, ◌&&◌, if◌then◌else◌, List, [], Option, Some, None, IfSome, bytes_eq, is_some, length}
 use Rattle.base_core.specs.Files.{Files, IsFolderOf, no_names}
 use Rattle.base_core.specs.ByteOrder.{precedes}
 use Rattle.path_clashes.specs.Clash.{IsClash, NameChange, NamePair, is_name_after, precedes_pair}
 
--- whether a file is under the name and does not go
+-- whether a file is under the name and is kept
 abbrev pub is_standing : (List ℕ → Bool) → Files → List ℕ → Bool
 is_standing lets_go files name = is_some (files name) && not (lets_go name)
 
--- the name, where a condition holds
+-- the name, if a condition holds
 abbrev pub name_if : Bool → List ℕ → Option (List ℕ)
 name_if b name = if b then Some name else None
 
--- files of which just this name, if there is one, is present
+-- files of which exactly this name, if there is one, is present
 abbrev pub files_with : Option (List ℕ) → Files
 files_with None q = None
 files_with (Some name) q = if bytes_eq q name then Some [] else None
 
 -- ---- above
 
--- a folder above the name that is there after the change, of at least `len` bytes; of those that
--- are so it is the shortest
+-- the shortest folder above the name that is present after the change and has at least `len` bytes
 pub record IsShortestFolder (change : NameChange) (files : Files) (name : List ℕ) (len : ℕ)
     (folder : List ℕ) : Type 0 where
   pub above : IsFolderOf folder name
@@ -31,8 +30,8 @@ pub record IsShortestFolder (change : NameChange) (files : Files) (name : List �
   pub shortest : (other : List ℕ) → IsFolderOf other name → len ≤ length other
       → is_name_after change files other ≡ true → length folder ≤ length other
 
--- what is found is the shortest folder above the name of at least `len` bytes that is there after
--- the change; if none is found, there is none
+-- the shortest folder of at least `len` bytes above the name that is present after the change is found;
+-- if none is found, there is none
 abbrev pub IsFolderFound : NameChange → Files → List ℕ → ℕ → Option (List ℕ) → Type 0
 IsFolderFound change files name len None =
     (other : List ℕ) → IsFolderOf other name → len ≤ length other
@@ -42,7 +41,7 @@ IsFolderFound change files name len (Some folder) =
 
 -- ---- below
 
--- the first in byte order of the names below a folder under which a file stands that does not go
+-- the first in byte order of the names below a folder whose file is kept
 pub record IsFirstBelow (lets_go : List ℕ → Bool) (files : Files) (folder name : List ℕ)
     : Type 0 where
   pub below : IsFolderOf folder name
@@ -50,8 +49,7 @@ pub record IsFirstBelow (lets_go : List ℕ → Bool) (files : Files) (folder na
   pub first : (other : List ℕ) → IsFolderOf folder other
       → is_standing lets_go files other ≡ true → precedes other name ≡ false
 
--- what is found is the first such name; if none is found, nothing stands below the folder but
--- what is let go
+-- the first such name is found; if none is found, every file below the folder is removed
 abbrev pub IsNameFound : (List ℕ → Bool) → Files → List ℕ → Option (List ℕ) → Type 0
 IsNameFound lets_go files folder None =
     (other : List ℕ) → IsFolderOf folder other → is_standing lets_go files other ≡ true → ⊥
@@ -59,29 +57,28 @@ IsNameFound lets_go files folder (Some name) = IsFirstBelow lets_go files folder
 
 -- ---- pairs with the name
 
--- the earlier of two pairs, where there are two; else the one that there is
+-- the earlier of two pairs, if there are two; otherwise the one that there is
 abbrev pub earlier_pair : Option NamePair → Option NamePair → Option NamePair
 earlier_pair None other = other
 earlier_pair (Some one) None = Some one
 earlier_pair (Some one) (Some other) = if precedes_pair other one then Some other else Some one
 
--- what is found is a clash, if it is a pair
+-- a pair that is found is a clash
 abbrev pub IsClashIfSome : NameChange → Files → Option NamePair → Type 0
 IsClashIfSome change files None = Unit {0}
 IsClashIfSome change files (Some pair) = IsClash change files pair
 
--- a pair is found, and the other one does not come before it
+-- a pair is found, and the other one is not before it
 abbrev pub IsNotBefore : NamePair → Option NamePair → Type 0
 IsNotBefore other None = ⊥
 IsNotBefore other (Some pair) = precedes_pair other pair ≡ false
 
--- if the other pair is a clash, a pair is found, and the other one does not come before it
+-- if the other pair is a clash, a pair is found, and the other one is not before it
 abbrev pub IsNoEarlierClash : NameChange → Files → Option NamePair → NamePair → Type 0
 IsNoEarlierClash change files found other = IsClash change files other → IsNotBefore other found
 
--- what is found is the first of the clashes with a name: with the folders above it, but those also
--- above the name before it, and with the names below it; nothing is said where the name before is
--- the same one
+-- the first of the clashes with a name is found: with the folders above it, except those also above the
+-- name before it, and with the names below it; nothing is required if the name before is the same
 pub record IsClashNear (change : NameChange) (files : Files) (before name : List ℕ)
     (found : Option NamePair) : Type 0 where
   pub is_one : IsClashIfSome change files found
@@ -91,19 +88,19 @@ pub record IsClashNear (change : NameChange) (files : Files) (before name : List
       → (before ≡ name)
       ⊎ IsNoEarlierClash change files found (record { path = name; other = other })
 
--- ---- over a tree whose files no contract knows
+-- ---- over a tree whose files are not observable
 
--- over some files the pair is a clash; and its first name counts as written, or is not above the
--- name before
+-- over some files the pair is a clash; and its first name counts as written, or is not above the name
+-- before
 pub record IsFreshClash (change : NameChange) (before name : List ℕ) (pair : NamePair) : Type 0 where
   pub files : Files
   pub is : IsClash change files pair
   pub fresh : (change.counts_as_written pair.path ≡ true)
       ⊎ ((IsFolderOf pair.path before → ⊥) × (pair.other ≡ name))
 
--- over any tree: what is found is a clash with a name over some files, if it is a pair. Of the
--- clashes that written names make by themselves no one with a folder above the name comes before
--- it, but for folders that are also above the name before it
+-- over any tree, a pair that is found is a clash with a name over some files. Of the clashes of written
+-- names alone, with a folder above the name that is not also above the name before it, none is before
+-- it
 pub record MayBeClashNear (change : NameChange) (before name : List ℕ)
     (found : Option NamePair) : Type 0 where
   pub one : IfSome found (IsFreshClash change before name)

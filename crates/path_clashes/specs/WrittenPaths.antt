@@ -1,6 +1,6 @@
 -- A change of names that is given by the paths that it writes.
--- No rule of a document: serves the contract of `first_clash`, whose paths have their folders and
--- names apart.
+-- No document has a rule for this: it serves the contract of `first_clash`, whose paths have their
+-- folders and names apart.
 use Rattle.std.specs.Prelude.{ℕ, Bool, List, map, bytes_eq}
 use Rattle.std.specs.List.{list_any}
 use Rattle.adb_fields.specs.JoinedPath.{joined_path}
@@ -11,7 +11,7 @@ use Rattle.path_clashes.specs.Clash.{NameChange}
 abbrev pub is_path_of : List FilePath → List ℕ → Bool
 is_path_of paths name = list_any (bytes_eq name) (map joined_path paths)
 
--- the change of names by which just these paths count as written
+-- the change of names by which exactly these paths count as written
 abbrev pub change_by_paths : List FilePath → (List ℕ → Bool) → NameChange
 change_by_paths written lets_go =
     record { counts_as_written = is_path_of written; lets_go = lets_go }

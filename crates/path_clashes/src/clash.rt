@@ -1,6 +1,6 @@
-//! The first clash of a change, which says under which names it lets a file go.
-//! The rule is in `docs/commands.md`, "What a change does with files", test 2: "No name may be
-//! a folder of another one afterwards", and the first pair in byte order is reported.
+//! The first clash of a change, which says under which names it removes a file.
+//! The rule is in `docs/commands.md`, "What a change does with files", test 2: "No name may be a
+//! folder of another one afterwards", and the first pair in byte order is reported.
 
 ghost use Rattle.std.specs.Prelude.{◌≡◌, ◌<◌, ◌≤◌, ℕ, List, true, IfOk, All, length, map, option_map, take, Bool, Option, IsSome};
 ghost use Rattle.std.specs.List.Sorted.{IsSorted};
@@ -27,12 +27,12 @@ use std::alloc::{AllocError, Global};
 pub struct Clash {
     /// The name that is a folder of the other.
     pub path: Name,
-    /// The name that lies below it.
+    /// The name that is below it.
     pub other: Name,
 }
 
-/// Whether the first of two clashes comes before the second: by its first name, and at equal ones
-/// by its second.
+/// Whether the first of two clashes is before the second: by its first name, and at equal ones by
+/// its second.
 fn comes_before(one: &Clash, other: &Clash) -> bool
     ensures { result ≡ precedes_pair (clash_seen one.now) (clash_seen other.now) }
 {
@@ -41,7 +41,7 @@ fn comes_before(one: &Clash, other: &Clash) -> bool
     by_path.then(by_other).is_lt()
 }
 
-/// The first of two clashes, where there are two; else the one that there is.
+/// The first of two clashes, if there are two; otherwise the one that there is.
 fn first_of(one: Option<Clash>, other: Option<Clash>) -> Option<Clash>
     ensures { option_map clash_seen result
         ≡ earlier_pair (option_map clash_seen one) (option_map clash_seen other) }
@@ -63,7 +63,7 @@ fn first_of(one: Option<Clash>, other: Option<Clash>) -> Option<Clash>
 ///
 /// # Errors
 ///
-/// Lack of memory.
+/// Out of memory.
 pub fn path_bytes(alloc: Global, path: &FilePath<'_>) -> Result<Vec<u8>, AllocError>
     ensures { IfOk result (λ bytes. bytes.items ≡ joined_path path.now) }
 {
@@ -76,12 +76,12 @@ pub fn path_bytes(alloc: Global, path: &FilePath<'_>) -> Result<Vec<u8>, AllocEr
     Ok(bytes)
 }
 
-/// How many bytes at the fronts of two texts are the same.
+/// The length of the longest common prefix of two texts.
 fn common_len(one: &[u8], other: &[u8]) -> usize
     ensures one { result ≤ length one.now }
     ensures other { result ≤ length other.now }
     ensures same { take result one.now ≡ take result other.now }
-    // A folder that stands above both is shorter than that, since both have the `/` behind it.
+    // A folder above both is shorter than that, since both have the `/` after it.
     ensures folders { (folder : List ℕ) → IsFolderOf folder one.now
         → IsFolderOf folder other.now → length folder < result }
 {
@@ -92,9 +92,9 @@ fn common_len(one: &[u8], other: &[u8]) -> usize
     len
 }
 
-/// The first clash of a path that is written (`bytes`), with the names above it and below it. The
-/// folders that are also above the path before it (`before`) were looked at with that one, and so
-/// was all where the two are the same.
+/// The first clash of a written path (`bytes`) with the names above it and below it. The folders
+/// that are also above the path before it (`before`) were searched with that one; if both paths are
+/// the same, so was everything.
 fn clash_near<T: Tree, G: LetGo>(
     alloc: Global,
     tree: &mut T,
@@ -106,18 +106,18 @@ fn clash_near<T: Tree, G: LetGo>(
     requires sorted { IsSorted bytes_cmp (map joined_path written.now) }
     requires names { All IsName (map joined_path written.now) }
     requires written { is_path_of written.now bytes.now ≡ true }
-    // Over the files of a tree that tells them.
+    // If the tree's files are observable.
     ensures near { IfOk result (λ found. IfObservable (T.history tree.old) (λ v.
         IsClashNear (change_by_paths written.now (G.lets_go let_go.now)) (files_of v)
         before.now bytes.now (option_map clash_seen found))) }
-    // Over any tree, also one that shows no files.
+    // Over any tree, even one whose files are not observable.
     ensures may { IfOk result (λ found. MayBeClashNear
         (change_by_paths written.now (G.lets_go let_go.now))
         before.now bytes.now (option_map clash_seen found)) }
     ensures tree { OnlyReads TreeFault.Disk (T.history tree.old) (T.history tree.new)
         (T.counts tree.old) (T.counts tree.new) result }
 {
-    // All clashes of this name were looked for with the path before it.
+    // All clashes of this name were searched for with the path before it.
     if before == bytes {
         return Ok(None);
     }
@@ -132,15 +132,15 @@ fn clash_near<T: Tree, G: LetGo>(
     }
 }
 
-/// The first clash of a change that writes these paths, or None if there is none. The paths
-/// stand in byte order, and one may stand there several times. It only reads the tree.
+/// The first clash of a change that writes these paths, or None if there is none. The paths are in
+/// byte order, and may be repeated. It only reads the tree.
 ///
 /// The tree is asked for the names below each path, and at most once for each folder above them.
 /// So the calls grow with the paths, and not with the files of the tree.
 ///
 /// # Errors
 ///
-/// `Disk` if the tree failed, `Memory` if there was no memory.
+/// `Disk` if the tree failed, `Memory` if out of memory.
 pub fn first_clash<T: Tree, G: LetGo>(
     alloc: Global,
     tree: &mut T,
@@ -149,12 +149,12 @@ pub fn first_clash<T: Tree, G: LetGo>(
 ) -> Result<Option<Clash>, TreeFault>
     requires sorted { IsSorted bytes_cmp (map joined_path written.now) }
     requires names { All IsName (map joined_path written.now) }
-    // Over the files of a tree that tells them.
+    // If the tree's files are observable.
     ensures first { IfOk result (λ found. IfObservable (T.history tree.old) (λ v.
         IsClashOf (change_by_paths written.now (G.lets_go let_go.now)) (files_of v)
         (option_map clash_seen found))) }
-    // Over any tree, also one that shows no files: it is the first clash over some files, or there
-    // is none over some.
+    // Over any tree, even one whose files are not observable: it is the first clash over some
+    // files, or there is none over some.
     ensures may { IfOk result (λ found. MayBeClashOf
         (change_by_paths written.now (G.lets_go let_go.now)) (option_map clash_seen found)) }
     ensures tree { OnlyReads TreeFault.Disk (T.history tree.old) (T.history tree.new)
@@ -171,18 +171,18 @@ pub fn first_clash<T: Tree, G: LetGo>(
     Ok(first)
 }
 
-/// Which files a change lets go of, by their names.
+/// Which files a change removes, by their names.
 pub trait LetGo {
-    // Whether a file under a name goes, as contracts say it.
+    // Whether a file under a name is removed, as contracts say it.
     ghost lets_go: { Self → List ℕ → Bool };
 
-    /// Whether a file under this name goes.
+    /// Whether a file under this name is removed.
     fn lets_go(&self, name: &[u8]) -> bool
         ensures { result ≡ Self.lets_go self.now name.now };
 }
 
-/// Where a change has no clash, none of the names that are there after it is a folder of another:
-/// so the files after it can stand in a file system.
+/// If a change has no clash, no name that is present after it is a folder of another: so a file
+/// system can have the files after it.
 pub fn files_without_a_clash_are_folder_like()
     ensures files { (change : NameChange) (files after : Files) → IsFolderLike files
         → HasNoClash change files
@@ -194,15 +194,14 @@ pub fn files_without_a_clash_are_folder_like()
         → IsFolderLike after }
 {}
 
-/// A change has one first clash, or none: so what is refused is one function of the change and the
-/// files.
+/// A change has one first clash, or none: so the refusal is a function of the change and the files.
 pub fn a_change_has_one_first_clash()
     ensures { (change : NameChange) (files : Files) (one other : Option NamePair)
         → IsClashOf change files one → IsClashOf change files other → one ≡ other }
 {}
 
-/// Changes that say the same of each name have the same first clash: so names may be given as lists
-/// or by claims.
+/// Changes that agree on each name have the same first clash: so names may be given as lists or by
+/// claims.
 pub fn changes_that_agree_clash_alike()
     ensures { (one other : NameChange) (files : Files) (found : Option NamePair)
         → ((name : List ℕ) → one.counts_as_written name ≡ other.counts_as_written name)

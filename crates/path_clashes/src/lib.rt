@@ -1,10 +1,10 @@
 //! Whether a change of names makes one name a folder of another.
 //!
 //! The change is given by the paths that it writes, and by a `LetGo`, which says under which names
-//! a file goes. `first_clash` looks near the paths alone: at the folders above them, and at the
+//! a file is removed. `first_clash` searches near the paths alone: the folders above them, and the
 //! names below them. The contracts cite `Clash`, `FirstClash` and `WrittenPaths` of `specs/`.
-//! The rule is in `docs/commands.md`, "What a change does with files", test 2; the words
-//! *clash* and *counts as written* in `docs/names.md`, "The installed database and a change of it".
+//! The rule is in `docs/commands.md`, "What a change does with files", test 2; the terms *clash*
+//! and *counts as written* in `docs/names.md`, "The installed database and a change of it".
 #![tactic(auto)]
 
 mod clash;

@@ -1,7 +1,6 @@
-//! The names above and below one name that are there after a change.
-//! The rule is in `docs/commands.md`, "What a change does with files", test 2: which names
-//! there are afterwards. That no others are looked at is said by the README of this crate, third
-//! paragraph.
+//! The names above and below one name that are present after a change.
+//! The rule is in `docs/commands.md`, "What a change does with files", test 2: which names are
+//! present afterwards. The README of this crate says why no others are searched.
 
 ghost use Rattle.std.specs.Prelude.{◌≡◌, true, false, not, IfOk, List, All, map};
 ghost use Rattle.std.specs.List.{find};
@@ -21,7 +20,7 @@ use adb_fields::FilePath;
 use base_core::{Name, Names, Tree, TreeFault};
 use std::alloc::{AllocError, Global};
 
-/// Whether a name is one of these paths, found by halving.
+/// Whether a name is one of these paths, by binary search.
 fn is_path_of(paths: &[FilePath<'_>], name: &[u8]) -> bool
     requires { IsSorted bytes_cmp (map joined_path paths.now) }
     ensures { result ≡ is_path_of paths.now name.now }
@@ -30,8 +29,8 @@ fn is_path_of(paths: &[FilePath<'_>], name: &[u8]) -> bool
     paths.binary_search_by(|other| other.compare(&path)).is_ok()
 }
 
-/// Whether a file is under a name and does not go. The tree is not asked where the change lets
-/// the file go.
+/// Whether a file is under a name and is kept. The tree is not asked if the change removes the
+/// file.
 fn is_standing<T: Tree, G: LetGo>(tree: &mut T, let_go: &G, name: &Name) -> Result<bool, TreeFault>
     ensures answer { IfOk result (λ standing. IfObservable (T.history tree.old) (λ v.
         standing ≡ is_standing (G.lets_go let_go.now) (files_of v) name.now)) }
@@ -47,8 +46,8 @@ fn is_standing<T: Tree, G: LetGo>(tree: &mut T, let_go: &G, name: &Name) -> Resu
     Ok(size.is_some())
 }
 
-/// The name of a folder, if the name is there after the change: it is written, or a file stands
-/// under it and does not go.
+/// The name of a folder, if it is present after the change: it is written, or a file is under it
+/// and is kept.
 fn folder_after<T: Tree, G: LetGo>(
     alloc: Global,
     tree: &mut T,
@@ -76,8 +75,8 @@ fn folder_after<T: Tree, G: LetGo>(
     Ok(None)
 }
 
-/// The shortest folder above a name that is there after the change, of those that have this length
-/// or more.
+/// The shortest folder above a name that is present after the change, of those with at least this
+/// length.
 pub(crate) fn first_folder<T: Tree, G: LetGo>(
     alloc: Global,
     tree: &mut T,
@@ -107,7 +106,7 @@ pub(crate) fn first_folder<T: Tree, G: LetGo>(
     Ok(None)
 }
 
-/// The first of several names under which a file does not go; none where all go.
+/// The first of several names whose file is kept; none if all are removed.
 fn first_to_stay<G: LetGo>(
     alloc: Global,
     names: &Names,
@@ -125,7 +124,7 @@ fn first_to_stay<G: LetGo>(
     Ok(None)
 }
 
-/// The first name in byte order below a folder under which a file stands that does not go.
+/// The first name in byte order below a folder whose file is kept.
 pub(crate) fn first_below<T: Tree, G: LetGo>(
     alloc: Global,
     tree: &mut T,

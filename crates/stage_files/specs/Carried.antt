@@ -1,4 +1,4 @@
--- A change is carried through. Serves the contract of `carry_out`; the rules are in
+-- A change is carried through. It serves the contract of `carry_out`; the rules are in
 -- `docs/crash-safety.md`, "A change of several files", what is proved of the whole.
 use Rattle.std.specs.Prelude.{◌≡◌, List, Result, OnOk, IfErr}
 use Rattle.base_core.specs.Files.{Files}

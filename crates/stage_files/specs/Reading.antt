@@ -1,11 +1,11 @@
--- A file of a package that is read while others come to wait. Serves the contract of `stage_file`
--- in `src/file.rt`; how pieces are tested stands in `docs/formats.md`, "The other blocks".
+-- A file of a package that is read while others are staged. It serves the contract of `stage_file` in
+-- `src/file.rt`; how pieces are tested is in `docs/formats.md`, "The other blocks".
 use Rattle.std.specs.Prelude.{◌≡◌, ℕ, List, Some, length}
 use Rattle.base_core.specs.Files.{Files}
 use Rattle.piece_reader.specs.FileReading.{IsFileReading, len_around_file, package_of_file}
 use Rattle.piece_reader.specs.declared.one_file.FilePieces.{FilePieces}
 
--- a package stands in these files, and of one of its files these bytes are still to come
+-- these files have a package, and these bytes of one of its files are still to be read
 pub record IsReadingIn (files : Files) (file : FilePieces) (bytes : List ℕ) : Type 0 where
   pub pkg : List ℕ
   pub there : files (package_of_file file) ≡ Some pkg

@@ -1,5 +1,5 @@
--- Which bytes stand behind what is to be staged. The rules are in `docs/commands.md`,
--- "What a change does with files"; the digests in `docs/formats.md`, "The other blocks".
+-- Which bytes the sources of writes denote. The rules are in `docs/commands.md`, "What a change does
+-- with files"; the digests in `docs/formats.md`, "The other blocks".
 use Rattle.std.specs.Prelude.{◌≡◌, ℕ, List, [], ◌∷◌, Some, length, slice_get}
 use Rattle.base_core.specs.Files.{Files}
 use Rattle.file_guard.specs.AsListed.{link_to}
@@ -15,7 +15,7 @@ use Rattle.stage_files.specs.declared.writes.StagedWrite.{StagedWrite}
 
 -- ---- one source
 
--- a package stands in these files, and one of its files has these bytes
+-- these files have a package, and one of its files has these bytes
 pub record IsFileSource (files : Files) (f : PackagedFile) (bytes : List ℕ) : Type 0 where
   pub name : List ℕ
   pub pkg : List ℕ
@@ -23,20 +23,20 @@ pub record IsFileSource (files : Files) (f : PackagedFile) (bytes : List ℕ) : 
   pub tested : IsTestedOf name pkg f.package.now
   pub is : bytes ≡ bytes_of_file f.folder f.file (contents_in (files_in_file pkg))
 
--- over these files a source stands for these bytes
+-- over these files a source denotes these bytes
 abbrev pub StandsForBytes : Files → Source → List ℕ → Type 0
 StandsForBytes files (Bytes own) bytes = bytes ≡ own.now
 StandsForBytes files (Link target) bytes = bytes ≡ link_to target.now
 StandsForBytes files (File f) bytes = IsFileSource files f bytes
 
--- bytes have the size and the digest that the package's value lists for a file of it; none where it
--- lists no contents
+-- bytes have the size and the digest that the package's value lists for a file of it; none if it lists
+-- no contents
 abbrev pub AreListedFor : PackagedFile → List ℕ → Type 0
 AreListedFor f bytes =
     AreAsDue (expected_with_positions f.folder f.file (expected_contents (tested_value f.package.now)))
     bytes
 
--- over whatever files, a source may stand for these bytes
+-- over some files, a source may denote these bytes
 abbrev pub MayStandFor : Source → List ℕ → Type 0
 MayStandFor (Bytes own) bytes = bytes ≡ own.now
 MayStandFor (Link target) bytes = bytes ≡ link_to target.now
@@ -44,14 +44,14 @@ MayStandFor (File f) bytes = AreListedFor f bytes
 
 -- ---- those of several writes
 
--- the source of each write stands for the bytes at its place
+-- the source of each write denotes the bytes at its place
 pub record StandForEach (files : Files) (writes : List StagedWrite) (contents : List (List ℕ)) :
     Type 0 where
   pub same : length contents ≡ length writes
   pub each : (i : ℕ) (w : StagedWrite) (bytes : List ℕ) → slice_get writes i ≡ Some w
       → slice_get contents i ≡ Some bytes → StandsForBytes files w.source bytes
 
--- the source of each write may stand for the bytes at its place
+-- the source of each write may denote the bytes at its place
 abbrev pub MayStandForEach : List StagedWrite → List (List ℕ) → Type 0
 MayStandForEach [] [] = Unit {0}
 MayStandForEach [] (bytes ∷ others) = ⊥

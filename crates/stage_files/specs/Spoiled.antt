@@ -1,6 +1,6 @@
--- A package that is not what it was when it was tested, as its files are read once more. Where this
--- is told stands in the README of this crate, clause `bad`; the cause in `docs/commands.md`,
--- "Error lines": contents of another digest.
+-- A package that is no longer what was tested when its files are read once more. The README of this
+-- crate says when this is reported (clause `bad`); the cause is in `docs/commands.md`, "Error lines":
+-- contents of another digest.
 use Rattle.std.specs.Prelude.{◌≡◌, ℕ, List, length, Some, slice_get}
 use Rattle.adb_schema.specs.Soundness.{payload_in}
 use Rattle.base_core.specs.declared.cause.Cause.{Cause}
@@ -13,8 +13,8 @@ use Rattle.stage_files.specs.declared.writes.Source.{Source}
 use Rattle.stage_files.specs.declared.writes.Source.TheVariants.{Bytes, File, Link}
 use Rattle.stage_files.specs.declared.writes.StagedWrite.{StagedWrite}
 
--- The file of a package is spoiled: it has as many bytes as the one that was tested, and the same
--- values; but as a package it is refused with this cause: a digest of contents differs.
+-- The file of a package is spoiled: it has the length and the values of the tested one; but as a
+-- package it is refused with this cause: a digest of contents differs.
 pub record IsSpoiledFile (tested file : List ℕ) (cause : Cause) : Type 0 where
   pub long : length file ≡ length tested
   pub values : payload_in file ≡ payload_in tested
@@ -23,19 +23,18 @@ pub record IsSpoiledFile (tested file : List ℕ) (cause : Cause) : Type 0 where
   pub digest : cause ≡ HashDiffers wanted found
   pub fault : package_fault file ≡ Some cause
 
--- whatever a file's package was when it was tested, there is a file that is spoiled beside it, with
--- this cause
+-- whatever a file's package was when it was tested, there is a spoiled file for it with this cause
 abbrev pub IsSpoiledSince : PackagedFile → Cause → Type 0
 IsSpoiledSince f cause = (name tested : List ℕ) → IsTestedOf name tested f.package.now
     → (file : List ℕ) × IsSpoiledFile tested file cause
 
--- a source is a file of the package at this place, which is spoiled so
+-- a source is a file of the package at this place, which is spoiled with this cause
 abbrev pub IsSpoiledAt : ℕ → Cause → Source → Type 0
 IsSpoiledAt member cause (Bytes own) = ⊥
 IsSpoiledAt member cause (Link target) = ⊥
 IsSpoiledAt member cause (File f) = (f.member ≡ member) × IsSpoiledSince f cause
 
--- one of the writes is a file of the package at this place, which is spoiled so
+-- one of the writes is a file of the package at this place, which is spoiled with this cause
 pub record HasSpoiledFile (member : ℕ) (cause : Cause) (writes : List StagedWrite) : Type 0 where
   pub number : ℕ
   pub write : StagedWrite

@@ -19,7 +19,7 @@ use stage_run::{append_piece, begin_file, end_file};
 ///
 /// # Errors
 ///
-/// `Bad` where the file does not have its digest any more, or `Disk` if the tree failed.
+/// `Bad` if the file does not have its digest any more, or `Disk` if the tree failed.
 pub(crate) fn stage_file<T: Tree>(
     stage: &mut Stage,
     tree: &mut T,
@@ -29,12 +29,12 @@ pub(crate) fn stage_file<T: Tree>(
     requires closed { stage.old.is_open ≡ false }
     requires more { stage.old.staged < length stage.old.intent.writes }
 
-    // Whatever the tree shows of the package, and whatever is answered, only what waits has changed
-    // at each moment.
+    // Whatever the tree returns for the package, and whatever this call returns, only staged files
+    // have changed at each moment.
     ensures run { (contents : List (List ℕ)) (v : TreeState) (first : List TreeState)
         → IsStaging stage.old contents None v first (T.history tree.old)
         → IsStagingRun v first (T.history tree.new) }
-    // Where it shows the package, the file's bytes wait then, and only the tree may fail.
+    // If the tree has the package, the file's bytes are staged then, and only the tree may fail.
     ensures staging { (contents : List (List ℕ)) (v : TreeState) (first : List TreeState)
         (bytes : List ℕ) → IsStaging stage.old contents None v first (T.history tree.old)
         → IsReadingIn (files_of v) file.entry bytes
@@ -44,21 +44,21 @@ pub(crate) fn stage_file<T: Tree>(
         (bytes : List ℕ) → IsStaging stage.old contents None v first (T.history tree.old)
         → IsReadingIn (files_of v) file.entry bytes
         → IfErr result (λ fault. fault ≡ DiskFault) }
-    // Whatever the tree shows of the package: bytes wait that have the size and the digest that are
-    // due.
+    // Whatever the tree returns for the package: bytes with the expected size and digest are
+    // staged.
     ensures listed { HaveCome file.entry [] → (contents : List (List ℕ)) (v : TreeState)
         (first : List TreeState) → IsStaging stage.old contents None v first (T.history tree.old)
         → OnOk result ((bytes : List ℕ) × AreAsDue (file_due file.entry) bytes
         × IsStaging stage.new (contents ++ bytes ∷ []) None v first (T.history tree.new)) }
-    // If it was not refused from the start: a test fails only of bytes that have the size that
-    // is due, and another digest.
+    // If it was not refused from the start: a test fails only for bytes that have the expected
+    // size, and another digest.
     ensures bad { HaveCome file.entry [] → kept_fault file.entry ≡ None → (cause : Cause)
         → IsErrOf result (Bad cause)
         → (bytes : List ℕ) × HaveOtherDigest (file_due file.entry) bytes cause }
     // The next write of the stage has its file then.
     ensures view { OnOk result (stage.new ≡ record stage.old { staged = stage.old.staged + 1 }) }
-    // How the tree's counts explain the answer: no count falls, a fault has its cause, and any
-    // other answer hides none.
+    // How the tree's counts explain the result: no count falls, a fault has its cause, and any
+    // other result hides none.
     ensures goes_on { GoesOn (T.counts tree.old) (T.counts tree.new) }
     ensures disk { IsErrOf result DiskFault → HasCause (T.counts tree.old) (T.counts tree.new) }
     ensures kept { OnOk result (IsNoFault (T.counts tree.old) (T.counts tree.new)) }

@@ -1,6 +1,6 @@
-//! The writes of a change are staged, one after another: where their bytes come from, and why a
-//! change is not carried through. The rules are in `docs/commands.md`,
-//! "What a change does with files", and in `docs/crash-safety.md`, "A change of several files".
+//! The writes of a change are staged, one after another: the sources of their bytes, and why a
+//! change is not carried through. The rules are in `docs/commands.md`, "What a change does with
+//! files", and in `docs/crash-safety.md`, "A change of several files".
 
 ghost use Rattle.std.specs.Prelude.{◌≡◌, ◌<◌, ◌+◌, ◌++◌, ◌∷◌, [], ℕ, false, List, None, length, IfErr, IsErrOf, OnOk, OnErr};
 ghost use Rattle.base_core.specs.Faults.{GoesOn, HasCause, IsNoFault};
@@ -26,7 +26,7 @@ use stage_run::{stage_bytes, stage_pieces};
 ///
 /// # Errors
 ///
-/// `Bad` where the file does not have its digest any more, or `Disk` if the tree failed.
+/// `Bad` if the file does not have its digest any more, or `Disk` if the tree failed.
 fn stage_packaged<T: Tree>(
     stage: &mut Stage,
     tree: &mut T,
@@ -50,7 +50,7 @@ fn stage_packaged<T: Tree>(
         → IsStaging stage.old contents None v first (T.history tree.old)
         → OnOk result ((bytes : List ℕ) × AreListedFor f.now bytes
         × IsStaging stage.new (contents ++ bytes ∷ []) None v first (T.history tree.new)) }
-    // The cause is that of a file with the values of the one that was tested.
+    // The cause is that of a file with the values of the tested one.
     ensures bad { (member : ℕ) (cause : Cause) → IsErrOf result (Bad member cause)
         → (f.now.member ≡ member) × IsSpoiledSince f.now cause }
     ensures view { OnOk result (stage.new ≡ record stage.old { staged = stage.old.staged + 1 }) }
@@ -79,8 +79,7 @@ fn stage_packaged<T: Tree>(
 ///
 /// # Errors
 ///
-/// `Bad` where a file of a package does not have its digest any more, or `Disk` if the tree
-/// failed.
+/// `Bad` if a file of a package does not have its digest any more, or `Disk` if the tree failed.
 pub(crate) fn stage_write<T: Tree>(
     stage: &mut Stage,
     tree: &mut T,
@@ -89,12 +88,13 @@ pub(crate) fn stage_write<T: Tree>(
 ) -> Result<(), StageFault>
     requires closed { stage.old.is_open ≡ false }
     requires more { stage.old.staged < length stage.old.intent.writes }
-    // Whatever is answered, only what waits has changed at each moment. `first` is the tree's
-    // history as the staging began, `v` its newest state then, and `contents` what waits already.
+    // Whatever is returned, only staged files have changed at each moment. `first` is the tree's
+    // history when the staging began, `v` its newest state then, and `contents` the files staged
+    // before.
     ensures run { (contents : List (List ℕ)) (v : TreeState) (first : List TreeState)
         → IsStaging stage.old contents None v first (T.history tree.old)
         → IsStagingRun v first (T.history tree.new) }
-    // Where the source stands for bytes, these wait then, behind those that waited before.
+    // If the source denotes bytes, these are staged then, after those that were staged before.
     ensures staging { (contents : List (List ℕ)) (v : TreeState) (first : List TreeState)
         (bytes : List ℕ) → IsStaging stage.old contents None v first (T.history tree.old)
         → StandsForBytes (files_of v) source.now bytes
@@ -104,18 +104,18 @@ pub(crate) fn stage_write<T: Tree>(
     ensures good { (contents : List (List ℕ)) (v : TreeState) (first : List TreeState)
         (bytes : List ℕ) → IsStaging stage.old contents None v first (T.history tree.old)
         → StandsForBytes (files_of v) source.now bytes → IfErr result (λ fault. fault ≡ DiskFault) }
-    // Whatever the tree shows: bytes wait that the source may stand for.
+    // Whatever the tree returns: bytes that the source may denote are staged.
     ensures listed { (contents : List (List ℕ)) (v : TreeState) (first : List TreeState)
         → IsStaging stage.old contents None v first (T.history tree.old)
         → OnOk result ((bytes : List ℕ) × MayStandFor source.now bytes
         × IsStaging stage.new (contents ++ bytes ∷ []) None v first (T.history tree.new)) }
-    // A package is told as bad only if the source is a file of it that is spoiled so.
+    // A package is reported bad only if the source is a file of it that is spoiled with this cause.
     ensures bad { (member : ℕ) (cause : Cause) → IsErrOf result (Bad member cause)
         → IsSpoiledAt member cause source.now }
     // The next write of the stage has its file then.
     ensures view { OnOk result (stage.new ≡ record stage.old { staged = stage.old.staged + 1 }) }
-    // How the tree's counts explain the answer: no count falls, a fault has its cause, and any
-    // other answer hides none.
+    // How the tree's counts explain the result: no count falls, a fault has its cause, and any
+    // other result hides none.
     ensures goes_on { GoesOn (T.counts tree.old) (T.counts tree.new) }
     ensures disk { IsErrOf result DiskFault → HasCause (T.counts tree.old) (T.counts tree.new) }
     ensures kept { OnOk result (IsNoFault (T.counts tree.old) (T.counts tree.new)) }
@@ -146,23 +146,23 @@ pub struct PackagedFile<'a> {
     pub file: u32,
 }
 
-/// Where the bytes of a write come from.
+/// The source of a write's bytes.
 #[derive(Clone, Copy)]
 pub enum Source<'a> {
     /// The bytes are given: those of the database or of world.
     Bytes(&'a [u8]),
-    /// The bytes stand for a link to this target, whose text is behind two bytes.
+    /// The bytes represent a link to this target, whose text is after two bytes.
     Link(&'a [u8]),
     /// The bytes are read from a package.
     File(PackagedFile<'a>),
 }
 
-/// A write of a change: a name, and where the bytes come from that it gets.
+/// A write of a change: a name, and the source of its bytes.
 #[derive(Clone, Copy)]
 pub struct StagedWrite<'a> {
     /// The name of the file after the change.
     pub name: &'a Name,
-    /// Where its bytes come from.
+    /// The source of its bytes.
     pub source: Source<'a>,
 }
 
@@ -172,7 +172,7 @@ pub enum StageFault {
     /// A file of the package at this place does not have its digest any more. Nothing is published
     /// yet.
     Bad { member: u32, cause: Cause },
-    /// The tree failed.
+    /// An I/O error of the tree.
     Disk,
 }
 
@@ -180,10 +180,10 @@ impl From<Disk> for StageFault {
     ghost use Rattle.std.specs.Prelude.{◌≡◌};
     ghost use Rattle.stage_files.specs.declared.writes.StageFault.TheVariants.{Disk as DiskFault};
 
-    // What becomes of it, as a caller that uses `?` sees it.
+    // The fault that a caller gets by `?`.
     ghost from_gives = { λ _ fault. fault ≡ DiskFault };
 
-    // A fault of the tree, as a change tells it.
+    // A fault of the tree as a fault of a change.
     fn from(_: Disk) -> StageFault {
         StageFault::Disk
     }

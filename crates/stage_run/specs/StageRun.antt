@@ -1,6 +1,6 @@
--- What a change makes of a tree in which no intent is read: its files wait, the intent is
--- published, and all its actions are done. The rules are in `docs/crash-safety.md`,
--- "A change of several files": what is proved of the whole.
+-- What a change does to a tree in which no intent is read: its files are staged, the intent is
+-- published (committed), and all its actions are done. The rules are in `docs/crash-safety.md`, "A
+-- change of several files": what is proved of the whole.
 use Rattle.std.specs.Prelude.{◌≡◌, ◌⊎◌, ℕ, Bool, false, List, Option, None, IsSome}
 use Rattle.base_core.specs.Calls.{HasNow}
 use Rattle.base_core.specs.Crash.{IsOrderly, Since}
@@ -14,40 +14,40 @@ use Rattle.journal_core.specs.Staged.{IsEmptyStage, IsOnTheWay, IsStaged, Stagin
 
 -- ---- what is read
 
--- the files as read are these, but for what waits
+-- the files as read are these, except for staged files
 abbrev pub IsReadButWaiting : Files → TreeState → Type 0
 IsReadButWaiting files w = (q : List ℕ) → is_staged q ≡ false → files_of w q ≡ files q
 
--- an intent is read, and a recovery leaves the new files; each name that does not wait has its old
+-- an intent is read, and recovery yields the new files; each name outside the staging area has its old
 -- bytes or its new ones
 pub record LeadsByIntent (new old : Files) (w : TreeState) : Type 0 where
   pub intent : IsSome (w.names intent_name)
   pub leads : unstaged_files (files_of w) ≡ new
   pub bytes : HasOldOrNewBytes old new w
 
--- the files as read are the old ones, but for what waits; or an intent that is read leads to the new
--- ones; or they are the new ones
+-- the files as read are the old ones, except for staged files; or an intent that is read leads to the
+-- new ones; or they are the new ones
 abbrev pub IsReadInChange : Files → Files → TreeState → Type 0
 IsReadInChange new old w =
     IsReadButWaiting old w ⊎ (LeadsByIntent new old w ⊎ (files_of w ≡ new))
 
--- where no intent is read, a crash undoes no change of a name that does not wait
+-- if no intent is read, a crash undoes no change of a name outside the staging area
 abbrev pub LastsUnread : TreeState → Type 0
 LastsUnread w = w.names intent_name ≡ None → ShownNamesLast w
 
 -- ---- a change
 
--- A change that leads to these files, from a state v on. At each moment the tree is orderly, a crash
--- leaves a state from before or that of the files, and one from before as long as no intent is
--- published.
+-- A change that leads to these files, from a state v on. At each moment the tree is orderly, and a
+-- crash leaves a state from before or that of the files; it leaves one from before as long as no intent
+-- is published.
 pub record IsStageRun (files : Files) (v : TreeState) (old now : List TreeState) : Type 0 where
   pub moments : (ignored : List ℕ → Bool) → IsOrderly (RestsOn ignored) v
       → SinceBy (IsOnTheWay ignored files v) old now
   pub reads : Since (IsReadInChange files (files_of v)) old now
   pub last : ShownNamesLast v → Since LastsUnread old now
 
--- a change that leads to these files has come to its end: no intent is read, and no crash brings
--- one back, or undoes a change of a name
+-- a change that leads to these files is complete: no intent is read, and no crash restores one, or
+-- undoes a change of a name
 pub record IsStageRunDone (files : Files) (v : TreeState) (now : List TreeState) : Type 0 where
   pub reads : HasNow now (λ w. (files_of w ≡ files) × (w.names intent_name ≡ None))
   pub settled : (ignored : List ℕ → Bool) → IsOrderly (RestsOn ignored) v
@@ -57,16 +57,16 @@ pub record IsStageRunDone (files : Files) (v : TreeState) (now : List TreeState)
 
 -- ---- its first part
 
--- Files come to wait, from a state v on. At each moment the tree is orderly and nothing has happened
--- to the state, and only what waits has changed.
+-- Files are staged, from a state v on. At each moment the tree is orderly, the state is unchanged, and
+-- only staged files have changed.
 pub record IsStagingRun (v : TreeState) (old now : List TreeState) : Type 0 where
   pub moments : (ignored : List ℕ → Bool) → IsOrderly (RestsOn ignored) v
       → Since (IsStill ignored v) old now
   pub reads : Since (IsReadButWaiting (files_of v)) old now
   pub last : ShownNamesLast v → Since ShownNamesLast old now
 
--- a staging run before which nothing waited; now files with these bytes wait, and one with those of
--- the file that is begun
+-- a staging run before which nothing was staged; now files with these bytes are staged, and one with
+-- the bytes of the file that is begun
 pub record IsStaging (stage : Staging) (contents : List (List ℕ)) (begun : Option (List ℕ))
     (v : TreeState) (old now : List TreeState) : Type 0 where
   pub start : HasNow old (λ w. w ≡ v)

@@ -1,4 +1,4 @@
-//! The second part of a change, from the publishing of its intent on. The rules are in
+//! The second part of a change, from the commit (publishing) of its intent on. The rules are in
 //! `docs/crash-safety.md`, "A change of several files", in the table of steps from 2 on.
 ghost use Rattle.std.specs.Prelude.{◌≡◌, ◌≤◌, ℕ, Bool, true, false, List, None, length, IsSome, OnOk, OnErr};
 ghost use Rattle.base_core.specs.Calls.{HasNow, IfObservable};
@@ -15,13 +15,14 @@ ghost use Rattle.stage_run.specs.StageRun.{IsStageRun, IsStageRunDone, IsStaging
 use base_core::{Disk, Tree};
 use journal_core::{Stage, apply_all};
 
-/// Publishes the intent of a stage all of whose files wait, does all its actions, and finishes.
+/// Publishes the intent of a stage all of whose files are staged, does all its actions, and
+/// finishes.
 pub fn carry_through<T: Tree>(stage: &mut Stage, tree: &mut T) -> Result<(), Disk>
     requires closed { stage.old.is_open ≡ false }
     requires all { stage.old.staged ≡ length stage.old.intent.writes }
 
-    // Whatever it answers, the files come to wait and are then moved to their names in one change;
-    // and once it has answered Ok, this has come to its end.
+    // Whatever it returns, the files are staged and then moved to their names in one change; and
+    // once it has returned Ok, this change is complete.
     ensures run { (contents : List (List ℕ)) (v : TreeState) (first : List TreeState)
         → IsStaging stage.old contents None v first (T.history tree.old)
         → IsStageRun (after_actions stage.old.intent (with_staged 1 contents (files_of v)))
@@ -31,14 +32,14 @@ pub fn carry_through<T: Tree>(stage: &mut Stage, tree: &mut T) -> Result<(), Dis
         → OnOk result (IsStageRunDone
         (after_actions stage.old.intent (with_staged 1 contents (files_of v)))
         v (T.history tree.new)) }
-    // How the tree's counts explain the answer: no count falls, and a fault is answered just where
+    // How the tree's counts explain the result: no count falls, and a fault is returned exactly if
     // a count of faults rose.
     ensures goes_on { GoesOn (T.counts tree.old) (T.counts tree.new) }
     ensures cause { OnErr result (HasCause (T.counts tree.old) (T.counts tree.new)) }
     ensures kept { OnOk result (IsNoFault (T.counts tree.old) (T.counts tree.new)) }
 
-    // If there is room for the stage, and beside the files that it leads to, no call is a
-    // misuse.
+    // If the paths of the stage, and those beside the files that it leads to, are free, no call is
+    // a misuse.
     ensures proper { (contents : List (List ℕ)) (v : TreeState) (first : List TreeState)
         → IsStaging stage.old contents None v first (T.history tree.old)
         → HasRoomBeside (files_of v)
@@ -50,24 +51,24 @@ pub fn carry_through<T: Tree>(stage: &mut Stage, tree: &mut T) -> Result<(), Dis
     enact(stage, tree)
 }
 
-/// Does all actions of an intent that is published, and finishes. The clauses say of this part
-/// alone what those of `carry_through` say of the whole.
+/// Does all actions of an intent that is published, and finishes. The clauses say of this part what
+/// those of `carry_through` say of the whole.
 fn enact<T: Tree>(stage: &mut Stage, tree: &mut T) -> Result<(), Disk>
     requires published { stage.old.published ≡ true }
     requires within { stage.old.acted ≤ action_count stage.old.intent }
-    // A crash leaves the state of the actions done all the time.
+    // At each moment a crash leaves the state of the actions done.
     ensures moments { IfObservable (T.history tree.old) (λ v. (ignored : List ℕ → Bool)
         (files : Files) → IsOrderly (RestsOn ignored) v → IsActing stage.old files v
         → Since (IsStill ignored v) (T.history tree.old) (T.history tree.new)) }
-    // At each moment a recovery leaves the files of the actions done.
+    // At each moment recovery yields the files of the actions done.
     ensures reads { IfObservable (T.history tree.old) (λ v. (files : Files)
         → IsActing stage.old files v
         → Since (RecoversTo files) (T.history tree.old) (T.history tree.new)) }
-    // Each name that does not wait has its old bytes or its new ones.
+    // Each name outside the staging area has its old bytes or its new ones.
     ensures bytes { IfObservable (T.history tree.old) (λ v. (files : Files)
         → IsActing stage.old files v
         → KeepsOldOrNewBytes files v (T.history tree.old) (T.history tree.new)) }
-    // Where no intent is read any more, a crash undoes no other change of a name.
+    // If no intent is read any more, a crash undoes no other change of a name.
     ensures last { IfObservable (T.history tree.old) (λ v. IsSome (v.names intent_name)
         → Since LastsUnread (T.history tree.old) (T.history tree.new)) }
     // At the end each crash leaves the state of the actions done.
@@ -78,7 +79,7 @@ fn enact<T: Tree>(stage: &mut Stage, tree: &mut T) -> Result<(), Disk>
     ensures files { IfObservable (T.history tree.old) (λ v. (files : Files)
         → IsActing stage.old files v → OnOk result (HasNow (T.history tree.new)
         (λ w. (files_of w ≡ files) × (w.names intent_name ≡ None)))) }
-    // No crash brings the intent back.
+    // No crash restores the intent.
     ensures gone { OnOk result (IfObservable (T.history tree.new) (IsInNoMap intent_name)) }
     ensures goes_on { GoesOn (T.counts tree.old) (T.counts tree.new) }
     ensures cause { OnErr result (HasCause (T.counts tree.old) (T.counts tree.new)) }

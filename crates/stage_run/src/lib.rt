@@ -1,7 +1,7 @@
 //! A change is carried through by the calls of a stage: its files are staged one after another, and
-//! then all actions are published, done and finished.
+//! then all actions are committed, done and finished.
 //!
-//! The contracts cite `StageRun` of `specs/`: what such a run makes of a tree, moment by moment.
+//! The contracts cite `StageRun` of `specs/`: what such a run does to a tree, moment by moment.
 //! The rules are in `docs/crash-safety.md`, "A change of several files".
 #![tactic(auto)]
 

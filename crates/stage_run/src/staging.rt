@@ -1,4 +1,4 @@
-//! Files come to wait, one after another. Laws say where the run of a change begins, and what it
+//! Files are staged, one after another. Laws say where the run of a change begins, and what it
 //! leaves. The rules are in `docs/crash-safety.md`, "A change of several files": step 1 of its
 //! table.
 
@@ -20,23 +20,23 @@ pub fn begin_file<T: Tree>(stage: &mut Stage, tree: &mut T) -> Result<(), Disk>
     requires closed { stage.old.is_open ≡ false }
     requires more { stage.old.staged < length stage.old.intent.writes }
 
-    // Whatever it answers, only what waits has changed at each moment.
+    // Whatever it returns, only staged files have changed at each moment.
     ensures run { (contents : List (List ℕ)) (v : TreeState) (first : List TreeState)
         → IsStaging stage.old contents None v first (T.history tree.old)
         → IsStagingRun v first (T.history tree.new) }
-    // Once it has answered Ok an empty file waits, which is begun.
+    // Once it has returned Ok, an empty file is staged, which is begun.
     ensures staging { (contents : List (List ℕ)) (v : TreeState) (first : List TreeState)
         → IsStaging stage.old contents None v first (T.history tree.old)
         → OnOk result (IsStaging stage.new contents (Some []) v first (T.history tree.new)) }
-    // The stage then has an open file; behind an error it is as before.
+    // The stage then has an open file; after an error it is as before.
     ensures view { OnOk result (stage.new ≡ record stage.old { is_open = true }) }
     ensures err { OnErr result (stage.new ≡ stage.old) }
-    // How the tree's counts explain the answer: no count falls, and a fault is answered just where
+    // How the tree's counts explain the result: no count falls, and a fault is returned exactly if
     // a count of faults rose.
     ensures goes_on { GoesOn (T.counts tree.old) (T.counts tree.new) }
     ensures cause { OnErr result (HasCause (T.counts tree.old) (T.counts tree.new)) }
     ensures kept { OnOk result (IsNoFault (T.counts tree.old) (T.counts tree.new)) }
-    // No call is a misuse where there is room for the stage.
+    // No call is a misuse if the paths of the stage are free.
     ensures proper { (contents : List (List ℕ)) (v : TreeState) (first : List TreeState)
         → IsStaging stage.old contents None v first (T.history tree.old)
         → HasRoomBeside (files_of v)
@@ -45,8 +45,8 @@ pub fn begin_file<T: Tree>(stage: &mut Stage, tree: &mut T) -> Result<(), Disk>
     stage.file_begin(tree)
 }
 
-/// Adds bytes to the file that is begun. The clauses are those of `begin_file`; there need be no
-/// more room.
+/// Adds bytes to the file that is begun. The clauses are those of `begin_file`; it needs no free
+/// path.
 pub fn append_piece<T: Tree>(stage: &mut Stage, tree: &mut T, piece: &[u8]) -> Result<(), Disk>
     requires { stage.old.is_open ≡ true }
     ensures run { (contents : List (List ℕ)) (so_far : List ℕ) (v : TreeState)
@@ -70,8 +70,8 @@ pub fn append_piece<T: Tree>(stage: &mut Stage, tree: &mut T, piece: &[u8]) -> R
     stage.file_append(tree, piece)
 }
 
-/// The file that is begun is whole: its bytes are made to last. The clauses are those of
-/// `begin_file`; there need be no more room.
+/// Ends the file that is begun: its bytes are made durable. The clauses are those of `begin_file`;
+/// it needs no free path.
 pub fn end_file<T: Tree>(stage: &mut Stage, tree: &mut T) -> Result<(), Disk>
     requires { stage.old.is_open ≡ true }
     ensures run { (contents : List (List ℕ)) (so_far : List ℕ) (v : TreeState)
@@ -123,8 +123,8 @@ pub fn stage_bytes<T: Tree>(stage: &mut Stage, tree: &mut T, bytes: &[u8]) -> Re
     end_file(stage, tree)
 }
 
-/// Stages one whole file of two pieces, one behind the other. The clauses are those of
-/// `begin_file`, for the four calls.
+/// Stages one whole file of two pieces, one after the other. The clauses are those of `begin_file`,
+/// for the four calls.
 pub fn stage_pieces<T: Tree>(
     stage: &mut Stage,
     tree: &mut T,
@@ -155,20 +155,20 @@ pub fn stage_pieces<T: Tree>(
     end_file(stage, tree)
 }
 
-/// With a new stage files may come to wait, where no intent is read and nothing waits.
+/// A new stage begins a staging run, if no intent is read and nothing is staged.
 pub fn a_new_stage_is_staging()
     ensures { (removals writes : List (List ℕ)) (now : List TreeState) → IfObservable now (λ v.
         v.names intent_name ≡ None → IsEmptyStage (files_of v)
         → IsStaging (new_stage removals writes) [] None v now now) }
 {}
 
-/// As long as files only come to wait, a change goes on, whatever files it is to lead to.
+/// While files are only staged, this is a change, whatever files it is to lead to.
 pub fn a_staging_run_is_a_stage_run()
     ensures { (files : Files) (v : TreeState) (first now : List TreeState)
         → IsStagingRun v first now → IsStageRun files v first now }
 {}
 
-/// Once all actions are done nothing waits, where nothing waited but the files of the writes.
+/// Once all actions are done nothing is staged, if only the files of the writes were.
 pub fn a_change_leaves_nothing_waiting()
     ensures { (intent : Intent) (contents : List (List ℕ)) (files : Files)
         → HasFreeNames intent → length contents ≡ length intent.writes → IsEmptyStage files

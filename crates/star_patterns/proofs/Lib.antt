@@ -2,3 +2,4 @@ mod Filled
 mod FirstStar
 mod Pieces
 mod Places
+mod Worked

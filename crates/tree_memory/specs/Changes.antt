@@ -1,5 +1,5 @@
--- The record of what was made of a tree, and the states that it gives.
--- What each call makes of a state is in `docs/crash-safety.md`, "What each call does". Serves the
+-- The record of a tree's changes, and the states that it describes.
+-- `docs/crash-safety.md`, "What each call does", says what each call does to a state. It serves the
 -- proofs of `store`, and *after_put* the contract of `put`.
 use Rattle.std.specs.Prelude.{ℕ, ◌+◌, Bool, true, false, ◌&&◌, is_some, nat_lt, nat_le, List, [], ◌∷◌, map, length, slice_index_or, take, Some}
 use Rattle.base_core.specs.Files.{no_names, put_name}
@@ -8,7 +8,7 @@ use Rattle.tree_memory.specs.declared.store.Change.{Change}
 use Rattle.tree_memory.specs.declared.store.Change.TheVariants.{Put, Create, Append, Sync, Rename, Remove, SyncNames, Stay}
 use Rattle.tree_memory.specs.declared.store.Stored.{Stored}
 
--- what is under a number of which no file was made
+-- the file of a number for which no file was made
 abbrev pub no_file : File
 no_file = record { bytes = []; synced = false }
 
@@ -16,7 +16,7 @@ no_file = record { bytes = []; synced = false }
 abbrev pub empty_state : TreeState
 empty_state = record { files = λ n. no_file; made = 0; names = no_names; older = [] }
 
--- the state behind a put: a new synced file under the name, also where the name led to another, and the
+-- the state after a put: a new synced file under the name, even if the name led to another, and the
 -- names synced
 abbrev pub after_put : List ℕ → List ℕ → TreeState → TreeState
 after_put name bytes v = record {
@@ -26,7 +26,7 @@ after_put name bytes v = record {
   older = [];
 }
 
--- the bytes of the files by their numbers, as they stand now
+-- the current bytes of the files by their numbers
 abbrev pub contents_of : List Stored → List (List ℕ)
 contents_of files = map (λ file. file.bytes.items) files
 
@@ -34,12 +34,12 @@ contents_of files = map (λ file. file.bytes.items) files
 abbrev pub synced_flags : List Stored → List Bool
 synced_flags files = map (λ file. file.synced) files
 
--- The first bytes of a file, so many of them. A file only grows at its end, so that what it held behind
--- a change is such a front of its bytes now.
+-- The first bytes of a file, this many of them. A file only grows at its end, so what it held after a
+-- change is a prefix of its current bytes.
 abbrev pub front_of : List (List ℕ) → ℕ → ℕ → List ℕ
 front_of contents file len = take len (slice_index_or contents file [])
 
--- what a change makes of a state. Stay makes one more state that is the same
+-- what a change does to a state. Stay adds one more state that is the same
 abbrev pub step : List (List ℕ) → Change → TreeState → TreeState
 step contents (Put name file len) v = after_put name (front_of contents file len) v
 step contents (Create name) v = after_create name v
@@ -57,22 +57,21 @@ abbrev pub state_on : List (List ℕ) → TreeState → List Change → TreeStat
 state_on contents v [] = v
 state_on contents v (c ∷ cs) = state_on contents (step contents c v) cs
 
--- the states before the one that a record leads to, the newest first, and behind them those from before
--- the record
+-- the states before the one that a record leads to, the newest first, followed by those before the
+-- record
 abbrev pub earlier_on : List (List ℕ) → TreeState → List TreeState → List Change → List TreeState
 earlier_on contents v earlier [] = earlier
 earlier_on contents v earlier (c ∷ cs) = earlier_on contents (step contents c v) (v ∷ earlier) cs
 
 -- ---- what a record is
 
--- whether a file was made, and holds at least so many bytes: a record keeps a length for each change,
+-- whether a file was made, and has at least this many bytes: a record keeps a length for each change,
 -- and the bytes once
 abbrev pub is_front : List (List ℕ) → ℕ → ℕ → Bool
 is_front contents file len =
     nat_lt file (length contents) && nat_le len (length (slice_index_or contents file []))
 
--- whether a change of a state may be recorded: it speaks of bytes that are kept, and of names that
--- are present
+-- whether a change of a state may be recorded: its bytes are kept, and its names are present
 abbrev pub can_step : List (List ℕ) → Change → TreeState → Bool
 can_step contents (Put name file len) v = is_front contents file len
 can_step contents (Create name) v = true
@@ -83,7 +82,7 @@ can_step contents (Remove name) v = is_some (v.names name)
 can_step contents SyncNames v = true
 can_step contents Stay v = true
 
--- whether each of some changes may be recorded where those before it lead
+-- whether each of some changes may be recorded at the state to which those before it lead
 abbrev pub is_record : List (List ℕ) → TreeState → List Change → Bool
 is_record contents v [] = true
 is_record contents v (c ∷ cs) = can_step contents c v && is_record contents (step contents c v) cs

@@ -1,5 +1,5 @@
--- What a crash leaves, by a number. The rule is in `docs/crash-safety.md`, "Images of the
--- tree in memory"; what a crash may leave at all, in "What a crash leaves".
+-- What a crash leaves, by a number. The rule is in `docs/crash-safety.md`, "Images of the tree in
+-- memory"; "What a crash leaves" says what a crash may leave at all.
 use Rattle.std.specs.Prelude.{◌≡◌, ℕ, ◌+◌, ◌/◌, ◌%◌, Bool, true, false, if◌then◌else◌, ◌||◌, ◌==◌, List, [], ◌∷◌, reverse, length, replicate, slice_index_or}
 use Rattle.std.specs.Option.{option_map}
 use Rattle.base_core.specs.Files.{Files, NameMap, no_names}
@@ -20,14 +20,14 @@ maps_of v = reverse (v.names ∷ v.older)
 abbrev pub picked_map : ℕ → TreeState → NameMap
 picked_map choice v = slice_index_or (maps_of v) (choice % length (maps_of v)) no_names
 
--- what a file holds after a crash: a synced one its bytes; an unsynced one, by the way that is chosen,
+-- the contents of a file after a crash: a synced one keeps its bytes; an unsynced one has, as chosen,
 -- its bytes as read (0), nothing (1), or as many bytes of value 255 (2)
 abbrev pub crash_bytes : ℕ → File → List ℕ
 crash_bytes way file = if file.synced || way == 0 then file.bytes else
     (if way == 1 then [] else replicate (length file.bytes) 255)
 
--- the files after the crash that a number chooses: its remainder by the count of maps picks the map,
--- and the quotient modulo 3 what unsynced files hold
+-- the files after the crash that a number chooses: its remainder by the number of maps picks the map,
+-- and the quotient modulo 3 the contents of unsynced files
 abbrev pub image_of : ℕ → TreeState → Files
 image_of choice v q = option_map (λ n. crash_bytes ((choice / length (maps_of v)) % 3) (v.files n))
     (picked_map choice v q)
@@ -38,7 +38,7 @@ image_of choice v q = option_map (λ n. crash_bytes ((choice / length (maps_of v
 abbrev pub newest_first : TreeState → List NameMap
 newest_first v = v.names ∷ v.older
 
--- whether a change that may be recorded makes one more map of names
+-- whether a change that may be recorded adds a map of names
 abbrev pub adds_map : Change → Bool
 adds_map (Put name file len) = false
 adds_map (Create name) = true
@@ -49,7 +49,7 @@ adds_map (Remove name) = true
 adds_map SyncNames = false
 adds_map Stay = false
 
--- how many maps of names there are behind a change, by how many there were before
+-- how many maps of names there are after a change, given how many there were before
 abbrev pub maps_on : Change → ℕ → ℕ
 maps_on (Put name file len) maps = 1
 maps_on (Create name) maps = maps + 1
@@ -60,7 +60,7 @@ maps_on (Remove name) maps = maps + 1
 maps_on SyncNames maps = 1
 maps_on Stay maps = maps
 
--- a table has the names of a state, of which so many files were made
+-- a table has the names of a state, of which this many files were made
 pub record HasNames (v : TreeState) (entries : List NameAndFile) (count : ℕ) : Type 0 where
   pub names : (q : List ℕ) → v.names q ≡ lookup entries q
   pub made : v.made ≡ count

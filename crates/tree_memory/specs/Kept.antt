@@ -1,7 +1,6 @@
--- What is kept beside a record, so that it need not be read: the names and the files of its newest
--- state.
--- Serves the invariant of `Store`; *CanPut* the contract of `put`. When a state is sound stands in
--- `docs/crash-safety.md`, "A tree at one moment".
+-- The names and the files of a record's newest state, kept so that the record need not be read.
+-- They serve the invariant of `Store`; *CanPut* the contract of `put`. `docs/crash-safety.md`, "A tree
+-- at one moment", says when a state is sound.
 use Rattle.std.specs.Prelude.{◌≡◌, ℕ, true, false, List, [], ◌∷◌, length, slice_index_or, All}
 use Rattle.base_core.specs.Files.{NameMap, put_name, AreNames, IsFile, IsFolderLike}
 use Rattle.base_core.specs.Tree.{TreeState, IsMapOf}

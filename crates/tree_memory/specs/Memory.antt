@@ -1,4 +1,5 @@
--- What a tree in memory shows, and what each of its calls says beyond what every tree says.
+-- What is observable of a tree in memory, and what each of its calls ensures beyond the trait's
+-- contract.
 -- The rules are in `docs/crash-safety.md`, "Misuses, faults and counts".
 use Rattle.std.specs.Prelude.{◌≡◌, ◌⊎◌, ℕ, true, false, if◌then◌else◌, List, Result, OnOk, OnErr, is_ok}
 use Rattle.base_core.specs.Faults.{Counts, next_count}
@@ -24,8 +25,8 @@ plan_of tree = tree.calls.plan
 abbrev pub no_faults : Counts
 no_faults = record { faults = 0; misuses = 0; wants = 0; fallible = false }
 
--- the counts that a tree shows by its calls; it may fail for a reason of the world's (`fallible`) only
--- while a failure is planned
+-- the counts of a tree, given its calls; it may fail for an outside reason (`fallible`) only while a
+-- failure is planned
 abbrev pub counts_by : Calls → Counts
 counts_by calls = record {
   faults = calls.tally.faults;
@@ -34,7 +35,7 @@ counts_by calls = record {
   fallible = has_more calls.plan;
 }
 
--- how often the tree failed, was misused, and found no memory of its own
+-- how often the tree failed, was misused, and was out of memory
 abbrev pub counts_of : MemoryTree → Counts
 counts_of tree = counts_by tree.calls
 
@@ -42,7 +43,7 @@ counts_of tree = counts_by tree.calls
 abbrev pub calls_of : MemoryTree → ℕ
 calls_of tree = tree.calls.tally.calls
 
--- how many of its calls were others than `size`, `read_at`, `list` and `check_target`
+-- how many calls other than `size`, `read_at`, `list` and `check_target` were made
 abbrev pub writes_of : MemoryTree → ℕ
 writes_of tree = tree.calls.tally.writes
 
@@ -52,8 +53,8 @@ longest_of tree = tree.longest
 
 -- ---- a call that reads
 
--- a call that reads: it is counted, the plan is one call nearer, and an error is a fault, never for
--- lack of memory
+-- a call that reads: it is counted, the plan is one call nearer, and an error is a fault, but never
+-- means out of memory
 pub record IsRead {T E : Type 0} (old new : MemoryTree) (result : Result T E) : Type 0 where
   pub calls : calls_of new ≡ next_count (calls_of old)
   pub writes : writes_of new ≡ writes_of old
@@ -69,17 +70,17 @@ pub record IsFree (can : TreeState → Type 0) (old : MemoryTree) : Type 0 where
   pub unplanned : is_next (plan_of old) ≡ false
   pub proper : can (tree_state old)
 
--- a call failed since that was planned, or since it is a misuse
+-- a call failed because that was planned, or because it was a misuse
 pub record HadToFail (can : TreeState → Type 0) (old new : MemoryTree) : Type 0 where
   pub reason : (is_next (plan_of old) ≡ true) ⊎ (can (tree_state old) → ⊥)
   pub wants : (counts_of new).wants ≡ (counts_of old).wants
 
--- a call failed for lack of memory alone
+-- a call failed only because the tree was out of memory
 pub record FailedForWant (can : TreeState → Type 0) (old new : MemoryTree) : Type 0 where
   pub free : IsFree can old
   pub wants : (counts_of new).wants ≡ next_count (counts_of old).wants
 
--- a call that writes: it is counted, the plan is one call nearer, and an error is a fault, has one of
+-- a call that writes: it is counted, and the plan is one call nearer; an error is a fault, has one of
 -- these reasons, and changes nothing else
 pub record IsWrite {T E : Type 0} (can : TreeState → Type 0) (old new : MemoryTree)
     (result : Result T E) : Type 0 where

@@ -1,11 +1,11 @@
 -- A plan of failures: which calls are to fail, counted from 1 from now on.
--- The rule is that of `fail_at` and `stop_after`, as the README of this crate says; that a failure is
--- planned counts as a reason of the world's in `docs/crash-safety.md`, "Misuses, faults and counts".
+-- The rule is that of `fail_at` and `stop_after` in the README of this crate. A planned failure counts
+-- as an outside reason in `docs/crash-safety.md`, "Misuses, faults and counts".
 use Rattle.std.specs.Prelude.{ℕ, zero, suc, ◌-◌, ◌==◌, nat_lt, Bool, false, ◌||◌, List, [], map, Option, Some, None, is_some}
 use Rattle.std.specs.List.{list_any, filter}
 use Rattle.std.specs.Option.{option_map}
 
--- a plan: the calls with the numbers of a list are to fail, and all behind the next so many, where that
+-- a plan: the calls with the numbers of a list are to fail, and all after the next so many, if a stop
 -- is planned
 pub record PlanState : Type 0 where
   pub listed : List ℕ
@@ -30,32 +30,32 @@ is_stopped (Some n) = n == 0
 abbrev pub is_next : PlanState → Bool
 is_next plan = is_listed plan.listed || is_stopped plan.stop
 
--- whether a call still to come is to fail
+-- whether a later call is to fail
 abbrev pub has_more : PlanState → Bool
 has_more plan = list_any (λ n. nat_lt 0 n) plan.listed || is_some plan.stop
 
--- ---- the plan behind the next call
+-- ---- the plan after the next call
 
--- the listed numbers behind one call: each is one less, and what reaches 0 is past
+-- the listed numbers after one call: each is one less, and a number that reaches 0 is dropped
 abbrev pub listed_on : List ℕ → List ℕ
 listed_on listed = filter (λ n. nat_lt 0 n) (map (λ n. n - 1) listed)
 
--- the plan once one call was made
+-- the plan after one call
 abbrev pub one_on : PlanState → PlanState
 one_on plan = record { listed = listed_on plan.listed; stop = option_map (λ n. n - 1) plan.stop }
 
--- the plan behind so many calls
+-- the plan after this many calls
 abbrev pub plan_after : ℕ → PlanState → PlanState
 plan_after zero plan = plan
 plan_after (suc k) plan = plan_after k (one_on plan)
 
 -- ---- as it was made
 
--- whether call k, counted from 1, comes after the next so many; without a number none does
+-- whether call k, counted from 1, is after the next so many; never without a number
 abbrev pub is_behind : Option ℕ → ℕ → Bool
 is_behind None k = false
 is_behind (Some n) k = nat_lt n k
 
--- whether call k, counted from 1, is to fail: it is listed, or comes after those before the stop
+-- whether call k, counted from 1, is to fail: it is listed, or is after the stop
 abbrev pub is_to_fail : PlanState → ℕ → Bool
 is_to_fail plan k = list_any (λ n. n == k) plan.listed || is_behind plan.stop k

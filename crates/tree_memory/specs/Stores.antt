@@ -1,5 +1,5 @@
--- The states that a store shows.
--- What a history is is in `docs/crash-safety.md`, "Moments".
+-- The states of a store.
+-- `docs/crash-safety.md`, "Moments", says what a history is.
 use Rattle.std.specs.Prelude.{List, [], ◌∷◌}
 use Rattle.base_core.specs.Tree.{TreeState}
 use Rattle.tree_memory.specs.Changes.{empty_state, contents_of, state_on, earlier_on}

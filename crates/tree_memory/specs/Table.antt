@@ -11,7 +11,7 @@ use Rattle.std.specs.declared.cmp.Ordering.TheVariants.{Less, Greater}
 use Rattle.base_core.specs.Files.{IsFolderOf}
 use Rattle.tree_memory.specs.declared.table.NameAndFile.{NameAndFile}
 
--- entries are a table: each name comes before the next ones, so that none stands twice
+-- entries are a table: each name is before the next ones, so that none is repeated
 abbrev pub IsTable : List NameAndFile → Type 0
 IsTable entries = AllPairs (λ a b. slice_cmp nat_cmp a.name b.name ≡ Less) entries
 
@@ -24,31 +24,31 @@ abbrev pub lookup : List NameAndFile → List ℕ → Option ℕ
 lookup [] q = None
 lookup (e ∷ es) q = if bytes_eq q e.name then Some e.file else lookup es q
 
--- this name stands at this place of a table, counted from 0
+-- this name is at this place of a table, counted from 0
 pub record IsNamed (entries : List NameAndFile) (i : ℕ) (name : List ℕ) : Type 0 where
   pub within : i < length entries
   pub here : HoldsAt (λ e. e.name ≡ name) entries i
 
--- this name is absent from a table, and would stand at this place, counted from 0
+-- this name is absent from a table, and would be inserted at this place, counted from 0
 pub record IsPlace (entries : List NameAndFile) (i : ℕ) (name : List ℕ) : Type 0 where
   pub within : i ≤ length entries
   pub before : AllWithin (λ e. slice_cmp nat_cmp e.name name ≡ Less) entries 0 i
   pub behind : AllWithin (λ e. slice_cmp nat_cmp e.name name ≡ Greater) entries i (length entries)
 
--- the names below this folder begin at this place of a table, counted from 0, or would; 47 is the `/`
--- behind the folder
+-- the names below this folder begin, or would begin, at this place of a table, counted from 0; 47 is
+-- the `/` after the folder
 pub record IsStart (entries : List NameAndFile) (i : ℕ) (folder : List ℕ) : Type 0 where
   pub within : i ≤ length entries
   pub before : AllWithin (λ e. slice_cmp nat_cmp e.name (folder ++ 47 ∷ []) ≡ Less) entries 0 i
   pub behind : AllWithin (λ e. slice_cmp nat_cmp e.name (folder ++ 47 ∷ []) ≢ Less) entries i
       (length entries)
 
--- these are just the names of a table below this folder, in byte order
+-- exactly the names of a table below this folder, in byte order
 pub record IsBelow (entries : List NameAndFile) (folder : List ℕ) (names : List (List ℕ)) : Type 0 where
   pub rising : AllPairs (λ a b. slice_cmp nat_cmp a b ≡ Less) names
   pub each : (q : List ℕ) → Contains names q ↔ (IsSome (lookup entries q) × IsFolderOf folder q)
 
--- ---- where a name fits, if one name is left out
+-- ---- whether a name fits, if one name is left out
 
 -- a folder of this name is a name of the table, and not the one left out
 abbrev pub HasFolderBut : List NameAndFile → List ℕ → List ℕ → Type 0
@@ -56,14 +56,14 @@ HasFolderBut entries name but =
     (folder : List ℕ) × IsFolderOf folder name
     × (IsSome (lookup entries folder) × (bytes_eq folder but ≡ false))
 
--- this folder has a name of the table below it, and not just the one left out
+-- a name of the table, other than the one left out, is below this folder
 abbrev pub HasBelowBut : List NameAndFile → List ℕ → List ℕ → Type 0
 HasBelowBut entries folder but =
     (name : List ℕ) × IsFolderOf folder name
     × (IsSome (lookup entries name) × (bytes_eq name but ≡ false))
 
--- no name of the table is a folder of this one or lies below it, but the one left out: the name
--- that a rename takes away, or the name itself
+-- no name of the table, other than the one left out, is a folder of this one or below it. Left out is
+-- the name that a rename removes, or the name itself
 pub record IsFit (entries : List NameAndFile) (name but : List ℕ) : Type 0 where
   pub above : HasFolderBut entries name but → ⊥
   pub below : HasBelowBut entries name but → ⊥

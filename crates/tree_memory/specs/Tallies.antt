@@ -1,4 +1,4 @@
--- The counts of a tree in memory, and what a call makes of them.
+-- The counts of a tree in memory, and how a call changes them.
 -- The rules are in `docs/crash-safety.md`, "Misuses, faults and counts". Serves the contracts of
 -- `calls`.
 use Rattle.std.specs.Prelude.{◌≤◌, Bool, true, false}
@@ -13,27 +13,27 @@ no_calls = record { calls = 0; writes = 0; faults = 0; misuses = 0; wants = 0 }
 abbrev pub with_call : Tally → Tally
 with_call t = record t { calls = next_count t.calls }
 
--- the counts where the call failed: one fault more
+-- the counts if the call failed: one more fault
 abbrev pub with_fault : Tally → Tally
 with_fault t = record t { faults = next_count t.faults }
 
--- the counts where the call was a misuse, which always fails: one fault more, and one misuse
+-- the counts if the call was a misuse, which always fails: one more fault, and one more misuse
 abbrev pub with_misuse : Tally → Tally
 with_misuse t = record t { faults = next_count t.faults; misuses = next_count t.misuses }
 
--- the counts where the call found no memory of the tree's own: one fault more, and one want
+-- the counts if the tree was out of memory: one more fault, and one more lack of memory
 abbrev pub with_want : Tally → Tally
 with_want t = record t { faults = next_count t.faults; wants = next_count t.wants }
 
--- the counts where a call is begun, by whether the state allows it, and whether it is planned to fail.
--- A misuse that is planned to fail counts as a misuse alone.
+-- the counts after the begin of a call, given whether the state allows it and whether it is planned to
+-- fail. A misuse that is planned to fail counts as a misuse alone.
 abbrev pub with_begun_call : Bool → Bool → Tally → Tally
 with_begun_call false planned t = with_misuse (with_call t)
 with_begun_call true true t = with_fault (with_call t)
 with_begun_call true false t = with_call t
 
--- whether a call that was begun goes on, by whether the state allows it, and whether it is planned to
--- fail
+-- whether a call continues after its begin, given whether the state allows it and whether it is planned
+-- to fail
 abbrev pub goes_on : Bool → Bool → Bool
 goes_on false planned = false
 goes_on true true = false

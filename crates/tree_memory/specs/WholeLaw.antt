@@ -1,4 +1,4 @@
--- Each state that a tree in memory shows is whole.
+-- Each state of a tree in memory is whole.
 -- The rule is in `docs/crash-safety.md`, "A tree at one moment": each state is whole. It is proved
 -- here and not in `proofs/`, since the field `whole` of `Tree` is this proof.
 use Rattle.std.specs.Prelude.{◌≡◌, ℕ, ◌+◌, ◌<◌, ◌≤◌, Bool, true, false, if◌then◌else◌, ◌||◌, List, [], ◌∷◌, Option, Some, None, IsSome, All, refl}

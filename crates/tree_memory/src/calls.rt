@@ -18,7 +18,7 @@ use std::marker::Model;
 pub struct Plan {
     // The calls with these numbers are to fail.
     listed: Vec<u64>,
-    // All calls behind the next so many are to fail, if that is planned.
+    // All calls after the next so many are to fail, if a stop is planned.
     stop: Option<u64>,
 }
 
@@ -49,7 +49,7 @@ impl Plan {
         Ok(Plan { listed, stop: None })
     }
 
-    /// The plan by which all calls behind the next n are to fail.
+    /// The plan by which all calls after the next n are to fail.
     pub fn after(alloc: Global, n: u64) -> Plan
         ensures { result ≡ record { listed = []; stop = Some n } }
     {
@@ -59,7 +59,7 @@ impl Plan {
         }
     }
 
-    /// Whether the next call is to fail. The plan is one call nearer then.
+    /// Whether the next call is to fail. Afterwards the plan is one call nearer.
     pub fn pass(&mut self) -> bool
         ensures planned { result ≡ is_next self.old }
         ensures nearer { self.new ≡ one_on self.old }
@@ -75,7 +75,7 @@ impl Plan {
     }
 }
 
-// Whether the next call is one of those with these numbers, which are one call nearer.
+// Whether the next call is one of these numbers, which are one call nearer afterwards.
 fn pass(plan: &mut Vec<u64>) -> bool
     ensures planned { result ≡ is_listed plan.old.items }
     ensures nearer { plan.new.items ≡ listed_on plan.old.items }
@@ -100,7 +100,7 @@ pub struct Tally {
     pub faults: u64,
     /// Of these, the misuses.
     pub misuses: u64,
-    /// Calls that found no memory of the tree's own.
+    /// Calls that failed because the tree itself was out of memory.
     pub wants: u64,
 }
 
@@ -149,7 +149,7 @@ impl Tally {
         self.misuses = self.misuses.saturating_add(1);
     }
 
-    /// Counts the call as one that found no memory, which is a fault too.
+    /// Counts the call as out of memory, which is a fault too.
     pub fn want(&mut self)
         ensures is { self.new ≡ with_want self.old }
         ensures grown { HasGrown self.old self.new }
@@ -180,7 +180,7 @@ impl Calls {
         }
     }
 
-    /// Counts a call. It fails if it is a misuse, or if that is planned.
+    /// Counts a call. It fails if it is a misuse, or if its failure is planned.
     pub fn begin(&mut self, can: bool) -> Result<(), Disk>
         // The plan is one call nearer, and the call is counted, with its failure if it has one.
         ensures plan { self.new.plan ≡ one_on self.old.plan }
@@ -202,7 +202,7 @@ impl Calls {
         Ok(())
     }
 
-    /// Counts a call that writes. It fails if it is a misuse, or if that is planned.
+    /// Counts a call that writes. It fails if it is a misuse, or if its failure is planned.
     pub fn begin_write(&mut self, can: bool) -> Result<(), Disk>
         ensures plan { self.new.plan ≡ one_on self.old.plan }
         ensures tally { self.new.tally ≡ with_begun_call can (is_next self.old.plan)
@@ -214,7 +214,7 @@ impl Calls {
         self.begin(can)
     }
 
-    /// Ends a call that went on: where it found no memory, that is counted as the call's fault.
+    /// Ends a call that did not fail at its start: out of memory is counted as the call's fault.
     pub fn finish(&mut self, done: Result<(), AllocError>) -> Result<(), Disk>
         ensures plan { self.new.plan ≡ self.old.plan }
         ensures tally { self.new.tally
@@ -232,8 +232,7 @@ impl Calls {
     }
 }
 
-/// Where no failure of a tree in memory is planned, a fault is a misuse, or comes for lack of its
-/// own memory.
+/// If no failure of a tree in memory is planned, a fault is a misuse, or the tree is out of memory.
 pub fn an_unplanned_fault_has_its_reason()
     ensures { (before now : MemoryTree) → has_more (plan_of before) ≡ false
         → HasCause (counts_of before) (counts_of now)
@@ -241,14 +240,14 @@ pub fn an_unplanned_fault_has_its_reason()
         ⊎ Rose (counts_of before).wants (counts_of now).wants }
 {}
 
-/// Where no end of a sink in memory is planned, a fault comes for lack of its own memory.
+/// If no end of a sink in memory is planned, a fault means that the sink is out of memory.
 pub fn an_endless_sink_fails_for_want_of_memory()
     ensures { (before now : SinkState) → before.room ≡ None
         → HasCause (sink_counts before) (sink_counts now) → Rose before.wants now.wants }
 {}
 
-/// Of the calls from now on, call k fails, apart from misuses and lack of memory, exactly when it
-/// is listed or behind the stop.
+/// Apart from misuses and out of memory, call k from now on fails exactly if it is listed or after
+/// the stop.
 pub fn a_call_fails_where_it_is_planned()
     ensures { (plan : PlanState) (k : ℕ) → is_next (plan_after k plan) ≡ is_to_fail plan (k + 1) }
 {}

@@ -14,7 +14,7 @@ use crate::table::NameTable;
 use std::alloc::{AllocError, Global};
 
 impl Store {
-    /// How many maps of names there are that a crash may leave.
+    /// How many maps of names a crash may leave.
     pub fn maps(&self) -> u64
         ensures count { result ≡ length (maps_of (store_state self.now)) }
         ensures some { 0 < result }
@@ -26,8 +26,8 @@ impl Store {
         maps
     }
 
-    /// The store after the crash that a number chooses: which map of names, and what an unsynced
-    /// file then holds.
+    /// The store after the crash that a number chooses: the number picks the map of names and the
+    /// contents of unsynced files.
     pub fn image(&self, alloc: Global, choice: u64) -> Result<Store, AllocError>
         ensures files { IfOk result (λ image.
             files_of (store_state image) ≡ image_of choice (store_state self.now)) }
@@ -48,7 +48,7 @@ impl Store {
     }
 }
 
-// How many maps of names there are behind one change more.
+// How many maps of names there are after one more change.
 fn maps_after(maps: u64, change: &Change) -> u64
     // Counts have 64 bits, and the change may add one.
     requires { maps < 2 ^ 64 - 1 }
@@ -66,7 +66,7 @@ fn maps_after(maps: u64, change: &Change) -> u64
     }
 }
 
-// Whether a change makes one more map of names.
+// Whether a change adds a map of names.
 fn adds_map(change: &Change) -> bool
     ensures { result ≡ adds_map change.now }
 {
@@ -82,8 +82,8 @@ fn adds_map(change: &Change) -> bool
     }
 }
 
-// The length of the record at the point where the map of names was current that is `back` maps
-// before the newest one.
+// How many changes the record had when the map of names was current that is `back` maps before the
+// newest one.
 fn moment(changes: &[Change], back: u64) -> usize
     ensures within { result ≤ length changes.now }
     ensures names { (contents : List (List ℕ)) → is_record contents empty_state changes.now ≡ true
@@ -106,7 +106,7 @@ fn moment(changes: &[Change], back: u64) -> usize
     n
 }
 
-// The names behind the first changes of a record.
+// The names after the first changes of a record.
 fn names_after(alloc: Global, changes: &[Change]) -> Result<NameTable, AllocError>
     ensures { IfOk result (λ names. (contents : List (List ℕ)) (q : List ℕ)
         → (state_on contents empty_state changes.now).names q ≡ lookup names.entries.items q) }
@@ -119,7 +119,7 @@ fn names_after(alloc: Global, changes: &[Change]) -> Result<NameTable, AllocErro
     Ok(names)
 }
 
-// Goes on to the names behind one change more, and answers how many files were made then.
+// Applies one more change to the names, and returns how many files were made then.
 fn replay(
     alloc: Global,
     names: &mut NameTable,
@@ -133,7 +133,7 @@ fn replay(
         → HasNames v names.old.entries.items made
         → HasNames (step contents change.now v) names.new.entries.items n) }
 {
-    // A change of bytes alone leaves the names, and so do syncs.
+    // A change of bytes alone keeps the names, and so do syncs.
     match change {
         Change::Put { name, .. } => {
             names.set(name.copy(alloc)?, made)?;
@@ -161,8 +161,8 @@ fn replay(
     }
 }
 
-// What a file holds after a crash: its bytes if it is synced, and else by the way that was
-// chosen its bytes as read, nothing, or as many bytes of value 255.
+// The contents of a file after a crash: its bytes if it is synced; otherwise, as chosen, its bytes
+// as read, nothing, or as many bytes of value 255.
 fn crash_bytes(alloc: Global, file: &Stored, way: u64) -> Result<Vec<u8>, AllocError>
     ensures { IfOk result (λ bytes. bytes.items ≡ crash_bytes way (stored_file file.now)) }
 {

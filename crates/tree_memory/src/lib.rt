@@ -1,10 +1,10 @@
-//! A tree and a sink in memory, which show all that they hold. Tests and generated runs work on
-//! them: they are filled by hand, fail if it is planned, and are read back.
+//! A tree and a sink in memory, with everything observable. Tests and generated runs fill them,
+//! plan their failures, and read them back.
 //!
-//! Names and bytes come in and are lent. The contracts cite `Memory` (the states of a tree, its
-//! counts and its plan, and why a call fails), `Changes` (what a put makes of a state), `Kept`
-//! (where a file may be put), `Images` (what is left after a crash, by a number), `Plans` (which
-//! calls are to fail) and `Sink` (the sink) of `specs/`.
+//! Names and bytes are copied in and lent out. The contracts cite of `specs/`: `Memory` (the states
+//! of a tree, its counts and its plan, and why a call fails), `Changes` (what a put does to a
+//! state), `Kept` (where a file may be put), `Images` (what a crash leaves, by a number), `Plans`
+//! (which calls are to fail) and `Sink` (the sink).
 //! The rules are in `docs/crash-safety.md`, "What each call does" and "Misuses, faults and
 //! counts".
 #![tactic(auto)]

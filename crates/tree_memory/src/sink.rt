@@ -1,6 +1,6 @@
 //! A sink in memory.
-//! The contract is that of `Sink` of `base_core`; the counts stand in `docs/crash-safety.md`,
-//! "Misuses, faults and counts".
+//! The contract is that of `Sink` of `base_core`; the counts are described in
+//! `docs/crash-safety.md`, "Misuses, faults and counts".
 ghost use Rattle.std.specs.Prelude.{◌≡◌, ◌≤◌, List, Option, Some, take, IfOk, OnErr, [], IsOk};
 ghost use Rattle.base_core.specs.Faults.{FailsWithCause, next_count};
 ghost use Rattle.base_core.specs.Sink.{Adds, IsWriteCount};
@@ -10,17 +10,17 @@ use base_core::{Sink, SinkFault};
 use std::alloc::Global;
 use std::marker::Model;
 
-/// A sink in memory. It shows all: its bytes, how many more it takes, and its counts.
+/// A sink in memory, with everything observable: its bytes, how many more it takes, and its counts.
 #[derive(Drop)]
 pub struct MemorySink {
     bytes: Vec<u8>,
-    // How many more bytes it takes, where its end is planned.
+    // How many more bytes it takes, if its end is planned.
     room: Option<usize>,
-    // How many bytes a write takes at most, if that is planned.
+    // How many bytes a write takes at most, if a limit is planned.
     most: Option<usize>,
     // How many writes failed.
     faults: u64,
-    // How many of these failed for lack of memory.
+    // How many of these failed because the sink was out of memory.
     wants: u64,
 }
 
@@ -60,14 +60,14 @@ impl MemorySink {
         &self.bytes
     }
 
-    /// Takes so many more bytes, and then fails each write of some.
+    /// Takes this many more bytes; then each write of a byte fails.
     pub fn fail_after(&mut self, n: usize)
         ensures { self.new ≡ record self.old { room = Some n } }
     {
         self.room = Some(n);
     }
 
-    /// Takes at most so many bytes in each write, as a pipe may.
+    /// Takes at most this many bytes in each write, as a pipe may.
     pub fn take_at_most(&mut self, n: usize)
         requires { 1 ≤ n }
         ensures { self.new ≡ record self.old { most = Some n } }
@@ -75,7 +75,7 @@ impl MemorySink {
         self.most = Some(n);
     }
 
-    /// How many writes failed for lack of the sink's own memory.
+    /// How many writes failed because the sink was out of memory.
     pub fn wants(&self) -> u64
         ensures { result ≡ self.now.wants }
     {
@@ -91,7 +91,7 @@ impl MemorySink {
         SinkFault
     }
 
-    /// Counts a write that failed for lack of memory, which is a fault too.
+    /// Counts a write that failed because the sink was out of memory, which is a fault too.
     fn want(&mut self) -> SinkFault
         ensures is { self.new ≡ record self.old {
           faults = next_count self.old.faults;
@@ -106,7 +106,7 @@ impl MemorySink {
     }
 }
 
-// How many of so many bytes fit into the room that is left; all where no end is planned.
+// How many of these bytes fit into the room that is left; all if no end is planned.
 fn len_that_fits(room: Option<usize>, len: usize) -> usize
     ensures { result ≡ len_that_fits room len }
 {
@@ -116,8 +116,7 @@ fn len_that_fits(room: Option<usize>, len: usize) -> usize
     }
 }
 
-// How many of so many bytes a write takes, by the most that was said. At least one byte is taken
-// if there is one.
+// How many of these bytes a write takes, by the planned limit: at least one if there is one.
 fn part(most: Option<usize>, len: usize) -> usize
     ensures { result ≡ part most len }
 {
@@ -132,7 +131,7 @@ impl Sink for MemorySink {
 
     ghost counts = { λ sink. sink_counts sink };
 
-    /// Takes the front of a piece, as much as it can, and answers how many bytes that is.
+    /// Takes a prefix of a piece, as long as it can, and returns how many bytes that is.
     fn write(&mut self, piece: &[u8]) -> Result<usize, SinkFault>
         ensures taken { IfOk result (λ n. IsWriteCount n piece.now) }
         ensures empty { piece.now ≡ [] → IsOk result }
@@ -141,8 +140,8 @@ impl Sink for MemorySink {
         ensures unchanged { OnErr result (Some self.new.bytes ≡ Some self.old.bytes) }
         ensures cause { FailsWithCause (sink_counts self.old) (sink_counts self.new) result }
 
-        // It takes all that fits, or the most that a write takes, and fails only if nothing
-        // fits, or for lack of its own memory.
+        // It takes all that fits, or the most that a write takes. It fails only if nothing fits or
+        // the sink is out of memory.
         ensures ok { IfOk result (λ n. Takes self.old piece.now n self.new) }
         ensures err { OnErr result (Refuses self.old piece.now self.new) }
     {

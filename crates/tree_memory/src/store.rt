@@ -1,6 +1,6 @@
-//! The store of a tree in memory: its record of changes, and what stands now.
-//! The rules are in `docs/crash-safety.md`, "What each call does", for what a change makes, and
-//! "Misuses, faults and counts", for what is a misuse.
+//! The store of a tree in memory: its record of changes, and the current state.
+//! The rules are in `docs/crash-safety.md`: "What each call does" for what a change does, "Misuses,
+//! faults and counts" for what is a misuse.
 
 ghost use Rattle.std.specs.Prelude.{◌≡◌, ◌↔◌, ℕ, ◌<◌, ◌≤◌, ◌+◌, [], ◌∷◌, ◌++◌, List, IsTrue, IfOk, IfSome, OnOk, OnErr, length, take, drop, false, All};
 ghost use Rattle.std.specs.Option.{option_copied};
@@ -14,7 +14,7 @@ use crate::table::NameTable;
 use base_core::{Name, Names};
 use std::alloc::{AllocError, Global};
 
-/// The record of what was made of a tree, and what stands now: the names, and the files by number.
+/// The record of all changes of a tree, and its current state: the names, and the files by number.
 #[derive(Drop)]
 pub struct Store {
     pub alloc: Global,
@@ -22,7 +22,7 @@ pub struct Store {
     pub changes: Vec<Change>,
     /// The names as read now.
     pub names: NameTable,
-    /// All files that were made, by their numbers, also those that no name leads to any more.
+    /// All files that were made, by their numbers, including those that no name leads to any more.
     pub files: Vec<Stored>,
     // The names and the files are those of the record's newest state.
     pub ghost in_step: { IsStore changes.items names.entries.items files.items },
@@ -80,7 +80,7 @@ impl Store {
         self.names.list_below(alloc, folder.as_bytes())
     }
 
-    // ---- where a call is no misuse
+    // ---- when a call is no misuse
 
     /// Whether the file is there, and has so many bytes from this offset on.
     pub fn can_read(&self, name: &Name, at: u64, len: usize) -> bool
@@ -129,7 +129,7 @@ impl Store {
         self.names.fits(to.as_bytes(), from.as_bytes())
     }
 
-    // ---- what is made of it, where a refused change changes nothing
+    // ---- changes; a refused change changes nothing
 
     /// Puts a new synced file under the name, and syncs the names.
     pub fn put(&mut self, name: &Name, bytes: Vec<u8>) -> Result<(), AllocError>
@@ -138,7 +138,7 @@ impl Store {
             ≡ after_put name.now bytes.items (store_state self.old) ∷ store_history self.old) }
         ensures err { OnErr result (store_history self.new ≡ store_history self.old) }
     {
-        // All memory is taken before the first change, so that a refused put changes nothing.
+        // All memory is reserved before the first change, so that a refused put changes nothing.
         self.changes.reserve(1)?;
         self.files.reserve(1)?;
         let file = self.files.len();
@@ -244,7 +244,7 @@ impl Store {
         Ok(())
     }
 
-    /// Takes the name away; an absent one makes one more state that is the same.
+    /// Removes the name; removing an absent name adds one more state that is the same.
     pub fn remove(&mut self, name: &Name) -> Result<(), AllocError>
         ensures ok { OnOk result (store_history self.new
             ≡ after_remove name.now (store_state self.old) ∷ store_history self.old) }
@@ -283,7 +283,7 @@ fn add<X: Drop>(list: &mut Vec<X>, x: X)
     let _ = list.push(x);
 }
 
-/// Whether so many bytes stand from this offset on.
+/// Whether this many bytes follow the offset.
 fn has_range(bytes: &[u8], at: u64, len: usize) -> bool
     ensures { IsTrue result ↔ (at + len ≤ length bytes.now) }
 {
@@ -294,7 +294,7 @@ fn has_range(bytes: &[u8], at: u64, len: usize) -> bool
     len <= have - at as usize
 }
 
-/// Copies the bytes from an offset on, as many as are asked for.
+/// Copies bytes from an offset on, as many as the buffer has.
 fn copy_from(bytes: &[u8], start: usize, into: &mut [u8])
     requires { start + length into.old ≤ length bytes.now }
     ensures { into.new ≡ take (length into.old) (drop start bytes.now) }
@@ -303,40 +303,40 @@ fn copy_from(bytes: &[u8], start: usize, into: &mut [u8])
     into.copy_from_slice(&bytes[start..end]);
 }
 
-/// What was made of a tree. Bytes are given by the number of their file and the file's length
-/// behind the change, and are kept with the file.
+/// A change of a tree. Bytes are given by the number of their file and the file's length after the
+/// change, and are kept with the file.
 #[derive(Drop)]
 pub enum Change {
     /// A new synced file under a name, and the names synced.
     Put { name: Name, file: usize, len: usize },
     /// A new empty file under a name.
     Create { name: Name },
-    /// Bytes at the file's end, which is not synced any more.
+    /// Bytes at the file's end, which makes it unsynced.
     Append { file: usize, len: usize },
     /// The file is synced.
     Sync { file: usize },
-    /// A present name leads to none any more, and another to its file.
+    /// A present name is absent then, and another leads to its file.
     Rename { from: Name, to: Name },
-    /// A present name leads to none any more.
+    /// A present name is absent then.
     Remove { name: Name },
     /// The names are synced.
     SyncNames,
-    /// Nothing changed: an absent name was taken away.
+    /// Nothing changed: an absent name was removed.
     Stay,
 }
 
-/// The bytes of a file, and whether a crash leaves just these.
+/// The bytes of a file, and whether a crash keeps exactly these.
 #[derive(Drop)]
 pub struct Stored {
     /// The bytes as read.
     pub bytes: Vec<u8>,
-    /// Whether a crash leaves just these.
+    /// Whether a crash keeps exactly these.
     pub synced: bool,
 }
 
 impl Stored {
-    /// Adds a piece at the end of the file, which is not synced then. If there is no memory
-    /// nothing changes.
+    /// Adds a piece at the end of the file, which is unsynced then. If out of memory, nothing
+    /// changes.
     pub fn append(&mut self, piece: &[u8]) -> Result<(), AllocError>
         ensures bytes { OnOk result (self.new.bytes.items ≡ self.old.bytes.items ++ piece.now) }
         ensures synced { OnOk result (self.new.synced ≡ false) }

@@ -49,7 +49,7 @@ impl NameTable {
         }
     }
 
-    // The place of the name, or else the one where it would have to stand.
+    // The place of the name, or else the place where it would be inserted.
     fn place(&self, name: &[u8]) -> Result<usize, usize>
         ensures found { IfOk result (λ i. IsNamed self.now.entries.items i name.now) }
         ensures absent { IfErr result (λ i. IsPlace self.now.entries.items i name.now) }
@@ -58,7 +58,7 @@ impl NameTable {
             .binary_search_by(|entry| entry.name.as_bytes().cmp(name))
     }
 
-    /// Lets a name lead to a number. If there is no memory nothing changes.
+    /// Lets a name lead to a number. If out of memory, nothing changes.
     pub fn set(&mut self, name: Name, file: usize) -> Result<(), AllocError>
         ensures ok { OnOk result ((q : List ℕ)
             → lookup self.new.entries.items q
@@ -72,7 +72,7 @@ impl NameTable {
         Ok(())
     }
 
-    /// Takes a name away.
+    /// Removes a name.
     pub fn remove(&mut self, name: &[u8])
         ensures { (q : List ℕ) → lookup self.new.entries.items q
             ≡ drop_name (lookup self.old.entries.items) name.now q }
@@ -83,8 +83,8 @@ impl NameTable {
     }
 
     /// Whether the name may be made: it is no folder of a name of the table other than `but`, and
-    /// has none of them as its folder. `but` is the name that a rename takes away; where a file is
-    /// put it is the name itself.
+    /// has none of them as its folder. `but` is the name that a rename removes; for a put it is the
+    /// name itself.
     pub fn fits(&self, name: &[u8], but: &[u8]) -> bool
         ensures { IsTrue result ↔ IsFit self.now.entries.items name.now but.now }
     {
@@ -117,7 +117,7 @@ impl NameTable {
         self.find(name).is_some()
     }
 
-    // Whether a name of the table, other than `but`, lies below the folder.
+    // Whether a name of the table, other than `but`, is below the folder.
     fn has_below(&self, folder: &[u8], but: &[u8]) -> bool
         ensures { IsTrue result ↔ HasBelowBut self.now.entries.items folder.now but.now }
     {

@@ -20,10 +20,11 @@ use crate::store::Store;
 use base_core::{Disk, Name, Names, Tree, TreeFault};
 use std::alloc::{AllocError, Global};
 
-/// A tree of files in memory. It shows all: its states, its counts, and which calls are to fail.
+/// A tree of files in memory, with everything observable: its states, its counts, and which calls
+/// are to fail.
 #[derive(Drop)]
 pub struct MemoryTree {
-    // The states, as a record of changes, and what stands now.
+    // The states, as a record of changes, and the current state.
     store: Store,
     // Which calls are to fail, and how many there were.
     calls: Calls,
@@ -57,7 +58,7 @@ impl MemoryTree {
         self.store.can_put(name)
     }
 
-    /// Sets a synced file, and syncs the names. It is no call of `Tree` and is not counted. A
+    /// Puts a synced file, and syncs the names. It is no call of `Tree` and is not counted. A
     /// refused put changes nothing.
     pub fn put(&mut self, name: &Name, bytes: &[u8]) -> Result<(), AllocError>
         requires { CanPut name.now (tree_state self.old) }
@@ -90,8 +91,8 @@ impl MemoryTree {
         self.store.names(alloc)
     }
 
-    /// Makes the calls with these numbers fail, counted from 1 from now on, in place of those that
-    /// were planned before. A refused plan changes nothing.
+    /// Makes the calls with these numbers fail, counted from 1 from now on; this replaces the
+    /// earlier plan. A refused plan changes nothing.
     pub fn fail_at(&mut self, calls: &[u64]) -> Result<(), AllocError>
         ensures ok { OnOk result (plan_of self.new ≡ record { listed = calls.now; stop = None }) }
         ensures err { OnErr result (plan_of self.new ≡ plan_of self.old) }
@@ -106,7 +107,7 @@ impl MemoryTree {
         Ok(())
     }
 
-    /// Makes every call after the next n fail, in place of those that were planned before.
+    /// Makes every call after the next n fail; this replaces the earlier plan.
     pub fn stop_after(&mut self, n: u64)
         ensures plan { plan_of self.new ≡ record { listed = []; stop = Some n } }
         ensures history { history_of self.new ≡ history_of self.old }
@@ -118,11 +119,11 @@ impl MemoryTree {
         self.calls.plan = Plan::after(self.store.alloc, n);
     }
 
-    /// A new tree, the one after a crash: it has one of the maps of names and all its files are
-    /// synced. With m maps, it has map `choice mod m`, counted from the oldest as 0. A file that
-    /// was not synced holds what was read where `(choice / m) mod 3` is 0, nothing if it is 1,
-    /// and as many bytes of value 255 if it is 2. The new tree has no faults and no planned
-    /// failures. The tree itself stays as it is.
+    /// A new tree as after a crash: it has one of the maps of names, and all its files are synced.
+    /// With m maps, it has map `choice mod m`, counted from the oldest as 0. A file that was not
+    /// synced has its bytes as read if `(choice / m) mod 3` is 0, nothing if it is 1, and as many
+    /// bytes of value 255 if it is 2. The new tree has no faults and no planned failures. The tree
+    /// itself is unchanged.
     pub fn pick_image(&self, alloc: Global, choice: u64) -> Result<MemoryTree, AllocError>
         ensures files { IfOk result (λ image.
             files_of (tree_state image) ≡ image_of choice (tree_state self.now)) }
@@ -148,7 +149,7 @@ impl MemoryTree {
         self.calls.tally.calls
     }
 
-    /// How many of its calls were others than `size`, `read_at`, `list` and `check_target`.
+    /// How many calls other than `size`, `read_at`, `list` and `check_target` were made.
     pub fn writes(&self) -> u64
         ensures { result ≡ writes_of self.now }
     {
@@ -162,22 +163,22 @@ impl MemoryTree {
         self.calls.tally.faults
     }
 
-    /// How many of its calls failed for lack of the tree's own memory.
+    /// How many of its calls failed because the tree was out of memory.
     pub fn wants(&self) -> u64
         ensures { result ≡ (counts_of self.now).wants }
     {
         self.calls.tally.wants
     }
 
-    /// The greatest length that a `read_at` asked for, in bytes. It shows that no file is read
-    /// whole.
+    /// The greatest length that a `read_at` asked for, in bytes. A test sees by it that no file is
+    /// read whole.
     pub fn longest_read(&self) -> u64
         ensures { result ≡ longest_of self.now }
     {
         self.longest
     }
 
-    /// How many maps of names there are, any one of which a crash may leave.
+    /// How many maps of names a crash may leave.
     pub fn maps(&self) -> u64
         ensures { result ≡ length (maps_of (tree_state self.now)) }
     {
@@ -195,7 +196,7 @@ impl Tree for MemoryTree {
 
     ghost whole = { λ tree. whole_history tree };
 
-    // A tree in memory takes a file under each name, and gives each up.
+    // A tree in memory takes a file under each name, and allows each name to be removed.
     ghost accepts = { λ source name. Unit {0} };
 
     /// The length of a file in bytes, or None if the name is absent.
@@ -207,7 +208,7 @@ impl Tree for MemoryTree {
             IfObservable (history_of self.old)
             (λ v. size ≡ option_map length (files_of v name.now))) }
 
-        // It fails exactly when that is planned.
+        // It fails exactly if that is planned.
         ensures when { IsOk result ↔ (is_next (plan_of self.old) ≡ false) }
         ensures call { IsRead self.old self.new result }
         ensures longest { longest_of self.new ≡ longest_of self.old }
@@ -228,7 +229,7 @@ impl Tree for MemoryTree {
             (λ v. IfSome (files_of v name.now) (λ bytes.
             into.new ≡ take (length into.old) (drop at bytes)))) }
 
-        // It fails exactly when that is planned, and at a misuse.
+        // It fails exactly if that is planned, or if it is a misuse.
         ensures when { IsOk result ↔ ((is_next (plan_of self.old) ≡ false)
             × CanRead name.now at (length into.old) (tree_state self.old)) }
         ensures same_state { OnErr result (into.new ≡ into.old) }
@@ -249,8 +250,8 @@ impl Tree for MemoryTree {
         ensures counts { IsCounted (CanCreate name.now) (history_of self.old) (counts_of self.old)
             (counts_of self.new) result }
 
-        // It fails exactly at a misuse, if that is planned, and for lack of memory, and then
-        // changes nothing.
+        // It fails exactly if it is a misuse, if that is planned, or if the tree is out of memory,
+        // and then changes nothing.
         ensures call { IsWrite (CanCreate name.now) self.old self.new result }
     {
         let can = self.store.can_create(name);
@@ -273,7 +274,7 @@ impl Tree for MemoryTree {
         self.calls.finish(done)
     }
 
-    /// Makes the bytes of a file last.
+    /// Makes the bytes of a file durable.
     fn sync(&mut self, name: &Name) -> Result<(), Disk>
         ensures moves { Moves (HasName name.now) (after_sync name.now) same_state
             (history_of self.old) (history_of self.new) result }
@@ -301,7 +302,7 @@ impl Tree for MemoryTree {
         self.calls.finish(done)
     }
 
-    /// Takes a name away; an absent one is no fault.
+    /// Removes a name; an absent one is no fault.
     fn remove(&mut self, name: &Name) -> Result<(), Disk>
         ensures moves { Moves Anywhere (after_remove name.now) (after_remove name.now)
             (history_of self.old) (history_of self.new) result }
@@ -314,7 +315,7 @@ impl Tree for MemoryTree {
         self.calls.finish(done)
     }
 
-    /// Makes all names last.
+    /// Makes all names durable.
     fn sync_names(&mut self) -> Result<(), Disk>
         ensures moves { Moves Anywhere after_sync_names same_state (history_of self.old)
             (history_of self.new) result }
@@ -327,8 +328,8 @@ impl Tree for MemoryTree {
         self.calls.finish(done)
     }
 
-    /// The present names below a folder, in byte order. Lack of memory for the answer is no fault
-    /// of the tree.
+    /// The present names below a folder, in byte order. Out of memory for the answer is no fault of
+    /// the tree.
     fn list(&mut self, alloc: Global, folder: &Name) -> Result<Names, TreeFault>
         ensures same { history_of self.new ≡ history_of self.old }
         ensures goes_on { GoesOn (counts_of self.old) (counts_of self.new) }
@@ -342,7 +343,7 @@ impl Tree for MemoryTree {
             IfObservable (history_of self.old) (λ v. IsListOf folder.now v names)) }
         ensures order { IfOk result (λ names. AreNamesBelow folder.now names) }
 
-        // The tree fails exactly when that is planned.
+        // The tree fails exactly if that is planned.
         ensures when { IsErrOf result DiskFault ↔ (is_next (plan_of self.old) ≡ true) }
         ensures plan { plan_of self.new ≡ one_on (plan_of self.old) }
         ensures calls { calls_of self.new ≡ next_count (calls_of self.old) }
@@ -360,13 +361,13 @@ impl Tree for MemoryTree {
         Ok(names)
     }
 
-    /// Answers Ok, but where a failure is planned: a tree in memory has no folders that refuse.
+    /// Returns Ok unless a failure is planned: a tree in memory has no folders that refuse.
     fn check_target(&mut self, name: &Name, source: Option<&Name>) -> Result<(), Disk>
         ensures same { history_of self.new ≡ history_of self.old }
         ensures counts { IsCounted Anywhere (history_of self.old) (counts_of self.old)
             (counts_of self.new) result }
 
-        // It fails exactly when that is planned.
+        // It fails exactly if that is planned.
         ensures when { IsOk result ↔ (is_next (plan_of self.old) ≡ false) }
         ensures call { IsRead self.old self.new result }
         ensures longest { longest_of self.new ≡ longest_of self.old }

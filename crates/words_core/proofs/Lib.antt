@@ -1,6 +1,8 @@
 pub mod Sites
 pub mod OneMore
 pub mod Found
+pub mod Helped
+pub mod Hints
 pub mod KindsKept
 pub mod GivenKept
 pub mod WhatIsRead

@@ -2,6 +2,8 @@
 -- what the contract of `apk` says
 pub mod Options
 pub mod Grammar
+pub mod HelpTexts
+pub mod Usage
 -- what only inner contracts and proofs use
 pub mod Rows
 pub mod Steps

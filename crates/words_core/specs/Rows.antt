@@ -5,6 +5,8 @@ use Rattle.std.specs.Str.{bytes_eq}
 use Rattle.words_core.specs.declared.options.Meaning.{Meaning}
 use Rattle.words_core.specs.declared.options.Meaning.TheVariants.{Value}
 use Rattle.words_core.specs.declared.options.OptionRow.{OptionRow}
+use Rattle.words_core.specs.declared.help_rows.HelpRow.{HelpRow}
+use Rattle.words_core.specs.HelpTexts.{HelpLine, help_line}
 use Rattle.words_core.specs.Options.{OptionSpec}
 
 -- the option that a row stands for
@@ -24,3 +26,7 @@ has_letter short meaning = true
 -- whether the values of an option, if it has values, are kept under the letter of its short word
 abbrev pub has_its_letter : OptionSpec → Bool
 has_its_letter option = has_letter option.short option.meaning
+
+-- the line of help that a row stands for
+abbrev pub help_row_line : HelpRow → HelpLine
+help_row_line row = help_line row.subject.now row.text.now

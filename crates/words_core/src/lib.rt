@@ -9,14 +9,18 @@
 //! The rules stand in `docs/commands.md`, "Words".
 #![tactic(auto)]
 
+mod help_rows;
+mod help_texts;
 mod laws;
 mod next;
 mod options;
 mod read;
 mod reading;
+mod usage;
 mod word;
 
 pub use command_core::{Applet, Command, Flags, Operand, Operands, OptionValue, Values};
+pub use help_texts::{help, version_line};
 pub use laws::{
     commands_are_read, letters_are_those_of_short_words, read_words_are_a_command,
     stuck_words_are_no_command, usage_errors_are_at_words,
@@ -24,3 +28,4 @@ pub use laws::{
     words_offend_whatever_follows,
 };
 pub use read::{WordsFault, read_words};
+pub use usage::explain_usage;

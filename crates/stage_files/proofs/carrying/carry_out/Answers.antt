@@ -14,7 +14,7 @@ use Rattle.stage_files.proofs.carrying.carry_out.Goals as goal
 
 pub returns-in_err-stage_each-clause-run : goal.returns-in_err-stage_each-clause-run
 returns-in_err-stage_each-clause-run g c =
-    carried c.a_new_stage_is_staging.ensures (g.T.Tree.history c.args.tree.now) (g.T.Tree.history c.look_at_each.new.tree) c.args.stage.now _ _ c.args.writes.now c.requires.new c.look_at_each.ensures.same
+    carried c.a_new_stage_is_staging.ensures (g.T.Tree.history c.args.tree.now) (g.T.Tree.history c.check_targets.new.tree) c.args.stage.now _ _ c.args.writes.now c.requires.new c.check_targets.ensures.tree.same
     (λ v contents. IsCarriedTo {A = Unit {0}} (after_actions c.args.stage.now.intent (with_staged 1 contents (files_of v))) v (g.T.Tree.history c.args.tree.now) (g.T.Tree.history c.stage_each.new.tree) c.from_residual-in_err-stage_each.result)
     (λ v contents staging stand. record {
       run = c.a_staging_run_is_a_stage_run.ensures _ v _ _ (c.in_err-stage_each.ensures.run v (g.T.Tree.history c.args.tree.now) staging);
@@ -28,14 +28,14 @@ returns-in_err-stage_each-clause-bad g c = λ member cause is.
 
 pub returns-in_err-stage_each-clause-proper : goal.returns-in_err-stage_each-clause-proper
 returns-in_err-stage_each-clause-proper g c =
-    carried c.a_new_stage_is_staging.ensures (g.T.Tree.history c.args.tree.now) (g.T.Tree.history c.look_at_each.new.tree) c.args.stage.now _ _ c.args.writes.now c.requires.new c.look_at_each.ensures.same
+    carried c.a_new_stage_is_staging.ensures (g.T.Tree.history c.args.tree.now) (g.T.Tree.history c.check_targets.new.tree) c.args.stage.now _ _ c.args.writes.now c.requires.new c.check_targets.ensures.tree.same
     (λ v contents. HasRoomBeside (files_of v) → HasRoomBeside (after_actions c.args.stage.now.intent (with_staged 1 contents (files_of v))) → (g.T.Tree.counts c.stage_each.new.tree).misuses ≡ (g.T.Tree.counts c.args.tree.now).misuses)
     (λ v contents staging stand room more.
-    c.in_err-stage_each.ensures.proper contents v (g.T.Tree.history c.args.tree.now) staging stand room ∙ where_seen (g.T.Tree.history c.args.tree.now) v _ staging.start c.look_at_each.ensures.proper)
+    c.in_err-stage_each.ensures.proper contents v (g.T.Tree.history c.args.tree.now) staging stand room ∙ where_seen (g.T.Tree.history c.args.tree.now) v _ staging.start c.check_targets.ensures.tree.proper)
 
 pub returns-in_err-carry_through-clause-run : goal.returns-in_err-carry_through-clause-run
 returns-in_err-carry_through-clause-run g c =
-    carried c.a_new_stage_is_staging.ensures (g.T.Tree.history c.args.tree.now) (g.T.Tree.history c.look_at_each.new.tree) c.args.stage.now _ _ c.args.writes.now c.requires.new c.look_at_each.ensures.same
+    carried c.a_new_stage_is_staging.ensures (g.T.Tree.history c.args.tree.now) (g.T.Tree.history c.check_targets.new.tree) c.args.stage.now _ _ c.args.writes.now c.requires.new c.check_targets.ensures.tree.same
     (λ v contents. IsCarriedTo {A = Unit {0}} (after_actions c.args.stage.now.intent (with_staged 1 contents (files_of v))) v (g.T.Tree.history c.args.tree.now) (g.T.Tree.history c.carry_through.new.tree) c.from_residual-in_err-carry_through.result)
     (λ v contents staging stand. record {
       run = subst (λ (s : Staging). IsStageRun (after_actions s.intent (with_staged 1 contents (files_of v))) v (g.T.Tree.history c.args.tree.now) (g.T.Tree.history c.carry_through.new.tree)) c.in_ok-stage_each.ensures.view
@@ -46,16 +46,16 @@ returns-in_err-carry_through-clause-run g c =
 
 pub returns-in_err-carry_through-clause-proper : goal.returns-in_err-carry_through-clause-proper
 returns-in_err-carry_through-clause-proper g c =
-    carried c.a_new_stage_is_staging.ensures (g.T.Tree.history c.args.tree.now) (g.T.Tree.history c.look_at_each.new.tree) c.args.stage.now _ _ c.args.writes.now c.requires.new c.look_at_each.ensures.same
+    carried c.a_new_stage_is_staging.ensures (g.T.Tree.history c.args.tree.now) (g.T.Tree.history c.check_targets.new.tree) c.args.stage.now _ _ c.args.writes.now c.requires.new c.check_targets.ensures.tree.same
     (λ v contents. HasRoomBeside (files_of v) → HasRoomBeside (after_actions c.args.stage.now.intent (with_staged 1 contents (files_of v))) → (g.T.Tree.counts c.carry_through.new.tree).misuses ≡ (g.T.Tree.counts c.args.tree.now).misuses)
     (λ v contents staging stand room more.
     c.in_err-carry_through.ensures.proper contents v (g.T.Tree.history c.args.tree.now) (c.in_ok-stage_each.ensures.staging contents v (g.T.Tree.history c.args.tree.now) staging stand) room
     (subst (λ (s : Staging). HasRoomBeside (after_actions s.intent (with_staged 1 contents (files_of v)))) (sym c.in_ok-stage_each.ensures.view) more)
-    ∙ (c.in_ok-stage_each.ensures.proper contents v (g.T.Tree.history c.args.tree.now) staging stand room ∙ where_seen (g.T.Tree.history c.args.tree.now) v _ staging.start c.look_at_each.ensures.proper))
+    ∙ (c.in_ok-stage_each.ensures.proper contents v (g.T.Tree.history c.args.tree.now) staging stand room ∙ where_seen (g.T.Tree.history c.args.tree.now) v _ staging.start c.check_targets.ensures.tree.proper))
 
 pub returns-clause-run : goal.returns-clause-run
 returns-clause-run g c =
-    carried c.a_new_stage_is_staging.ensures (g.T.Tree.history c.args.tree.now) (g.T.Tree.history c.look_at_each.new.tree) c.args.stage.now _ _ c.args.writes.now c.requires.new c.look_at_each.ensures.same
+    carried c.a_new_stage_is_staging.ensures (g.T.Tree.history c.args.tree.now) (g.T.Tree.history c.check_targets.new.tree) c.args.stage.now _ _ c.args.writes.now c.requires.new c.check_targets.ensures.tree.same
     (λ v contents. IsCarriedTo {A = Unit {0}} (after_actions c.args.stage.now.intent (with_staged 1 contents (files_of v))) v (g.T.Tree.history c.args.tree.now) (g.T.Tree.history c.carry_through.new.tree) (Ok tt))
     (λ v contents staging stand. record {
       run = subst (λ (s : Staging). IsStageRun (after_actions s.intent (with_staged 1 contents (files_of v))) v (g.T.Tree.history c.args.tree.now) (g.T.Tree.history c.carry_through.new.tree)) c.in_ok-stage_each.ensures.view
@@ -67,12 +67,12 @@ returns-clause-run g c =
 
 pub returns-clause-proper : goal.returns-clause-proper
 returns-clause-proper g c =
-    carried c.a_new_stage_is_staging.ensures (g.T.Tree.history c.args.tree.now) (g.T.Tree.history c.look_at_each.new.tree) c.args.stage.now _ _ c.args.writes.now c.requires.new c.look_at_each.ensures.same
+    carried c.a_new_stage_is_staging.ensures (g.T.Tree.history c.args.tree.now) (g.T.Tree.history c.check_targets.new.tree) c.args.stage.now _ _ c.args.writes.now c.requires.new c.check_targets.ensures.tree.same
     (λ v contents. HasRoomBeside (files_of v) → HasRoomBeside (after_actions c.args.stage.now.intent (with_staged 1 contents (files_of v))) → (g.T.Tree.counts c.carry_through.new.tree).misuses ≡ (g.T.Tree.counts c.args.tree.now).misuses)
     (λ v contents staging stand room more.
     c.in_ok-carry_through.ensures.proper contents v (g.T.Tree.history c.args.tree.now) (c.in_ok-stage_each.ensures.staging contents v (g.T.Tree.history c.args.tree.now) staging stand) room
     (subst (λ (s : Staging). HasRoomBeside (after_actions s.intent (with_staged 1 contents (files_of v)))) (sym c.in_ok-stage_each.ensures.view) more)
-    ∙ (c.in_ok-stage_each.ensures.proper contents v (g.T.Tree.history c.args.tree.now) staging stand room ∙ where_seen (g.T.Tree.history c.args.tree.now) v _ staging.start c.look_at_each.ensures.proper))
+    ∙ (c.in_ok-stage_each.ensures.proper contents v (g.T.Tree.history c.args.tree.now) staging stand room ∙ where_seen (g.T.Tree.history c.args.tree.now) v _ staging.start c.check_targets.ensures.tree.proper))
 
 pub returns-in_err-stage_each-clause-listed : goal.returns-in_err-stage_each-clause-listed
 returns-in_err-stage_each-clause-listed g c = of_each (g.T.Tree.history c.args.tree.now) _ (λ v unread empty.
@@ -84,7 +84,7 @@ returns-in_err-carry_through-clause-listed g c = of_each (g.T.Tree.history c.arg
 
 pub returns-clause-listed : goal.returns-clause-listed
 returns-clause-listed g c =
-    carried_on c.a_new_stage_is_staging.ensures (g.T.Tree.history c.args.tree.now) (g.T.Tree.history c.look_at_each.new.tree) c.args.stage.now _ _ c.requires.new c.look_at_each.ensures.same
+    carried_on c.a_new_stage_is_staging.ensures (g.T.Tree.history c.args.tree.now) (g.T.Tree.history c.check_targets.new.tree) c.args.stage.now _ _ c.requires.new c.check_targets.ensures.tree.same
     (λ v. (contents : List (List ℕ)) × MayStandForEach c.args.writes.now contents × IsStageRunDone (after_actions c.args.stage.now.intent (with_staged 1 contents (files_of v))) v (g.T.Tree.history c.carry_through.new.tree))
     (λ v staging.
     let found = c.in_ok-stage_each.ensures.listed v (g.T.Tree.history c.args.tree.now) staging in (
@@ -94,27 +94,27 @@ returns-clause-listed g c =
           (c.in_ok-carry_through.ensures.done found.0 v (g.T.Tree.history c.args.tree.now) found.2),
     ))
 
-pub returns-in_err-look_at_each-clause-unpublished : goal.returns-in_err-look_at_each-clause-unpublished
-returns-in_err-look_at_each-clause-unpublished g c =
-    carried_on c.a_new_stage_is_staging.ensures (g.T.Tree.history c.args.tree.now) (g.T.Tree.history c.look_at_each.new.tree) c.args.stage.now _ _ c.requires.new c.look_at_each.ensures.same
-    (λ v. (member : ℕ) (cause : Cause) → IsErrOf c.from_residual.result (Bad member cause) → IsStagingRun v (g.T.Tree.history c.args.tree.now) (g.T.Tree.history c.look_at_each.new.tree))
+pub returns-in_err-check_targets-clause-unpublished : goal.returns-in_err-check_targets-clause-unpublished
+returns-in_err-check_targets-clause-unpublished g c =
+    carried_on c.a_new_stage_is_staging.ensures (g.T.Tree.history c.args.tree.now) (g.T.Tree.history c.check_targets.new.tree) c.args.stage.now _ _ c.requires.new c.check_targets.ensures.tree.same
+    (λ v. (member : ℕ) (cause : Cause) → IsErrOf c.from_residual.result (Bad member cause) → IsStagingRun v (g.T.Tree.history c.args.tree.now) (g.T.Tree.history c.check_targets.new.tree))
     (λ v staging member cause is. staging.run)
 
-pub returns-in_err-look_at_each-clause-cut_off : goal.returns-in_err-look_at_each-clause-cut_off
-returns-in_err-look_at_each-clause-cut_off g c =
-    carried_on c.a_new_stage_is_staging.ensures (g.T.Tree.history c.args.tree.now) (g.T.Tree.history c.look_at_each.new.tree) c.args.stage.now _ _ c.requires.new c.look_at_each.ensures.same
-    (λ v. OnErr c.from_residual.result (IsStagingRun v (g.T.Tree.history c.args.tree.now) (g.T.Tree.history c.look_at_each.new.tree) ⊎ ((contents : List (List ℕ)) × MayStandForEach c.args.writes.now contents × IsStageRun (after_actions c.args.stage.now.intent (with_staged 1 contents (files_of v))) v (g.T.Tree.history c.args.tree.now) (g.T.Tree.history c.look_at_each.new.tree))))
+pub returns-in_err-check_targets-clause-cut_off : goal.returns-in_err-check_targets-clause-cut_off
+returns-in_err-check_targets-clause-cut_off g c =
+    carried_on c.a_new_stage_is_staging.ensures (g.T.Tree.history c.args.tree.now) (g.T.Tree.history c.check_targets.new.tree) c.args.stage.now _ _ c.requires.new c.check_targets.ensures.tree.same
+    (λ v. OnErr c.from_residual.result (IsStagingRun v (g.T.Tree.history c.args.tree.now) (g.T.Tree.history c.check_targets.new.tree) ⊎ ((contents : List (List ℕ)) × MayStandForEach c.args.writes.now contents × IsStageRun (after_actions c.args.stage.now.intent (with_staged 1 contents (files_of v))) v (g.T.Tree.history c.args.tree.now) (g.T.Tree.history c.check_targets.new.tree))))
     (λ v staging. on_err c.from_residual.result _ (inl staging.run))
 
 pub returns-in_err-stage_each-clause-unpublished : goal.returns-in_err-stage_each-clause-unpublished
 returns-in_err-stage_each-clause-unpublished g c =
-    carried_on c.a_new_stage_is_staging.ensures (g.T.Tree.history c.args.tree.now) (g.T.Tree.history c.look_at_each.new.tree) c.args.stage.now _ _ c.requires.new c.look_at_each.ensures.same
+    carried_on c.a_new_stage_is_staging.ensures (g.T.Tree.history c.args.tree.now) (g.T.Tree.history c.check_targets.new.tree) c.args.stage.now _ _ c.requires.new c.check_targets.ensures.tree.same
     (λ v. (member : ℕ) (cause : Cause) → IsErrOf c.from_residual-in_err-stage_each.result (Bad member cause) → IsStagingRun v (g.T.Tree.history c.args.tree.now) (g.T.Tree.history c.stage_each.new.tree))
     (λ v staging member cause is. c.in_err-stage_each.ensures.run v (g.T.Tree.history c.args.tree.now) staging)
 
 pub returns-in_err-stage_each-clause-cut_off : goal.returns-in_err-stage_each-clause-cut_off
 returns-in_err-stage_each-clause-cut_off g c =
-    carried_on c.a_new_stage_is_staging.ensures (g.T.Tree.history c.args.tree.now) (g.T.Tree.history c.look_at_each.new.tree) c.args.stage.now _ _ c.requires.new c.look_at_each.ensures.same
+    carried_on c.a_new_stage_is_staging.ensures (g.T.Tree.history c.args.tree.now) (g.T.Tree.history c.check_targets.new.tree) c.args.stage.now _ _ c.requires.new c.check_targets.ensures.tree.same
     (λ v. OnErr c.from_residual-in_err-stage_each.result (IsStagingRun v (g.T.Tree.history c.args.tree.now) (g.T.Tree.history c.stage_each.new.tree) ⊎ ((contents : List (List ℕ)) × MayStandForEach c.args.writes.now contents × IsStageRun (after_actions c.args.stage.now.intent (with_staged 1 contents (files_of v))) v (g.T.Tree.history c.args.tree.now) (g.T.Tree.history c.stage_each.new.tree))))
     (λ v staging. on_err c.from_residual-in_err-stage_each.result _ (inl (c.in_err-stage_each.ensures.run v (g.T.Tree.history c.args.tree.now) staging)))
 
@@ -124,7 +124,7 @@ returns-in_err-carry_through-clause-unpublished g c = of_each (g.T.Tree.history 
 
 pub returns-in_err-carry_through-clause-cut_off : goal.returns-in_err-carry_through-clause-cut_off
 returns-in_err-carry_through-clause-cut_off g c =
-    carried_on c.a_new_stage_is_staging.ensures (g.T.Tree.history c.args.tree.now) (g.T.Tree.history c.look_at_each.new.tree) c.args.stage.now _ _ c.requires.new c.look_at_each.ensures.same
+    carried_on c.a_new_stage_is_staging.ensures (g.T.Tree.history c.args.tree.now) (g.T.Tree.history c.check_targets.new.tree) c.args.stage.now _ _ c.requires.new c.check_targets.ensures.tree.same
     (λ v. OnErr c.from_residual-in_err-carry_through.result (IsStagingRun v (g.T.Tree.history c.args.tree.now) (g.T.Tree.history c.carry_through.new.tree) ⊎ ((contents : List (List ℕ)) × MayStandForEach c.args.writes.now contents × IsStageRun (after_actions c.args.stage.now.intent (with_staged 1 contents (files_of v))) v (g.T.Tree.history c.args.tree.now) (g.T.Tree.history c.carry_through.new.tree))))
     (λ v staging.
     let found = c.in_ok-stage_each.ensures.listed v (g.T.Tree.history c.args.tree.now) staging in

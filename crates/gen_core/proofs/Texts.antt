@@ -1,0 +1,164 @@
+-- The lines of a text, and the text of lines.
+use Rattle.std.proofs.Common.{◌≡◌, ◌≢◌, ℕ, ◌+◌, Bool, true, false, cond, eqb, List, [], ◌∷◌, ◌++◌, length, Option, Some, None, Result, Ok, Err, refl, sym, ap, subst, ◌∙◌, append_assoc, arith, inl, inr}
+use Rattle.std.specs.Prelude.{codes, option_map, bytes_eq, IsSome, find}
+use Rattle.std.specs.List.{flat_map}
+use Rattle.std.proofs.lemmas.Bool.{eqb-true}
+use Rattle.std.proofs.lemmas.List.{append-nil}
+use Rattle.std.proofs.lemmas.List.Concat.{flat_map-cons}
+use Rattle.hex.specs.Hex.{encode_with}
+use Rattle.adb_view.specs.Plain.{Plain}
+use Rattle.adb_view.specs.declared.tables.Which.{Which}
+use Rattle.adb_view.specs.declared.tables.Which.TheVariants.{Dep, Acl, PkgInfo, File, Dir, Scripts, Package, Index, Idb, Intent}
+use Rattle.adb_schema.specs.Soundness.{schema_word}
+use Rattle.base_core.specs.Lists.{and_then}
+use Rattle.adb_dump.specs.Dump.{Line, dump_lines, dump_text, schema_line, text_of, value_lines}
+use Rattle.adb_dump.specs.ReadBack.{LinesRead, add_char, split_lines, value_read}
+use Rattle.adb_dump.specs.Values.{IsOfBytes, IsValueOf}
+use Rattle.adb_dump.proofs.Booleans.{bytes_eq-same, bytes_eq-true, chosen}
+use Rattle.adb_dump.proofs.ValueLaws.{only_values, read_back, text_split}
+use Rattle.gen_core.specs.Generated.{DumpedRoot, TextLines, dumped_root, root_of_lines, root_of_table, root_read, root_tables, table_of_line, text_lines, unless_rest, lines_with_byte, with_first_byte}
+
+-- ---- lines and texts
+
+line_first : (l : Line) (ls : List Line) → text_of (l ∷ ls) ≡ l ++ 10 ∷ text_of ls
+line_first l ls = flat_map-cons (λ (x : Line). x ++ codes "\n") l ls ∙ append_assoc l (10 ∷ []) (text_of ls)
+
+-- a text has its lines, and after them the rest
+pub text_of_lines : (t : List ℕ) → text_of (text_lines t).0 ++ (text_lines t).1 ≡ t
+text_of_lines [] = refl
+text_of_lines (c ∷ cs) = go (eqb c 10) refl (text_lines cs).0 (text_lines cs).1 (text_of_lines cs)
+  where
+    first : (ls : List Line) (rest : List ℕ) → text_of ls ++ rest ≡ cs → text_of (with_first_byte c ls rest).0 ++ (with_first_byte c ls rest).1 ≡ c ∷ cs
+    first [] rest h = ap (λ (x : List ℕ). c ∷ x) h
+    first (l ∷ ls) rest h =
+        ap (λ (x : List ℕ). x ++ rest) (line_first (c ∷ l) ls)
+        ∙ ap (λ (x : List ℕ). c ∷ x) (sym (ap (λ (x : List ℕ). x ++ rest) (line_first l ls)) ∙ h)
+
+    go : (b : Bool) → eqb c 10 ≡ b → (ls : List Line) (rest : List ℕ) → text_of ls ++ rest ≡ cs → text_of (cond {A = TextLines} b ([] ∷ ls, rest) (with_first_byte c ls rest)).0 ++ (cond {A = TextLines} b ([] ∷ ls, rest) (with_first_byte c ls rest)).1 ≡ c ∷ cs
+    go true e ls rest h =
+        let end : c ≡ 10 = eqb-true c 10 e in
+        ap (λ (x : List ℕ). x ++ rest) (line_first [] ls) ∙ ap (λ (x : List ℕ). 10 ∷ x) h ∙ ap (λ (x : ℕ). x ∷ cs) (sym end)
+    go false e ls rest h = first ls rest h
+
+-- a text whose last line has its end
+some_same : (x y : List Line) → Some x ≡ Some y → x ≡ y
+some_same x y e = cc
+
+ended : (c : ℕ) (cs : List ℕ) (ls : List Line) (o : Option (List Line)) → ((xs : List Line) → o ≡ Some xs → text_lines cs ≡ (xs, [])) → eqb c 10 ≡ true → option_map (λ (xs : List Line). [] ∷ xs) o ≡ Some ls → text_lines (c ∷ cs) ≡ (ls, [])
+ended c cs ls None h t e = absurd cc
+ended c cs ls (Some xs) h t e =
+    ap (lines_with_byte c) (h xs refl) ∙ ap (λ (b : Bool). cond {A = TextLines} b ([] ∷ xs, []) (with_first_byte c xs [])) t ∙ ap (λ (x : List Line). (x, [])) (some_same ([] ∷ xs) ls e)
+
+added : (c : ℕ) (cs : List ℕ) (ls : List Line) (o : Option (List Line)) → ((xs : List Line) → o ≡ Some xs → text_lines cs ≡ (xs, [])) → eqb c 10 ≡ false → add_char c o ≡ Some ls → text_lines (c ∷ cs) ≡ (ls, [])
+added c cs ls None h t e = absurd cc
+added c cs ls (Some []) h t e = absurd cc
+added c cs ls (Some (l ∷ xs)) h t e =
+    ap (lines_with_byte c) (h (l ∷ xs) refl) ∙ ap (λ (b : Bool). cond {A = TextLines} b ([] ∷ l ∷ xs, []) (with_first_byte c (l ∷ xs) [])) t ∙ ap (λ (x : List Line). (x, [])) (some_same ((c ∷ l) ∷ xs) ls e)
+
+pub whole_lines : (t : List ℕ) (ls : List Line) → split_lines t ≡ Some ls → text_lines t ≡ (ls, [])
+whole_lines [] ls e = ap (λ (x : List Line). (x, [])) (some_same [] ls e)
+whole_lines (c ∷ cs) ls e =
+    elim (chosen (eqb c 10) _ _ _ e) [
+      | inl x ↦ ended c cs ls (split_lines cs) (whole_lines cs) x.0 x.1
+      | inr x ↦ added c cs ls (split_lines cs) (whole_lines cs) x.0 x.1
+    ]
+
+-- ---- the tables of roots
+
+-- the first line of a root's dump names its table
+pub line_of_root : (w : Which) → IsSome (schema_word w) → table_of_line (schema_line (schema_word w)) ≡ Some w
+unfolding encode_with
+line_of_root Dep some = absurd cc
+line_of_root Acl some = absurd cc
+line_of_root PkgInfo some = absurd cc
+line_of_root File some = absurd cc
+line_of_root Dir some = absurd cc
+line_of_root Scripts some = absurd cc
+line_of_root Package some = refl
+line_of_root Index some = refl
+line_of_root Idb some = refl
+line_of_root Intent some = refl
+
+pub record NamesRoot (l : Line) (w : Which) : Type 0 where
+  pub root : IsSome (schema_word w)
+  pub line : schema_line (schema_word w) ≡ l
+
+pub root_of_line : (l : Line) (w : Which) → table_of_line l ≡ Some w → NamesRoot l w
+root_of_line l w e =
+    elim (chosen (bytes_eq l (schema_line (schema_word Package))) _ _ _ e) [
+      | inl x ↦ named Package refl x.0 x.1
+      | inr x ↦
+          elim (chosen (bytes_eq l (schema_line (schema_word Index))) _ _ _ x.1) [
+            | inl y ↦ named Index refl y.0 y.1
+            | inr y ↦
+                elim (chosen (bytes_eq l (schema_line (schema_word Idb))) _ _ _ y.1) [
+                  | inl z ↦ named Idb refl z.0 z.1
+                  | inr z ↦
+                      elim (chosen (bytes_eq l (schema_line (schema_word Intent))) _ _ _ z.1) [
+                        | inl u ↦ named Intent refl u.0 u.1
+                        | inr u ↦ absurd (let f = u.1 in cc)
+                      ]
+                ]
+          ]
+    ]
+  where
+    named : (r : Which) → IsSome (schema_word r) → bytes_eq l (schema_line (schema_word r)) ≡ true → Some r ≡ Some w → NamesRoot l w
+    named r some t e =
+        let same : r ≡ w = cc in
+        subst (λ (x : Which). NamesRoot l x) same (record { root = some; line = sym (bytes_eq-true l (schema_line (schema_word r)) t) })
+
+-- ---- the root of a text
+
+split_same : (t : List ℕ) (ls : List Line) → text_lines t ≡ (ls, []) → dumped_root t ≡ and_then (root_of_lines ls) (unless_rest [] (length ls))
+unfolding dumped_root
+split_same t ls e = ap (λ (x : TextLines). and_then (root_of_lines x.0) (unless_rest x.1 (length x.0))) e
+
+-- each dump is read as the root that it is of
+pub dump_is_read : (w : Which) (v : Plain) → IsSome (schema_word w) → IsValueOf w v → IsOfBytes v → dumped_root (dump_text w v) ≡ Ok (record { which = w; value = v })
+dump_is_read w v some is bytes =
+    let lines : text_lines (dump_text w v) ≡ (dump_lines w v, []) = whole_lines (dump_text w v) (dump_lines w v) (text_split w v is.0) in
+    split_same (dump_text w v) (dump_lines w v) lines
+    ∙ ap (λ (o : Option Which). and_then (root_of_table o (value_lines w v)) (unless_rest [] (length (dump_lines w v)))) (line_of_root w some)
+    ∙ ap (λ (r : LinesRead Plain). and_then (root_read w r) (unless_rest [] (length (dump_lines w v)))) (read_back w v is bytes)
+
+-- a text that is read is the dump of its root
+pub record IsDumpOf (t : List ℕ) (r : DumpedRoot) : Type 0 where
+  pub root : IsSome (schema_word r.which)
+  pub normal : IsValueOf r.which r.value
+  pub lines : (text_lines t).0 ≡ dump_lines r.which r.value
+  pub rest : (text_lines t).1 ≡ []
+
+abbrev ok_root : DumpedRoot → Result DumpedRoot ℕ
+ok_root r = Ok r
+
+root_ok : (w : Which) (r : LinesRead Plain) (rest : List ℕ) (n : ℕ) (root : DumpedRoot) → and_then (root_read w r) (unless_rest rest n) ≡ Ok root → (rest ≡ []) × (w ≡ root.which) × (r ≡ Ok root.value)
+root_ok w (Err k) rest n root e = absurd cc
+root_ok w (Ok v) (c ∷ cs) n root e = absurd cc
+root_ok w (Ok v) [] n root e = let same : record { which = w; value = v } ≡ root = inner (record { which = w; value = v }) root e in (refl, ap (λ (r : DumpedRoot). r.which) same, ap (λ (r : DumpedRoot). let x : LinesRead Plain = Ok r.value in x) same)
+  where
+    inner : (p q : DumpedRoot) → ok_root p ≡ ok_root q → p ≡ q
+    inner p q e = cc
+
+pub what_is_read : (t : List ℕ) (root : DumpedRoot) → dumped_root t ≡ Ok root → IsDumpOf t root
+unfolding dumped_root
+what_is_read t root e = go (text_lines t).0 refl e
+  where
+    table : (l : Line) (ls : List Line) (o : Option Which) → table_of_line l ≡ o → (text_lines t).0 ≡ l ∷ ls → and_then (root_of_table o ls) (unless_rest (text_lines t).1 (length (l ∷ ls))) ≡ Ok root → IsDumpOf t root
+    table l ls None f is e = absurd cc
+    table l ls (Some w) f is e =
+        let (rest, which, value) = root_ok w (value_read w ls) (text_lines t).1 (length (l ∷ ls)) root e in
+        let names = root_of_line l w f in
+        let only = only_values w ls root.value value in
+        let lines : (text_lines t).0 ≡ dump_lines w root.value = is ∙ ap (λ (x : Line). x ∷ ls) (sym names.line) ∙ ap (λ (x : List Line). schema_line (schema_word w) ∷ x) (sym only.0) in
+        subst (λ (x : Which). IsSome (schema_word x) → IsValueOf x root.value → (text_lines t).0 ≡ dump_lines x root.value → IsDumpOf t root) (sym which)
+        (λ a b c. record { root = a; normal = b; lines = c; rest = rest })
+        names.root only.1 lines
+
+    go : (ls : List Line) → (text_lines t).0 ≡ ls → and_then (root_of_lines ls) (unless_rest (text_lines t).1 (length ls)) ≡ Ok root → IsDumpOf t root
+    go [] is e = absurd cc
+    go (l ∷ ls) is e = table l ls (table_of_line l) refl is e
+
+pub text_read_is : (t : List ℕ) (root : DumpedRoot) → dumped_root t ≡ Ok root → dump_text root.which root.value ≡ t
+text_read_is t root e =
+    let d = what_is_read t root e in
+    ap text_of (sym d.lines) ∙ sym (append-nil (text_of (text_lines t).0)) ∙ ap (λ (x : List ℕ). text_of (text_lines t).0 ++ x) (sym d.rest) ∙ text_of_lines t

@@ -1,0 +1,109 @@
+-- The root that a dump text says, and the container of that root. Which text a root has is defined
+-- in `Dump` of `adb_dump`, and how lines are read back in its `ReadBack`.
+-- The rules are in `docs/formats.md`, "Dump text" and "Canonical layout".
+use Rattle.std.specs.Prelude.{◌≡◌, ℕ, ⊤, ◌+◌, List, [], ◌∷◌, length, bytes_eq, find, Option, Some, None, unwrap_or, Result, Ok, Err, ◌==◌, if◌then◌else◌}
+use Rattle.base_core.specs.Lists.{and_then}
+use Rattle.adb_view.specs.Plain.{Plain}
+use Rattle.adb_view.specs.declared.tables.Which.{Which}
+use Rattle.adb_view.specs.declared.tables.Which.TheVariants.{Package, Index, Idb, Intent}
+use Rattle.adb_schema.specs.Soundness.{schema_word}
+use Rattle.adb_write.specs.Canonical.{PayloadCounts, written_of}
+use Rattle.adb_write.specs.File.{file_of}
+use Rattle.adb_dump.specs.Dump.{Line, schema_line}
+use Rattle.adb_dump.specs.ReadBack.{LinesRead, value_read}
+use Rattle.gen_core.specs.declared.generate.GenFault.{GenFault}
+use Rattle.gen_core.specs.declared.generate.GenFault.TheVariants.{Bad, TooLarge, Memory}
+
+-- ---- the lines of a text
+
+-- the lines of a text that have their line end, and the bytes after the last line end
+abbrev pub TextLines : Type 0
+TextLines = List Line × List ℕ
+
+-- the lines of a text with one byte more in front, which is no line end: it belongs to the first
+-- line, or to the bytes after the last line end
+abbrev pub with_first_byte : ℕ → List Line → List ℕ → TextLines
+with_first_byte c [] rest = ([], c ∷ rest)
+with_first_byte c (l ∷ ls) rest = ((c ∷ l) ∷ ls, rest)
+
+-- the lines of a text with one byte more in front; a line end is the end of an empty first line
+abbrev pub lines_with_byte : ℕ → TextLines → TextLines
+lines_with_byte c lines =
+    if c == 0x0a then ([] ∷ lines.0, lines.1) else with_first_byte c lines.0 lines.1
+
+-- the lines of a text that have their line end, and the bytes after the last line end
+abbrev pub text_lines : List ℕ → TextLines
+text_lines [] = ([], [])
+text_lines (c ∷ cs) = lines_with_byte c (text_lines cs)
+
+-- ---- the root that a text says
+
+-- the root of a container: its table, and its plain value
+pub record DumpedRoot : Type 0 where
+  -- its table
+  pub which : Which
+  -- its value
+  pub value : Plain
+
+-- the four tables that a root may have
+abbrev pub root_tables : List Which
+root_tables = Package ∷ Index ∷ Idb ∷ Intent ∷ []
+
+-- the table of the root whose schema a first line names; None where it names none of the four
+abbrev pub table_of_line : Line → Option Which
+table_of_line l = find (λ which. bytes_eq l (schema_line (schema_word which))) root_tables
+
+-- the root of a value that was read from the lines after the first. A bad line has its number among
+-- those lines, from 0; among all lines, from 1, it has this number plus 2
+abbrev pub root_read : Which → LinesRead Plain → Result DumpedRoot ℕ
+root_read which (Ok v) = Ok (record { which = which; value = v })
+root_read which (Err k) = Err (k + 2)
+
+-- the root by the table that the first line names, and the other lines
+abbrev pub root_of_table : Option Which → List Line → Result DumpedRoot ℕ
+root_of_table None ls = Err 1
+root_of_table (Some which) ls = root_read which (value_read which ls)
+
+-- the root that lines say, or the number of the first bad line, from 1; no lines lack the first
+abbrev pub root_of_lines : List Line → Result DumpedRoot ℕ
+root_of_lines [] = Err 1
+root_of_lines (l ∷ ls) = root_of_table (table_of_line l) ls
+
+-- the root, unless there are bytes after the last line end: they are the bad line after so many
+abbrev pub unless_rest : List ℕ → ℕ → DumpedRoot → Result DumpedRoot ℕ
+unless_rest [] lines root = Ok root
+unless_rest (c ∷ cs) lines root = Err (lines + 1)
+
+-- the root that a text says, or the number, from 1, of the first line that no dump has after the
+-- lines before it
+unfoldable pub dumped_root : List ℕ → Result DumpedRoot ℕ
+dumped_root text = let lines = text_lines text in
+    and_then (root_of_lines lines.0) (unless_rest lines.1 (length lines.0))
+
+-- ---- the container of a text
+
+-- the schema in the header of a container with this root; 0 for a table that is no root
+abbrev pub word_of_root : Which → ℕ
+word_of_root which = unwrap_or (schema_word which) 0
+
+-- the container of this schema and a payload, or the counts of a payload that is too large
+abbrev pub file_unless_too_large :
+    ℕ → Result (List ℕ) PayloadCounts → Result (List ℕ) GenFault
+file_unless_too_large word (Ok payload) = Ok (file_of word payload)
+file_unless_too_large word (Err counts) = Err (TooLarge counts.0 counts.1)
+
+-- the container of a root, in its canonical layout; or the bad line
+abbrev pub file_of_root : Result DumpedRoot ℕ → Result (List ℕ) GenFault
+file_of_root (Ok root) = file_unless_too_large (word_of_root root.which) (written_of root.value)
+file_of_root (Err line) = Err (Bad line)
+
+-- the container that is generated from a dump text; or what is reported: the first bad line, else the
+-- counts of a payload that is too large
+unfoldable pub generated_file : List ℕ → Result (List ℕ) GenFault
+generated_file text = file_of_root (dumped_root text)
+
+-- a fault is the one that this answer has; out of memory may be reported for any text
+abbrev pub IsGenFault : GenFault → Result (List ℕ) GenFault → Type 0
+IsGenFault Memory answer = ⊤
+IsGenFault (Bad line) answer = answer ≡ Err (Bad line)
+IsGenFault (TooLarge bytes values) answer = answer ≡ Err (TooLarge bytes values)

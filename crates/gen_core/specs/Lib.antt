@@ -1,0 +1,10 @@
+-- The definitions of `gen_core`. The head of each file says where its rule is.
+
+-- what the contract of `gen_` says
+pub mod Generated
+-- what a law says
+pub mod FirstBadLine
+-- what only inner contracts and proofs use
+pub mod Cursors
+pub mod Reads
+pub mod Quoted

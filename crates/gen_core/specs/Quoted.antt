@@ -1,0 +1,52 @@
+-- The bytes that characters of a line write: two hexadecimal digits, and a character or an escape of
+-- a text between quotes. The rule is in `docs/formats.md`, "Dump text". Serves the contracts of
+-- `src/value.rt`.
+use Rattle.std.specs.Prelude.{ℕ, ◌+◌, ◌-◌, ◌*◌, ◌&&◌, ◌||◌, List, [], ◌∷◌, Option, Some, None, option_map, option_and_then, nat_le, ◌==◌, if◌then◌else◌}
+use Rattle.adb_dump.specs.Dump.{is_printable}
+
+-- the byte that comes first, and the characters after those that write it
+abbrev pub FirstByte : Type 0
+FirstByte = ℕ × List ℕ
+
+-- the value of a hexadecimal digit in lower case
+abbrev pub hex_digit_value : ℕ → Option ℕ
+hex_digit_value c =
+    if nat_le 0x30 c && nat_le c 0x39 then Some (c - 0x30)
+    else if nat_le 0x61 c && nat_le c 0x66 then Some (c - 0x57)
+    else None
+
+-- the byte of two digits, and the characters after them
+abbrev pub byte_of_digits : Option ℕ → Option ℕ → List ℕ → Option FirstByte
+byte_of_digits None low cs = None
+byte_of_digits (Some high) None cs = None
+byte_of_digits (Some high) (Some low) cs = Some (high * 16 + low, cs)
+
+-- the byte of the two digits that come first
+abbrev pub hex_byte_at : List ℕ → Option FirstByte
+hex_byte_at [] = None
+hex_byte_at (h ∷ []) = None
+hex_byte_at (h ∷ l ∷ cs) = byte_of_digits (hex_digit_value h) (hex_digit_value l) cs
+
+-- a byte that has no other form between quotes than two digits
+abbrev pub unless_shorter : Option FirstByte → Option FirstByte
+unless_shorter None = None
+unless_shorter (Some b) = if b.0 == 0x0a || is_printable b.0 then None else Some b
+
+-- the byte of the escape whose backslash came before
+abbrev pub escaped_at : List ℕ → Option FirstByte
+escaped_at [] = None
+escaped_at (d ∷ cs) =
+    if d == 0x6e then Some (0x0a, cs)
+    else if d == 0x5c then Some (0x5c, cs)
+    else if d == 0x22 then Some (0x22, cs)
+    else if d == 0x78 then unless_shorter (hex_byte_at cs)
+    else None
+
+-- the byte that comes first between quotes: a printable one as it is, or an escape
+abbrev pub unescaped_at : List ℕ → Option FirstByte
+unescaped_at [] = None
+unescaped_at (c ∷ cs) =
+    if c == 0x5c then escaped_at cs
+    else if c == 0x22 then None
+    else if is_printable c then Some (c, cs)
+    else None

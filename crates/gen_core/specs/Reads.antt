@@ -1,0 +1,104 @@
+-- What reading does to a draft and to the place in the text, by what lines are read as.
+-- The rule is in `docs/formats.md`, "Dump text". Serves the contracts of `src/read.rt` and
+-- `src/value.rt`.
+use Rattle.std.specs.Prelude.{◌≡◌, ◌≢◌, ℕ, ⊤, ◌+◌, ◌<◌, Bool, true, false, List, [], ◌∷◌, Option, Some, None, Result, Ok, Err, bytes_eq, codes}
+use Rattle.std.specs.List.{AllByRecursion}
+use Rattle.adb_view.specs.Plain.{Plain, Plains, Shape, number, text, hash, array, object}
+use Rattle.adb_write.specs.declared.writer.WriteFault.{WriteFault}
+use Rattle.adb_write.specs.declared.writer.WriteFault.TheVariants as WriteFaults
+use Rattle.adb_values.specs.Drafts.{DraftState, draft_with, draft_with_all}
+use Rattle.adb_dump.specs.Dump.{Line, int_line, text_line, hash_line}
+use Rattle.adb_dump.specs.ReadBack.{LinesRead, entry_read, if_form, int_read, text_read, hash_read}
+use Rattle.gen_core.specs.Cursors.{CursorState, after_block, after_line}
+use Rattle.adb_view.specs.declared.tables.Which.{Which}
+use Rattle.gen_core.specs.Generated.{DumpedRoot, table_of_line}
+use Rattle.gen_core.specs.declared.generate.GenFault.{GenFault}
+use Rattle.gen_core.specs.declared.generate.GenFault.TheVariants.{Bad, TooLarge, Memory}
+
+-- ---- a value on one line
+
+-- bytes that are not empty have this form on their line; or no such bytes have
+abbrev pub IsFormOf : (List ℕ → Line) → Bool → List ℕ → Line → Type 0
+IsFormOf form true bytes l = (bytes ≢ []) × (form bytes ≡ l)
+IsFormOf form false bytes l =
+    (other : List ℕ) → AllByRecursion (λ b. b < 256) other → other ≢ [] → form other ≢ l
+
+-- the value of a shape that has one line; a shape of several lines has no such value
+abbrev pub line_read : Shape → Line → LinesRead Plain
+line_read number l = if_form int_line l (int_read l)
+line_read text l = if_form text_line l (text_read l)
+line_read hash l = if_form hash_line l (hash_read l)
+line_read (array s) l = Err 0
+line_read (object schema fs) l = Err 0
+
+-- a draft has the value that was read more; or the line cannot be read
+abbrev pub IsLineRead : Bool → LinesRead Plain → DraftState → DraftState → Type 0
+IsLineRead true read old new = (v : Plain) × (read ≡ Ok v) × (new ≡ draft_with v old)
+IsLineRead false read old new = read ≡ Err 0
+
+-- ---- blocks
+
+-- what reading comes to: a draft, and the place from which more is read into it; or the number of
+-- the first bad line, from 1
+abbrev pub Read : Type 0
+Read = Result (DraftState × CursorState) ℕ
+
+-- the line that is read is read as a value
+abbrev pub line_taken : LinesRead Plain → DraftState → CursorState → Read
+line_taken (Ok v) d c = Ok (draft_with v d, after_line c.lines c)
+line_taken (Err k) d c = Err (c.number + k)
+
+-- a block is read as a value
+abbrev pub block_taken : LinesRead Plain → List Line × List Line → DraftState → CursorState → Read
+block_taken (Ok v) block d c = Ok (draft_with v d, after_block block c)
+block_taken (Err k) block d c = Err (c.number + k)
+
+-- a block is read as values
+abbrev pub values_taken :
+    LinesRead Plains → List Line × List Line → DraftState → CursorState → Read
+values_taken (Ok vs) block d c = Ok (draft_with_all vs d, after_block block c)
+values_taken (Err k) block d c = Err (c.number + k)
+
+-- a block is read as an entry of an array
+abbrev pub entry_block_read : (List Line → LinesRead Plain) → List Line → LinesRead Plain
+entry_block_read f [] = f []
+entry_block_read f (l ∷ ls) = entry_read f l ls
+
+-- whether the first line of a block is `null`
+abbrev pub is_null_line : Option Line → Bool
+is_null_line None = false
+is_null_line (Some l) = bytes_eq l (codes "null")
+
+-- nothing is left of a block; or its first line is bad
+abbrev pub end_read : List Line → ℕ → Result (Unit {0}) GenFault
+end_read [] n = Ok tt
+end_read (l ∷ ls) n = Err (Bad n)
+
+-- a fault is the bad line that reading comes to; out of memory may be reported at any place, and a
+-- payload that is too large is reported at the end of the text alone
+abbrev pub IsTextFault : {A : Type 0} → GenFault → Result A ℕ → Type 0
+IsTextFault (Bad line) read = read ≡ Err line
+IsTextFault (TooLarge bytes values) read = ⊥
+IsTextFault Memory read = ⊤
+
+-- ---- the text
+
+-- the table that the first of some lines names
+abbrev pub table_read : List Line → Option Which
+table_read [] = None
+table_read (l ∷ ls) = table_of_line l
+
+-- whether there are bytes after the last line end
+abbrev pub has_rest : List ℕ → Bool
+has_rest [] = false
+has_rest (c ∷ cs) = true
+
+-- the table of the root, and a draft that has its value more; or the number of the first bad line
+abbrev pub root_taken : Result DumpedRoot ℕ → DraftState → Result (Which × DraftState) ℕ
+root_taken (Ok root) d = Ok (root.which, draft_with root.value d)
+root_taken (Err line) d = Err line
+
+-- the fault of a writer, as a fault of generating
+abbrev pub fault_of_writer : WriteFault → GenFault
+fault_of_writer (WriteFaults.TooLarge bytes values) = TooLarge bytes values
+fault_of_writer WriteFaults.Memory = Memory

@@ -1,0 +1,144 @@
+//! A place in a text that is read line by line.
+//! The rule is in `docs/formats.md`, "Dump text": a line is indented by two spaces for each level,
+//! and each line has its line end.
+
+ghost use Rattle.std.specs.Prelude.{◌≡◌, ◌+◌, ◌≤◌, ◌<◌, ◌^◌, [], ◌∷◌, length, MatchOption, option_copied};
+ghost use Rattle.adb_dump.specs.Margin.{margin};
+ghost use Rattle.adb_dump.specs.ReadBack.{strip_prefix};
+ghost use Rattle.gen_core.specs.declared.generate.GenFault.TheVariants.{Bad};
+ghost use Rattle.gen_core.specs.Cursors.{after_line, at_entry, block_at, cursor_by, line_of_block};
+ghost use Rattle.gen_core.specs.Generated.{text_lines};
+
+use crate::generate::GenFault;
+use memchr::memchr;
+use std::marker::Model;
+
+/// A place in a text, at the beginning of a line.
+#[derive(Drop)]
+pub(crate) struct Cursor<'a> {
+    /// The line there, without the levels that were read; None if no whole line is left.
+    line: Option<&'a [u8]>,
+    /// How many levels of two bytes in front of the line were read already.
+    levels: u32,
+    /// The bytes after the line.
+    rest: &'a [u8],
+    /// The number of the line, from 1.
+    number: u64,
+}
+
+impl<'a> Model for Cursor<'a> {
+    ghost use Rattle.std.specs.Prelude.{◌+◌, ◌<◌, ◌^◌, length, option_copied};
+    ghost use Rattle.gen_core.specs.Cursors.{CursorState, cursor_by, ends_of_line, lines_from};
+
+    ghost Value = { CursorState };
+
+    ghost view = { λ c. cursor_by (lines_from c.levels (option_copied c.line) c.rest.now) c.number
+        c.levels };
+
+    ghost invariant = { λ c. c.number + ends_of_line (option_copied c.line) + length c.rest.now
+        < 2 ^ 64 };
+}
+
+impl<'a> Cursor<'a> {
+    /// The beginning of a text.
+    pub(crate) fn new(text: &'a [u8]) -> Cursor<'a>
+        ensures { result ≡ cursor_by (text_lines text.entry.now).0 1 0 }
+    {
+        Cursor::at(text, 1)
+    }
+
+    /// The place at the beginning of these bytes, where the line has this number.
+    fn at(text: &'a [u8], number: u64) -> Cursor<'a>
+        requires { number + length text.now < 2 ^ 64 }
+        ensures { result ≡ cursor_by (text_lines text.entry.now).0 number 0 }
+    {
+        match first_line(text) {
+            Some((line, rest)) => Cursor {
+                line: Some(line),
+                levels: 0,
+                rest,
+                number,
+            },
+            None => Cursor {
+                line: None,
+                levels: 0,
+                rest: text,
+                number,
+            },
+        }
+    }
+
+    /// Goes to the next line.
+    pub(crate) fn turn(&mut self)
+        ensures { self.new ≡ after_line self.old.lines self.old }
+    {
+        if self.line.is_none() {
+            return;
+        }
+        *self = Cursor::at(self.rest, self.number + 1);
+    }
+
+    /// The first line of the block of this depth, without its levels; None if the block has no
+    /// line.
+    pub(crate) fn at_depth(&self, depth: u32) -> Option<&'a [u8]>
+        requires { self.now.levels ≤ depth }
+        ensures { option_copied result ≡ line_of_block (block_at depth self.now.lines).0 }
+    {
+        match self.line {
+            Some(line) => without_levels(line, depth - self.levels),
+            None => None,
+        }
+    }
+
+    /// Reads the dash of an entry, of whose line this is left: the line is then one of this depth.
+    pub(crate) fn read_dash(&mut self, entry: &'a [u8], depth: u32)
+        ensures { self.new ≡ at_entry depth entry.entry.now self.old.lines self.old }
+    {
+        if self.line.is_some() {
+            self.line = Some(entry);
+            self.levels = depth;
+        }
+    }
+
+    /// That the line cannot stand there.
+    pub(crate) fn bad_line(&self) -> GenFault
+        ensures { result ≡ Bad self.now.number }
+    {
+        GenFault::Bad { line: self.number }
+    }
+}
+
+/// The first line of a text, without its line end, and the bytes after it; None if the text has no
+/// line end.
+fn first_line(text: &[u8]) -> Option<(&[u8], &[u8])>
+    ensures lines { MatchOption result ((text_lines text.entry.now).0 ≡ [])
+        (λ found. (text_lines text.entry.now).0 ≡ found.0.now ∷ (text_lines found.1.now).0) }
+    ensures shorter { MatchOption result (0 ≤ length text.entry.now)
+        (λ found. length found.1.now < length text.entry.now) }
+{
+    match memchr(b'\n', text) {
+        Some(end) => Some((&text[..end], &text[end + 1..])),
+        None => None,
+    }
+}
+
+/// A line without so many levels of two spaces in front, if it has them.
+fn without_levels(line: &[u8], levels: u32) -> Option<&[u8]>
+    ensures { option_copied result ≡ strip_prefix (margin levels) line.entry.now }
+{
+    let mut inner = line;
+    for _level in 0..levels {
+        match without_prefix(inner, b"  ") {
+            Some(deeper) => inner = deeper,
+            None => return None,
+        }
+    }
+    Some(inner)
+}
+
+/// What a line has after a prefix, if it begins with that.
+pub(crate) fn without_prefix<'a>(line: &'a [u8], prefix: &[u8]) -> Option<&'a [u8]>
+    ensures { option_copied result ≡ strip_prefix prefix.now line.entry.now }
+{
+    line.strip_prefix(prefix)
+}

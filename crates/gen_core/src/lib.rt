@@ -1,0 +1,20 @@
+//! A dump text is read back: the text that `adbdump` prints goes in, and the container of its root
+//! comes out, in its canonical layout and without contents of files.
+//!
+//! A text is read from front to end in one pass, by the tables of fields (`adb_schema`), and its
+//! values are written as they are read (`adb_values`). The first line that no dump has after the
+//! lines before it is reported by its number. The contracts cite `Generated` of `specs/`, which
+//! uses the reader that `adb_dump` defines (`ReadBack`). The laws describe it by the texts of dumps
+//! alone, so nobody has to read the reader's definition.
+//!
+//! The rules are in `docs/formats.md`, "Dump text" and "Canonical layout".
+#![tactic(auto)]
+
+mod cursor;
+mod generate;
+mod laws;
+mod read;
+mod value;
+
+pub use generate::{GenFault, gen_};
+pub use laws::a_text_is_accepted_exactly_if_a_root_has_it;

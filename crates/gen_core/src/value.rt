@@ -1,0 +1,181 @@
+//! Values that have one line each: integers, texts and hashes.
+//! The rules are in `docs/formats.md`, "Dump text": each value has one form on its line, and a line
+//! of any other form is bad.
+
+ghost use Rattle.std.specs.Prelude.{◌≡◌, ◌≢◌, ℕ, ◌<◌, ◌^◌, ◌++◌, IfOk, IfSome, IsTrue, ◌↔◌, MatchOption, codes, false, option_map};
+ghost use Rattle.std.specs.Fmt.{decimal};
+ghost use Rattle.hex.specs.Hex.{encode_lower};
+ghost use Rattle.adb_dump.specs.Dump.{begins_with_byte, is_printable, text_form};
+ghost use Rattle.gen_core.specs.Reads.{IsFormOf};
+ghost use Rattle.gen_core.specs.Quoted.{escaped_at, hex_byte_at, hex_digit_value, unescaped_at, unless_shorter};
+
+use adb_dump::is_bare;
+use itoa::Buffer;
+use std::alloc::AllocError;
+
+/// The integer whose decimal digits are the line; None if there is no such integer below 2^64.
+pub(crate) fn number_in(line: &[u8]) -> Option<u64>
+    ensures { MatchOption result ((n : ℕ) → n < 2 ^ 64 → decimal n ≢ line.now)
+        (λ n. (n < 2 ^ 64) × (decimal n ≡ line.now)) }
+{
+    let Ok(text) = str::from_utf8(line) else {
+        return None;
+    };
+    let Ok(number) = text.parse::<u64>() else {
+        return None;
+    };
+    if !is_decimal_of(number, line) {
+        return None;
+    }
+    Some(number)
+}
+
+/// Whether a line is the decimal digits of a number, without a zero in front.
+fn is_decimal_of(number: u64, line: &[u8]) -> bool
+    ensures { IsTrue result ↔ (decimal number ≡ line.now) }
+{
+    let mut digits = Buffer::new();
+    digits.format(number).as_bytes() == line
+}
+
+/// Reads the bytes of a hash from its line into `bytes`; false if the line is that of no hash.
+pub(crate) fn read_hash(bytes: &mut Vec<u8>, line: &[u8]) -> Result<bool, AllocError>
+    ensures { IfOk result (λ is. IsFormOf encode_lower is bytes.new.items line.now) }
+{
+    if line.is_empty() {
+        return Ok(false);
+    }
+    bytes.clear();
+    let mut rest = line;
+    while let Some((byte, further)) = hex_byte(rest) {
+        bytes.push(byte)?;
+        rest = further;
+    }
+    Ok(rest.is_empty())
+}
+
+/// The byte of the two hexadecimal digits that come first, and what follows them.
+fn hex_byte(text: &[u8]) -> Option<(u8, &[u8])>
+    ensures { option_map (λ first. (first.0, first.1.now)) result ≡ hex_byte_at text.entry.now }
+{
+    let (high, text) = text.split_first()?;
+    let (low, text) = text.split_first()?;
+    Some((hex_digit(*high)? * 16 + hex_digit(*low)?, text))
+}
+
+/// The value of a hexadecimal digit in lower case.
+fn hex_digit(digit: u8) -> Option<u8>
+    ensures value { result ≡ hex_digit_value digit }
+    ensures small { IfSome result (λ value. value < 16) }
+{
+    match digit {
+        b'0'..=b'9' => Some(digit - b'0'),
+        b'a'..=b'f' => Some(digit - b'a' + 10),
+        _ => None,
+    }
+}
+
+/// Reads the bytes of a text from its line into `bytes`; false if the line is that of no text.
+pub(crate) fn read_text(bytes: &mut Vec<u8>, line: &[u8]) -> Result<bool, AllocError>
+    ensures { IfOk result (λ is. IsFormOf text_form is bytes.new.items line.now) }
+{
+    match line.split_first() {
+        Some((b'"', quoted)) => read_quoted(bytes, quoted),
+        _ => read_bare(bytes, line),
+    }
+}
+
+/// Reads a text that is on its line as it is, without a quote in front.
+fn read_bare(bytes: &mut Vec<u8>, line: &[u8]) -> Result<bool, AllocError>
+    requires { begins_with_byte 0x22 line.now ≡ false }
+    ensures { IfOk result (λ is. IsFormOf text_form is bytes.new.items line.now) }
+{
+    if line.is_empty() {
+        return Ok(false);
+    }
+    if !is_bare(line) {
+        return Ok(false);
+    }
+    bytes.clear();
+    bytes.extend_from_slice(line)?;
+    Ok(true)
+}
+
+/// Reads a text that is on its line between quotes, from after the first of them on.
+fn read_quoted(bytes: &mut Vec<u8>, quoted: &[u8]) -> Result<bool, AllocError>
+    ensures { IfOk result (λ is. IsFormOf text_form is bytes.new.items (codes "\"" ++ quoted.now)) }
+{
+    if is_quote(quoted) {
+        return Ok(false);
+    }
+    bytes.clear();
+    let mut rest = quoted;
+    while let Some((byte, further)) = unescaped(rest) {
+        bytes.push(byte)?;
+        rest = further;
+    }
+    if !is_quote(rest) {
+        return Ok(false);
+    }
+    Ok(!is_bare(bytes))
+}
+
+/// Whether a text is the last quote of a line alone.
+fn is_quote(text: &[u8]) -> bool
+    ensures { IsTrue result ↔ (text.now ≡ codes "\"") }
+{
+    text == b"\"".as_slice()
+}
+
+/// The byte that comes first between quotes, and what follows it; None if no byte has such a form.
+fn unescaped(text: &[u8]) -> Option<(u8, &[u8])>
+    ensures { option_map (λ first. (first.0, first.1.now)) result ≡ unescaped_at text.entry.now }
+{
+    match text.split_first() {
+        Some((b'\\', further)) => escaped(further),
+        Some((b'"', _)) => None,
+        Some((byte, further)) => {
+            if is_printable_byte(*byte) {
+                Some((*byte, further))
+            } else {
+                None
+            }
+        }
+        None => None,
+    }
+}
+
+/// The byte of an escape, from after its backslash on, and what follows the escape.
+fn escaped(text: &[u8]) -> Option<(u8, &[u8])>
+    ensures { option_map (λ first. (first.0, first.1.now)) result ≡ escaped_at text.entry.now }
+{
+    match text.split_first() {
+        Some((b'n', further)) => Some((b'\n', further)),
+        Some((b'\\', further)) => Some((b'\\', further)),
+        Some((b'"', further)) => Some((b'"', further)),
+        Some((b'x', further)) => unless_shorter(hex_byte(further)),
+        _ => None,
+    }
+}
+
+/// A byte that has no other form between quotes than two digits.
+fn unless_shorter(first: Option<(u8, &[u8])>) -> Option<(u8, &[u8])>
+    ensures { option_map (λ first. (first.0, first.1.now)) result
+        ≡ unless_shorter (option_map (λ first. (first.0, first.1.now)) first.entry) }
+{
+    let (byte, further) = first?;
+    if byte == b'\n' {
+        return None;
+    }
+    if is_printable_byte(byte) {
+        return None;
+    }
+    Some((byte, further))
+}
+
+/// Whether a byte is a space or a visible character of ASCII: 0x20 to 0x7e.
+fn is_printable_byte(byte: u8) -> bool
+    ensures { result ≡ is_printable byte }
+{
+    byte >= 0x20 && byte <= 0x7e
+}

@@ -1,0 +1,20 @@
+-- The names of a change that the tree was asked for before the change was committed. The rule is in
+-- `docs/crash-safety.md`, "A change of several files": what is asked before the first step.
+use Rattle.std.specs.Prelude.{◌≡◌, ℕ, ◌+◌, List, Option, Some, None, slice_get}
+use Rattle.journal_intent.specs.Intent.{Intent, stage_name}
+
+-- the tree accepts that each of these names is removed
+abbrev pub AreRemovable : (Option (List ℕ) → List ℕ → Type 0) → List (List ℕ) → Type 0
+AreRemovable accepts names = (i : ℕ) (name : List ℕ) → slice_get names i ≡ Some name
+    → accepts None name
+
+-- the tree accepts that each of these names is written, from the file that is staged for it
+abbrev pub AreWritable : (Option (List ℕ) → List ℕ → Type 0) → List (List ℕ) → Type 0
+AreWritable accepts names = (i : ℕ) (name : List ℕ) → slice_get names i ≡ Some name
+    → accepts (Some (stage_name (i + 1))) name
+
+-- the tree accepts each target of a change
+pub record AreAccepted (accepts : Option (List ℕ) → List ℕ → Type 0) (intent : Intent) :
+    Type 0 where
+  pub removals : AreRemovable accepts intent.removals
+  pub writes : AreWritable accepts intent.writes

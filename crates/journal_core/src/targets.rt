@@ -1,0 +1,71 @@
+//! The tree is asked for all targets of a stage before the first file is staged: what it can never
+//! take would lock the root once the change is committed.
+//! The rule is in `docs/crash-safety.md`, "A change of several files".
+ghost use Rattle.std.specs.Option.{option_copied};
+ghost use Rattle.std.specs.Prelude.{OnOk};
+ghost use Rattle.base_core.specs.Read.{OnlyReads};
+ghost use Rattle.journal_core.specs.Targets.{AreAccepted, AreRemovable, AreWritable};
+
+use crate::stage::Stage;
+use base_core::{Disk, Name, Tree, readings_in_a_row_join};
+
+/// Asks the tree for one name: whether a file can be renamed to it later, from the source, or
+/// whether it can be removed later, if there is no source.
+///
+/// # Errors
+///
+/// `Disk` if the tree can never take the name so, or give it up, or failed.
+pub fn check_target<T: Tree>(tree: &mut T, name: &Name, source: Option<&Name>) -> Result<(), Disk>
+    ensures tree { OnlyReads (record {}) (T.history tree.old) (T.history tree.new)
+        (T.counts tree.old) (T.counts tree.new) result }
+    ensures accepted { OnOk result (T.accepts (option_copied source.entry) name.now) }
+{
+    tree.check_target(name, source)?;
+    Ok(())
+}
+
+/// Asks the tree for each name that the stage removes.
+fn check_removals<T: Tree>(stage: &Stage, tree: &mut T) -> Result<(), Disk>
+    ensures tree { OnlyReads (record {}) (T.history tree.old) (T.history tree.new)
+        (T.counts tree.old) (T.counts tree.new) result }
+    ensures accepted { OnOk result (AreRemovable T.accepts stage.now.intent.removals) }
+{
+    // A law that the proof needs; it computes nothing.
+    readings_in_a_row_join::<u8, (), Disk>();
+    for i in 0..stage.intent.removals_len() {
+        check_target(tree, stage.intent.removal(i), None)?;
+    }
+    Ok(())
+}
+
+/// Asks the tree for each name that the stage writes, from the file that is staged for it.
+fn check_writes<T: Tree>(stage: &Stage, tree: &mut T) -> Result<(), Disk>
+    ensures tree { OnlyReads (record {}) (T.history tree.old) (T.history tree.new)
+        (T.counts tree.old) (T.counts tree.new) result }
+    ensures accepted { OnOk result (AreWritable T.accepts stage.now.intent.writes) }
+{
+    // Laws that the proof needs; they compute nothing.
+    readings_in_a_row_join::<u8, (), Disk>();
+    stage.names_are_free();
+    for i in 0..stage.intent.writes_len() {
+        let source = stage.intent.stage_name(i + 1);
+        check_target(tree, stage.intent.write(i), Some(source))?;
+    }
+    Ok(())
+}
+
+/// Asks the tree for all targets of the stage, before anything is staged.
+///
+/// # Errors
+///
+/// `Disk` if the tree can never take one of the names, or give it up, or failed.
+pub fn check_targets<T: Tree>(stage: &Stage, tree: &mut T) -> Result<(), Disk>
+    ensures tree { OnlyReads (record {}) (T.history tree.old) (T.history tree.new)
+        (T.counts tree.old) (T.counts tree.new) result }
+    ensures accepted { OnOk result (AreAccepted T.accepts stage.now.intent) }
+{
+    // A law that the proof needs; it computes nothing.
+    readings_in_a_row_join::<(), (), Disk>();
+    check_removals(stage, tree)?;
+    check_writes(stage, tree)
+}

@@ -1,0 +1,15 @@
+mod Appended
+mod SortedLists
+mod QueryOrder
+mod SelectedPlaces
+mod RisingLines
+mod Runs
+mod Grouping
+mod LineParts
+mod ProvidedNames
+mod OwnNames
+mod Gathered
+mod Parts
+mod AskedFor
+mod InOrder
+mod SameQueries

@@ -1,0 +1,119 @@
+-- The lines of repositories by their numbers are those of the repositories that have a candidate.
+use Rattle.std.proofs.Common.{◌≡◌, inl, inr, ℕ, suc, ◌+◌, ◌-◌, ◌<◌, ◌≤◌, true, false, List, [], ◌∷◌, ◌++◌, refl, sym, ap, subst, ◌∙◌, arith}
+use Rattle.std.specs.Prelude.{Option, Some, None, ◌==◌, nat_lt, slice_get}
+use Rattle.std.specs.List.{cons_option, filter_map, list_any}
+use Rattle.std.specs.Option.{option_map_or}
+use Rattle.std.proofs.lemmas.Bool.Decides.{Decides-eqb, nat_tests}
+use Rattle.candidate_core.specs.Candidates.{Candidate}
+use Rattle.candidate_core.specs.Options.{IsIn}
+use Rattle.candidate_core.proofs.OptionLists.{bool_cases}
+use Rattle.dep_core.specs.Repositories.{Repository}
+use Rattle.report_core.specs.QueryReports.{repository_line}
+use Rattle.query_core.specs.Policy.{is_of_repository, repository_lines}
+use Rattle.query_core.specs.VersionPlaces.{NeverFall, numbered_line, rising_lines}
+
+pub lt_is : (m n : ℕ) → nat_lt m n ≡ true → m < n
+lt_is m n h = grind (arith, nat_tests)
+
+pub not_lt_is : (m n : ℕ) → nat_lt m n ≡ false → n ≤ m
+not_lt_is m n h = grind (arith, nat_tests)
+
+is_lt_when : (m n : ℕ) → m < n → nat_lt m n ≡ true
+is_lt_when m n h = grind (arith, nat_tests)
+
+is_not_lt_when : (m n : ℕ) → n ≤ m → nat_lt m n ≡ false
+is_not_lt_when m n h = grind (arith, nat_tests)
+
+module _ (all : List Repository) where
+  -- past the last repository there is no line
+  no_lines : (last : ℕ) (ns : List ℕ) → ((n : ℕ) → last < n → numbered_line all n ≡ []) → rising_lines all last ns ≡ []
+  no_lines last [] out = refl
+  no_lines last (n ∷ ns) out = elim (bool_cases (nat_lt last n)) [
+    | inl e ↦ let low = lt_is last n e in rw (e, out n low) (no_lines n ns (λ m h. out m (omega (arith, low, h))))
+    | inr e ↦ rw e (no_lines last ns out)
+  ]
+
+  -- a number that is not among them is passed over
+  not_among : (last : ℕ) (ns : List ℕ) → (IsIn (suc last) ns → ⊥) → rising_lines all last ns ≡ rising_lines all (suc last) ns
+  not_among last [] out = refl
+  not_among last (n ∷ ns) out = elim (bool_cases (nat_lt last n)) [
+    | inl e ↦ elim (bool_cases (nat_lt (suc last) n)) [
+      | inl f ↦ rw (e, f) refl
+      | inr f ↦
+          let low = lt_is last n e in
+          let high = not_lt_is (suc last) n f in
+          absurd (out (inl (omega (arith, low, high))))
+    ]
+    | inr e ↦ rw (e, is_not_lt_when (suc last) n (let low = not_lt_is last n e in omega (arith, low))) (not_among last ns (λ h. out (inr h)))
+  ]
+
+  -- the next number has its line first
+  among : (last : ℕ) (ns : List ℕ) → NeverFall ns → IsIn (suc last) ns → rising_lines all last ns ≡ numbered_line all (suc last) ++ rising_lines all (suc last) ns
+  among last [] up h = absurd h
+  among last (n ∷ ns) up h = elim (bool_cases (nat_lt last n)) [
+    | inl e ↦
+        let low = lt_is last n e in
+        let is : n ≡ suc last = first low h in
+        rw (e, is_not_lt_when (suc last) n (omega (arith, is))) (ap (λ (m : ℕ). numbered_line all m ++ rising_lines all m ns) is)
+    | inr e ↦
+        let high = not_lt_is last n e in
+        rw (e, is_not_lt_when (suc last) n (omega (arith, high))) (among last ns up.1 (later high h))
+  ]
+    where
+      first : last < n → IsIn (suc last) (n ∷ ns) → n ≡ suc last
+      first low (inl is) = sym is
+      first low (inr more) = let most = up.0 (suc last) more in omega (arith, low, most)
+
+      later : n ≤ last → IsIn (suc last) (n ∷ ns) → IsIn (suc last) ns
+      later high (inl is) = absurd (omega (arith, high, is))
+      later high (inr more) = more
+
+module _ (all : List Repository) (those : List Candidate) (ns : List ℕ) (up : NeverFall ns) (each : (n : ℕ) → IsIn n ns → list_any (is_of_repository n) those ≡ true) (every : (n : ℕ) → list_any (is_of_repository n) those ≡ true → IsIn n ns) where
+  lines_from : (last : ℕ) (rs : List Repository) → ((j : ℕ) → slice_get all (last + j) ≡ slice_get rs j) → rising_lines all last ns ≡ repository_lines those (last + 1) rs
+  lines_from last [] there = no_lines all last ns (λ n low.
+      let e : n - 1 ≡ last + (n - 1 - last) = omega (arith, low) in
+      ap (λ (o : Option Repository). option_map_or (λ (r : Repository). repository_line r.tag r.path) o []) (ap (slice_get all) e ∙ there (n - 1 - last)))
+  lines_from last (r ∷ rs) there =
+      let k : last + 1 ≡ suc last = omega arith in
+      let here : slice_get all last ≡ Some r = subst (λ (m : ℕ). slice_get all m ≡ Some r) (omega arith) (there 0) in
+      let rest : rising_lines all (suc last) ns ≡ repository_lines those (suc last + 1) rs =
+      lines_from (suc last) rs (λ j. let z : suc last + j ≡ last + suc j = omega arith in ap (slice_get all) z ∙ there (suc j)) in
+      let less : suc last - 1 ≡ last = omega arith in
+      let line : numbered_line all (suc last) ≡ repository_line r.tag r.path =
+      ap (λ (o : Option Repository). option_map_or (λ (q : Repository). repository_line q.tag q.path) o []) (ap (slice_get all) less ∙ here) in
+      subst (λ (m : ℕ). rising_lines all last ns ≡ repository_lines those m (r ∷ rs)) (sym k)
+      (elim (bool_cases (list_any (is_of_repository (suc last)) those)) [
+        | inl e ↦ rw e (among all last ns up (every (suc last) e) ∙ (ap (λ (z : List ℕ). z ++ rising_lines all (suc last) ns) line ∙ ap (λ (z : List ℕ). repository_line r.tag r.path ++ z) rest))
+        | inr e ↦ rw e (not_among all last ns (λ h. let bad : false ≡ true = sym e ∙ each (suc last) h in absurd (cc)) ∙ rest)
+      ])
+
+  pub lines_of_numbers : rising_lines all 0 ns ≡ repository_lines those 1 all
+  lines_of_numbers = lines_from 0 all (λ j. ap (slice_get all) (omega arith))
+
+-- ---- the numbers of repositories that have a candidate
+
+abbrev pub numbers_of : List Candidate → List ℕ
+numbers_of cs = filter_map (λ (c : Candidate). c.repository) cs
+
+numbered_next : (n : ℕ) (c : Candidate) (cs : List Candidate) (o : Option ℕ) → c.repository ≡ o → (IsIn n (numbers_of cs) → list_any (is_of_repository n) cs ≡ true) → IsIn n (cons_option o (numbers_of cs)) → list_any (is_of_repository n) (c ∷ cs) ≡ true
+numbered_next n c cs None e again m = rw (e, again m) refl
+numbered_next n c cs (Some k) e again (inl is) = rw (e, (Decides-eqb k n).1 (sym is)) refl
+numbered_next n c cs (Some k) e again (inr m) = elim (bool_cases (k == n)) [
+  | inl t ↦ rw (e, t) refl
+  | inr t ↦ rw (e, t) (again m)
+]
+
+pub numbered : (n : ℕ) (cs : List Candidate) → IsIn n (numbers_of cs) → list_any (is_of_repository n) cs ≡ true
+numbered n [] h = absurd h
+numbered n (c ∷ cs) h = numbered_next n c cs c.repository refl (λ m. numbered n cs m) h
+
+number_next : (n : ℕ) (c : Candidate) (cs : List Candidate) (o : Option ℕ) → c.repository ≡ o → (list_any (is_of_repository n) cs ≡ true → IsIn n (numbers_of cs)) → list_any (is_of_repository n) (c ∷ cs) ≡ true → IsIn n (cons_option o (numbers_of cs))
+number_next n c cs None e again h = again (rw e at h)
+number_next n c cs (Some k) e again h = elim (bool_cases (k == n)) [
+  | inl t ↦ inl (sym ((Decides-eqb k n).0 t))
+  | inr t ↦ let rest : list_any (is_of_repository n) cs ≡ true = rw (e, t) at h in inr (again rest)
+]
+
+pub has_number : (n : ℕ) (cs : List Candidate) → list_any (is_of_repository n) cs ≡ true → IsIn n (numbers_of cs)
+has_number n [] h = absurd (cc)
+has_number n (c ∷ cs) h = number_next n c cs c.repository refl (λ m. has_number n cs m) h

@@ -1,0 +1,24 @@
+-- The line of a candidate, by the form of line that a command prints.
+-- No rule of a document: serves the contracts of `src/candidates.rt`.
+use Rattle.std.specs.Prelude.{ℕ, List, [], ◌++◌, codes}
+use Rattle.adb_view.specs.FieldIndexes.{INFO_ARCH, INFO_LICENSE, INFO_ORIGIN}
+use Rattle.adb_view.specs.Values.{entry_in, text_in}
+use Rattle.candidate_core.specs.Candidates.{Candidate}
+use Rattle.report_core.specs.QueryReports.{installed_mark, search_line, text_between}
+use Rattle.query_core.specs.List.{candidate_line}
+use Rattle.query_core.specs.Order.{printed_version}
+use Rattle.query_core.specs.declared.candidates.LineForm.{LineForm}
+use Rattle.query_core.specs.declared.candidates.LineForm.TheVariants.{Full, Short}
+
+-- what follows name and version in a line of `list`
+abbrev pub description_part : Candidate → List ℕ
+description_part c =
+    text_between (codes " ") (text_in (entry_in c.info INFO_ARCH)) []
+    ++ text_between (codes " {") (text_in (entry_in c.info INFO_ORIGIN)) (codes "}")
+    ++ text_between (codes " (") (text_in (entry_in c.info INFO_LICENSE)) (codes ")")
+    ++ installed_mark c.installed
+
+-- the line of a candidate in a form
+abbrev pub line_in_form : LineForm → Candidate → List ℕ
+line_in_form Full c = candidate_line c
+line_in_form Short c = search_line c.name (printed_version c.version)

@@ -1,0 +1,33 @@
+-- What `list` prints (apk(8)). The rule is in `docs/commands.md`, "`list`".
+use Rattle.std.specs.Prelude.{ℕ, ◌==◌, Bool, not, ◌&&◌, ◌||◌, List, length}
+use Rattle.std.specs.List.{flat_map, list_any}
+use Rattle.adb_view.specs.FieldIndexes.{INFO_ARCH, INFO_LICENSE, INFO_ORIGIN}
+use Rattle.adb_view.specs.Values.{entry_in, text_in}
+use Rattle.candidate_core.specs.Candidates.{Candidate}
+use Rattle.command_core.specs.declared.operands.Operand.{Operand}
+use Rattle.report_core.specs.QueryReports.{list_line}
+use Rattle.star_patterns.specs.Patterns.{is_matched}
+use Rattle.query_core.specs.Order.{printed_version, selected_candidates}
+
+-- whether one of the patterns matches a name
+abbrev pub is_name_matched : List Operand → List ℕ → Bool
+is_name_matched patterns name = list_any (λ (o : Operand). is_matched o.text name) patterns
+
+-- whether `list` prints a candidate: a pattern matches its name, or no pattern is given; and it is
+-- installed, if only installed packages are asked for
+abbrev pub is_list_candidate : List Operand → Bool → Candidate → Bool
+is_list_candidate patterns installed_only c =
+    (length patterns == 0 || is_name_matched patterns c.name) && (not installed_only || c.installed)
+
+-- the line of a candidate
+abbrev pub candidate_line : Candidate → List ℕ
+candidate_line c =
+    list_line c.name (printed_version c.version) (text_in (entry_in c.info INFO_ARCH))
+    (text_in (entry_in c.info INFO_ORIGIN)) (text_in (entry_in c.info INFO_LICENSE)) c.installed
+
+-- what `list` prints of candidates, by its patterns and whether only installed packages are asked
+-- for
+abbrev pub list_report : List Candidate → List Operand → Bool → List ℕ
+list_report candidates patterns installed_only =
+    flat_map candidate_line
+    (selected_candidates (is_list_candidate patterns installed_only) candidates)

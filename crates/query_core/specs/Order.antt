@@ -1,0 +1,39 @@
+-- The candidates that a query selects, in its order. The rule is in `docs/commands.md`, "Queries".
+use Rattle.std.specs.Prelude.{ℕ, Bool, List, [], Option, unwrap_or, slice_get}
+use Rattle.std.specs.List.{filter_map}
+use Rattle.std.specs.Option.{option_cmp}
+use Rattle.std.specs.Ordering.{nat_cmp, on, then_cmp}
+use Rattle.std.specs.declared.cmp.Ordering.{Ordering}
+use Rattle.candidate_core.specs.Candidates.{Candidate}
+use Rattle.candidate_core.specs.Options.{places_from}
+use Rattle.candidate_core.specs.Rank.{bytes_cmp, greater_version}
+use Rattle.base_core.specs.Sorted.{sorted_by}
+
+-- the text of a version, as it is printed; empty if there is none, and no candidate of a tested
+-- container lacks one
+abbrev pub printed_version : Option (List ℕ) → List ℕ
+printed_version version = unwrap_or version []
+
+-- the order of two candidates: the byte-lesser name comes first, then the greater version, and of
+-- equal versions the byte-lesser text
+abbrev pub name_and_version_cmp : Candidate → Candidate → Ordering
+name_and_version_cmp =
+    then_cmp (on (λ (c : Candidate). c.name) bytes_cmp)
+    (then_cmp (on (λ (c : Candidate). c.version) greater_version)
+    (on (λ (c : Candidate). c.version) (option_cmp bytes_cmp)))
+
+-- the order of two places in a list of candidates: by the candidates there, and else the earlier
+-- place comes first
+abbrev pub query_cmp : List Candidate → ℕ → ℕ → Ordering
+query_cmp candidates =
+    then_cmp (on (slice_get candidates) (option_cmp name_and_version_cmp)) nat_cmp
+
+-- the places, counted from 0, of the candidates that pass a test, in the order of queries
+abbrev pub selected_places : (Candidate → Bool) → List Candidate → List ℕ
+selected_places test candidates =
+    sorted_by (query_cmp candidates) (places_from 0 test candidates)
+
+-- the candidates that pass a test, in the order of queries
+abbrev pub selected_candidates : (Candidate → Bool) → List Candidate → List Candidate
+selected_candidates test candidates =
+    filter_map (slice_get candidates) (selected_places test candidates)

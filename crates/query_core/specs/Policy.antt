@@ -1,0 +1,73 @@
+-- What `policy` prints (apk(8)). The rule is in `docs/commands.md`, "`policy`".
+use Rattle.std.specs.Prelude.{ℕ, ◌+◌, ◌==◌, Bool, false, ◌&&◌, if◌then◌else◌, List, [], ◌∷◌, ◌++◌, map, Option}
+use Rattle.std.specs.List.{filter, flat_map, list_any}
+use Rattle.std.specs.Option.{option_map_or}
+use Rattle.std.specs.Str.{bytes_eq}
+use Rattle.candidate_core.specs.Candidates.{Candidate, is_same_version}
+use Rattle.command_core.specs.declared.operands.Operand.{Operand}
+use Rattle.dep_core.specs.Repositories.{Repository}
+use Rattle.report_core.specs.QueryReports.{database_line, policy_heading, repository_line, version_heading}
+use Rattle.query_core.specs.Order.{printed_version, selected_candidates}
+
+-- ---- the versions of a name
+
+-- whether a candidate has this name of its own
+abbrev pub has_own_name : List ℕ → Candidate → Bool
+has_own_name name c = bytes_eq name c.name
+
+-- versions, of which those with one text are left once
+abbrev pub versions_once : List (Option (List ℕ)) → List (Option (List ℕ))
+versions_once [] = []
+versions_once (version ∷ versions) =
+    if list_any (is_same_version version) versions then versions_once versions
+    else version ∷ versions_once versions
+
+-- the versions of the candidates with a name, in the order of queries, each text once
+abbrev pub versions_of_name : List Candidate → List ℕ → List (Option (List ℕ))
+versions_of_name candidates name =
+    versions_once
+    (map (λ (c : Candidate). c.version) (selected_candidates (has_own_name name) candidates))
+
+-- ---- where a version is
+
+-- whether a candidate has this name of its own and this text of a version
+abbrev pub has_name_and_version : List ℕ → Option (List ℕ) → Candidate → Bool
+has_name_and_version name version c =
+    has_own_name name c && is_same_version version c.version
+
+-- whether a candidate is of the repository with this number, counted from 1
+abbrev pub is_of_repository : ℕ → Candidate → Bool
+is_of_repository number c = option_map_or (λ repository. repository == number) c.repository false
+
+-- the lines of repositories, the first of which has a number, that have one of these candidates
+abbrev pub repository_lines : List Candidate → ℕ → List Repository → List ℕ
+repository_lines candidates number [] = []
+repository_lines candidates number (r ∷ repositories) =
+    (if list_any (is_of_repository number) candidates then repository_line r.tag r.path else [])
+    ++ repository_lines candidates (number + 1) repositories
+
+-- the lines on where these candidates are, which have one name and version
+abbrev pub place_lines : List Repository → List Candidate → List ℕ
+place_lines repositories candidates =
+    (if list_any (λ (c : Candidate). c.installed) candidates then database_line else [])
+    ++ repository_lines candidates 1 repositories
+
+-- ---- the report
+
+-- what is printed of a version of a name
+abbrev pub version_policy :
+    List Candidate → List Repository → List ℕ → Option (List ℕ) → List ℕ
+version_policy candidates repositories name version =
+    version_heading (printed_version version)
+    ++ place_lines repositories (filter (has_name_and_version name version) candidates)
+
+-- what is printed of a name
+abbrev pub name_policy : List Candidate → List Repository → List ℕ → List ℕ
+name_policy candidates repositories name =
+    policy_heading name
+    ++ flat_map (version_policy candidates repositories name) (versions_of_name candidates name)
+
+-- what `policy` prints of candidates, by the names that are asked for, in the order given
+abbrev pub policy_report : List Candidate → List Repository → List Operand → List ℕ
+policy_report candidates repositories names =
+    flat_map (λ (o : Operand). name_policy candidates repositories o.text) names

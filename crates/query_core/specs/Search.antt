@@ -1,0 +1,33 @@
+-- What `search` prints (apk(8)). The rule is in `docs/commands.md`, "`search`".
+use Rattle.std.specs.Prelude.{ℕ, Bool, not, ◌&&◌, List, ◌∷◌, map, is_some}
+use Rattle.std.specs.List.{filter, flat_map, list_any}
+use Rattle.candidate_core.specs.Candidates.{Candidate}
+use Rattle.command_core.specs.declared.operands.Operand.{Operand}
+use Rattle.dep_core.specs.Dependency.{Dependency}
+use Rattle.report_core.specs.QueryReports.{search_line}
+use Rattle.star_patterns.specs.Patterns.{is_matched_within}
+use Rattle.query_core.specs.Order.{printed_version, selected_candidates}
+
+-- the names that a list of provides provides: those of its entries that are no conflicts
+abbrev pub provided_names : List Dependency → List (List ℕ)
+provided_names provides =
+    map (λ (p : Dependency). p.name) (filter (λ (p : Dependency). not p.conflict) provides)
+
+-- the names of a candidate: its own, and those that it provides
+abbrev pub candidate_names : Candidate → List (List ℕ)
+candidate_names c = c.name ∷ provided_names c.provides
+
+-- whether one of the patterns matches some part of a name
+abbrev pub is_name_found : List Operand → List ℕ → Bool
+is_name_found patterns name = list_any (λ (o : Operand). is_matched_within o.text name) patterns
+
+-- whether `search` prints a candidate: it is of a repository, and one of its names is found
+abbrev pub is_search_candidate : List Operand → Candidate → Bool
+is_search_candidate patterns c =
+    is_some c.repository && list_any (is_name_found patterns) (candidate_names c)
+
+-- what `search` prints of candidates, by its patterns
+abbrev pub search_report : List Candidate → List Operand → List ℕ
+search_report candidates patterns =
+    flat_map (λ (c : Candidate). search_line c.name (printed_version c.version))
+    (selected_candidates (is_search_candidate patterns) candidates)

@@ -1,0 +1,170 @@
+//! The lines of candidates, one after another: what `list` and `search` print.
+//! The rules are in `docs/commands.md`, "`list`" and "`search`".
+ghost use Rattle.query_core.specs.Appends.{Appends};
+ghost use Rattle.query_core.specs.Lines.{description_part, line_in_form};
+ghost use Rattle.query_core.specs.Order.{printed_version, query_cmp};
+ghost use Rattle.report_core.specs.QueryReports.{installed_mark, text_between};
+ghost use Rattle.report_core.specs.Reports.{name_version};
+ghost use Rattle.base_core.specs.Sorted.{sorted_by};
+ghost use Rattle.std.specs.List.{filter_map, flat_map};
+ghost use Rattle.std.specs.Prelude.{◌≡◌, ◌<◌, ◌∷◌, ◌++◌, [], All, IfOk, OnOk, if◌then◌else◌, length, map, slice_get};
+
+use crate::order::in_order;
+use crate::report_out::{ReportLength, ReportOut};
+use base_core::Text;
+use candidate_core::{CandId, Details};
+use option_ranks::RankedOption;
+use pool_core::Sealed;
+use std::alloc::{AllocError, Global};
+use version_core::Version;
+
+/// What is printed of a candidate.
+#[derive(Clone, Copy)]
+pub(crate) enum LineForm {
+    /// The line of `list`.
+    Full,
+    /// The line of `search`: name and version.
+    Short,
+}
+
+/// The place in the list of candidates that has a number, counted from 0; out of memory if a place
+/// cannot have it, which no list of candidates reaches.
+pub(crate) fn place_of(number: usize) -> Result<CandId, AllocError>
+    ensures { IfOk result (λ place. place ≡ number) }
+{
+    match u32::try_from(number) {
+        Ok(place) => Ok(CandId { place }),
+        Err(_) => Err(AllocError),
+    }
+}
+
+/// Adds a place if its candidate is selected.
+pub(crate) fn push_if(
+    places: &mut Vec<CandId>,
+    place: CandId,
+    is_selected: bool,
+) -> Result<(), AllocError>
+    ensures { OnOk result (places.new.items
+        ≡ places.old.items ++ (if is_selected then place ∷ [] else [])) }
+{
+    if is_selected {
+        places.push(place)?;
+    }
+    Ok(())
+}
+
+/// The lines of the candidates at some places, in the order of queries. The length of the report is
+/// counted before memory for it is asked for.
+pub(crate) fn report(
+    alloc: Global,
+    pool: &Sealed<'_>,
+    places: &[CandId],
+    form: LineForm,
+) -> Result<Text, AllocError>
+    requires { All (λ place. place < length pool.now.candidates) places.now }
+    ensures { IfOk result (λ report. report ≡ flat_map (line_in_form form)
+        (filter_map (slice_get pool.now.candidates)
+        (sorted_by (query_cmp pool.now.candidates) places.now))) }
+{
+    let ordered = in_order(alloc, pool, places)?;
+    let mut length = ReportLength { bytes: 0 };
+    put_lines(&mut length, pool, &ordered.rankings, form)?;
+    let mut report = Vec::with_capacity(alloc, length.bytes)?;
+    put_lines(&mut report, pool, &ordered.rankings, form)?;
+    let is_exact = report.len() == length.bytes;
+    // Memory was taken for just so many bytes as were put.
+    prove!(is_exact);
+    Ok(Text::from_vec(report))
+}
+
+// Puts a line for each candidate.
+fn put_lines<O: ReportOut>(
+    out: &mut O,
+    pool: &Sealed<'_>,
+    rankings: &[RankedOption<'_>],
+    form: LineForm,
+) -> Result<(), AllocError>
+    requires { All (λ r. r.place < length pool.now.candidates) rankings.now }
+    ensures { OnOk result (Appends O.holds out.old out.new (flat_map (line_in_form form)
+        (filter_map (slice_get pool.now.candidates) (map (λ r. r.place) rankings.now)))) }
+{
+    for i in 0..rankings.len() {
+        let ranking = &rankings[i];
+        put_line(out, &pool.details(ranking.id), form)?;
+    }
+    Ok(())
+}
+
+// Puts the line of a candidate.
+fn put_line<O: ReportOut>(
+    out: &mut O,
+    details: &Details<'_>,
+    form: LineForm,
+) -> Result<(), AllocError>
+    ensures { OnOk result (Appends O.holds out.old out.new (line_in_form form details.now)) }
+{
+    put_name_version(out, details)?;
+    if let LineForm::Full = form {
+        put_description(out, details)?;
+    }
+    out.put(b"\n")
+}
+
+// Puts name and version of a candidate.
+fn put_name_version<O: ReportOut>(out: &mut O, details: &Details<'_>) -> Result<(), AllocError>
+    ensures { OnOk result (Appends O.holds out.old out.new
+        (name_version details.now.name (printed_version details.now.version))) }
+{
+    out.put(details.name())?;
+    out.put(b"-")?;
+    out.put(printed_version(&details.version()))
+}
+
+/// The text of a version, as it is printed.
+pub(crate) fn printed_version<'a>(version: &Option<Version<'a>>) -> &'a [u8]
+    ensures { result.now ≡ printed_version version.now }
+{
+    match version {
+        Some(version) => version.text(),
+        None => b"",
+    }
+}
+
+// Puts what follows name and version in a line of `list`.
+fn put_description<O: ReportOut>(out: &mut O, details: &Details<'_>) -> Result<(), AllocError>
+    ensures { OnOk result (Appends O.holds out.old out.new (description_part details.now)) }
+{
+    let info = details.candidate().info;
+    put_between(out, b" ", info.arch(), b"")?;
+    put_between(out, b" {", info.origin(), b"}")?;
+    put_between(out, b" (", info.license(), b")")?;
+    put_installed_mark(out, details.is_installed())
+}
+
+// Puts the mark of a package that is installed.
+fn put_installed_mark<O: ReportOut>(out: &mut O, is_installed: bool) -> Result<(), AllocError>
+    ensures { OnOk result (Appends O.holds out.old out.new (installed_mark is_installed)) }
+{
+    if !is_installed {
+        return Ok(());
+    }
+    out.put(b" [installed]")
+}
+
+// Puts a text between two others, and nothing if it is empty.
+fn put_between<O: ReportOut>(
+    out: &mut O,
+    before: &[u8],
+    text: &[u8],
+    after: &[u8],
+) -> Result<(), AllocError>
+    ensures { OnOk result (Appends O.holds out.old out.new
+        (text_between before.now text.now after.now)) }
+{
+    if text.is_empty() {
+        return Ok(());
+    }
+    out.put(before)?;
+    out.put(text)?;
+    out.put(after)
+}

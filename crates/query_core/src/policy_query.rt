@@ -1,0 +1,202 @@
+//! What `policy` prints (apk(8)). The rule is in `docs/commands.md`, "`policy`".
+ghost use Rattle.query_core.specs.Appends.{Appends};
+ghost use Rattle.query_core.specs.Policy.{name_policy, policy_report};
+ghost use Rattle.query_core.specs.VersionPlaces.{numbered_line, rising_lines, version_lines};
+ghost use Rattle.report_core.specs.QueryReports.{database_line, place_line, policy_heading, repository_line, version_heading};
+ghost use Rattle.std.specs.List.{flat_map};
+ghost use Rattle.std.specs.Prelude.{◌≡◌, ◌<◌, ◌++◌, [], IfOk, OnOk, codes, if◌then◌else◌, nat_lt, option_copied};
+
+use crate::candidates::printed_version;
+use crate::report_out::{ReportLength, ReportOut};
+use crate::version_places::{PlacedVersion, placed_versions};
+use base_core::Text;
+use command_core::Operands;
+use dep_core::Repos;
+use pool_core::Sealed;
+use std::alloc::{AllocError, Global};
+
+/// What `policy` prints: for each name the versions that candidates of that name have, the greater
+/// first, and under each whether one of them is installed, and which repositories have one.
+///
+/// # Errors
+///
+/// Out of memory.
+pub fn policy(
+    alloc: Global,
+    pool: &Sealed<'_>,
+    repositories: &Repos,
+    names: &Operands,
+) -> Result<Text, AllocError>
+    ensures { IfOk result (λ report. report
+        ≡ policy_report pool.now.candidates repositories.now names.now) }
+{
+    let mut report = Vec::new(alloc);
+    for i in 0..names.len() {
+        let name = names.get(i).text.as_bytes();
+        add_name(alloc, &mut report, pool, repositories, name)?;
+    }
+    Ok(Text::from_vec(report))
+}
+
+// Adds what is printed of a name. Its length is counted before memory for it is asked for.
+fn add_name(
+    alloc: Global,
+    report: &mut Vec<u8>,
+    pool: &Sealed<'_>,
+    repositories: &Repos,
+    name: &[u8],
+) -> Result<(), AllocError>
+    ensures { OnOk result (report.new.items ≡ report.old.items
+        ++ name_policy pool.now.candidates repositories.now name.now) }
+{
+    let versions = placed_versions(alloc, pool, name)?;
+    let mut length = ReportLength { bytes: 0 };
+    put_name(&mut length, repositories, name, &versions)?;
+    report.reserve(length.bytes)?;
+    put_name(report, repositories, name, &versions)
+}
+
+// Puts what is printed of a name with these versions.
+fn put_name<O: ReportOut>(
+    out: &mut O,
+    repositories: &Repos,
+    name: &[u8],
+    versions: &[PlacedVersion<'_>],
+) -> Result<(), AllocError>
+    ensures { OnOk result (Appends O.holds out.old out.new (policy_heading name.now
+        ++ flat_map (version_lines repositories.now) versions.now)) }
+{
+    out.put(name)?;
+    out.put(b" policy:\n")?;
+    for i in 0..versions.len() {
+        put_version(out, repositories, &versions[i])?;
+    }
+    Ok(())
+}
+
+// Puts what is printed of a version.
+fn put_version<O: ReportOut>(
+    out: &mut O,
+    repositories: &Repos,
+    version: &PlacedVersion<'_>,
+) -> Result<(), AllocError>
+    ensures { OnOk result (Appends O.holds out.old out.new
+        (version_lines repositories.now version.now)) }
+{
+    put_version_heading(out, printed_version(&version.version))?;
+    put_database(out, version.is_installed)?;
+    put_repositories(out, repositories, &version.repositories)
+}
+
+// Puts the line of the database of installed packages if a version is installed.
+fn put_database<O: ReportOut>(out: &mut O, is_installed: bool) -> Result<(), AllocError>
+    ensures { OnOk result (Appends O.holds out.old out.new
+        (if is_installed then database_line else [])) }
+{
+    if !is_installed {
+        return Ok(());
+    }
+    put_place(out, b"lib/apk/db/installed")
+}
+
+// Puts the line of a version, below the name.
+fn put_version_heading<O: ReportOut>(out: &mut O, version: &[u8]) -> Result<(), AllocError>
+    ensures { OnOk result (Appends O.holds out.old out.new (version_heading version.now)) }
+{
+    out.put(b"  ")?;
+    out.put(version)?;
+    out.put(b":\n")
+}
+
+// Puts a line for each of some repositories, by their numbers, and none twice: of equal numbers,
+// which are side by side, the first one alone.
+fn put_repositories<O: ReportOut>(
+    out: &mut O,
+    repositories: &Repos,
+    numbers: &[u64],
+) -> Result<(), AllocError>
+    ensures { OnOk result (Appends O.holds out.old out.new
+        (rising_lines repositories.now 0 numbers.now)) }
+{
+    let mut last = 0;
+    for i in 0..numbers.len() {
+        last = put_greater(out, repositories, last, numbers[i])?;
+    }
+    Ok(())
+}
+
+// Puts the line of the repository with a number if the number is greater than the last one, and
+// answers the greater of the two.
+fn put_greater<O: ReportOut>(
+    out: &mut O,
+    repositories: &Repos,
+    last: u64,
+    number: u64,
+) -> Result<u64, AllocError>
+    ensures last { IfOk result (λ now. now ≡ (if nat_lt last number then number else last)) }
+    ensures put { OnOk result (Appends O.holds out.old out.new
+        (if nat_lt last number then numbered_line repositories.now number else [])) }
+{
+    if last < number {
+        put_numbered(out, repositories, number)?;
+        return Ok(number);
+    }
+    Ok(last)
+}
+
+// Puts the line of the repository with a number, counted from 1, if there is one.
+fn put_numbered<O: ReportOut>(
+    out: &mut O,
+    repositories: &Repos,
+    number: u64,
+) -> Result<(), AllocError>
+    requires { 0 < number }
+    ensures { OnOk result (Appends O.holds out.old out.new
+        (numbered_line repositories.now number)) }
+{
+    let place = number as usize - 1;
+    if place >= repositories.len() {
+        return Ok(());
+    }
+    put_repository(
+        out,
+        repositories.tag(place),
+        repositories.path(place).as_bytes(),
+    )
+}
+
+// Puts the line of a repository.
+fn put_repository<O: ReportOut>(
+    out: &mut O,
+    tag: Option<&[u8]>,
+    path: &[u8],
+) -> Result<(), AllocError>
+    ensures { OnOk result (Appends O.holds out.old out.new
+        (repository_line (option_copied tag.entry) path.now)) }
+{
+    match tag {
+        Some(tag) => put_tagged(out, tag, path),
+        None => put_place(out, path),
+    }
+}
+
+// Puts the line of a repository with a tag.
+fn put_tagged<O: ReportOut>(out: &mut O, tag: &[u8], path: &[u8]) -> Result<(), AllocError>
+    ensures { OnOk result (Appends O.holds out.old out.new
+        (place_line (codes "@" ++ tag.now ++ codes " " ++ path.now))) }
+{
+    out.put(b"    @")?;
+    out.put(tag)?;
+    out.put(b" ")?;
+    out.put(path)?;
+    out.put(b"\n")
+}
+
+// Puts a line on where a version is.
+fn put_place<O: ReportOut>(out: &mut O, text: &[u8]) -> Result<(), AllocError>
+    ensures { OnOk result (Appends O.holds out.old out.new (place_line text.now)) }
+{
+    out.put(b"    ")?;
+    out.put(text)?;
+    out.put(b"\n")
+}

@@ -1,0 +1,95 @@
+//! What `search` prints (apk(8)). The rule is in `docs/commands.md`, "`search`".
+ghost use Rattle.candidate_core.specs.Options.{places_from};
+ghost use Rattle.dep_core.specs.Meets.{dependency};
+ghost use Rattle.query_core.specs.EntryFound.{is_entry_found};
+ghost use Rattle.query_core.specs.Search.{is_name_found, is_search_candidate, provided_names, search_report};
+ghost use Rattle.std.specs.List.{list_any};
+ghost use Rattle.std.specs.Prelude.{◌≡◌, IfOk};
+
+use crate::candidates::{LineForm, place_of, push_if, report};
+use base_core::Text;
+use candidate_core::{CandId, Deps, Details};
+use command_core::Operands;
+use dep_core::Dep;
+use pool_core::Sealed;
+use std::alloc::{AllocError, Global};
+
+/// What `search` prints: a line for each candidate of a repository of which a pattern matches some
+/// part of its name, or of a name that it provides.
+///
+/// # Errors
+///
+/// Out of memory.
+pub fn search(alloc: Global, pool: &Sealed<'_>, patterns: &Operands) -> Result<Text, AllocError>
+    ensures { IfOk result (λ report. report
+        ≡ search_report pool.now.candidates patterns.now) }
+{
+    let places = found_places(alloc, pool, patterns)?;
+    report(alloc, pool, &places, LineForm::Short)
+}
+
+// The places of the candidates that `search` prints.
+fn found_places(
+    alloc: Global,
+    pool: &Sealed<'_>,
+    patterns: &Operands,
+) -> Result<Vec<CandId>, AllocError>
+    ensures { IfOk result (λ places. places.items
+        ≡ places_from 0 (is_search_candidate patterns.now) pool.now.candidates) }
+{
+    let mut places = Vec::new(alloc);
+    for number in 0..pool.len() {
+        let place = place_of(number)?;
+        let details = pool.details(place);
+        push_if(&mut places, place, is_search_candidate(&details, patterns))?;
+    }
+    Ok(places)
+}
+
+// Whether `search` prints a candidate.
+fn is_search_candidate(details: &Details<'_>, patterns: &Operands) -> bool
+    ensures { result ≡ is_search_candidate patterns.now details.now }
+{
+    if details.repo().is_none() {
+        return false;
+    }
+    if is_name_found(patterns, details.name()) {
+        return true;
+    }
+    is_provided_name_found(patterns, &details.provides())
+}
+
+// Whether one of the patterns matches some part of a name that is provided.
+fn is_provided_name_found(patterns: &Operands, provides: &Deps<'_>) -> bool
+    ensures { result ≡ list_any (is_name_found patterns.now) (provided_names provides.now) }
+{
+    for i in 0..provides.len() {
+        if is_entry_found(patterns, &provides.get(i)) {
+            return true;
+        }
+    }
+    false
+}
+
+// Whether an entry of provides is no conflict, and one of the patterns matches some part of its
+// name.
+fn is_entry_found(patterns: &Operands, entry: &Dep<'_>) -> bool
+    ensures { result ≡ is_entry_found patterns.now (dependency entry.now) }
+{
+    if entry.conflict {
+        return false;
+    }
+    is_name_found(patterns, entry.name)
+}
+
+// Whether one of the patterns matches some part of a name.
+fn is_name_found(patterns: &Operands, name: &[u8]) -> bool
+    ensures { result ≡ is_name_found patterns.now name.now }
+{
+    for i in 0..patterns.len() {
+        if star_patterns::matches_within(patterns.get(i).text.as_bytes(), name) {
+            return true;
+        }
+    }
+    false
+}

@@ -1,0 +1,209 @@
+//! The versions of the candidates of a name, and where each of them is: whether it is installed,
+//! and which repositories have it.
+//! The rule is in `docs/commands.md`, "`policy`".
+ghost use Rattle.candidate_core.specs.Candidates.{Candidate, is_same_version};
+ghost use Rattle.candidate_core.specs.Options.{places_from};
+ghost use Rattle.candidate_core.specs.Rank.{is_at};
+ghost use Rattle.option_ranks.specs.Ranking.{Ranking};
+ghost use Rattle.query_core.specs.Order.{selected_places};
+ghost use Rattle.query_core.specs.Policy.{has_own_name, versions_of_name};
+ghost use Rattle.query_core.specs.QueryRanking.{AreInQueryOrder, have_one_version};
+ghost use Rattle.query_core.specs.VersionPlaces.{IsVersionOf, SaysPlacesOf};
+ghost use Rattle.std.specs.List.{filter, filter_map};
+ghost use Rattle.std.specs.Prelude.{◌≡◌, ◌<◌, ◌≤◌, ◌++◌, ℕ, All, IfOk, OnOk, Some, length, map, option_to_list, slice_get, true, false};
+
+use crate::candidates::push_if;
+use crate::order::{Ordered, in_order};
+use candidate_core::CandId;
+use option_ranks::{RankedOption, VersionKey};
+use pool_core::Sealed;
+use std::alloc::{AllocError, Global};
+use std::marker::Model;
+use version_core::{Version, order_is_total};
+
+/// A version of a name, and where it is.
+#[derive(Drop)]
+pub(crate) struct PlacedVersion<'a> {
+    /// The version.
+    pub(crate) version: Option<Version<'a>>,
+    /// Whether a candidate with this version is installed.
+    pub(crate) is_installed: bool,
+    /// The numbers of the repositories that have one, counted from 1; none is less than those
+    /// before it.
+    pub(crate) repositories: Vec<u64>,
+}
+
+impl<'a> Model for PlacedVersion<'a> {
+    ghost use Rattle.query_core.specs.VersionPlaces.{VersionPlaces, version_places_by};
+
+    ghost Value = { VersionPlaces };
+
+    ghost view = { λ v. version_places_by v.version v.is_installed v.repositories.items };
+}
+
+/// The versions of the candidates with a name, each once and in the order of queries, and where
+/// each of them is.
+pub(crate) fn placed_versions<'a>(
+    alloc: Global,
+    pool: &Sealed<'a>,
+    name: &[u8],
+) -> Result<Vec<PlacedVersion<'a>>, AllocError>
+    ensures versions { IfOk result (λ versions. map (λ v. v.version) versions.items
+        ≡ versions_of_name pool.now.candidates name.now) }
+    ensures places { IfOk result (λ versions.
+        All (IsVersionOf pool.now.candidates name.now) versions.items) }
+{
+    let places = named_places(alloc, pool, name)?;
+    let ordered = in_order(alloc, pool, &places)?;
+    grouped(alloc, pool, name, &ordered)
+}
+
+// The places of the candidates that have a name of their own.
+fn named_places(alloc: Global, pool: &Sealed<'_>, name: &[u8]) -> Result<Vec<CandId>, AllocError>
+    ensures { IfOk result (λ places. places.items
+        ≡ places_from 0 (has_own_name name.now) pool.now.candidates) }
+{
+    let offers = pool.offers(name);
+    let places = named_among(alloc, pool, name, offers)?;
+    Ok(places)
+}
+
+// Those of some places whose candidates have a name of their own.
+fn named_among(
+    alloc: Global,
+    pool: &Sealed<'_>,
+    name: &[u8],
+    offers: &[CandId],
+) -> Result<Vec<CandId>, AllocError>
+    ensures { IfOk result (λ places. places.items
+        ≡ filter (λ place. is_at pool.now (has_own_name name.now) place) offers.now) }
+{
+    let mut places = Vec::new(alloc);
+    for place in offers {
+        let is_named = is_named_at(pool, *place, name);
+        push_if(&mut places, *place, is_named)?;
+    }
+    Ok(places)
+}
+
+// Whether there is a candidate at a place that has a name of its own.
+fn is_named_at(pool: &Sealed<'_>, place: CandId, name: &[u8]) -> bool
+    ensures { result ≡ is_at pool.now (has_own_name name.now) place }
+{
+    match pool.at(place) {
+        Some(details) => name == details.name(),
+        None => false,
+    }
+}
+
+// The versions of candidates in the order of queries, each once, and where each of them is. Those
+// with one version are side by side.
+fn grouped<'a>(
+    alloc: Global,
+    pool: &Sealed<'a>,
+    name: &[u8],
+    ordered: &Ordered<'a>,
+) -> Result<Vec<PlacedVersion<'a>>, AllocError>
+    requires places { map (λ r. r.place) ordered.now.rankings.items
+        ≡ selected_places (has_own_name name.now) pool.now.candidates }
+    requires versions { AreInQueryOrder pool.now.candidates ordered.now.key
+        ordered.now.rankings.items }
+    ensures versions { IfOk result (λ versions. map (λ v. v.version) versions.items
+        ≡ versions_of_name pool.now.candidates name.now) }
+    ensures places { IfOk result (λ versions.
+        All (IsVersionOf pool.now.candidates name.now) versions.items) }
+{
+    order_is_total();
+    let rankings = ordered.rankings.as_slice();
+    let mut versions = Vec::new(alloc);
+    let mut start = 0;
+    while start < rankings.len() {
+        let end = end_of_version(rankings, ordered.key, start);
+        versions.push(placed_version(alloc, pool, &rankings[start..end])?)?;
+        start = end;
+    }
+    Ok(versions)
+}
+
+// Where the candidates end that are side by side and have the version of the one at a place.
+fn end_of_version(rankings: &[RankedOption<'_>], key: VersionKey, start: usize) -> usize
+    requires { start < length rankings.now }
+    ensures after { start < result }
+    ensures within { result ≤ length rankings.now }
+    ensures one { (i : ℕ) (a b : Ranking) → start ≤ i → i < result
+        → slice_get rankings.now start ≡ Some a → slice_get rankings.now i ≡ Some b
+        → have_one_version key a b ≡ true }
+    ensures other { (a b : Ranking) → slice_get rankings.now start ≡ Some a
+        → slice_get rankings.now result ≡ Some b → have_one_version key a b ≡ false }
+{
+    for end in start + 1..rankings.len() {
+        if !have_one_version(&rankings[start], &rankings[end], key) {
+            return end;
+        }
+    }
+    rankings.len()
+}
+
+// Whether two candidates have one version.
+fn have_one_version(one: &RankedOption<'_>, other: &RankedOption<'_>, key: VersionKey) -> bool
+    ensures { result ≡ have_one_version key one.now other.now }
+{
+    match key {
+        VersionKey::ByRank => one.version.rank == other.version.rank,
+        VersionKey::ByText => is_same_version(&one.version.version, &other.version.version),
+    }
+}
+
+// Whether two versions have one text, or neither is one.
+fn is_same_version(one: &Option<Version<'_>>, other: &Option<Version<'_>>) -> bool
+    ensures { result ≡ is_same_version one.now other.now }
+{
+    match (one, other) {
+        (None, None) => true,
+        (None, Some(_)) => false,
+        (Some(_), None) => false,
+        (Some(one), Some(other)) => one.text() == other.text(),
+    }
+}
+
+// A version, of which these are the candidates, and where they are.
+fn placed_version<'a>(
+    alloc: Global,
+    pool: &Sealed<'a>,
+    rankings: &[RankedOption<'a>],
+) -> Result<PlacedVersion<'a>, AllocError>
+    requires some { 0 < length rankings.now }
+    requires within { All (λ r. r.place < length pool.now.candidates) rankings.now }
+    ensures version { IfOk result (λ placed. (c : Candidate)
+        → slice_get (filter_map (λ r. slice_get pool.now.candidates r.place) rankings.now) 0
+        ≡ Some c → placed.version ≡ c.version) }
+    ensures places { IfOk result (λ placed. SaysPlacesOf
+        (filter_map (λ r. slice_get pool.now.candidates r.place) rankings.now) placed) }
+{
+    let mut is_installed = false;
+    let mut repositories = Vec::new(alloc);
+    for i in 0..rankings.len() {
+        let ranking = &rankings[i];
+        let details = pool.details(ranking.id);
+        is_installed |= details.is_installed();
+        push_repository(&mut repositories, details.repo())?;
+    }
+    repositories.sort()?;
+    let first = &rankings[0];
+    Ok(PlacedVersion {
+        version: pool.details(first.id).version(),
+        is_installed,
+        repositories,
+    })
+}
+
+// Adds the number of a repository, if there is one.
+fn push_repository(repositories: &mut Vec<u64>, repository: Option<u64>) -> Result<(), AllocError>
+    ensures { OnOk result
+        (repositories.new.items ≡ repositories.old.items ++ option_to_list repository) }
+{
+    if let Some(number) = repository {
+        repositories.push(number)?;
+    }
+    Ok(())
+}

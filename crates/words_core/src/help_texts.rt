@@ -1,0 +1,206 @@
+//! What `--help` and `--version` print, put together from the rows of `help_rows`.
+//! The texts are shown in `docs/commands.md`, "Help".
+ghost use Rattle.std.specs.Prelude.{◌≡◌, ◌≤◌, ◌++◌, IfOk, OnOk, codes, map};
+ghost use Rattle.words_core.specs.HelpTexts.{command_help, command_line, commands_text, common_text, first_steps, help_text, line_text, lines_text, program_help, program_usage, section_text, spaces_after, topic_of, usage_line, usage_text, version_text};
+ghost use Rattle.words_core.specs.Rows.{help_row_line};
+
+use crate::help_rows::{
+    HelpRow, LISTED_COMMANDS, PROGRAM_USAGE, common_help, operand_help, option_help, purpose,
+    synopsis,
+};
+use crate::options::{applet_of, applet_word};
+use base_core::Text;
+use command_core::{Applet, Operands};
+use std::alloc::{AllocError, Global};
+
+// The version of this program.
+const PROGRAM_VERSION: &[u8] = b"0.4.0";
+
+// As many spaces as a line of help can have before its explanation.
+static SPACES: [u8; 26] = *b"                          ";
+
+// The columns of the explanations of commands, and of options and operands.
+const COMMAND_COLUMN: usize = 10;
+
+const OPTION_COLUMN: usize = 26;
+
+/// The line that `--version` prints.
+pub fn version_line(alloc: Global) -> Result<Text, AllocError>
+    ensures { IfOk result (λ text. text ≡ version_text) }
+{
+    let mut text = Vec::from_slice(alloc, b"apk ")?;
+    text.extend_from_slice(PROGRAM_VERSION)?;
+    text.extend_from_slice(b", apk-tools 3 formats\n")?;
+    Ok(Text::from_vec(text))
+}
+
+/// What `--help` prints, by the operands of the command `Help`: the help of the command whose word
+/// is the operand, and that of the program where there is none.
+pub fn help(alloc: Global, operands: &Operands) -> Result<Text, AllocError>
+    ensures { IfOk result (λ text. text ≡ help_text operands.now) }
+{
+    let mut text = Vec::new(alloc);
+    match topic_of(operands) {
+        Some(applet) => push_command_help(&mut text, applet)?,
+        None => push_program_help(&mut text)?,
+    }
+    Ok(Text::from_vec(text))
+}
+
+// The command that is asked about, by the operands of `Help`.
+fn topic_of(operands: &Operands) -> Option<Applet>
+    ensures { result ≡ topic_of operands.now }
+{
+    if operands.is_empty() {
+        return None;
+    }
+    applet_of(operands.get(0).text.as_bytes())
+}
+
+// Adds the help of the program.
+fn push_program_help(text: &mut Vec<u8>) -> Result<(), AllocError>
+    ensures { OnOk result (text.new.items ≡ text.old.items ++ program_help) }
+{
+    push_program_usage(text)?;
+    push_commands(text)?;
+    push_common(text)?;
+    push_first_steps(text)?;
+    Ok(())
+}
+
+// Adds how the program is called.
+#[tactic(auto, unfolding(crate::specs::HelpTexts::program_usage))]
+fn push_program_usage(text: &mut Vec<u8>) -> Result<(), AllocError>
+    ensures { OnOk result (text.new.items ≡ text.old.items ++ program_usage) }
+{
+    text.extend_from_slice(PROGRAM_USAGE)
+}
+
+// Adds the commands.
+#[tactic(auto, unfolding(crate::specs::HelpTexts::commands_text))]
+fn push_commands(text: &mut Vec<u8>) -> Result<(), AllocError>
+    ensures { OnOk result (text.new.items ≡ text.old.items ++ commands_text) }
+{
+    text.extend_from_slice(b"\nCommands:\n")?;
+    push_command_lines(text, &LISTED_COMMANDS)?;
+    Ok(())
+}
+
+// Adds a line for each command.
+fn push_command_lines(text: &mut Vec<u8>, commands: &[Applet]) -> Result<(), AllocError>
+    ensures { OnOk result (text.new.items
+        ≡ text.old.items ++ lines_text COMMAND_COLUMN (map command_line commands.now)) }
+{
+    for i in 0..commands.len() {
+        let row = HelpRow {
+            subject: applet_word(commands[i]),
+            text: purpose(commands[i]),
+        };
+        push_line(text, COMMAND_COLUMN, &row)?;
+    }
+    Ok(())
+}
+
+// Adds the options of every command.
+#[tactic(auto, unfolding(crate::specs::HelpTexts::common_text))]
+fn push_common(text: &mut Vec<u8>) -> Result<(), AllocError>
+    ensures { OnOk result (text.new.items ≡ text.old.items ++ common_text) }
+{
+    text.extend_from_slice(b"\nOptions of every command:\n")?;
+    push_lines(text, common_help())?;
+    Ok(())
+}
+
+// Adds how a package is installed, and where to read on.
+#[tactic(auto, unfolding(crate::specs::HelpTexts::first_steps))]
+fn push_first_steps(text: &mut Vec<u8>) -> Result<(), AllocError>
+    ensures { OnOk result (text.new.items ≡ text.old.items ++ first_steps) }
+{
+    text.extend_from_slice(
+        b"\nTo install a package, name an index of packages in etc/apk/repositories, and run\n",
+    )?;
+    text.extend_from_slice(b"  apk add --initdb --allow-untrusted NAME\n")?;
+    text.extend_from_slice(b"\napk COMMAND --help explains a command.\nManual page: apk(8)\n")
+}
+
+// Adds the help of a command.
+fn push_command_help(text: &mut Vec<u8>, applet: Applet) -> Result<(), AllocError>
+    ensures { OnOk result (text.new.items ≡ text.old.items ++ command_help applet) }
+{
+    push_usage(text, synopsis(applet))?;
+    text.extend_from_slice(b"\n")?;
+    text.extend_from_slice(purpose(applet))?;
+    text.extend_from_slice(b"\n")?;
+    text.extend_from_slice(b"\nOptions:\n")?;
+    push_lines(text, option_help(applet))?;
+    push_lines(text, common_help())?;
+    push_section(text, b"\nOperands:\n", operand_help(applet))?;
+    text.extend_from_slice(b"\nManual page: apk(8)\n")?;
+    Ok(())
+}
+
+// Adds how a command is called, a line each.
+fn push_usage(text: &mut Vec<u8>, lines: &[&[u8]]) -> Result<(), AllocError>
+    ensures { OnOk result (text.new.items ≡ text.old.items
+        ++ usage_text (codes "usage: ") (map (λ line. line.now) lines.now)) }
+{
+    let mut front = b"usage: ";
+    for i in 0..lines.len() {
+        push_usage_line(text, front, lines[i])?;
+        front = b"       ";
+    }
+    Ok(())
+}
+
+// Adds a line that says how a command is called, after a front.
+fn push_usage_line(text: &mut Vec<u8>, front: &[u8], line: &[u8]) -> Result<(), AllocError>
+    ensures { OnOk result (text.new.items ≡ text.old.items ++ usage_line front.now line.now) }
+{
+    text.extend_from_slice(front)?;
+    text.extend_from_slice(line)?;
+    text.extend_from_slice(b"\n")
+}
+
+// Adds lines under a heading, if there are any.
+fn push_section(text: &mut Vec<u8>, heading: &[u8], rows: &[HelpRow]) -> Result<(), AllocError>
+    ensures { OnOk result (text.new.items ≡ text.old.items
+        ++ section_text heading.now OPTION_COLUMN (map help_row_line rows.now)) }
+{
+    if rows.is_empty() {
+        return Ok(());
+    }
+    text.extend_from_slice(heading)?;
+    push_lines(text, rows)
+}
+
+// Adds lines of options or operands.
+fn push_lines(text: &mut Vec<u8>, rows: &[HelpRow]) -> Result<(), AllocError>
+    ensures { OnOk result (text.new.items ≡ text.old.items
+        ++ lines_text OPTION_COLUMN (map help_row_line rows.now)) }
+{
+    for i in 0..rows.len() {
+        push_line(text, OPTION_COLUMN, &rows[i])?;
+    }
+    Ok(())
+}
+
+// Adds a line whose explanation begins at a column.
+fn push_line(text: &mut Vec<u8>, column: usize, row: &HelpRow) -> Result<(), AllocError>
+    requires { column ≤ OPTION_COLUMN }
+    ensures { OnOk result (text.new.items
+        ≡ text.old.items ++ line_text column (help_row_line row.now)) }
+{
+    text.extend_from_slice(b"  ")?;
+    text.extend_from_slice(row.subject)?;
+    text.extend_from_slice(spaces_after(column, row.subject))?;
+    text.extend_from_slice(row.text)?;
+    text.extend_from_slice(b"\n")
+}
+
+// The spaces after a subject, up to a column.
+fn spaces_after(column: usize, subject: &[u8]) -> &'static [u8]
+    requires { column ≤ OPTION_COLUMN }
+    ensures { result.now ≡ spaces_after column subject.now }
+{
+    &SPACES[..column.saturating_sub(subject.len())]
+}
