@@ -18,7 +18,7 @@ use Rattle.adb_view.specs.Plain.{Plain, Plains, more, none}
 use Rattle.adb_view.specs.Shaped.{Each}
 use Rattle.adb_view.specs.Values.{entries_in, entry_in, int_in, text_in}
 use Rattle.adb_view.specs.declared.tables.Which.TheVariants.{Idb}
-use Rattle.audit_core.specs.Differences.{IsDifferent, IsRecordOf}
+use Rattle.audit_core.specs.Differences.{IsDifferent, IsInstalledRecord}
 use Rattle.audit_core.specs.Records.{FileRecord, database_records, file_record, folder_records, package_records}
 use Rattle.audit_core.specs.declared.comparing.Difference.{Difference}
 use Rattle.audit_core.specs.declared.comparing.Difference.TheVariants.{Changed, Missing}
@@ -215,7 +215,7 @@ module _ (laws : WrittenLaws) (change : FileChange) (database : Plain) (sound : 
 
   -- ---- a record, and the listing of its path's owner
 
-  pub record_of_owner : (path : List ℕ) (entry : Plain) → IsRecordOf (list_of (packages_after change.members flags)) (record { path = path; entry = entry })
+  pub record_of_owner : (path : List ℕ) (entry : Plain) → IsInstalledRecord (list_of (packages_after change.members flags)) (record { path = path; entry = entry })
       → (l : Listing) × (owner_listing change path ≡ Some l) × (entry ≡ without_zeros l.entry)
   record_of_owner path entry is =
       let r : FileRecord = record { path = path; entry = entry } in
@@ -224,12 +224,12 @@ module _ (laws : WrittenLaws) (change : FileChange) (database : Plain) (sound : 
       let same : path ≡ found.0.path = ap (λ (q : FileRecord). q.path) found.2 in
       (found.0, ap (owner_listing change) same ∙ owned_listing found.0 found.1, ap (λ (q : FileRecord). q.entry) found.2)
 
-  pub owner_record : (path : List ℕ) (l : Listing) → owner_listing change path ≡ Some l → IsRecordOf (list_of (packages_after change.members flags)) (record { path = path; entry = without_zeros l.entry })
+  pub owner_record : (path : List ℕ) (l : Listing) → owner_listing change path ≡ Some l → IsInstalledRecord (list_of (packages_after change.members flags)) (record { path = path; entry = without_zeros l.entry })
   owner_record path l e =
       let of = owner_owned path l e in
       let here = subst (IsIn (kept_record l)) (sym records_are) (in-map kept_record l owned of.0) in
       let found = from-flat_map package_records (kept_record l) (list_of (packages_after change.members flags)) here in
-      subst (λ (q : List ℕ). IsRecordOf (list_of (packages_after change.members flags)) (record { path = q; entry = without_zeros l.entry })) of.1
+      subst (λ (q : List ℕ). IsInstalledRecord (list_of (packages_after change.members flags)) (record { path = q; entry = without_zeros l.entry })) of.1
       (record { pkg = found.0; installed = found.1; listed = found.2 })
 
   pub owner_free : (path : List ℕ) (l : Listing) → owner_listing change path ≡ Some l → is_reserved path ≡ false

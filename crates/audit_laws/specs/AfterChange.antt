@@ -32,9 +32,9 @@ pub record IsEmptyUnlike (entry : Plain) : Type 0 where
 abbrev pub IsKeptForUser : FileChange → Files → List ℕ → Type 0
 IsKeptForUser change files path = (bytes : List ℕ) × IsUsersFile change files path bytes
 
--- Why the file of a listing differs after a change. That of a package which stays differs as it did
--- before. That of an added one has other bytes: those that the user gave it, or those that the package
--- has for it, which are not as its own entry lists them.
+-- Why a listed file differs after a change. The file of a kept package differs as it did before. The
+-- file of an added package has other bytes: those that the user gave it, or those that the package has
+-- for it, which are not as its own entry lists them.
 abbrev pub IsLeftBy :
     (ℕ → List Contents) → FileChange → Files → FileDifference → Listing → Bool → Type 0
 IsLeftBy contents change files d l false = IsDifferent d.difference l.entry (files d.path)

@@ -25,10 +25,10 @@ use change_outcome::a_change_that_is_made_passes_each_test;
 use db_core::listings_stand_at_their_places;
 use db_write::{a_database_keeps_the_entries_of_owned_files, a_database_lists_the_owned_files};
 
-/// After a change these files differ from their records, and no others: of a package that stays each
-/// file that differed before; of an added one each file of configuration that the user changed,
-/// which keeps its bytes. A package can be made whose own file is unlike its entry: an empty file
-/// with the digest of other bytes, which no test of a package compares. It differs too.
+/// After a change these files differ from their records, and no others. Of a kept package: each file
+/// that differed before. Of an added package: each configuration file that the user changed, since
+/// it keeps its bytes. A package can be made with an empty file whose entry has the digest of other
+/// bytes, which no test of a package compares: that file differs too.
 pub fn after_a_change_an_audit_reports_what_it_left_to_the_user()
     // Each file that differs, and no other.
     ensures each { (command : CommandLine) (read : Reads) (files : Files)
