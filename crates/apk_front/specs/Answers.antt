@@ -1,7 +1,7 @@
 -- What a run of the top call answers, and what it prints on its two sinks. The rules stand in
 -- `docs/commands.md`, "Answers and statuses", and of faults in `docs/crash-safety.md`,
 -- "Misuses, faults and counts".
-use Rattle.std.specs.Prelude.{◌≡◌, ◌≢◌, ◌⊎◌, ◌<◌, ℕ, ◌-◌, ◌^◌, false, Bool, List, [], Option, Some, None, is_ok}
+use Rattle.std.specs.Prelude.{◌≡◌, ◌≢◌, ◌⊎◌, ◌<◌, ℕ, ◌-◌, ◌^◌, false, Bool, ◌||◌, List, [], Option, Some, None, is_ok}
 use Rattle.base_core.specs.Calls.{HasNow}
 use Rattle.base_core.specs.Faults.{Counts, HasCause, IsNoFault, Rose}
 use Rattle.base_core.specs.Files.{Files}
@@ -11,7 +11,7 @@ use Rattle.outcome.specs.Outcome.{Outcome}
 use Rattle.outcome.specs.Words.{IsOutcome}
 use Rattle.report_core.specs.Texts.{tree_line, memory_line}
 use Rattle.report_core.specs.declared.refusal.Refusal.{Refusal}
-use Rattle.words_core.specs.Grammar.{line_start}
+use Rattle.words_core.specs.Grammar.{command_of, line_start}
 use Rattle.apk_front.specs.declared.answer.Answer.{Answer}
 use Rattle.apk_front.specs.declared.answer.Answer.TheVariants.{Ok, Refused, TreeFault, OutFault, Memory}
 
@@ -151,6 +151,7 @@ IsOutcomeUnlessMemory words files Leaves OutFault before after out err =
     Rose out.before.wants out.after.wants ⊎ Rose err.before.wants err.after.wants
 IsOutcomeUnlessMemory words files Leaves Memory before after out err = Unit {0}
 
--- whether words name an applet behind the options that stand first
-abbrev pub name_an_applet : List (List ℕ) → Bool
-name_an_applet words = is_ok (line_start words)
+-- whether words name an applet after the options that come first, or are a command without one, which
+-- asks for help or for the version
+abbrev pub name_a_command : List (List ℕ) → Bool
+name_a_command words = is_ok (line_start words) || is_ok (command_of words)

@@ -1,6 +1,5 @@
--- What comes of the engine's answer to `add`, `del`, `upgrade`, `fix` and `info`. Serves the proofs
--- of `src/change.rt` and `src/info.rt`; the rule stands in `docs/commands.md`,
--- "Answers and statuses".
+-- What comes of the answer to a change, and to a command that only reports. Serves the proofs of
+-- `src/change.rt` and `src/report.rt`; the rule is in `docs/commands.md`, "Answers and statuses".
 use Rattle.std.specs.Prelude.{◌≡◌, ℕ, List, Result, Ok, Err}
 use Rattle.base_core.specs.Files.{Files}
 use Rattle.base_core.specs.declared.tree.TreeFault.{TreeFault}
@@ -27,9 +26,9 @@ IsToldAs (Ok report) (Ok verdict) =
 IsToldAs (Ok report) (Err fault) = ⊥
 IsToldAs (Err refused) judged = IsRefusedAs refused judged
 
--- what is judged of `info`: what it tells, with the refusal behind that, or why it tells nothing
-abbrev pub IsInfoToldAs : Result InfoDone Refused → Result Verdict TreeFault → Type 0
-IsInfoToldAs (Ok done) (Ok verdict) =
+-- what is judged of a report: it is reported, with the refusal beside it, or a refusal is
+abbrev pub IsReportedAs : Result InfoDone Refused → Result Verdict TreeFault → Type 0
+IsReportedAs (Ok done) (Ok verdict) =
     (files : Files) → as_outcome files verdict ≡ outcome_of done.late done.report files
-IsInfoToldAs (Ok done) (Err fault) = ⊥
-IsInfoToldAs (Err refused) judged = IsRefusedAs refused judged
+IsReportedAs (Ok done) (Err fault) = ⊥
+IsReportedAs (Err refused) judged = IsRefusedAs refused judged

@@ -2,7 +2,7 @@
 //! stands in `docs/commands.md`, what it leaves of a tree in `docs/crash-safety.md`, "Recovery", in
 //! the table of what a run of `apk` may leave.
 ghost use Rattle.std.specs.Prelude.{◌≡◌, ℕ, Bool, List, IsSome, IsTrue, is_some};
-ghost use Rattle.apk_front.specs.Answers.{name_an_applet, IsAnswerOf, IsAnswerTo, LeavesFiles, LeavesAny, HasCauses, IsFaultless, IsComplete, IsUnplanned, IsOutcomeUnlessMemory};
+ghost use Rattle.apk_front.specs.Answers.{name_a_command, IsAnswerOf, IsAnswerTo, LeavesFiles, LeavesAny, HasCauses, IsFaultless, IsComplete, IsUnplanned, IsOutcomeUnlessMemory};
 ghost use Rattle.apk_front.specs.Moments.{AnswersOutcome, AreReadOnTheWay, AreSafe, CommitsNothing, HasNothingToRecover, HidesScratchOf, LeavesAtRest, LeavesLasting, LeavesRoom, UnreadNamesLast};
 ghost use Rattle.base_core.specs.Calls.{HasNow, IfObservable};
 ghost use Rattle.base_core.specs.Crash.{IsOrderly, Since};
@@ -87,8 +87,8 @@ pub fn apk<T: Tree, O: Sink, E: Sink>(
     ensures out_counts { IsProperUse (sink_change O.bytes O.counts out.old out.new) }
     ensures err_counts { IsProperUse (sink_change E.bytes E.counts err.old err.new) }
 
-    // Want of memory is answered only where the words name an applet.
-    ensures memory { result ≡ Answer.Memory → IsTrue (name_an_applet words.now) }
+    // Out of memory is answered only if the words name an applet, or ask for help or the version.
+    ensures memory { result ≡ Answer.Memory → IsTrue (name_a_command words.now) }
 
     // No call is a misuse of the tree, where its files leave room for what an intent has still to
     // do, and the recovered ones for what the outcome writes: OUTPUT and OUTPUT.apk-tmp are no

@@ -1,11 +1,11 @@
 //! A command line is judged: its words are read, and its applet is run. What it may do below its
 //! root is known before, as a host wants it. The rules stand in `docs/commands.md`, "Words" and
-//! "Before the commands that write, and `info`"; and of what a run may do below its root in
+//! "Commands that recover first"; and of what a run may do below its root in
 //! `docs/crash-safety.md`, "What the host's tree does"; how counts explain an answer, in "Misuses,
 //! faults and counts".
 
 ghost use Rattle.std.specs.Prelude.{◌≡◌, [], None, Ok, IfOk, IsErrOf, IsTrue, MatchResult, OnOk};
-ghost use Rattle.apk_front.specs.Answers.{name_an_applet};
+ghost use Rattle.apk_front.specs.Answers.{name_a_command};
 ghost use Rattle.apk_front.specs.Moments.{LeavesRoom, LeavesRoomFor};
 ghost use Rattle.apk_front.specs.Runs.{IsWholeRun};
 ghost use Rattle.apk_front.specs.Verdicts.{ReportsOne, as_outcome};
@@ -25,6 +25,7 @@ ghost use Rattle.apk_front.specs.Effects.{access_of};
 use crate::answer::Verdict;
 use crate::demo::demo;
 use crate::dump::adbdump;
+use crate::generate::adbgen;
 use crate::recovered::recover_and_run;
 use crate::verify::verify;
 use crate::version::version;
@@ -32,7 +33,7 @@ use base_core::{Tree, TreeFault, Words};
 use command_core::{Applet, Command};
 use report_core::Refusal;
 use std::alloc::{AllocError, Global};
-use words_core::{WordsFault, read_words};
+use words_core::{WordsFault, help, read_words, version_line};
 
 /// Judges a command line over a tree, and carries it out: gives what it reports, and its refusal,
 /// if there is one. Nothing is printed yet.
@@ -67,7 +68,7 @@ pub(crate) fn judge<T: Tree>(
     ensures kept { OnOk result (IsNoFault (T.counts tree.old) (T.counts tree.new)) }
     ensures memory { IsErrOf result TreeFault.Memory
         → IsNoFault (T.counts tree.old) (T.counts tree.new) }
-    ensures named { IsErrOf result TreeFault.Memory → IsTrue (name_an_applet words.now) }
+    ensures named { IsErrOf result TreeFault.Memory → IsTrue (name_a_command words.now) }
     ensures proper { IfObservable (T.history tree.old) (λ v. LeavesRoom words.now (files_of v)
         → (T.counts tree.new).misuses ≡ (T.counts tree.old).misuses) }
 {
@@ -163,7 +164,7 @@ pub(crate) fn run<T: Tree>(
 
 // Runs an applet that only reads. The clauses are those of `run`; `tree` says that nothing is
 // written.
-#[tactic(auto, using(crate::proofs::Operands::dump_operands, crate::proofs::Operands::verify_operands, crate::proofs::Operands::version_operands))]
+#[tactic(auto, using(crate::proofs::Operands::dump_operands, crate::proofs::Operands::gen_operands, crate::proofs::Operands::verify_operands, crate::proofs::Operands::version_operands))]
 fn look<T: Tree>(alloc: Global, command: &Command, tree: &mut T) -> Result<Verdict, TreeFault>
     requires { IsTrue (does_only_read (effect_of command.now.applet)) }
     ensures found { IfOk result (λ verdict. IfObservable (T.history tree.old) (λ v.
@@ -188,7 +189,16 @@ fn look<T: Tree>(alloc: Global, command: &Command, tree: &mut T) -> Result<Verdi
             let verdict = version(alloc, command.flags(), command.operands())?;
             Ok(verdict)
         }
+        Applet::Help => {
+            let text = help(alloc, command.operands())?;
+            Ok(Verdict::reported(text))
+        }
+        Applet::ProgramVersion => {
+            let text = version_line(alloc)?;
+            Ok(Verdict::reported(text))
+        }
         Applet::Adbdump => adbdump(alloc, command.operands(), tree),
+        Applet::Adbgen => adbgen(alloc, command.operands(), tree),
         // Ok(Verdict::empty(alloc)) => No outcome is asked for: `demo` is run by `carry_out`, and
         // all others recover first.
         _ => Ok(Verdict::empty(alloc)),
@@ -223,8 +233,19 @@ pub(crate) fn applet_access(applet: Applet) -> RootAccess
     ensures { result ≡ access_of (does_only_read (effect_of applet)) }
 {
     match applet {
-        Applet::Verify | Applet::Adbdump | Applet::Version | Applet::Demo => RootAccess::Read,
+        Applet::Verify
+        | Applet::Adbdump
+        | Applet::Adbgen
+        | Applet::Version
+        | Applet::Demo
+        | Applet::Help
+        | Applet::ProgramVersion => RootAccess::Read,
         Applet::Info
+        | Applet::Audit
+        | Applet::Manifest
+        | Applet::List
+        | Applet::Search
+        | Applet::Policy
         | Applet::Mkpkg
         | Applet::Mkndx
         | Applet::Add

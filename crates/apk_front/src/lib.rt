@@ -13,11 +13,12 @@ mod change;
 mod demo;
 mod dump;
 mod front;
-mod info;
+mod generate;
 mod judge;
 mod laws;
 mod make;
 mod recovered;
+mod report;
 mod verify;
 mod version;
 

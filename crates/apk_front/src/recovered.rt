@@ -1,5 +1,5 @@
 //! A command that recovers: what an intent has still to do is done first. The rules stand in
-//! `docs/commands.md`, "Before the commands that write, and `info`", and in `docs/crash-safety.md`,
+//! `docs/commands.md`, "Commands that recover first", and in `docs/crash-safety.md`,
 //! "Recovery".
 ghost use Rattle.std.specs.Prelude.{◌≡◌, true, None, Ok, IfOk, IsErrOf, IsSome, OnOk};
 ghost use Rattle.apk_front.specs.Moments.{HasRoomToWrite, LeavesRoomFor};
@@ -17,8 +17,8 @@ ghost use Rattle.report_core.specs.declared.refusal.Refusal.TheVariants.{IntentB
 
 use crate::answer::Verdict;
 use crate::change::change;
-use crate::info::info;
 use crate::make::{mkndx, mkpkg};
+use crate::report::report;
 use base_core::{Tree, TreeFault, counts_of_calls_in_a_row_join};
 use command_core::{Applet, Command};
 use journal_core::{
@@ -107,7 +107,12 @@ fn run_recovered<T: Tree>(
     match command.applet() {
         Applet::Mkpkg => mkpkg(alloc, command, tree),
         Applet::Mkndx => mkndx(alloc, command, tree),
-        Applet::Info => info(alloc, command, tree),
+        Applet::Info
+        | Applet::Audit
+        | Applet::Manifest
+        | Applet::List
+        | Applet::Search
+        | Applet::Policy => report(alloc, command, tree),
         Applet::Add | Applet::Del | Applet::Upgrade | Applet::Fix => change(alloc, command, tree),
         // unreachable!() => The other applets do not recover.
         _ => unreachable!(),

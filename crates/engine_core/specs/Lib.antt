@@ -4,7 +4,6 @@ pub mod Selecting
 pub mod Wishes
 pub mod Changed
 pub mod ChangeRun
-pub mod InfoTold
 -- what only inner contracts and proofs use
 pub mod Chosen
 pub mod Runs

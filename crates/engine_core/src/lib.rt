@@ -3,9 +3,8 @@
 //!
 //! The contract of `change` cites `ChangeRun` of `specs/` (what a run answers, and what it makes of
 //! the tree), `Changed` (what a command comes to, by what is read and by what is chosen) and
-//! `Choice` (which candidates are chosen). `laws` says that there is one choice. The contract of
-//! `info`, which tells of what is installed, cites `InfoTold`. Each command's rules stand in
-//! `docs/commands.md`, under its name.
+//! `Choice` (which candidates are chosen). `laws` says that there is one choice. Each command's
+//! rules stand in `docs/commands.md`, under its name.
 #![tactic(auto)]
 
 mod carrying;
@@ -17,12 +16,9 @@ mod planning;
 mod records;
 mod removals;
 mod targets;
-mod telling;
 mod wishes;
 mod writes;
 
 pub use change_inputs::Refused;
 pub use changing::change;
 pub use choosing::{a_choice_exists, a_choice_is_unique};
-pub use installed_info::InfoDone;
-pub use telling::info;

@@ -1,12 +1,12 @@
 -- What a command looks at, and what it changes. The rules stand in `docs/commands.md`,
--- "Before the commands that write, and `info`", and in `docs/crash-safety.md`,
+-- "Commands that recover first", and in `docs/crash-safety.md`,
 -- "Misuses, faults and counts", its last paragraph.
 use Rattle.std.specs.Prelude.{ℕ, Bool, true, false, List, Option, None, Result, Ok, Err}
 use Rattle.make_info.specs.Output.{output_name}
 use Rattle.command_core.specs.Command.{CommandLine}
 use Rattle.words_core.specs.Grammar.{command_of}
 use Rattle.command_core.specs.declared.command.Applet.{Applet}
-use Rattle.command_core.specs.declared.command.Applet.TheVariants.{Adbdump, Add, Del, Demo, Fix, Info, Mkndx, Mkpkg, Upgrade, Verify, Version}
+use Rattle.command_core.specs.declared.command.Applet.TheVariants.{Adbdump, Adbgen, Add, Audit, Del, Demo, Fix, Help, Info, List as ListApplet, Manifest, Mkndx, Mkpkg, Policy, ProgramVersion, Search, Upgrade, Verify, Version}
 
 -- what a command may do to the files, from nothing to several of them
 pub data Effect : Type 0 where
@@ -25,9 +25,17 @@ pub data Effect : Type 0 where
 abbrev pub effect_of : Applet → Effect
 effect_of Version = Computes
 effect_of Demo = Computes
+effect_of Help = Computes
+effect_of ProgramVersion = Computes
 effect_of Verify = Reads
 effect_of Adbdump = Reads
+effect_of Adbgen = Reads
 effect_of Info = Tells
+effect_of Audit = Tells
+effect_of Manifest = Tells
+effect_of ListApplet = Tells
+effect_of Search = Tells
+effect_of Policy = Tells
 effect_of Mkpkg = Makes
 effect_of Mkndx = Makes
 effect_of Add = Changes

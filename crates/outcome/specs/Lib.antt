@@ -7,6 +7,7 @@ pub mod Work
 pub mod Version
 pub mod Verify
 pub mod Dump
+pub mod Generate
 pub mod Make
 pub mod Telling
 pub mod Changing

@@ -1,5 +1,5 @@
 -- The files on which a command works, and why it may not begin. The rules stand in
--- `docs/commands.md`, "Before the commands that write, and `info`", and in `docs/crash-safety.md`,
+-- `docs/commands.md`, "Commands that recover first", and in `docs/crash-safety.md`,
 -- "Recovery".
 use Rattle.std.specs.Prelude.{ℕ, List, Option, Some, None}
 use Rattle.adb_schema.specs.Soundness.{first_fault}

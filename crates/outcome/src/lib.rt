@@ -3,8 +3,8 @@
 //!
 //! It is a crate of definitions. `Outcome` of `specs/` says what a command comes to, `Words` what a
 //! command line comes to, `Commands` what each command but `demo` does, `Effect` what it looks at
-//! and changes, and `Version`, `Verify`, `Dump`, `Make`, `Telling` and `Changing` what each comes
-//! to; `Demo` says what `demo` runs, and `Given` what no function computes of an outcome.
+//! and changes, and `Version`, `Verify`, `Dump`, `Generate`, `Make`, `Telling` and `Changing` what
+//! each comes to; `Demo` says what `demo` runs, and `Given` what no function computes of an outcome.
 //! `ChangeEnd`, `Recovers` and `Sound` are what laws cite: how a change ends, which commands
 //! recover, and when a file is a sound container.
 //!
@@ -23,7 +23,9 @@ ghost use Rattle.command_core.specs.Command.{CommandLine};
 ghost use Rattle.command_core.specs.declared.command.Applet.{Applet};
 ghost use Rattle.journal_core.specs.Recovery.{intent_name};
 ghost use Rattle.journal_core.specs.Staged.{HasRoomToReplay, HasRoomToStage, unstaged_files};
-ghost use Rattle.outcome.specs.ChangeEnd.{IsChangeEnd, IsRunEnd};
+ghost use Rattle.installed_info.specs.declared.telling.InfoDone.{InfoDone};
+ghost use Rattle.make_info.specs.Reads.{Reads};
+ghost use Rattle.outcome.specs.ChangeEnd.{IsChangeEnd, IsRunEnd, is_input_refusal};
 ghost use Rattle.outcome.specs.Commands.{IsOutcomeOf, IsOutcomeOver, reads_in};
 ghost use Rattle.outcome.specs.Effect.{Changes, Makes, Tells, does_recover, effect_by, effect_of, output, reads_only, rests_on_words};
 ghost use Rattle.outcome.specs.Make.{files_below};
@@ -32,8 +34,10 @@ ghost use Rattle.outcome.specs.Recovers.{must_recover};
 ghost use Rattle.outcome.specs.Sound.{IsSoundAt};
 ghost use Rattle.outcome.specs.Words.{IsOutcome};
 ghost use Rattle.outcome.specs.Work.{fault_of_intent, recovery_fault, work_files};
+ghost use Rattle.report_core.specs.declared.refusal.Refusal.{Refusal};
 ghost use Rattle.report_core.specs.declared.refusal.Refusal.TheVariants.{IntentBad, NoDatabase};
 ghost use Rattle.root_names.specs.RootNames.{database_name, text_database_name};
+ghost use Rattle.tell_core.specs.ToldBy.{told_by};
 ghost use Rattle.words_core.specs.Grammar.{command_of};
 
 use adb_schema::sound_containers_hold_sound_values;
@@ -139,10 +143,11 @@ pub fn a_command_that_commits_nothing_leaves_the_files()
     a_change_that_writes_nothing_leaves_the_files();
 }
 
-/// `add`, `del`, `upgrade`, `fix`, `info`, `mkpkg` and `mkndx` first finish what an earlier change
-/// left undone, and refuse an intent that is bad; then they work on the files that a recovery
-/// leaves, and leave these where they commit nothing. `verify`, `adbdump`, `version` and `demo`
-/// leave all files as they are.
+/// The changes `add`, `del`, `upgrade` and `fix`, `mkpkg` and `mkndx`, and the commands that report
+/// on a root, `info`, `audit`, `manifest`, `list`, `search` and `policy`, first finish what an
+/// earlier change left undone, and refuse an intent that is bad. Then they work on the files that a
+/// recovery leaves, and leave these if they commit nothing. `verify`, `adbdump`, `adbgen`,
+/// `version`, `demo`, `--help` and `--version` leave all files as they are.
 pub fn a_command_recovers()
     // The list of `must_recover` is that of the effects.
     ensures recovers { (applet : Applet) → does_recover (effect_of applet) ≡ must_recover applet }
@@ -179,8 +184,22 @@ pub fn only_a_bad_intent_is_refused_as_one()
         → o.refusal ≡ Some (IntentBad cause)
         → recovery_fault (effect_by (command_of words)) files ≡ Some cause }
 {
-    info_refuses_an_operand();
+    a_teller_is_refused_for_its_input();
     a_change_takes_the_first_selection_or_is_refused();
+}
+
+/// A command that only reports is refused for its input alone, in the place of its report or beside
+/// it.
+pub fn a_teller_is_refused_for_its_input()
+    // A refusal in the report's place.
+    ensures refused { (command : CommandLine) (read : Reads) (refusal : Refusal)
+        → told_by command read ≡ Err refusal → is_input_refusal refusal ≡ true }
+    // A refusal beside the report.
+    ensures late { (command : CommandLine) (read : Reads) (done : InfoDone) (refusal : Refusal)
+        → told_by command read ≡ Ok done → done.late ≡ Some refusal
+        → is_input_refusal refusal ≡ true }
+{
+    info_refuses_an_operand();
 }
 
 /// A root is refused for having no database only where neither file of one stands there, and the
@@ -221,9 +240,9 @@ pub fn a_change_leaves_room_for_the_next()
     an_intent_is_read_from_a_sound_container();
 }
 
-/// An outcome that rests on the words alone, that of a usage error, of `version` and of `demo`, is
-/// the same over all other files, which it leaves (`docs/commands.md`, "Words" and the sections of
-/// these two).
+/// An outcome that rests on the words alone is the same over all other files, which it leaves. It is
+/// that of a usage error, of `version`, of `demo`, of `--help` or of `--version`
+/// (`docs/commands.md`, "Words" and the sections of these commands).
 pub fn an_outcome_of_words_is_the_same_everywhere()
     ensures { (words : List (List ℕ)) (files others : Files) (o : Outcome)
         → IsTrue (rests_on_words (command_of words))

@@ -2,6 +2,7 @@
 pub mod InputFaults
 pub mod ReadBefore
 pub mod InfoFaults
+pub mod QueryFaults
 pub mod ComingPackages
 pub mod PackageFaults
 pub mod ChangeFaults

@@ -1,5 +1,5 @@
 -- Why a run is refused that changes the installed packages. The refusals stand in
--- `docs/commands.md`, "Before the commands that write, and `info`" and "`add` and `del`".
+-- `docs/commands.md`, "Commands that recover first" and "`add` and `del`".
 use Rattle.std.specs.Prelude.{◌≡◌, ◌⊎◌, ℕ, List, Option, Some, None}
 use Rattle.base_core.specs.Files.{Files}
 use Rattle.base_core.specs.declared.cause.Cause.{Cause}

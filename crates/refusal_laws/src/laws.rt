@@ -10,7 +10,6 @@ ghost use Rattle.change_outcome.specs.MembersAfter.{MemberFound};
 ghost use Rattle.command_core.specs.Command.{CommandLine};
 ghost use Rattle.engine_core.specs.Changed.{IsClashFor, change_of_command, selected_of_inputs};
 ghost use Rattle.engine_core.specs.Choice.{IsChoiceFrom};
-ghost use Rattle.engine_core.specs.InfoTold.{info_told};
 ghost use Rattle.engine_core.specs.Selecting.{pool_for};
 ghost use Rattle.installed_info.specs.declared.telling.InfoDone.{InfoDone};
 ghost use Rattle.make_info.specs.Reads.{Reads};
@@ -26,15 +25,19 @@ ghost use Rattle.report_core.specs.declared.refusal.Refusal.{Refusal};
 ghost use Rattle.refusal_laws.specs.ChangeFaults.{IsFaultOfChange, IsFaultOfPackage};
 ghost use Rattle.refusal_laws.specs.CommandFaults.{IsFaultOfCommand};
 ghost use Rattle.refusal_laws.specs.FirstPackage.{IsFirstRefused};
-ghost use Rattle.refusal_laws.specs.InfoFaults.{AreOperandsFound, IsFaultOfInfo, IsFaultOfOperand};
+ghost use Rattle.refusal_laws.specs.InfoFaults.{AreOperandsFound, IsFaultOfDatabase, IsFaultOfInfo, IsFaultOfOperand};
 ghost use Rattle.refusal_laws.specs.InputFaults.{IsFaultOfInput};
 ghost use Rattle.refusal_laws.specs.MadeTooLarge.{IsPackageTooLarge};
 ghost use Rattle.refusal_laws.specs.OperandsKnown.{HasPassedBeforeSelection};
 ghost use Rattle.refusal_laws.specs.PackagesAfter.{AreSelectedOnes};
+ghost use Rattle.refusal_laws.specs.QueryFaults.{IsFaultOfQuery};
 ghost use Rattle.refusal_laws.specs.ReadBefore.{HasReadBefore};
 ghost use Rattle.refusal_laws.specs.RunFaults.{IsFaultOfRun, IsFaultOver};
 ghost use Rattle.refusal_laws.specs.RunMade.{HasFirstSelection};
 ghost use Rattle.refusal_laws.specs.TestsPassed.{HasNoFault, HasPassedBefore};
+ghost use Rattle.tell_core.specs.AuditTold.{audit_told, manifest_told};
+ghost use Rattle.tell_core.specs.InfoTold.{info_told};
+ghost use Rattle.tell_core.specs.QueryTold.{query_told};
 ghost use Rattle.words_core.specs.Grammar.{command_of};
 
 use outcome::{a_change_takes_the_first_selection_or_is_refused, a_command_recovers};
@@ -64,6 +67,27 @@ pub fn a_refused_info_has_its_fault()
     // No refusal.
     ensures told { (command : CommandLine) (read : Reads) (done : InfoDone)
         → info_told command read ≡ Ok done → done.late ≡ None → AreOperandsFound command read }
+{}
+
+/// If an `audit` is refused, the database is, for its fault. What differs is no refusal.
+pub fn a_refused_audit_has_its_fault()
+    ensures { (command : CommandLine) (read : Reads) (refusal : Refusal)
+        → audit_told command read ≡ Err refusal → IsFaultOfDatabase command read refusal }
+{}
+
+/// If a `manifest` is refused, the database is, for its fault; or an operand names no installed
+/// package, and it is the first that does. A `manifest` has no flag `--who-owns`.
+pub fn a_refused_manifest_has_its_fault()
+    ensures { (command : CommandLine) (read : Reads) (refusal : Refusal)
+        → command.flags.who_owns ≡ false → manifest_told command read ≡ Err refusal
+        → IsFaultOfInfo command read refusal }
+{}
+
+/// If `list`, `search` or `policy` is refused, what is read of the root is, for its fault; or there
+/// are more candidates than a pool holds.
+pub fn a_refused_query_has_its_fault()
+    ensures { (command : CommandLine) (read : Reads) (refusal : Refusal)
+        → query_told command read ≡ Err refusal → IsFaultOfQuery command read refusal }
 {}
 
 /// Where a change is refused, what the refusal says is so: of a package that comes or goes, or of

@@ -2,7 +2,7 @@
 ghost use Rattle.base_core.specs.Read.{OnlyReads};
 ghost use Rattle.change_inputs.specs.Answers.{Agrees, AgreesUnlessDisk};
 ghost use Rattle.change_inputs.specs.Seen.{installed_seen};
-ghost use Rattle.engine_core.specs.InfoTold.{info_told};
+ghost use Rattle.tell_core.specs.InfoTold.{info_told};
 ghost use Rattle.installed_info.specs.Info.{info_of};
 ghost use Rattle.package_files.specs.Runs.{Explains};
 
@@ -19,7 +19,11 @@ use std::alloc::Global;
 ///
 /// The refusals of the database; then `NotInstalled` at the first operand whose package is not
 /// installed, which `info -e` tells behind its report. `Disk` where the tree failed, and `Memory`.
-pub fn info<T: Tree>(alloc: Global, command: &Command, tree: &mut T) -> Result<InfoDone, Refused>
+pub(crate) fn tell_info<T: Tree>(
+    alloc: Global,
+    command: &Command,
+    tree: &mut T,
+) -> Result<InfoDone, Refused>
     ensures told { Explains (T.history tree.old) (λ read.
         AgreesUnlessDisk (λ done. done) result (info_told command.now read)) }
     ensures tree { OnlyReads Refused.Disk (T.history tree.old) (T.history tree.new)
