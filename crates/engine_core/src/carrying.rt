@@ -11,6 +11,7 @@ ghost use Rattle.engine_core.specs.ChangeRun.{ComesTo};
 ghost use Rattle.engine_core.specs.Finishing.{AreRecordsOf, IsPlanned, inputs_arrived, replacement_arrived};
 ghost use Rattle.engine_core.specs.Runs.{IsRunCounted};
 ghost use Rattle.engine_core.specs.Wishes.{wishes_of};
+ghost use Rattle.stage_run.specs.Asked.{IsAskedRun};
 ghost use Rattle.std.specs.Prelude.{◌≡◌, List, Ok};
 
 use crate::finishing::{
@@ -26,6 +27,7 @@ use change_inputs::Refused;
 use command_core::Command;
 use piece_reader::Piece;
 use stage_files::{StageFault, carry_out};
+use stage_run::asked_runs_begin_with_reads;
 use std::alloc::Global;
 
 /// Carries a change through, the triggers of which are tested. All memory is asked for first, and
@@ -51,9 +53,11 @@ fn carry_change<T: Tree>(
         (T.counts tree.new) result }
     // How the tree's counts explain the answer.
     ensures counts { IsRunCounted (T.counts tree.old) (T.counts tree.new) result }
+    ensures promised { IsAskedRun T.accepts (T.history tree.old) (T.history tree.new) }
 {
-    // A law that the proof needs; it computes nothing.
+    // Laws that the proof needs; they compute nothing.
     a_package_that_was_read_is_that_of_its_file();
+    asked_runs_begin_with_reads::<T>();
     let Planned { arrived, plan } = *planned;
     let loaded = arrived.selection.loaded;
     let record_writes = record_writes_of(loaded, records);
@@ -109,7 +113,10 @@ pub(crate) fn finish_change<T: Tree>(
         (replacement_arrived planned.now.arrived.now) (wishes_of command.now) found files))
         (T.history tree.old) (T.history tree.new) (T.counts tree.old) (T.counts tree.new) result }
     ensures counts { IsRunCounted (T.counts tree.old) (T.counts tree.new) result }
+    ensures promised { IsAskedRun T.accepts (T.history tree.old) (T.history tree.new) }
 {
+    // A law that the proof needs; it computes nothing.
+    asked_runs_begin_with_reads::<T>();
     let no_scripts = command.flags().no_scripts;
     test_triggers(alloc, no_scripts, planned.arrived.members, planned.plan)?;
     let records = new_records(alloc, planned)?;
