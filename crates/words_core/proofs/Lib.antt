@@ -25,3 +25,6 @@ pub mod WhatFollows
 pub mod StuckWords
 pub mod AskedStuck
 pub mod Letters
+pub mod Reasons
+pub mod ReasonsHold
+pub mod Explained
