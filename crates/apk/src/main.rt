@@ -7,11 +7,10 @@
 
 mod process;
 
-use apk_front::{Answer, RootAccess, access_for, apk, status};
+use apk_front::{Answer, Refusal, RootAccess, access_for, apk, status};
 use host_files::{Lock, write_path};
 use host_tree::HostTree;
 use process::{HostSink, WordsFault, words_of};
-use report_core::Refusal;
 use std::io;
 use std::io::Write;
 use std::process::ExitCode;

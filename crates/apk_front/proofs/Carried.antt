@@ -19,27 +19,25 @@ use Rattle.package_files.specs.Sources.{AreNamesFor, values_with}
 use Rattle.command_core.specs.declared.values.TheConstants.{FILES}
 use Rattle.make_index.specs.Files.{AreFiles}
 use Rattle.make_info.specs.Reads.{Reads}
-use Rattle.outcome.specs.Dump.{adbdump, dump_outcome, text_outcome, dump_of}
 use Rattle.outcome.specs.Make.{mkndx, mkpkg}
-use Rattle.outcome.specs.Commands.{IsFoundOutcomeOf, IsFoundOver, IsOutcomeOf, IsOutcomeOver, reads_in, applet_outcome, command_outcome}
+use Rattle.outcome.specs.Commands.{IsFoundOutcomeOf, IsFoundOver, IsOutcomeOf, IsOutcomeOver, reads_in, applet_outcome, command_outcome, computing_outcome, effect_outcome, reading_outcome}
 use Rattle.outcome.specs.Given.{Given, IsChosenFor, IsClashBy, IsGiven, IsListingFor, MayBeGiven, MayBeListedFor, MayClash, nothing_given}
 use Rattle.outcome.specs.Effect.{Effect, Computes, Reads as OnlyReading, Tells, Makes, Changes, does_only_read, does_recover, does_rest_on_words, effect_by, effect_of, output, output_by, output_if, reads_only, rests_on_words}
 use Rattle.outcome.specs.Words.{IsFoundOutcome, IsFoundOutcomeBy, IsOutcome, IsOutcomeBy}
 use Rattle.outcome.specs.Work.{recovery_fault}
 use Rattle.outcome.specs.Outcome.{Outcome, just_refusal, just_report, outcome_of, report_unless}
-use Rattle.outcome.specs.Verify.{verify_refusal, sound_lines}
-use Rattle.outcome.specs.Version.{order_report, invalid_lines, version_refusal}
 use Rattle.report_core.specs.declared.refusal.Refusal.{Refusal}
 use Rattle.report_core.specs.declared.refusal.Refusal.TheVariants.{Usage}
 use Rattle.command_core.specs.Command.{CommandLine}
-use Rattle.command_core.specs.Files.{without_dot}
 use Rattle.words_core.specs.Faults.{IsWordsFault}
 use Rattle.words_core.specs.Grammar.{command_of}
+use Rattle.words_core.specs.HelpTexts.{help_text, version_text}
 use Rattle.words_core.specs.declared.read.WordsFault.{WordsFault}
 use Rattle.words_core.specs.declared.read.WordsFault.TheVariants.{Usage as WrongWord}
 use Rattle.command_core.specs.declared.command.Applet.{Applet}
-use Rattle.command_core.specs.declared.command.Applet.TheVariants.{Adbdump, Demo, Info, Mkndx, Mkpkg, Verify, Version}
+use Rattle.command_core.specs.declared.command.Applet.TheVariants.{Adbdump, Adbgen, Help, Mkndx, Mkpkg, ProgramVersion, Verify, Version}
 use Rattle.command_core.specs.declared.operands.Operand.{Operand}
+use Rattle.outcome.proofs.Looking.{look_leaves}
 use Rattle.apk_front.specs.Answers.{answer_by}
 use Rattle.apk_front.specs.Effects.{access_of}
 use Rattle.apk_front.specs.Moments.{AnswersOutcome, AreReadOnTheWay, AreSafe, CommitsNothing, HasNothingToRecover, HasRoomToWrite, HidesScratchOf, IsAtRest, IsLeftUndone, LeavesAtRest, LeavesLasting, LeavesRoom, LeavesRoomFor, LeavesSettled, Settles, UnreadNamesLast, ignored_but}
@@ -56,36 +54,6 @@ use Rattle.apk_front.proofs.AfterRecovery.{LeavesAll, whole_idle}
 use Rattle.apk_front.proofs.Runs.{History, Judged, Leaves, ok_always, run_among}
 
 -- ---- an applet that only reads
-
-unless_leaves : (files : Files) (refusal : Option Refusal) (report : List ℕ) → Leaves files (report_unless files refusal report)
-unless_leaves files None report = (refl, refl)
-unless_leaves files (Some refusal) report = (refl, refl)
-
-text_leaves : (files : Files) (place : ℕ) (text : Result (List ℕ) Cause) → Leaves files (text_outcome files place text)
-text_leaves files place (Ok text) = (refl, refl)
-text_leaves files place (Err cause) = (refl, refl)
-
-found_leaves : (files : Files) (place : ℕ) (found : Option (List ℕ)) → Leaves files (dump_outcome files place found)
-found_leaves files place None = (refl, refl)
-found_leaves files place (Some bytes) = text_leaves files place (dump_of bytes)
-
-dump_leaves : (files : Files) (os : List Operand) → Leaves files (adbdump (reads_in files) files os)
-dump_leaves files [] = (refl, refl)
-dump_leaves files (o ∷ os) = found_leaves files o.place (files (without_dot o.text))
-
-look_leaves : (applet : Applet) (command : CommandLine) (given : Given) (files : Files) → does_only_read (effect_of applet) ≡ true → Leaves files (applet_outcome applet command given (reads_in files) files)
-look_leaves Verify command given files reads = unless_leaves files (verify_refusal (reads_in files) 0 command.operands) (sound_lines command.operands)
-look_leaves Version command given files reads =
-    elim command.flags.test as (λ b. Leaves files (if b then report_unless files (version_refusal command.operands) (order_report command.operands) else outcome_of (version_refusal command.operands) (invalid_lines command.operands) files)) [
-      | true ↦ unless_leaves files (version_refusal command.operands) (order_report command.operands)
-      | false ↦ (refl, refl)
-    ]
-look_leaves Adbdump command given files reads = dump_leaves files command.operands
-look_leaves Mkpkg command given files reads = cc
-look_leaves Mkndx command given files reads = cc
-look_leaves Info command given files reads = cc
-look_leaves Demo command given files reads = (refl, refl)
-look_leaves other command given files reads = cc
 
 abbrev pub Ones : CommandLine → TreeState → Outcome → Type 0
 Ones command v = IsOutcomeOver command (files_of v)
@@ -114,7 +82,7 @@ look_run command (v ∷ rest) now judged reads same =
     (λ o one.
     let is = over_of command (files_of v) o none one in
     ok_always (LeavesAll (effect_of command.applet) v o) judged
-    (subst (Leaves (files_of v)) (sym is.2) (look_leaves command.applet command is.0 (files_of v) reads), λ can. false≢true (sym none ∙ can.0)))
+    (subst (Leaves (files_of v)) (sym is.2) (look_leaves (effect_of command.applet) command.applet command is.0 (files_of v) reads), λ can. false≢true (sym none ∙ can.0)))
 
 -- ---- an applet that makes
 
@@ -425,37 +393,66 @@ not_on_words Tells writes rests = cc (rests)
 not_on_words Makes writes rests = cc (rests)
 not_on_words Changes writes rests = cc (rests)
 
--- ---- an applet that no word names yet
+-- ---- an outcome that rests on no read
 
-nothing_of : (applet : Applet) (command : CommandLine) → (applet ≡ Verify → ⊥) → (applet ≡ Version → ⊥) → (applet ≡ Adbdump → ⊥) → does_only_read (effect_of applet) ≡ true
-    → (read : Reads) (files : Files) → applet_outcome applet command nothing_given read files ≡ just_report files []
-nothing_of Verify command v n d reads read files = absurd (v refl)
-nothing_of Version command v n d reads read files = absurd (n refl)
-nothing_of Adbdump command v n d reads read files = absurd (d refl)
-nothing_of Mkpkg command v n d reads read files = cc
-nothing_of Mkndx command v n d reads read files = cc
-nothing_of Info command v n d reads read files = cc
-nothing_of Demo command v n d reads read files = refl
-nothing_of other command v n d reads read files = cc
+-- what is judged is the outcome, whatever is read and whatever the files are
+abbrev pub Ran : CommandLine → Verdict → Type 0
+Ran command verdict = (read : Reads) (files : Files) → as_outcome files verdict ≡ command_outcome command nothing_given read files
 
--- the outcome of a command is empty
-abbrev pub IsNothing : CommandLine → Type 0
-IsNothing command = (read : Reads) (files : Files) → command_outcome command nothing_given read files ≡ just_report files []
+pub ran_found : (old : History) (command : CommandLine) (verdict : Verdict) → Ran command verdict → IfObservable old (λ v. as_outcome (files_of v) verdict ≡ command_outcome command nothing_given (reads_in (files_of v)) (files_of v))
+ran_found [] command verdict ran = tt
+ran_found (v ∷ old) command verdict ran = ran (reads_in (files_of v)) (files_of v)
 
-pub is_nothing : (command : CommandLine) (applet : Applet) → applet ≡ command.applet → (applet ≡ Verify → ⊥) → (applet ≡ Version → ⊥) → (applet ≡ Adbdump → ⊥) → does_only_read (effect_of command.applet) ≡ true → IsNothing command
-is_nothing command applet same v n d reads =
-    nothing_of command.applet command (λ is. v (same ∙ is)) (λ is. n (same ∙ is)) (λ is. d (same ∙ is)) reads
+pub ran_read : (command : CommandLine) (verdict : Verdict) → Ran command verdict → (read : Reads) × (as_outcome no_names verdict ≡ command_outcome command nothing_given read no_names)
+ran_read command verdict ran = (λ k name. None, ran (λ k name. None) no_names)
 
-pub nothing_found : (old : History) (command : CommandLine) (verdict : Verdict) → IsNothing command → ((files : Files) → as_outcome files verdict ≡ just_report files [])
-    → IfObservable old (λ v. as_outcome (files_of v) verdict ≡ command_outcome command nothing_given (reads_in (files_of v)) (files_of v))
-nothing_found [] command verdict nothing is = tt
-nothing_found (v ∷ old) command verdict nothing is = is (files_of v) ∙ sym (nothing (reads_in (files_of v)) (files_of v))
+pub ran_by_words : (command : CommandLine) (verdict : Verdict) → Ran command verdict → (files : Files) → as_outcome files verdict ≡ command_outcome command nothing_given (reads_in files) files
+ran_by_words command verdict ran files = ran (reads_in files) files
 
-pub nothing_read : (command : CommandLine) (verdict : Verdict) → IsNothing command → ((files : Files) → as_outcome files verdict ≡ just_report files []) → (read : Reads) × (as_outcome no_names verdict ≡ command_outcome command nothing_given read no_names)
-nothing_read command verdict nothing is = (λ k name. None, is no_names ∙ sym (nothing (λ k name. None) no_names))
+-- by the applet as it is read of the command
+ran_as : (command : CommandLine) (applet : Applet) (asked : Applet) (verdict : Verdict) → applet ≡ command.applet → applet ≡ asked
+    → ((read : Reads) (files : Files) → as_outcome files verdict ≡ applet_outcome asked command nothing_given read files) → Ran command verdict
+ran_as command applet asked verdict same is ran read files = ran read files ∙ ap (λ (a : Applet). applet_outcome a command nothing_given read files) (sym is ∙ same)
 
-pub nothing_by_words : (command : CommandLine) (verdict : Verdict) → IsNothing command → ((files : Files) → as_outcome files verdict ≡ just_report files []) → (files : Files) → as_outcome files verdict ≡ command_outcome command nothing_given (reads_in files) files
-nothing_by_words command verdict nothing is files = is files ∙ sym (nothing (reads_in files) files)
+pub help_ran : (command : CommandLine) (applet : Applet) (operands : List Operand) (text : List ℕ) (verdict : Verdict) → applet ≡ command.applet → applet ≡ Help → operands ≡ command.operands → text ≡ help_text operands
+    → ((files : Files) → as_outcome files verdict ≡ just_report files text) → Ran command verdict
+help_ran command applet operands text verdict same is of told reported =
+    ran_as command applet Help verdict same is (λ read files. reported files ∙ ap (just_report files) (told ∙ ap help_text of))
+
+pub version_ran : (command : CommandLine) (applet : Applet) (text : List ℕ) (verdict : Verdict) → applet ≡ command.applet → applet ≡ ProgramVersion → text ≡ version_text
+    → ((files : Files) → as_outcome files verdict ≡ just_report files text) → Ran command verdict
+version_ran command applet text verdict same is told reported = ran_as command applet ProgramVersion verdict same is (λ read files. reported files ∙ ap (just_report files) told)
+
+-- ---- `demo` by itself
+
+-- an applet that is none of those that are looked at
+abbrev pub IsNoneOfThese : Applet → Type 0
+IsNoneOfThese applet =
+    (applet ≡ Verify → ⊥) × (applet ≡ Version → ⊥) × (applet ≡ Help → ⊥) × (applet ≡ ProgramVersion → ⊥) × (applet ≡ Adbdump → ⊥) × (applet ≡ Adbgen → ⊥)
+
+computes_nothing : (applet : Applet) (command : CommandLine) (files : Files) → IsNoneOfThese applet → computing_outcome applet command files ≡ just_report files []
+computes_nothing Version command files (verify, version, help, program, dump, generate) = absurd (version refl)
+computes_nothing Help command files (verify, version, help, program, dump, generate) = absurd (help refl)
+computes_nothing ProgramVersion command files (verify, version, help, program, dump, generate) = absurd (program refl)
+computes_nothing other command files none = refl
+
+reads_nothing : (applet : Applet) (command : CommandLine) (read : Reads) (files : Files) → IsNoneOfThese applet → reading_outcome applet command read files ≡ just_report files []
+reads_nothing Verify command read files (verify, version, help, program, dump, generate) = absurd (verify refl)
+reads_nothing Adbdump command read files (verify, version, help, program, dump, generate) = absurd (dump refl)
+reads_nothing Adbgen command read files (verify, version, help, program, dump, generate) = absurd (generate refl)
+reads_nothing other command read files none = refl
+
+nothing_of : (effect : Effect) (applet : Applet) (command : CommandLine) → IsNoneOfThese applet → does_only_read effect ≡ true → (read : Reads) (files : Files) → effect_outcome effect applet command nothing_given read files ≡ just_report files []
+nothing_of Computes applet command none reads read files = computes_nothing applet command files none
+nothing_of OnlyReading applet command none reads read files = reads_nothing applet command read files none
+nothing_of Tells applet command none reads read files = absurd (false≢true reads)
+nothing_of Makes applet command none reads read files = absurd (false≢true reads)
+nothing_of Changes applet command none reads read files = absurd (false≢true reads)
+
+pub nothing_ran : (command : CommandLine) (applet : Applet) (verdict : Verdict) → applet ≡ command.applet → IsNoneOfThese applet → does_only_read (effect_of command.applet) ≡ true
+    → ((files : Files) → as_outcome files verdict ≡ just_report files []) → Ran command verdict
+nothing_ran command applet verdict same none reads empty read files =
+    empty files ∙ sym (nothing_of (effect_of command.applet) command.applet command (subst IsNoneOfThese same none) reads read files)
 
 -- ---- what is said of every run
 

@@ -2,7 +2,7 @@
 use Rattle.std.proofs.Common.{◌≡◌, ◌⊎◌, inl, inr, ℕ, List, Result, Ok, Err, sym, ap, subst, ◌∙◌}
 use Rattle.command_core.specs.Command.{CommandLine}
 use Rattle.command_core.specs.declared.command.Applet.{Applet}
-use Rattle.command_core.specs.declared.command.Applet.TheVariants.{Adbdump, Add, Del, Demo, Fix, Info, Mkndx, Mkpkg, Upgrade, Verify, Version}
+use Rattle.command_core.specs.declared.command.Applet.TheVariants.{Adbdump, Adbgen, Add, Audit, Del, Demo, Fix, Help, Info, List as ListApplet, Manifest, Mkndx, Mkpkg, Policy, ProgramVersion, Search, Upgrade, Verify, Version}
 use Rattle.outcome.specs.Effect.{does_only_read, effect_of, reads_only}
 use Rattle.words_core.specs.Faults.{IsWordsFault}
 use Rattle.words_core.specs.Grammar.{command_of}
@@ -15,20 +15,28 @@ use Rattle.apk_front.specs.declared.judge.RootAccess.TheVariants.{Read, Write}
 of_applet : (a applet : Applet) → applet ≡ a → access_of (does_only_read (effect_of a)) ≡ access_of (does_only_read (effect_of applet))
 of_applet a applet is = ap (λ (x : Applet). access_of (does_only_read (effect_of x))) (sym is)
 
-pub reads_one : (applet : Applet) → (applet ≡ Verify) ⊎ ((applet ≡ Adbdump) ⊎ ((applet ≡ Version) ⊎ (applet ≡ Demo))) → Read ≡ access_of (does_only_read (effect_of applet))
+pub reads_one : (applet : Applet) → (applet ≡ Verify) ⊎ ((applet ≡ Adbdump) ⊎ ((applet ≡ Adbgen) ⊎ ((applet ≡ Version) ⊎ ((applet ≡ Demo) ⊎ ((applet ≡ Help) ⊎ (applet ≡ ProgramVersion)))))) → Read ≡ access_of (does_only_read (effect_of applet))
 reads_one applet (inl is) = of_applet Verify applet is
 reads_one applet (inr (inl is)) = of_applet Adbdump applet is
-reads_one applet (inr (inr (inl is))) = of_applet Version applet is
-reads_one applet (inr (inr (inr is))) = of_applet Demo applet is
+reads_one applet (inr (inr (inl is))) = of_applet Adbgen applet is
+reads_one applet (inr (inr (inr (inl is)))) = of_applet Version applet is
+reads_one applet (inr (inr (inr (inr (inl is))))) = of_applet Demo applet is
+reads_one applet (inr (inr (inr (inr (inr (inl is)))))) = of_applet Help applet is
+reads_one applet (inr (inr (inr (inr (inr (inr is)))))) = of_applet ProgramVersion applet is
 
-pub writes_one : (applet : Applet) → (applet ≡ Info) ⊎ ((applet ≡ Mkpkg) ⊎ ((applet ≡ Mkndx) ⊎ ((applet ≡ Add) ⊎ ((applet ≡ Del) ⊎ ((applet ≡ Upgrade) ⊎ (applet ≡ Fix)))))) → Write ≡ access_of (does_only_read (effect_of applet))
+pub writes_one : (applet : Applet) → (applet ≡ Info) ⊎ ((applet ≡ Audit) ⊎ ((applet ≡ Manifest) ⊎ ((applet ≡ ListApplet) ⊎ ((applet ≡ Search) ⊎ ((applet ≡ Policy) ⊎ ((applet ≡ Mkpkg) ⊎ ((applet ≡ Mkndx) ⊎ ((applet ≡ Add) ⊎ ((applet ≡ Del) ⊎ ((applet ≡ Upgrade) ⊎ (applet ≡ Fix))))))))))) → Write ≡ access_of (does_only_read (effect_of applet))
 writes_one applet (inl is) = of_applet Info applet is
-writes_one applet (inr (inl is)) = of_applet Mkpkg applet is
-writes_one applet (inr (inr (inl is))) = of_applet Mkndx applet is
-writes_one applet (inr (inr (inr (inl is)))) = of_applet Add applet is
-writes_one applet (inr (inr (inr (inr (inl is))))) = of_applet Del applet is
-writes_one applet (inr (inr (inr (inr (inr (inl is)))))) = of_applet Upgrade applet is
-writes_one applet (inr (inr (inr (inr (inr (inr is)))))) = of_applet Fix applet is
+writes_one applet (inr (inl is)) = of_applet Audit applet is
+writes_one applet (inr (inr (inl is))) = of_applet Manifest applet is
+writes_one applet (inr (inr (inr (inl is)))) = of_applet ListApplet applet is
+writes_one applet (inr (inr (inr (inr (inl is))))) = of_applet Search applet is
+writes_one applet (inr (inr (inr (inr (inr (inl is)))))) = of_applet Policy applet is
+writes_one applet (inr (inr (inr (inr (inr (inr (inl is))))))) = of_applet Mkpkg applet is
+writes_one applet (inr (inr (inr (inr (inr (inr (inr (inl is)))))))) = of_applet Mkndx applet is
+writes_one applet (inr (inr (inr (inr (inr (inr (inr (inr (inl is))))))))) = of_applet Add applet is
+writes_one applet (inr (inr (inr (inr (inr (inr (inr (inr (inr (inl is)))))))))) = of_applet Del applet is
+writes_one applet (inr (inr (inr (inr (inr (inr (inr (inr (inr (inr (inl is))))))))))) = of_applet Upgrade applet is
+writes_one applet (inr (inr (inr (inr (inr (inr (inr (inr (inr (inr (inr is))))))))))) = of_applet Fix applet is
 
 pub access_by : (words : List (List ℕ)) (command : CommandLine) (applet : Applet) (access : RootAccess) → command_of words ≡ Ok command → applet ≡ command.applet → access ≡ access_of (does_only_read (effect_of applet))
     → access ≡ access_of (reads_only (command_of words))

@@ -4,6 +4,7 @@ pub mod Unrecovered
 pub mod Printing
 pub mod Operands
 pub mod Dumping
+pub mod Generating
 pub mod Runs
 pub mod Packages
 pub mod Containers

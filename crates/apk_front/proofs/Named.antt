@@ -1,26 +1,40 @@
--- Want of memory behind words that name an applet.
-use Rattle.std.proofs.Common.{◌≡◌, ℕ, List, Result, Ok, Err, IsErrOf, IsTrue, refl}
+-- Out of memory after words that name a command.
+use Rattle.std.proofs.Common.{◌≡◌, ◌||◌, ℕ, Bool, true, false, List, Result, Ok, Err, IsErrOf, IsTrue, refl, ap, subst}
+use Rattle.std.proofs.lemmas.Bool.{false≢true}
 use Rattle.base_core.specs.Files.{no_names}
 use Rattle.base_core.specs.Sink.{SinkChange}
 use Rattle.base_core.specs.declared.tree.TreeFault.{TreeFault}
 use Rattle.base_core.specs.declared.tree.TreeFault.TheVariants.{Disk, Memory as NoMemory}
 use Rattle.command_core.specs.Command.{CommandLine}
-use Rattle.words_core.specs.Grammar.{command_from, command_of, line_start}
+use Rattle.words_core.specs.Faults.{IsBehindApplet}
+use Rattle.words_core.specs.Grammar.{command_of, line_start}
+use Rattle.words_core.specs.declared.read.WordsFault.{WordsFault}
+use Rattle.words_core.specs.declared.read.WordsFault.TheVariants.{Memory as WantsMemory}
 use Rattle.std.specs.Prelude.{is_ok}
-use Rattle.apk_front.specs.Answers.{name_an_applet}
+use Rattle.apk_front.specs.Answers.{name_a_command}
 use Rattle.apk_front.specs.Verdicts.{IsShown}
 use Rattle.apk_front.specs.declared.answer.Answer.{Answer}
 use Rattle.apk_front.specs.declared.answer.Answer.TheVariants.{Ok as Done, Refused, TreeFault as TreeFailed, OutFault, Memory}
 use Rattle.apk_front.specs.declared.answer.Verdict.{Verdict}
 
--- a command line names an applet
-pub command_named : (words : List (List ℕ)) (command : CommandLine) → command_of words ≡ Ok command → IsTrue (name_an_applet words)
-unfolding command_of
-command_named words command h =
-    elim (line_start words) as (λ start. command_from words start ≡ Ok command → IsTrue (is_ok start)) [
-      | Ok start ↦ λ e. refl
-      | Err place ↦ λ e. cc
-    ] h
+or_last : (a b : Bool) → b ≡ true → (a || b) ≡ true
+or_last true b is = refl
+or_last false b is = is
+
+-- a command names one
+pub command_named : (words : List (List ℕ)) (command : CommandLine) → command_of words ≡ Ok command → IsTrue (name_a_command words)
+command_named words command h = or_last (is_ok (line_start words)) (is_ok (command_of words)) (ap is_ok h)
+
+or_first : (a b : Bool) → a ≡ true → (a || b) ≡ true
+or_first true b is = refl
+or_first false b is = absurd (false≢true is)
+
+-- and so do words whose applet was found
+start_named : (words : List (List ℕ)) → IsTrue (is_ok (line_start words)) → IsTrue (name_a_command words)
+start_named words found = or_first (is_ok (line_start words)) (is_ok (command_of words)) found
+
+pub memory_named_so : (words : List (List ℕ)) (fault : WordsFault) → fault ≡ WantsMemory → IsBehindApplet fault (line_start words) → IsTrue (name_a_command words)
+memory_named_so words fault is behind = start_named words (subst (λ (f : WordsFault). IsBehindApplet f (line_start words)) is behind)
 
 -- want of memory is answered where the judge found none
 pub memory_named : (judged : Result Verdict TreeFault) (answer : Answer) (out err : SinkChange) (P : Type 0) → IsShown judged answer out err → (IsErrOf judged NoMemory → P) → answer ≡ Memory → P

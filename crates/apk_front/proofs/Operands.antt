@@ -18,7 +18,7 @@ use Rattle.command_core.specs.Named.{are_files, operand_file}
 use Rattle.command_core.specs.Operands.{at_least, exactly, is_of_kind}
 use Rattle.command_core.specs.Values.{lacks_value}
 use Rattle.command_core.specs.declared.command.Applet.{Applet}
-use Rattle.command_core.specs.declared.command.Applet.TheVariants.{Adbdump, Demo, Verify, Version}
+use Rattle.command_core.specs.declared.command.Applet.TheVariants.{Adbdump, Adbgen, Demo, Verify, Version}
 use Rattle.command_core.specs.declared.command.Flags.{Flags}
 use Rattle.command_core.specs.declared.operands.Operand.{Operand}
 use Rattle.command_core.specs.declared.operands.OperandKind.TheVariants.{Any, Number}
@@ -58,6 +58,12 @@ just_many n os each taken =
 pub dump_operands : (c : CommandLine) (applet : Applet) (operands : List Operand) → IsCommand c → applet ≡ c.applet → applet ≡ Adbdump → operands ≡ c.operands → (length operands ≡ 1) × (are_files operands ≡ true)
 dump_operands c applet operands h same is of =
     let parts = just_many 1 c.operands (are_files c.operands) (of_applet c Adbdump h (sym is ∙ same)) in
+    (ap length of ∙ parts.0, ap are_files of ∙ parts.1)
+
+-- and where one is generated
+pub gen_operands : (c : CommandLine) (applet : Applet) (operands : List Operand) → IsCommand c → applet ≡ c.applet → applet ≡ Adbgen → operands ≡ c.operands → (length operands ≡ 1) × (are_files operands ≡ true)
+gen_operands c applet operands h same is of =
+    let parts = just_many 1 c.operands (are_files c.operands) (of_applet c Adbgen h (sym is ∙ same)) in
     (ap length of ∙ parts.0, ap are_files of ∙ parts.1)
 
 -- files, where containers are tested

@@ -17,4 +17,3 @@ pub mod Found
 pub mod Counted
 pub mod Made
 pub mod Worked
-pub mod InfoSteps

@@ -1,9 +1,9 @@
 -- The definitions of `gen_core`. The head of each file says where its rule is.
 
--- what the contract of `gen_` says
+-- cited by the contract of `apk`
 pub mod Generated
--- what a law says
-pub mod FirstBadLine
+-- what the laws say
+pub mod Dumps
 -- what only inner contracts and proofs use
 pub mod Cursors
 pub mod Reads

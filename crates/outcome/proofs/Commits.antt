@@ -14,11 +14,11 @@ use Rattle.make_info.specs.declared.fault.MakeFault.TheVariants.{FileMissing, Fi
 use Rattle.make_package.specs.Making.{made_package}
 use Rattle.change_outcome.specs.ChangeOutcome.{ChangeDone}
 use Rattle.engine_core.specs.Changed.{change_of_command}
-use Rattle.engine_core.specs.InfoTold.{info_told}
 use Rattle.report_core.specs.declared.refusal.Refusal.{Refusal}
 use Rattle.report_core.specs.declared.refusal.Refusal.TheVariants.{Reserved, ResultTooLarge}
+use Rattle.tell_core.specs.ToldBy.{told_by}
 use Rattle.words_core.specs.Grammar.{command_of}
-use Rattle.outcome.proofs.Applets.{change_is, info_is, told_commits, told_files}
+use Rattle.outcome.proofs.Applets.{change_is, report_is, told_commits, told_files}
 use Rattle.outcome.proofs.MadeSound.{IsRefusalOrMade, index_fine, package_fine}
 use Rattle.outcome.specs.Changing.{change_outcome}
 use Rattle.outcome.specs.Given.{Given}
@@ -87,14 +87,14 @@ changes_by : (read : Result CommandLine ℕ) (files : Files) (o : Outcome) → e
 changes_by (Err place) files o changes is = cc
 changes_by (Ok command) files o changes is = changes_unless (recovery_fault (effect_of command.applet) files) command files o changes is
 
--- ---- a command that tells what is installed
+-- ---- a command that only reports
 
 tells_unless : (fault : Option Cause) (command : CommandLine) (files : Files) (o : Outcome) → effect_of command.applet ≡ Tells → IsOutcomeUnless fault command files o → o.commits ≡ false
 tells_unless (Some cause) command files o tells is = ap (λ (p : Outcome). p.commits) is
 tells_unless None command files o tells (given, are, is) =
     let work = work_files (effect_of command.applet) files in
-    ap (λ (p : Outcome). p.commits) (is ∙ sym (info_is command.applet command given (reads_in work) work tells))
-    ∙ told_commits work (info_told command (reads_in work))
+    ap (λ (p : Outcome). p.commits) (is ∙ sym (report_is command.applet command given (reads_in work) work tells))
+    ∙ told_commits work (told_by command (reads_in work))
 
 tells_by : (read : Result CommandLine ℕ) (files : Files) (o : Outcome) → effect_by read ≡ Tells → IsOutcomeOf read files o → o.commits ≡ false
 tells_by (Err place) files o tells is = cc
@@ -109,8 +109,8 @@ tells_files (Some cause) command files o tells is = inl (ap (λ (p : Outcome). p
 tells_files None command files o tells (given, are, is) =
     let work = work_files (effect_of command.applet) files in
     inr (
-    ap (λ (p : Outcome). p.files) (is ∙ sym (info_is command.applet command given (reads_in work) work tells))
-    ∙ told_files work (info_told command (reads_in work))
+    ap (λ (p : Outcome). p.files) (is ∙ sym (report_is command.applet command given (reads_in work) work tells))
+    ∙ told_files work (told_by command (reads_in work))
     ∙ ap (λ (e : Effect). work_files e files) tells
     )
 

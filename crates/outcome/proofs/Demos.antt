@@ -1,6 +1,6 @@
 -- The outcome of `demo`: there is one, and no second one.
-use Rattle.std.proofs.Common.{◌≡◌, ◌||◌, ℕ, zero, suc, Bool, true, false, List, [], ◌∷◌, codes, length, Option, Some, None, IsSome, Result, Ok, Err, refl, sym, ap, subst, ◌∙◌}
-use Rattle.std.specs.Prelude.{if◌then◌else◌}
+use Rattle.std.proofs.Common.{◌≡◌, ◌⊎◌, inl, inr, ◌||◌, ◌-◌, ℕ, zero, suc, Bool, true, false, List, [], ◌∷◌, codes, length, Option, Some, None, IsSome, Result, Ok, Err, refl, sym, ap, subst, ◌∙◌}
+use Rattle.std.specs.Prelude.{if◌then◌else◌, option_and_then, slice_get, take}
 use Rattle.std.specs.List.{list_any}
 use Rattle.std.specs.Str.{bytes_eq}
 use Rattle.adb_schema.specs.Reserved.{is_reserved}
@@ -8,7 +8,7 @@ use Rattle.base_core.specs.Files.{Files, IsWithin, drop_name, no_names, put_name
 use Rattle.base_core.specs.declared.cause.Cause.{Cause}
 use Rattle.command_core.specs.Command.{CommandLine}
 use Rattle.command_core.specs.declared.command.Applet.{Applet}
-use Rattle.command_core.specs.declared.command.Applet.TheVariants.{Mkndx, Mkpkg}
+use Rattle.command_core.specs.declared.command.Applet.TheVariants.{Help, Mkndx, Mkpkg, ProgramVersion}
 use Rattle.demo_lines.specs.Lines.{add_words, demo_file, demo_repositories, demo_text, mkndx_words, mkpkg_words}
 use Rattle.demo_lines.specs.Report.{demo_line}
 use Rattle.journal_core.specs.Replacing.{scratch_of}
@@ -20,11 +20,13 @@ use Rattle.make_package.specs.Making.{made_package}
 use Rattle.report_core.specs.declared.refusal.Refusal.{Refusal}
 use Rattle.report_core.specs.declared.refusal.Refusal.TheVariants.{Reserved, ResultTooLarge}
 use Rattle.root_names.specs.RootNames.{repositories_name}
-use Rattle.words_core.specs.Grammar.{command_of, site_at, unless_at, verdict}
+use Rattle.words_core.specs.Grammar.{asked_at, asked_or_err, command_of, line_command, next_after, site_at, spelled_or_asked, takes_option, unless_at, verdict}
+use Rattle.words_core.specs.Options.{asked_by}
 use Rattle.outcome.proofs.Existing.{work_within}
+use Rattle.outcome.proofs.Looking.{read_leaves}
 use Rattle.outcome.specs.Commands.{IsOutcomeOf, IsOutcomeUnless, applet_outcome, reads_in}
 use Rattle.outcome.specs.Demo.{AreIndexed, AreInstalled, ArePackaged, IsDemoOutcome, IsRunBehind, IsRunUnless, demo_start, with_demo_file}
-use Rattle.outcome.specs.Effect.{Makes, effect_of}
+use Rattle.outcome.specs.Effect.{Makes, does_only_read, effect_of}
 use Rattle.outcome.specs.Given.{Given}
 use Rattle.outcome.specs.Make.{files_with_output, index_line, make_outcome, unless_reserved}
 use Rattle.outcome.specs.Outcome.{Outcome, just_refusal, just_report, outcome_of, report_unless}
@@ -89,29 +91,61 @@ few_unless None command files o makes (given, are, is) few =
     let work = work_files (effect_of command.applet) files in
     subst AreFew (sym (ap (λ (p : Outcome). p.files) is)) (few_applet command.applet command given work makes (work_within (effect_of command.applet) files names within))
 
--- words that make a file, if they are a command
+-- words that make a file, or only read, if they are a command
 abbrev pub DoMake : Result CommandLine ℕ → Type 0
-DoMake (Ok command) = effect_of command.applet ≡ Makes
+DoMake (Ok command) = (effect_of command.applet ≡ Makes) ⊎ (does_only_read (effect_of command.applet) ≡ true)
 DoMake (Err place) = Unit {0}
 
 few_by : (read : Result CommandLine ℕ) (files : Files) (o : Outcome) → DoMake read → IsOutcomeOf read files o → AreFew files → AreFew o.files
 few_by (Err place) files o makes is few = subst AreFew (sym (ap (λ (p : Outcome). p.files) is)) few
-few_by (Ok command) files o makes is few = few_unless (recovery_fault (effect_of command.applet) files) command files o makes is few
+few_by (Ok command) files o (inl makes) is few = few_unless (recovery_fault (effect_of command.applet) files) command files o makes is few
+few_by (Ok command) files o (inr reads) is few = subst AreFew (sym (read_leaves (Ok command) files o reads is).0) few
 
 -- ---- the words
 
 unless_makes : (place : Option ℕ) (lacks : Bool) (behind : ℕ) (command : CommandLine) → effect_of command.applet ≡ Makes → DoMake (unless_at place (if lacks then Err behind else Ok command))
 unless_makes (Some place) lacks behind command makes = tt
 unless_makes None true behind command makes = tt
-unless_makes None false behind command makes = makes
+unless_makes None false behind command makes = inl makes
+
+-- what words ask for only looks at the words
+abbrev AskComputes : Option Applet → Type 0
+AskComputes None = Unit {0}
+AskComputes (Some applet) = does_only_read (effect_of applet) ≡ true
+
+word_asks : (help version : Bool) → AskComputes (if help then Some Help else if version then Some ProgramVersion else None)
+word_asks true version = refl
+word_asks false true = refl
+word_asks false false = tt
+
+place_asks : (option : Bool) (word : Option (List ℕ)) → AskComputes (if option then option_and_then asked_by word else None)
+place_asks false word = tt
+place_asks true None = tt
+place_asks true (Some word) = word_asks (bytes_eq (codes "--help") word || bytes_eq (codes "-h") word) (bytes_eq (codes "--version") word || bytes_eq (codes "-V") word)
+
+asked_makes : (words : List (List ℕ)) (place : ℕ) (asked : Option Applet) → AskComputes asked → DoMake (asked_or_err words place asked)
+asked_makes words place None computes = tt
+asked_makes words place (Some applet) computes = inr computes
+
+line_makes : (words : List (List ℕ)) (line : Result CommandLine ℕ) → DoMake line → DoMake (spelled_or_asked words line)
+line_makes words (Ok command) makes = makes
+line_makes words (Err place) makes = asked_makes words place (asked_at words place) (place_asks (takes_option (next_after (take (place - 1) words))) (slice_get words (place - 1)))
+
+mkpkg_line : (words : List (List ℕ)) → DoMake (line_command (codes "mkpkg" ∷ words))
+unfolding line_command site_at verdict
+mkpkg_line words = unless_makes _ _ _ _ refl
+
+mkndx_line : (words : List (List ℕ)) → DoMake (line_command (codes "mkndx" ∷ words))
+unfolding line_command site_at verdict
+mkndx_line words = unless_makes _ _ _ _ refl
 
 mkpkg_makes : (words : List (List ℕ)) → DoMake (command_of (codes "mkpkg" ∷ words))
-unfolding command_of site_at verdict
-mkpkg_makes words = unless_makes _ _ _ _ refl
+unfolding command_of
+mkpkg_makes words = line_makes (codes "mkpkg" ∷ words) (line_command (codes "mkpkg" ∷ words)) (mkpkg_line words)
 
 mkndx_makes : (words : List (List ℕ)) → DoMake (command_of (codes "mkndx" ∷ words))
-unfolding command_of site_at verdict
-mkndx_makes words = unless_makes _ _ _ _ refl
+unfolding command_of
+mkndx_makes words = line_makes (codes "mkndx" ∷ words) (line_command (codes "mkndx" ∷ words)) (mkndx_line words)
 
 -- ---- there is one
 

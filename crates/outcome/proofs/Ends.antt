@@ -52,7 +52,7 @@ payload_stated (Err (Bad cause)) = refl
 payload_stated (Err (TooLarge bytes values)) = refl
 payload_stated (Err Memory) = refl
 
-database_stated : (may_begin : Bool) (file text : Option (List ℕ)) → HasKnownRefusal is_input_refusal (root_database may_begin file text)
+pub database_stated : (may_begin : Bool) (file text : Option (List ℕ)) → HasKnownRefusal is_input_refusal (root_database may_begin file text)
 database_stated may_begin (Some file) text = cause_stated DatabaseBad (first_fault Idb file) _ (λ c. refl)
 database_stated may_begin None (Some text) = payload_stated (payload_of_text text)
 database_stated true None None = tt

@@ -11,13 +11,15 @@ use Rattle.change_outcome.specs.ChangeOutcome.{ChangeDone, ChangeWishes, change_
 use Rattle.command_core.specs.Command.{CommandLine}
 use Rattle.command_core.specs.Files.{without_dot}
 use Rattle.command_core.specs.declared.command.Applet.{Applet}
-use Rattle.command_core.specs.declared.command.Applet.TheVariants.{Adbdump, Demo, Info, Mkndx, Mkpkg, Verify, Version}
+use Rattle.command_core.specs.declared.command.Applet.TheVariants.{Adbdump, Adbgen, Mkndx, Mkpkg, Verify, Version}
 use Rattle.command_core.specs.declared.command.Flags.{Flags}
 use Rattle.command_core.specs.declared.operands.Operand.{Operand}
 use Rattle.engine_core.specs.Changed.{Selected, change_of_selected, change_of_command, selected_by, selected_for, selected_of_inputs, simulated_change}
-use Rattle.engine_core.specs.InfoTold.{info_told}
 use Rattle.engine_core.specs.Selecting.{pool_by}
 use Rattle.engine_core.specs.Wishes.{unknown_place, unless_place, wishes_of}
+use Rattle.gen_core.specs.Generated.{generated_file}
+use Rattle.gen_core.specs.declared.generate.GenFault.{GenFault}
+use Rattle.gen_core.specs.declared.generate.GenFault.TheVariants.{Bad as BadLine, TooLarge as TextTooLarge, Memory as NoMemory}
 use Rattle.make_index.specs.Index.{made_index}
 use Rattle.make_info.specs.Output.{output_name}
 use Rattle.make_info.specs.Reads.{Reads}
@@ -29,12 +31,14 @@ use Rattle.path_clashes.specs.Clash.{NamePair}
 use Rattle.candidate_core.specs.Rank.{SealedPool}
 use Rattle.report_core.specs.declared.refusal.Refusal.{Refusal}
 use Rattle.report_core.specs.declared.refusal.Refusal.TheVariants.{Reserved, ResultTooLarge}
+use Rattle.tell_core.specs.ToldBy.{told_by}
 use Rattle.words_core.specs.Grammar.{command_of}
 use Rattle.outcome.proofs.Applets.{told_files}
 use Rattle.outcome.specs.Changing.{change_outcome}
-use Rattle.outcome.specs.Commands.{IsOutcomeOf, IsOutcomeOver, IsOutcomeUnless, applet_outcome, reads_in}
+use Rattle.outcome.specs.Commands.{IsOutcomeOf, IsOutcomeOver, IsOutcomeUnless, computing_outcome, effect_outcome, making_outcome, reading_outcome, reads_in}
 use Rattle.outcome.specs.Dump.{adbdump, dump_of, dump_outcome, text_outcome}
-use Rattle.outcome.specs.Effect.{effect_by, effect_of}
+use Rattle.outcome.specs.Effect.{Effect, Changes, Computes, Makes, Reads as OnlyReads, Tells, effect_by, effect_of}
+use Rattle.outcome.specs.Generate.{adbgen, container_outcome, generate_outcome}
 use Rattle.outcome.specs.Given.{Given}
 use Rattle.outcome.specs.Make.{files_with_output, index_line, make_outcome, unless_reserved}
 use Rattle.outcome.specs.Outcome.{Outcome, commit_report, just_refusal, outcome_of, report_unless}
@@ -45,7 +49,7 @@ use Rattle.outcome.specs.Work.{recovery_fault, work_files}
 abbrev LeavesIdle : Files → Outcome → Type 0
 LeavesIdle files o = o.commits ≡ false → o.files ≡ files
 
--- ---- commands that read
+-- ---- commands that compute or read
 
 unless_idle : (files : Files) (refusal : Option Refusal) (report : List ℕ) → LeavesIdle files (report_unless files refusal report)
 unless_idle files None report idle = refl
@@ -70,6 +74,30 @@ adbdump_idle : (read : Reads) (files : Files) (operands : List Operand) → Leav
 adbdump_idle read files [] idle = refl
 adbdump_idle read files (o ∷ operands) idle = dump_idle files o.place (read 0 (without_dot o.text)) idle
 
+container_idle : (files : Files) (place : ℕ) (made : Result (List ℕ) GenFault) → LeavesIdle files (container_outcome files place made)
+container_idle files place (Ok file) idle = refl
+container_idle files place (Err (BadLine line)) idle = refl
+container_idle files place (Err (TextTooLarge bytes values)) idle = refl
+container_idle files place (Err NoMemory) idle = refl
+
+generate_idle : (files : Files) (place : ℕ) (found : Option (List ℕ)) → LeavesIdle files (generate_outcome files place found)
+generate_idle files place None idle = refl
+generate_idle files place (Some text) idle = container_idle files place (generated_file text) idle
+
+adbgen_idle : (read : Reads) (files : Files) (operands : List Operand) → LeavesIdle files (adbgen read files operands)
+adbgen_idle read files [] idle = refl
+adbgen_idle read files (o ∷ operands) idle = generate_idle files o.place (read 0 (without_dot o.text)) idle
+
+computing_idle : (applet : Applet) (command : CommandLine) (files : Files) → LeavesIdle files (computing_outcome applet command files)
+computing_idle Version command files = version_idle files command.flags command.operands
+computing_idle other command files = λ idle. refl
+
+reading_idle : (applet : Applet) (command : CommandLine) (read : Reads) (files : Files) → LeavesIdle files (reading_outcome applet command read files)
+reading_idle Verify command read files = unless_idle files (verify_refusal read 0 command.operands) (sound_lines command.operands)
+reading_idle Adbdump command read files = adbdump_idle read files command.operands
+reading_idle Adbgen command read files = adbgen_idle read files command.operands
+reading_idle other command read files = λ idle. refl
+
 -- ---- commands that make a file
 
 reserved_idle : (reserved : Bool) (files : Files) (name : List ℕ) (o : Outcome) → LeavesIdle files o → LeavesIdle files (if reserved then just_refusal files (Reserved name) else o)
@@ -88,6 +116,11 @@ made_idle files output report (Err (InfoBad place)) = λ idle. refl
 made_idle files output report (Err (TooLarge bytes values)) = output_idle files output (just_refusal files (ResultTooLarge bytes values)) (λ idle. refl)
 made_idle files output report (Err Disk) = λ idle. refl
 made_idle files output report (Err Memory) = λ idle. refl
+
+making_idle : (applet : Applet) (command : CommandLine) (names : List (List ℕ)) (read : Reads) (files : Files) → LeavesIdle files (making_outcome applet command names read files)
+making_idle Mkpkg command names read files = made_idle files (output_name command) [] (made_package command names read)
+making_idle Mkndx command names read files = made_idle files (output_name command) (index_line (length command.operands)) (made_index command read)
+making_idle other command names read files = λ idle. refl
 
 -- ---- a change
 
@@ -146,19 +179,16 @@ change_idle rooted idle command files chosen clash (Err refusal) is nothing = re
 
 -- ---- each command
 
-applet_idle : HaveRoot → HaveIdle → (applet : Applet) (command : CommandLine) (given : Given) (files : Files) → LeavesIdle files (applet_outcome applet command given (reads_in files) files)
-applet_idle rooted idle Verify command given files = unless_idle files (verify_refusal (reads_in files) 0 command.operands) (sound_lines command.operands)
-applet_idle rooted idle Version command given files = version_idle files command.flags command.operands
-applet_idle rooted idle Adbdump command given files = adbdump_idle (reads_in files) files command.operands
-applet_idle rooted idle Mkpkg command given files = made_idle files (output_name command) [] (made_package command given.names (reads_in files))
-applet_idle rooted idle Mkndx command given files = made_idle files (output_name command) (index_line (length command.operands)) (made_index command (reads_in files))
-applet_idle rooted idle Info command given files = λ nothing. told_files files (info_told command (reads_in files))
-applet_idle rooted idle Demo command given files = λ nothing. refl
-applet_idle rooted idle other command given files = change_idle rooted idle command files given.chosen given.clash (change_of_command command (reads_in files) files given.chosen given.clash) refl
+effect_idle : HaveRoot → HaveIdle → (effect : Effect) (applet : Applet) (command : CommandLine) (given : Given) (files : Files) → LeavesIdle files (effect_outcome effect applet command given (reads_in files) files)
+effect_idle rooted idle Computes applet command given files = computing_idle applet command files
+effect_idle rooted idle OnlyReads applet command given files = reading_idle applet command (reads_in files) files
+effect_idle rooted idle Tells applet command given files = λ nothing. told_files files (told_by command (reads_in files))
+effect_idle rooted idle Makes applet command given files = making_idle applet command given.names (reads_in files) files
+effect_idle rooted idle Changes applet command given files = change_idle rooted idle command files given.chosen given.clash (change_of_command command (reads_in files) files given.chosen given.clash) refl
 
 pub over_idle : HaveRoot → HaveIdle → (command : CommandLine) (files : Files) (o : Outcome) → IsOutcomeOver command files o → o.commits ≡ false → o.files ≡ files
 over_idle rooted idle command files o (given, are, is) nothing =
-    subst (LeavesIdle files) (sym is) (applet_idle rooted idle command.applet command given files) nothing
+    subst (LeavesIdle files) (sym is) (effect_idle rooted idle (effect_of command.applet) command.applet command given files) nothing
 
 -- ---- by the words
 

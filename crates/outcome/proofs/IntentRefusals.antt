@@ -3,32 +3,21 @@ use Rattle.std.proofs.Common.{◌≡◌, ◌⊎◌, inl, inr, ◌∙◌, ℕ, Bo
 use Rattle.std.specs.Prelude.{if◌then◌else◌}
 use Rattle.std.proofs.lemmas.Bool.{false≢true}
 use Rattle.adb_schema.specs.Reserved.{is_reserved}
-use Rattle.adb_schema.specs.Soundness.{first_fault, payload_in, root_value}
-use Rattle.adb_fields.specs.Repeated.{entries_at}
-use Rattle.adb_view.specs.declared.tables.Which.TheVariants.{Idb}
-use Rattle.adb_view.specs.Plain.{Plain}
 use Rattle.base_core.specs.Files.{Files}
 use Rattle.base_core.specs.declared.cause.Cause.{Cause}
-use Rattle.change_inputs.specs.Chains.{and_then, unless_cause}
-use Rattle.change_inputs.specs.Database.{Database, container_database, database_by, new_database, payload_database, root_database}
-use Rattle.change_inputs.specs.Inputs.{database_for}
 use Rattle.change_outcome.specs.ChangeOutcome.{ChangeDone}
 use Rattle.command_core.specs.Command.{CommandLine}
 use Rattle.command_core.specs.declared.command.Applet.{Applet}
 use Rattle.command_core.specs.declared.command.Applet.TheVariants.{Demo, Mkndx, Mkpkg}
 use Rattle.engine_core.specs.Changed.{Selected, change_of_selected}
-use Rattle.engine_core.specs.InfoTold.{info_told}
-use Rattle.installed_info.specs.Info.{info_of}
-use Rattle.installed_info.specs.Refusals.{IsOfAnOperand}
 use Rattle.installed_info.specs.declared.telling.InfoDone.{InfoDone}
 use Rattle.make_info.specs.Output.{output_name}
 use Rattle.make_info.specs.Reads.{Reads as Reading}
 use Rattle.make_info.specs.declared.fault.MakeFault.{MakeFault}
 use Rattle.make_info.specs.declared.fault.MakeFault.TheVariants.{FileMissing as NoFile, FileBad as BadFile, InfoBad as BadInfo, TooLarge, Disk, Memory}
 use Rattle.report_core.specs.declared.refusal.Refusal.{Refusal}
-use Rattle.report_core.specs.declared.refusal.Refusal.TheVariants.{DatabaseBad, IntentBad, Reserved, Unsatisfied}
-use Rattle.v2_core.specs.declared.read.V2Fault.{V2Fault}
-use Rattle.v2_core.specs.declared.read.V2Fault.TheVariants.{Bad, TooLarge as TextTooLarge, Memory as NoMemory}
+use Rattle.report_core.specs.declared.refusal.Refusal.TheVariants.{IntentBad, Reserved, Unsatisfied}
+use Rattle.tell_core.specs.ToldBy.{told_by}
 use Rattle.words_core.specs.Grammar.{command_of}
 use Rattle.outcome.specs.ChangeEnd.{IsChangeEnd, IsEndBy, is_input_refusal, is_package_refusal}
 use Rattle.outcome.specs.Commands.{IsOutcomeOf, IsOutcomeOver, IsOutcomeUnless, applet_outcome, reads_in}
@@ -39,7 +28,7 @@ use Rattle.outcome.specs.Outcome.{Outcome, just_refusal}
 use Rattle.outcome.specs.Telling.{told_outcome}
 use Rattle.outcome.specs.Words.{IsOutcome, IsOutcomeBy, IsOutcomeFor}
 use Rattle.outcome.specs.Work.{recovery_fault, work_files}
-use Rattle.outcome.proofs.Applets.{info_is}
+use Rattle.outcome.proofs.Applets.{report_is}
 
 -- it tells something else than a bad intent
 abbrev IsOther : Refusal → Type 0
@@ -95,46 +84,13 @@ maker_other Mkpkg command given read files makes = made_other (output_name comma
 maker_other Mkndx command given read files makes = made_other (output_name command) _ files _
 maker_other other command given read files makes = absurd (cc (makes))
 
--- ---- what is told
+-- ---- a report
 
-abbrev ErrIsOther : Result Database Refusal → Type 0
-ErrIsOther (Ok database) = Unit {0}
-ErrIsOther (Err refusal) = IsOther refusal
-
-cause_other : (fault : Option Cause) (database : Database) → ErrIsOther (unless_cause DatabaseBad fault database)
-cause_other None database = tt
-cause_other (Some cause) database = λ other is. cc (is)
-
-payload_other : (payload : Result (List ℕ) V2Fault) → ErrIsOther (payload_database payload)
-payload_other (Ok payload) = tt
-payload_other (Err (Bad cause)) = λ other is. cc (is)
-payload_other (Err (TextTooLarge bytes values)) = λ other is. cc (is)
-payload_other (Err NoMemory) = λ other is. cc (is)
-
-new_other : (may_begin : Bool) → ErrIsOther (new_database may_begin)
-new_other true = tt
-new_other false = λ other is. cc (is)
-
-root_other : (may_begin : Bool) (file text : Option (List ℕ)) → ErrIsOther (root_database may_begin file text)
-root_other may_begin (Some file) text = cause_other (first_fault Idb file) (database_by (entries_at 0 (root_value Idb (payload_in file))) (Some file) false)
-root_other may_begin None (Some text) = payload_other _
-root_other may_begin None None = new_other may_begin
-
-module _ (refused : (c : CommandLine) (packages : List Plain) (refusal : Refusal) → info_of c packages ≡ Err refusal → IsOfAnOperand c.operands refusal)
-    (late : (c : CommandLine) (packages : List Plain) (done : InfoDone) (refusal : Refusal) → info_of c packages ≡ Ok done → done.late ≡ Some refusal → (c.flags.installed ≡ true) × IsOfAnOperand c.operands refusal) where
-  operand_other : (command : CommandLine) (refusal : Refusal) → IsOfAnOperand command.operands refusal → IsOther refusal
-  operand_other command refusal (operand, among, told) cause is = cc (told, is)
-
-  told_other : (command : CommandLine) (packages : List Plain) (files : Files) (told : Result InfoDone Refusal) → info_of command packages ≡ told → NamesNoIntent (told_outcome files told)
-  told_other command packages files (Ok done) is = λ cause behind. operand_other command (IntentBad cause) (late command packages done (IntentBad cause) is behind).1 cause refl
-  told_other command packages files (Err refusal) is = refused_other files refusal (operand_other command refusal (refused command packages refusal is))
-
-  database_other : (command : CommandLine) (files : Files) (database : Result Database Refusal) → ErrIsOther database → NamesNoIntent (told_outcome files (and_then database (λ d. info_of command d.packages)))
-  database_other command files (Ok database) other = told_other command database.packages files (info_of command database.packages) refl
-  database_other command files (Err refusal) other = refused_other files refusal other
-
-  info_other : (command : CommandLine) (read : Reading) (files : Files) → NamesNoIntent (told_outcome files (info_told command read))
-  info_other command read files = database_other command files (database_for command read) (root_other command.flags.initdb _ _)
+module _ (refused : (c : CommandLine) (read : Reading) (refusal : Refusal) → told_by c read ≡ Err refusal → is_input_refusal refusal ≡ true)
+    (late : (c : CommandLine) (read : Reading) (done : InfoDone) (refusal : Refusal) → told_by c read ≡ Ok done → done.late ≡ Some refusal → is_input_refusal refusal ≡ true) where
+  report_other : (command : CommandLine) (read : Reading) (files : Files) (told : Result InfoDone Refusal) → told_by command read ≡ told → NamesNoIntent (told_outcome files told)
+  report_other command read files (Ok done) is = λ cause beside. input_other (IntentBad cause) (late command read done (IntentBad cause) is beside) cause refl
+  report_other command read files (Err refusal) is = refused_other files refusal (input_other refusal (refused command read refusal is))
 
   -- ---- by the words
 
@@ -143,7 +99,7 @@ module _ (refused : (c : CommandLine) (packages : List Plain) (refusal : Refusal
     over_other command files o Computes at recovers over = absurd (false≢true recovers)
     over_other command files o Reads at recovers over = absurd (false≢true recovers)
     over_other command files o Tells at recovers (given, are, is) =
-        subst NamesNoIntent (info_is command.applet command given (reads_in files) files at ∙ sym is) (info_other command (reads_in files) files)
+        subst NamesNoIntent (report_is command.applet command given (reads_in files) files at ∙ sym is) (report_other command (reads_in files) files (told_by command (reads_in files)) refl)
     over_other command files o Makes at recovers (given, are, is) = subst NamesNoIntent (sym is) (maker_other command.applet command given (reads_in files) files at)
     over_other command files o Changes at recovers over = change_other command files o (ends command files o at over)
 

@@ -6,10 +6,12 @@ pub mod Existing
 pub mod MadeSound
 pub mod Commits
 pub mod Idle
+pub mod Looking
 pub mod NextRoom
 pub mod Ends
 pub mod PackageRefusals
 pub mod Recovering
+pub mod Tellers
 pub mod IntentRefusals
 pub mod FirstSelections
 pub mod Demos

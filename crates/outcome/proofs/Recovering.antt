@@ -5,7 +5,7 @@ use Rattle.base_core.specs.Files.{Files}
 use Rattle.base_core.specs.declared.cause.Cause.{Cause}
 use Rattle.command_core.specs.Command.{CommandLine}
 use Rattle.command_core.specs.declared.command.Applet.{Applet}
-use Rattle.command_core.specs.declared.command.Applet.TheVariants.{Adbdump, Add, Del, Demo, Fix, Info, Mkndx, Mkpkg, Upgrade, Verify, Version}
+use Rattle.command_core.specs.declared.command.Applet.TheVariants.{Adbdump, Adbgen, Add, Audit, Del, Demo, Fix, Help, Info, List as ListApplet, Manifest, Mkndx, Mkpkg, Policy, ProgramVersion, Search, Upgrade, Verify, Version}
 use Rattle.journal_core.specs.Recovery.{intent_name}
 use Rattle.journal_core.specs.Staged.{unstaged_files}
 use Rattle.report_core.specs.declared.refusal.Refusal.TheVariants.{IntentBad}
@@ -31,6 +31,14 @@ recovers Add = refl
 recovers Del = refl
 recovers Upgrade = refl
 recovers Fix = refl
+recovers Adbgen = refl
+recovers Audit = refl
+recovers Manifest = refl
+recovers ListApplet = refl
+recovers Search = refl
+recovers Policy = refl
+recovers Help = refl
+recovers ProgramVersion = refl
 
 -- and the others only read
 pub others_read : (applet : Applet) → must_recover applet ≡ false → IsTrue (does_only_read (effect_of applet))
@@ -45,6 +53,14 @@ others_read Add h = absurd (true≢false h)
 others_read Del h = absurd (true≢false h)
 others_read Upgrade h = absurd (true≢false h)
 others_read Fix h = absurd (true≢false h)
+others_read Adbgen h = refl
+others_read Help h = refl
+others_read ProgramVersion h = refl
+others_read Audit h = absurd (true≢false h)
+others_read Manifest h = absurd (true≢false h)
+others_read ListApplet h = absurd (true≢false h)
+others_read Search h = absurd (true≢false h)
+others_read Policy h = absurd (true≢false h)
 
 -- ---- of a command that recovers
 

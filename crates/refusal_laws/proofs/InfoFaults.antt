@@ -5,7 +5,7 @@ use Rattle.adb_view.specs.declared.tables.Which.TheVariants.{Idb}
 use Rattle.change_inputs.specs.Database.{payload_database, root_database}
 use Rattle.change_inputs.specs.Inputs.{database_for, database_read, text_database_read}
 use Rattle.command_core.specs.Command.{CommandLine}
-use Rattle.engine_core.specs.InfoTold.{info_told}
+use Rattle.tell_core.specs.InfoTold.{info_told}
 use Rattle.installed_info.specs.Info.{info_of}
 use Rattle.installed_info.specs.declared.telling.InfoDone.{InfoDone}
 use Rattle.make_info.specs.Reads.{Reads}
@@ -42,7 +42,7 @@ module _ (command : CommandLine) (read : Reads) where
       let same : NoDatabase ≡ refusal = cc in
       subst IsSo same (record { container = none; text = neither; not_begun = begun })
 
-  database_fault : (file text : Option (List ℕ)) (refusal : Refusal) → read database_read database_name ≡ file → read text_database_read text_database_name ≡ text
+  pub database_fault : (file text : Option (List ℕ)) (refusal : Refusal) → read database_read database_name ≡ file → read text_database_read text_database_name ≡ text
       → root_database command.flags.initdb file text ≡ Err refusal → IsSo refusal
   database_fault (Some file) text refusal is other e =
       let why = cause_err DatabaseBad (first_fault Idb file) _ refusal e in

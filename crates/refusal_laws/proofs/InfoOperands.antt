@@ -52,13 +52,13 @@ no_owner_there packages path e there =
     let none = none_found (lists_path (without_slash path)) packages there.0 (none_is (path_owner packages (without_slash path)) e) there.1 in
     true≢false (sym (is_listed (without_slash path) there.0 there.2) ∙ none)
 
-named_there : (packages : List Plain) (name : List ℕ) → is_some (package_named packages name) ≡ true → IsThere false packages name
+pub named_there : (packages : List Plain) (name : List ℕ) → is_some (package_named packages name) ≡ true → IsThere false packages name
 named_there packages name e =
     let some = some_is (package_named packages name) e in
     let found = found_in (is_package_named name) packages some.0 some.1 in
     (some.0, found.0, (bytes_eq-Decides (package_name some.0) name).0 found.1)
 
-none_named_there : (packages : List Plain) (name : List ℕ) → is_some (package_named packages name) ≡ false → ¬ IsThere false packages name
+pub none_named_there : (packages : List Plain) (name : List ℕ) → is_some (package_named packages name) ≡ false → ¬ IsThere false packages name
 none_named_there packages name e there =
     let none = none_found (is_package_named name) packages there.0 (none_is (package_named packages name) e) there.1 in
     true≢false (sym ((bytes_eq-Decides (package_name there.0) name).1 there.2) ∙ none)

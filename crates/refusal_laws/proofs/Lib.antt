@@ -13,6 +13,7 @@ pub mod PackageFaults
 pub mod PackagesAfter
 pub mod Paths
 pub mod ReadBefore
+pub mod ReportFaults
 pub mod RunFaults
 pub mod RunMade
 pub mod TestsPassed

@@ -1,7 +1,8 @@
--- what laws of changes say
+-- cited by laws of changes
 pub mod InputFaults
 pub mod ReadBefore
 pub mod InfoFaults
+pub mod QueryFaults
 pub mod ComingPackages
 pub mod PackageFaults
 pub mod ChangeFaults

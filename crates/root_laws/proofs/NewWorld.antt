@@ -6,7 +6,7 @@ use Rattle.change_files.specs.FilesAfter.{Records, changed_files, world_bytes_af
 use Rattle.change_inputs.specs.Chains.{refused_as}
 use Rattle.change_inputs.specs.World.{new_world, root_world, text_found, world_with_operand, world_with_operands, world_without_operands}
 use Rattle.command_core.specs.declared.command.Applet.{Applet}
-use Rattle.command_core.specs.declared.command.Applet.TheVariants.{Add, Del, Upgrade, Fix, Info, Verify, Adbdump, Mkpkg, Mkndx, Version, Demo}
+use Rattle.command_core.specs.declared.command.Applet.TheVariants.{Add, Del}
 use Rattle.command_core.specs.declared.operands.Operand.{Operand}
 use Rattle.db_core.specs.Members.{Listing}
 use Rattle.dep_core.specs.Dependency.{Dependency}
@@ -38,15 +38,7 @@ without_operands (o ∷ operands) world is = without_operands operands (without_
 pub new_world_is : (applet : Applet) (operands : List Operand) (world : List Dependency) → IsWorld world → IsWorld (new_world applet operands world)
 new_world_is Add operands world is = with_operands operands world is
 new_world_is Del operands world is = without_operands operands world is
-new_world_is Upgrade operands world is = is
-new_world_is Fix operands world is = is
-new_world_is Info operands world is = is
-new_world_is Verify operands world is = is
-new_world_is Adbdump operands world is = is
-new_world_is Mkpkg operands world is = is
-new_world_is Mkndx operands world is = is
-new_world_is Version operands world is = is
-new_world_is Demo operands world is = is
+new_world_is other operands world is = is
 
 -- ---- what is read
 

@@ -1,10 +1,10 @@
--- The definitions of this crate. Each file names the place of its rule.
--- what the contract of `apk` says
+-- The definitions of this crate. The head of each file names the section with its rule. Cited by the
+-- contract of `apk`:
 pub mod Options
 pub mod Grammar
 pub mod HelpTexts
+-- used by inner contracts and proofs only
 pub mod Usage
--- what only inner contracts and proofs use
 pub mod Rows
 pub mod Steps
 pub mod Faults

@@ -54,16 +54,7 @@ to_listed operands name o here is = in_any (bytes_eq name) (operand_texts operan
 upgrades : (applet : Applet) (operands : List Operand) (name : List ℕ) → (is_upgraded (names_to_upgrade applet operands) name ≡ true) ↔ IsToUpgrade applet operands name
 upgrades Applets.Upgrade [] name = (λ e. tt, λ all. refl)
 upgrades Applets.Upgrade (o ∷ operands) name = (listed_to (o ∷ operands) name, λ is. to_listed (o ∷ operands) name is.0 is.1 is.2)
-upgrades Applets.Add operands name = (λ e. absurd (cc (e)), λ none. absurd none)
-upgrades Applets.Del operands name = (λ e. absurd (cc (e)), λ none. absurd none)
-upgrades Applets.Fix operands name = (λ e. absurd (cc (e)), λ none. absurd none)
-upgrades Applets.Info operands name = (λ e. absurd (cc (e)), λ none. absurd none)
-upgrades Applets.Verify operands name = (λ e. absurd (cc (e)), λ none. absurd none)
-upgrades Applets.Adbdump operands name = (λ e. absurd (cc (e)), λ none. absurd none)
-upgrades Applets.Mkpkg operands name = (λ e. absurd (cc (e)), λ none. absurd none)
-upgrades Applets.Mkndx operands name = (λ e. absurd (cc (e)), λ none. absurd none)
-upgrades Applets.Version operands name = (λ e. absurd (cc (e)), λ none. absurd none)
-upgrades Applets.Demo operands name = (λ e. absurd (cc (e)), λ none. absurd none)
+upgrades other operands name = (λ e. absurd (cc (e)), λ none. absurd none)
 
 -- ---- what a command chooses from
 

@@ -268,12 +268,4 @@ holds_others os w h = record {
 pub holds_asked : (applet : Applet) (os : List Operand) (w : List Dependency) → IsWorld w → HoldsWhatWasAsked applet os w (new_world applet os w)
 holds_asked Applets.Add os w h = holds_added os w h
 holds_asked Applets.Del os w h = holds_others os w h
-holds_asked Applets.Upgrade os w h = refl
-holds_asked Applets.Fix os w h = refl
-holds_asked Applets.Info os w h = refl
-holds_asked Applets.Verify os w h = refl
-holds_asked Applets.Adbdump os w h = refl
-holds_asked Applets.Mkpkg os w h = refl
-holds_asked Applets.Mkndx os w h = refl
-holds_asked Applets.Version os w h = refl
-holds_asked Applets.Demo os w h = refl
+holds_asked other os w h = refl

@@ -44,12 +44,4 @@ by_entries IsOne a b h k f g =
 pub one_world : (applet : Applet) (os : List Operand) (w a b : List Dependency) → HoldsWhatWasAsked applet os w a → HoldsWhatWasAsked applet os w b → a ≡ b
 one_world Applets.Add os w a b f g = by_entries _ a b f.world g.world f.entries g.entries
 one_world Applets.Del os w a b f g = by_entries _ a b f.world g.world f.entries g.entries
-one_world Applets.Upgrade os w a b f g = f ∙ sym g
-one_world Applets.Fix os w a b f g = f ∙ sym g
-one_world Applets.Info os w a b f g = f ∙ sym g
-one_world Applets.Verify os w a b f g = f ∙ sym g
-one_world Applets.Adbdump os w a b f g = f ∙ sym g
-one_world Applets.Mkpkg os w a b f g = f ∙ sym g
-one_world Applets.Mkndx os w a b f g = f ∙ sym g
-one_world Applets.Version os w a b f g = f ∙ sym g
-one_world Applets.Demo os w a b f g = f ∙ sym g
+one_world other os w a b f g = f ∙ sym g

@@ -1,7 +1,7 @@
-use Rattle.std.proofs.Common.{◌∙◌, ap, sym}
-use Rattle.outcome.specs.Effect.{effect_of}
+use Rattle.std.proofs.Common.{◌∙◌, sym}
 use Rattle.apk_front.proofs.Changing.{change_applet}
 use Rattle.apk_front.proofs.Carried.{index_found_one, index_proper, index_read_one, index_run, package_found_one, package_proper, package_read_one, package_run, undone_anyway}
+use Rattle.apk_front.proofs.Telling.{tell_applet}
 use Rattle.apk_front.proofs.recovered.run_recovered.Goals as goal
 
 pub returns-in-Mkpkg-clause-found : goal.returns-in-Mkpkg-clause-found
@@ -28,8 +28,8 @@ returns-in-Mkpkg-clause-run g c = package_run c.args.command.now c.mkpkg.result 
 pub returns-in-Mkndx-clause-run : goal.returns-in-Mkndx-clause-run
 returns-in-Mkndx-clause-run g c = index_run c.args.command.now c.mkndx.result _ _ (sym c.in-Mkndx.is ∙ c.applet.ensures.value) c.mkndx.ensures.run
 
-pub info-requires : goal.info-requires
-info-requires g c = ap effect_of (sym c.applet.ensures.value ∙ c.in-Info.is)
+pub report-requires : goal.report-requires
+report-requires g c = tell_applet c.args.command.now c.applet.result c.applet.ensures.value c.in-Info.is
 
 pub change-requires : goal.change-requires
 change-requires g c = change_applet c.args.command.now c.applet.result c.applet.ensures.value c.in-Add.is

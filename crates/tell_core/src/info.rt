@@ -1,8 +1,8 @@
-//! What `info` tells of a root. The rules stand in `docs/commands.md`, "`info`".
+//! The report of `info` on a root. The rules are in `docs/commands.md`, "`info`".
 ghost use Rattle.base_core.specs.Read.{OnlyReads};
 ghost use Rattle.change_inputs.specs.Answers.{Agrees, AgreesUnlessDisk};
 ghost use Rattle.change_inputs.specs.Seen.{installed_seen};
-ghost use Rattle.engine_core.specs.InfoTold.{info_told};
+ghost use Rattle.tell_core.specs.InfoTold.{info_told};
 ghost use Rattle.installed_info.specs.Info.{info_of};
 ghost use Rattle.package_files.specs.Runs.{Explains};
 
@@ -12,14 +12,18 @@ use command_core::Command;
 use installed_info::{InfoDone, tell};
 use std::alloc::Global;
 
-/// Tells of the packages that are installed, as `info` asks for it. Only the database of the root
-/// is read, and the tree stays as it is, whatever the answer.
+/// Reports on the installed packages, as `info` asks for it. Only the database of the root is read,
+/// and the tree is unchanged, whatever the answer.
 ///
 /// # Errors
 ///
 /// The refusals of the database; then `NotInstalled` at the first operand whose package is not
-/// installed, which `info -e` tells behind its report. `Disk` where the tree failed, and `Memory`.
-pub fn info<T: Tree>(alloc: Global, command: &Command, tree: &mut T) -> Result<InfoDone, Refused>
+/// installed, which `info -e` reports after its report. `Disk` if the tree failed, and `Memory`.
+pub(crate) fn tell_info<T: Tree>(
+    alloc: Global,
+    command: &Command,
+    tree: &mut T,
+) -> Result<InfoDone, Refused>
     ensures told { Explains (T.history tree.old) (λ read.
         AgreesUnlessDisk (λ done. done) result (info_told command.now read)) }
     ensures tree { OnlyReads Refused.Disk (T.history tree.old) (T.history tree.new)
@@ -30,7 +34,7 @@ pub fn info<T: Tree>(alloc: Global, command: &Command, tree: &mut T) -> Result<I
     Ok(done)
 }
 
-// Tells of the packages of the database, or refuses it.
+// Reports on the packages of the database, or refuses it.
 fn tell_installed(
     alloc: Global,
     command: &Command,

@@ -1,9 +1,9 @@
-//! `info`: what is installed is told. The rules stand in `docs/commands.md`, "`info`"; what it
-//! tells is made by `engine_core`.
+//! The commands that only report on what is installed or available. The rules are in
+//! `docs/commands.md`, under each command's name; the reports are made by `tell_core`.
 ghost use Rattle.std.specs.Prelude.{◌≡◌, true, IfOk, IsErrOf, OnOk};
 ghost use Rattle.apk_front.specs.Moments.{HasRoomToWrite};
 ghost use Rattle.apk_front.specs.Runs.{IfNothingWaits, IsRun};
-ghost use Rattle.apk_front.specs.Told.{IsInfoToldAs};
+ghost use Rattle.apk_front.specs.Told.{IsReportedAs};
 ghost use Rattle.apk_front.specs.Verdicts.{ReportsOne};
 ghost use Rattle.base_core.specs.Calls.{IfObservable};
 ghost use Rattle.base_core.specs.Faults.{GoesOn, HasCause, IsNoFault};
@@ -15,12 +15,12 @@ ghost use Rattle.outcome.specs.Outcome.{Outcome};
 use crate::answer::Verdict;
 use base_core::{Tree, TreeFault};
 use command_core::Command;
-use engine_core::{InfoDone, Refused};
 use std::alloc::Global;
+use tell_core::{InfoDone, Refused, tell};
 
-/// Tells what is installed. A refusal may stand behind the report; nothing is written. The clauses
-/// are those of `run_recovered`, which calls this.
-pub(crate) fn info<T: Tree>(
+/// Reports on what is installed or available. A refusal may follow the report; nothing is written.
+/// The clauses are those of `run_recovered`, which calls this.
+pub(crate) fn report<T: Tree>(
     alloc: Global,
     command: &Command,
     tree: &mut T,
@@ -47,14 +47,14 @@ pub(crate) fn info<T: Tree>(
         (output_if (effect_of command.now.applet) command.now) (files_of v))
         → (T.counts tree.new).misuses ≡ (T.counts tree.old).misuses) }
 {
-    let answer = engine_core::info(alloc, command, tree);
+    let answer = tell(alloc, command, tree);
     verdict_of(alloc, answer)
 }
 
-// What the engine answered, as a verdict: what `info` tells, with the refusal behind that, or its
-// refusal.
+// The answer as a verdict: the report, with the refusal after it, if there is one; or a refusal
+// instead.
 fn verdict_of(alloc: Global, answer: Result<InfoDone, Refused>) -> Result<Verdict, TreeFault>
-    ensures { IsInfoToldAs answer result }
+    ensures { IsReportedAs answer result }
 {
     match answer {
         Ok(done) => Ok(Verdict {

@@ -1,0 +1,144 @@
+-- An `audit`, a `manifest` or a query that is refused is refused for its fault.
+use Rattle.std.proofs.Common.{◌≡◌, inl, inr, ℕ, Bool, true, false, List, [], ◌∷◌, ◌++◌, Option, Some, None, Result, Ok, Err, refl, sym, ap, subst}
+use Rattle.std.specs.Prelude.{is_some}
+use Rattle.adb_fields.specs.FirstPair.{IsIn}
+use Rattle.adb_fields.specs.Repeated.{package_name}
+use Rattle.adb_view.specs.Plain.{Plain}
+use Rattle.audit_core.specs.Manifest.{manifest_of, manifest_with, operand_package, package_manifest, manifest_after}
+use Rattle.candidate_core.specs.Rank.{SealedPool, no_names}
+use Rattle.change_inputs.specs.Candidates.{root_pool}
+use Rattle.change_inputs.specs.Database.{Database}
+use Rattle.change_inputs.specs.Inputs.{Inputs, database_for, database_read, inputs_of, text_database_read}
+use Rattle.command_core.specs.Command.{CommandLine}
+use Rattle.command_core.specs.declared.operands.Operand.{Operand}
+use Rattle.installed_info.specs.Info.{info_done}
+use Rattle.make_info.specs.Reads.{Reads}
+use Rattle.query_core.specs.Queries.{queried}
+use Rattle.report_core.specs.declared.refusal.Refusal.{Refusal}
+use Rattle.report_core.specs.declared.refusal.Refusal.TheVariants.{NotInstalled}
+use Rattle.root_names.specs.RootNames.{database_name, text_database_name}
+use Rattle.tell_core.specs.AuditTold.{audit_of, audit_told, manifest_report, manifest_told}
+use Rattle.tell_core.specs.QueryTold.{query_report, query_told}
+use Rattle.refusal_laws.specs.InfoFaults.{IsAskedFor, IsFaultOfDatabase, IsFaultOfInfo, IsFirstNotInstalled, IsFoundInstalled}
+use Rattle.refusal_laws.specs.QueryFaults.{HasTooManyCandidates, IsFaultOfQuery}
+use Rattle.refusal_laws.proofs.CommandFaults.{pool_fault}
+use Rattle.refusal_laws.proofs.InfoFaults.{database_fault}
+use Rattle.refusal_laws.proofs.InfoOperands.{named_there, none_named_there}
+use Rattle.refusal_laws.proofs.InputFaults.{input_fault, no_refusal}
+use Rattle.refusal_laws.proofs.Lists.{and_then_err}
+
+-- ---- a manifest
+
+-- a package of a name is installed
+abbrev IsNamed : List Plain → List ℕ → Type 0
+IsNamed packages name = (pkg : Plain) × IsIn pkg packages × (package_name pkg ≡ name)
+
+abbrev AreNamed : List Plain → List Operand → Type 0
+AreNamed packages operands = (o : Operand) → IsIn o operands → IsNamed packages o.text
+
+-- the first operand that names no installed package
+record IsFirstOf (packages : List Plain) (operands : List Operand) (refusal : Refusal) : Type 0 where
+  pub before : List Operand
+  pub operand : Operand
+  pub after : List Operand
+  pub are : operands ≡ before ++ operand ∷ after
+  pub installed : AreNamed packages before
+  pub missing : ¬ IsNamed packages operand.text
+  pub told : refusal ≡ NotInstalled operand.place
+
+one_named : (packages : List Plain) (o : Operand) (operands : List Operand) → IsNamed packages o.text → AreNamed packages operands → AreNamed packages (o ∷ operands)
+one_named packages o operands is more p (inl same) = subst (λ (x : Operand). IsNamed packages x.text) (sym same) is
+one_named packages o operands is more p (inr inside) = more p inside
+
+further_err : (lines : List ℕ) (further : Result (List ℕ) Refusal) (refusal : Refusal) → manifest_after lines further ≡ Err refusal → further ≡ Err refusal
+further_err lines further refusal e =
+    elim (and_then_err further (λ (more : List ℕ). Ok (lines ++ more)) refusal e) [
+      | inl first ↦ first
+      | inr next ↦ absurd (no_refusal (lines ++ next.0) refusal next.2)
+    ]
+
+first_of_operands : (packages : List Plain) (operands : List Operand) (refusal : Refusal) → manifest_of packages operands ≡ Err refusal → IsFirstOf packages operands refusal
+first_of_operands packages [] refusal e = absurd (no_refusal [] refusal e)
+first_of_operands packages (o ∷ operands) refusal e = by_package (operand_package packages o) refl e (first_of_operands packages operands refusal)
+  where
+    by_package : (found : Option Plain) → operand_package packages o ≡ found → manifest_with o found (manifest_of packages operands) ≡ Err refusal
+        → (manifest_of packages operands ≡ Err refusal → IsFirstOf packages operands refusal) → IsFirstOf packages (o ∷ operands) refusal
+    by_package None is e more = record {
+      before = [];
+      operand = o;
+      after = operands;
+      are = refl;
+      installed = λ p inside. absurd inside;
+      missing = none_named_there packages o.text (ap is_some is);
+      told = (let same : refusal ≡ NotInstalled o.place = cc in same);
+    }
+    by_package (Some pkg) is e more =
+        let f = more (further_err (package_manifest pkg) (manifest_of packages operands) refusal e) in
+        record {
+          before = o ∷ f.before;
+          operand = f.operand;
+          after = f.after;
+          are = ap (λ (xs : List Operand). o ∷ xs) f.are;
+          installed = one_named packages o f.before (named_there packages o.text (ap is_some is)) f.installed;
+          missing = f.missing;
+          told = f.told;
+        }
+
+module _ (command : CommandLine) (named : command.flags.who_owns ≡ false) (packages : List Plain) where
+  -- the command asks for packages by their names
+  found_so : (text : List ℕ) → IsNamed packages text → IsFoundInstalled command packages text
+  found_so text (pkg, here, asked) = (pkg, here, subst (λ (b : Bool). IsAskedFor b text pkg) (sym named) asked)
+
+  named_so : (text : List ℕ) → IsFoundInstalled command packages text → IsNamed packages text
+  named_so text (pkg, here, asked) = (pkg, here, subst (λ (b : Bool). IsAskedFor b text pkg) named asked)
+
+  pub first_missing : (refusal : Refusal) → manifest_of packages command.operands ≡ Err refusal → IsFirstNotInstalled command packages refusal
+  first_missing refusal e =
+      let f = first_of_operands packages command.operands refusal e in
+      record {
+        before = f.before;
+        operand = f.operand;
+        after = f.after;
+        are = f.are;
+        installed = λ o here. found_so o.text (f.installed o here);
+        missing = λ found. f.missing (named_so f.operand.text found);
+        told = f.told;
+      }
+
+manifest_err : (command : CommandLine) (database : Database) (refusal : Refusal) → manifest_report command database ≡ Err refusal → manifest_of database.packages command.operands ≡ Err refusal
+manifest_err command database refusal e =
+    elim (and_then_err (manifest_of database.packages command.operands) (λ report. Ok (info_done report None)) refusal e) [
+      | inl first ↦ first
+      | inr next ↦ absurd (no_refusal (info_done next.0 None) refusal next.2)
+    ]
+
+-- ---- by what is read
+
+module _ (command : CommandLine) (read : Reads) where
+  pub audit_fault : (refusal : Refusal) → audit_told command read ≡ Err refusal → IsFaultOfDatabase command read refusal
+  audit_fault refusal e =
+      elim (and_then_err (database_for command read) (audit_of read) refusal e) [
+        | inl first ↦ database_fault command read (read database_read database_name) (read text_database_read text_database_name) refusal refl refl first
+        | inr next ↦ absurd (no_refusal _ refusal next.2)
+      ]
+
+  pub manifest_fault : (refusal : Refusal) → command.flags.who_owns ≡ false → manifest_told command read ≡ Err refusal → IsFaultOfInfo command read refusal
+  manifest_fault refusal named e =
+      elim (and_then_err (database_for command read) (manifest_report command) refusal e) [
+        | inl first ↦ inl (database_fault command read (read database_read database_name) (read text_database_read text_database_name) refusal refl refl first)
+        | inr next ↦ inr (record { database = next.0; is_database = next.1; first = first_missing command named next.0.packages refusal (manifest_err command next.0 refusal next.2) })
+      ]
+
+  too_many : (inputs : Inputs) (refusal : Refusal) → inputs_of command read ≡ Ok inputs → query_report command inputs ≡ Err refusal → HasTooManyCandidates command read refusal
+  too_many inputs refusal are e =
+      elim (and_then_err (root_pool inputs no_names) (λ (pool : SealedPool). Ok (info_done (queried command pool inputs.root.repositories) None)) refusal e) [
+        | inl first ↦ (let fault = pool_fault inputs no_names refusal first in record { inputs = inputs; are_inputs = are; count = fault.0; too_many = fault.1; is = sym fault.2 })
+        | inr next ↦ absurd (no_refusal _ refusal next.2)
+      ]
+
+  pub query_fault : (refusal : Refusal) → query_told command read ≡ Err refusal → IsFaultOfQuery command read refusal
+  query_fault refusal e =
+      elim (and_then_err (inputs_of command read) (query_report command) refusal e) [
+        | inl first ↦ inl (input_fault command read refusal first)
+        | inr next ↦ inr (too_many next.0 refusal next.1 next.2)
+      ]

@@ -1,0 +1,23 @@
+-- Why `list`, `search` and `policy` are refused. The refusals are in `docs/commands.md`, under each
+-- command's name.
+use Rattle.std.specs.Prelude.{◌≡◌, ◌⊎◌, ℕ, Ok}
+use Rattle.change_inputs.specs.Inputs.{Inputs, inputs_of}
+use Rattle.command_core.specs.Command.{CommandLine}
+use Rattle.make_info.specs.Reads.{Reads}
+use Rattle.report_core.specs.declared.refusal.Refusal.{Refusal}
+use Rattle.report_core.specs.declared.refusal.Refusal.TheVariants.{TooMany}
+use Rattle.refusal_laws.specs.InputFaults.{AreTooMany, IsFaultOfInput}
+
+-- the inputs are read, and a refusal reports that they have more candidates than a pool holds
+pub record HasTooManyCandidates (command : CommandLine) (read : Reads) (refusal : Refusal)
+    : Type 0 where
+  pub inputs : Inputs
+  pub are_inputs : inputs_of command read ≡ Ok inputs
+  pub count : ℕ
+  pub too_many : AreTooMany inputs count
+  pub is : refusal ≡ TooMany count
+
+-- a refusal of a query is true: of the input; or, if that is read, of its candidates
+abbrev pub IsFaultOfQuery : CommandLine → Reads → Refusal → Type 0
+IsFaultOfQuery command read refusal =
+    IsFaultOfInput command read refusal ⊎ HasTooManyCandidates command read refusal

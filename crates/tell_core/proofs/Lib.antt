@@ -1,0 +1,3 @@
+pub mod ReportSteps
+pub mod AuditSteps
+pub mod Others

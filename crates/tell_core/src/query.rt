@@ -1,0 +1,71 @@
+//! What `list`, `search` and `policy` report of a root. The rules are in `docs/commands.md`, under
+//! each command's name.
+ghost use Rattle.base_core.specs.Read.{OnlyReads};
+ghost use Rattle.change_inputs.specs.Answers.{Agrees, AgreesUnlessDisk};
+ghost use Rattle.change_inputs.specs.Seen.{inputs_seen};
+ghost use Rattle.package_files.specs.Runs.{Explains};
+ghost use Rattle.query_core.specs.Queries.{queried};
+ghost use Rattle.std.specs.Prelude.{◌≡◌, IfOk};
+ghost use Rattle.tell_core.specs.QueryTold.{query_report, query_told};
+
+use base_core::{Text, Tree};
+use candidate_core::Upgrade;
+use change_inputs::{Loaded, Refused};
+use command_core::{Applet, Command};
+use dep_core::Repos;
+use installed_info::InfoDone;
+use pool_core::Sealed;
+use query_core::{list, policy, search};
+use std::alloc::{AllocError, Global};
+
+/// Reports candidates as `list`, `search` or `policy` asks for them. The database of the root,
+/// world, the list of repositories and their indexes are read.
+///
+/// # Errors
+///
+/// The refusals of these files, and `TooMany` if there are more candidates than a pool holds.
+/// `Disk` if the tree failed, and `Memory`.
+pub(crate) fn tell_query<T: Tree>(
+    alloc: Global,
+    command: &Command,
+    tree: &mut T,
+) -> Result<InfoDone, Refused>
+    ensures told { Explains (T.history tree.old) (λ read.
+        AgreesUnlessDisk (λ done. done) result (query_told command.now read)) }
+    ensures tree { OnlyReads Refused.Disk (T.history tree.old) (T.history tree.new)
+        (T.counts tree.old) (T.counts tree.new) result }
+{
+    let loaded = Loaded::read(alloc, command, tree)?;
+    let done = query_loaded(alloc, command, &loaded)?;
+    Ok(done)
+}
+
+// The report of a query of what was loaded.
+fn query_loaded(alloc: Global, command: &Command, loaded: &Loaded) -> Result<InfoDone, Refused>
+    ensures { Agrees (λ done. done) result
+        (query_report command.now (inputs_seen loaded.now)) }
+{
+    let pool = loaded.pool(alloc, Upgrade::Nothing)?;
+    let report = query(alloc, command, &pool, loaded.repositories())?;
+    Ok(InfoDone { report, late: None })
+}
+
+// The report of a query of candidates and repositories, by its applet.
+#[tactic(auto, unfolding(query_core::specs::Queries::queried))]
+fn query(
+    alloc: Global,
+    command: &Command,
+    pool: &Sealed<'_>,
+    repositories: &Repos,
+) -> Result<Text, AllocError>
+    ensures { IfOk result (λ report. report
+        ≡ queried command.now pool.now repositories.now) }
+{
+    match command.applet() {
+        Applet::List => list(alloc, pool, command.operands(), command.flags().installed),
+        Applet::Search => search(alloc, pool, command.operands()),
+        Applet::Policy => policy(alloc, pool, repositories, command.operands()),
+        // Ok(Text::from_vec(Vec::new(alloc))) => No other applet is a query.
+        _ => Ok(Text::from_vec(Vec::new(alloc))),
+    }
+}

@@ -1,0 +1,51 @@
+//! The command that is asked for reports on a root. Each command's rules are in `docs/commands.md`,
+//! under its name.
+ghost use Rattle.base_core.specs.Read.{OnlyReads};
+ghost use Rattle.change_inputs.specs.Answers.{AgreesUnlessDisk};
+ghost use Rattle.installed_info.specs.Info.{info_done};
+ghost use Rattle.package_files.specs.Runs.{Explains};
+ghost use Rattle.std.specs.Prelude.{◌≡◌, [], None};
+ghost use Rattle.tell_core.specs.ToldBy.{told_by};
+
+use crate::audit::{tell_audit, tell_manifest};
+use crate::info::tell_info;
+use crate::query::tell_query;
+use base_core::{Text, Tree};
+use change_inputs::Refused;
+use command_core::{Applet, Command};
+use installed_info::InfoDone;
+use std::alloc::Global;
+
+/// Reports on a root as one of these commands asks for it: `info`, `audit`, `manifest`, `list`,
+/// `search` or `policy`. The tree is unchanged, whatever the answer. Another command reports
+/// nothing.
+///
+/// # Errors
+///
+/// The refusal of the command; a refusal may also follow the report, in `late`. `Disk` if the tree
+/// failed, and `Memory`.
+pub fn tell<T: Tree>(alloc: Global, command: &Command, tree: &mut T) -> Result<InfoDone, Refused>
+    ensures told { Explains (T.history tree.old) (λ read.
+        AgreesUnlessDisk (λ done. done) result (told_by command.now read)) }
+    ensures tree { OnlyReads Refused.Disk (T.history tree.old) (T.history tree.new)
+        (T.counts tree.old) (T.counts tree.new) result }
+{
+    match command.applet() {
+        Applet::Info => tell_info(alloc, command, tree),
+        Applet::Audit => tell_audit(alloc, command, tree),
+        Applet::Manifest => tell_manifest(alloc, command, tree),
+        Applet::List | Applet::Search | Applet::Policy => tell_query(alloc, command, tree),
+        // Ok(no_report(alloc)) => No other applet is asked for a report.
+        _ => Ok(no_report(alloc)),
+    }
+}
+
+// An empty report.
+fn no_report(alloc: Global) -> InfoDone
+    ensures { result ≡ info_done [] None }
+{
+    InfoDone {
+        report: Text::from_vec(Vec::new(alloc)),
+        late: None,
+    }
+}
