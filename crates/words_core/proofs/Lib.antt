@@ -26,5 +26,6 @@ pub mod StuckWords
 pub mod AskedStuck
 pub mod Letters
 pub mod Reasons
+pub mod ReasonsEarly
 pub mod ReasonsHold
 pub mod Explained

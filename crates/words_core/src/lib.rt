@@ -15,6 +15,7 @@ mod options;
 mod read;
 mod reading;
 mod usage;
+mod usage_texts;
 mod word;
 
 pub use command_core::{Applet, Command, Flags, Operand, Operands, OptionValue, Values};
