@@ -14,7 +14,7 @@ use Rattle.words_core.specs.declared.reading.AppletSite.{AppletSite}
 use Rattle.words_core.specs.declared.usage.UsageReason.TheVariants.{CommandUnknown, OptionEarly}
 use Rattle.words_core.specs.Grammar.{applet_site, early_flags, is_end, is_option, next_after, next_word, option_name, or_at, site_at, site_behind_end, site_by, with_meaning, with_option, with_spec}
 use Rattle.words_core.specs.Options.{OptionSpec, applet_of, is_early, option_spelled, options_of}
-use Rattle.words_core.specs.Reasons.{IsReason}
+use Rattle.words_core.specs.Reasons.{IsUsageReason}
 use Rattle.words_core.specs.Usage.{command_reason}
 use Rattle.words_core.proofs.Asked.{named_site, next_early, next_end}
 use Rattle.words_core.proofs.AskedLines.{get_behind, take_front}
@@ -106,22 +106,22 @@ sought_err front (word ∷ words) at n h =
       ] refl
     ] refl
 
-pub command_why : (words : List (List ℕ)) (place : ℕ) → applet_site 1 words ≡ Err place → IsSoughtErr words place → IsReason (command_reason (next_after (take (place - 1) words)) (slice_get words (place - 1))) words place
+pub command_why : (words : List (List ℕ)) (place : ℕ) → applet_site 1 words ≡ Err place → IsSoughtErr words place → IsUsageReason (command_reason (next_after (take (place - 1) words)) (slice_get words (place - 1))) words place
 command_why words place s (inl e) =
     let far : length words ≤ place - 1 = omega (arith, e) in
-    subst (λ o. IsReason (command_reason (next_after (take (place - 1) words)) o) words place) (sym (get_none words (place - 1) far))
+    subst (λ o. IsUsageReason (command_reason (next_after (take (place - 1) words)) o) words place) (sym (get_none words (place - 1) far))
     (e, ap (λ r. not (is_ok r)) s)
 command_why words place s (inr (inl k)) =
-    subst (λ o. IsReason (command_reason (next_after (take (place - 1) words)) o) words place) (sym k.at)
-    (elim k.next as (λ _. IsReason (command_reason (next_after (take (place - 1) words)) (Some k.word)) words place) [
-      | inl n ↦ subst (λ x. IsReason (command_reason x (Some k.word)) words place) (sym n) (k.word, k.at, k.names)
-      | inr n ↦ subst (λ x. IsReason (command_reason x (Some k.word)) words place) (sym n.0)
-          (subst (λ b. IsReason (if b then OptionEarly else CommandUnknown) words place) (sym n.1) (k.word, k.at, k.names))
+    subst (λ o. IsUsageReason (command_reason (next_after (take (place - 1) words)) o) words place) (sym k.at)
+    (elim k.next as (λ _. IsUsageReason (command_reason (next_after (take (place - 1) words)) (Some k.word)) words place) [
+      | inl n ↦ subst (λ x. IsUsageReason (command_reason x (Some k.word)) words place) (sym n) (k.word, k.at, k.names)
+      | inr n ↦ subst (λ x. IsUsageReason (command_reason x (Some k.word)) words place) (sym n.0)
+          (subst (λ b. IsUsageReason (if b then OptionEarly else CommandUnknown) words place) (sym n.1) (k.word, k.at, k.names))
     ])
 command_why words place s (inr (inr k)) =
-    subst (λ o. IsReason (command_reason (next_after (take (place - 1) words)) o) words place) (sym k.at)
-    (subst (λ x. IsReason (command_reason x (Some k.word)) words place) (sym k.next)
-    (subst (λ b. IsReason (if b then OptionEarly else CommandUnknown) words place) (sym k.option) (k.word, k.at, (k.option, ap not k.early))))
+    subst (λ o. IsUsageReason (command_reason (next_after (take (place - 1) words)) o) words place) (sym k.at)
+    (subst (λ x. IsUsageReason (command_reason x (Some k.word)) words place) (sym k.next)
+    (subst (λ b. IsUsageReason (if b then OptionEarly else CommandUnknown) words place) (sym k.option) (k.word, k.at, (k.option, ap not k.early))))
 
 -- an option before the applet that is none of it
 pub record IsForeignWord (applet : Applet) (words : List (List ℕ)) (index : ℕ) : Type 0 where

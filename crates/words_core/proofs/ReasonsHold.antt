@@ -29,7 +29,7 @@ use Rattle.words_core.specs.declared.usage.UsageReason.{UsageReason}
 use Rattle.words_core.specs.declared.usage.UsageReason.TheVariants.{OptionRepeated, OperandBad, ScriptRepeated, SecondKind, TooManyOperands, ValueBad}
 use Rattle.words_core.specs.Grammar.{applet_site, command_from, command_of, command_read, first_state, held_value, is_end, is_option, lacks_operand, lacks_word, line_command, line_start, next_after, next_by_rule, next_words, operands_of, option_name, option_reading, reading_behind, reading_by, refused_operand, rule_in, state_by, verdict, with_flags, with_meaning_at, with_value, with_word_by}
 use Rattle.words_core.specs.Options.{OptionSpec, option_spelled, options_of}
-use Rattle.words_core.specs.Reasons.{IsReason, IsRuleAt, OfValue}
+use Rattle.words_core.specs.Reasons.{IsUsageReason, IsRuleAt, OfValue}
 use Rattle.words_core.specs.Usage.{early_reason, end_reason, line_reason, line_rule, meaning_reason, missing_reason, operand_reason, option_reason, reason_from, repeated_by, usage_reason, value_reason, word_reason}
 use Rattle.words_core.proofs.Asked.{found_next, next_append, operand_stays}
 use Rattle.words_core.proofs.AskedLaws.{offends_unasked}
@@ -180,26 +180,26 @@ module _ (words : List (List ℕ)) (start : Start) (s : line_start words ≡ Ok 
       ∙ (ap (line_reason start.applet (line_rule words start) (next_after (take (place - 1) words))) (get_none words (place - 1) far)
       ∙ ap (end_reason start.applet (line_rule words start)) (ap next_after (take_whole words (place - 1) far) ∙ n))
 
-  holds : (place : ℕ) (reason : UsageReason) → usage_reason words place ≡ reason → IsReason reason words place → IsReason (usage_reason words place) words place
-  holds place reason e h = subst (λ r. IsReason r words place) (sym e) h
+  holds : (place : ℕ) (reason : UsageReason) → usage_reason words place ≡ reason → IsUsageReason reason words place → IsUsageReason (usage_reason words place) words place
+  holds place reason e h = subst (λ r. IsUsageReason r words place) (sym e) h
 
   -- an operand that is refused
-  refused_why : (place : ℕ) (rule : OperandRule) → line_rule words start ≡ Some rule → IsRefused start.applet words rule (0 + length (reading_behind start words).operands) place → IsReason (usage_reason words place) words place
+  refused_why : (place : ℕ) (rule : OperandRule) → line_rule words start ≡ Some rule → IsRefused start.applet words rule (0 + length (reading_behind start words).operands) place → IsUsageReason (usage_reason words place) words place
   refused_why place rule r h =
       holds place (operand_reason h.word (Some rule))
       (word_is place h.word (next_after (take (place - 1) words)) h.at refl
       ∙ (operand_why start.applet (line_rule words start) h.word (next_after (take (place - 1) words)) h.next
       ∙ ap (operand_reason h.word) r))
-      (elim (is_of_kind rule.kind h.word) as (λ b. is_of_kind rule.kind h.word ≡ b → IsReason (if b then TooManyOperands else OperandBad rule.kind) words place) [
+      (elim (is_of_kind rule.kind h.word) as (λ b. is_of_kind rule.kind h.word ≡ b → IsUsageReason (if b then TooManyOperands else OperandBad rule.kind) words place) [
         | true ↦ λ k. too_many k (has_room rule.most h.count) refl (sym (ap (λ b. has_room rule.most h.count && b) k) ∙ h.refuses)
         | false ↦ λ k. (h.word, h.at, (start, s, (rule, r, (refl, k))))
       ] refl)
     where
-      by_most : (most : Option ℕ) → rule.most ≡ most → has_room most h.count ≡ false → IsReason TooManyOperands words place
+      by_most : (most : Option ℕ) → rule.most ≡ most → has_room most h.count ≡ false → IsUsageReason TooManyOperands words place
       by_most None m n = absurd (true≢false n)
       by_most (Some most) m n = (let full : most ≤ h.count = ltb-false h.count most n in let less = h.less in (start, s, (rule, r, (most, m, omega (arith, full, less)))))
 
-      too_many : is_of_kind rule.kind h.word ≡ true → (room : Bool) → has_room rule.most h.count ≡ room → (has_room rule.most h.count && true) ≡ false → IsReason TooManyOperands words place
+      too_many : is_of_kind rule.kind h.word ≡ true → (room : Bool) → has_room rule.most h.count ≡ room → (has_room rule.most h.count && true) ≡ false → IsUsageReason TooManyOperands words place
       too_many k true e n = absurd (true≢false (sym (ap (λ b. b && true) e) ∙ n))
       too_many k false e n = by_most rule.most refl e
 
@@ -207,9 +207,9 @@ module _ (words : List (List ℕ)) (start : Start) (s : line_start words ≡ Ok 
   value_why : (place : ℕ) (word : List ℕ) (rule : ValueRule) (text : List ℕ) → slice_get words (place - 1) ≡ Some word → IsRuleAt start (reading_behind start words) word rule
       → ((P : ValueRule → List ℕ → Type 0) → P rule text → OfValue start (reading_behind start words) word P)
       → ((is_value rule.kind text && not (is_excluded rule text (reading_behind start words).state.values)) ≡ false) ⊎ (is_spent rule (reading_behind start words).state.values ≡ true)
-      → IsReason (value_reason rule text) words place
+      → IsUsageReason (value_reason rule text) words place
   value_why place word rule text at own as_value bad =
-      elim (is_value rule.kind text) as (λ b. is_value rule.kind text ≡ b → IsReason (if b then repeated_by rule else ValueBad rule.kind) words place) [
+      elim (is_value rule.kind text) as (λ b. is_value rule.kind text ≡ b → IsUsageReason (if b then repeated_by rule else ValueBad rule.kind) words place) [
         | true ↦ λ v. repeated v bad
         | false ↦ λ v. (word, at, (start, s, as_value (λ r t. (r.kind ≡ rule.kind) × (is_value rule.kind t ≡ false)) (refl, v)))
       ] refl
@@ -225,16 +225,16 @@ module _ (words : List (List ℕ)) (start : Start) (s : line_start words ≡ Ok 
       excluded_is v g (inl e) = not_both (is_value rule.kind text) (is_excluded rule text values) v e
       excluded_is v g (inr e) = absurd (true≢false (sym (and_parts rule.single (is_given rule.letter values) e).0 ∙ g))
 
-      repeated : is_value rule.kind text ≡ true → ((is_value rule.kind text && not (is_excluded rule text (reading_behind start words).state.values)) ≡ false) ⊎ (is_spent rule (reading_behind start words).state.values ≡ true) → IsReason (repeated_by rule) words place
+      repeated : is_value rule.kind text ≡ true → ((is_value rule.kind text && not (is_excluded rule text (reading_behind start words).state.values)) ≡ false) ⊎ (is_spent rule (reading_behind start words).state.values ≡ true) → IsUsageReason (repeated_by rule) words place
       repeated v bad =
-          elim rule.single as (λ b. rule.single ≡ b → IsReason (if b then OptionRepeated else ScriptRepeated) words place) [
+          elim rule.single as (λ b. rule.single ≡ b → IsUsageReason (if b then OptionRepeated else ScriptRepeated) words place) [
             | true ↦ λ g. (word, at, (start, s, (rule, g, given_is v bad, own)))
             | false ↦ λ g. (word, at, (start, s, as_value (λ r t. is_excluded r t (reading_behind start words).state.values ≡ true) (excluded_is v g bad)))
           ] refl
 
   -- an option of the command that cannot be given
   meaning_why : (place : ℕ) (word : List ℕ) (option : OptionSpec) → slice_get words (place - 1) ≡ Some word → option_spelled (options_of start.applet) (option_name word) ≡ Some option → (held : Option (List ℕ)) → held_value word ≡ held → (meaning : Meaning) → option.meaning ≡ meaning
-      → with_meaning_at (reading_behind start words).state place held meaning ≡ None → IsReason (meaning_reason held meaning) words place
+      → with_meaning_at (reading_behind start words).state place held meaning ≡ None → IsUsageReason (meaning_reason held meaning) words place
   meaning_why place word option at o (Some text) h (Plain flag) m u = (word, at, (start, s, ((option, o, ap rule_in m), ap is_some h)))
   meaning_why place word option at o (Some text) h (Kind flag) m u = (word, at, (start, s, ((option, o, ap rule_in m), ap is_some h)))
   meaning_why place word option at o (Some text) h (Value rule) m u =
@@ -252,7 +252,7 @@ module _ (words : List (List ℕ)) (start : Start) (s : line_start words ≡ Ok 
           ] n
   meaning_why place word option at o None h (Plain flag) m u = absurd (none-some (state_by (with_flag flag (reading_behind start words).state.flags) (reading_behind start words).state.values (reading_behind start words).state.awaiting) (sym u))
   meaning_why place word option at o None h (Kind flag) m u =
-      elim (has_kind (reading_behind start words).state.flags && not (has_flag flag (reading_behind start words).state.flags)) as (λ b. (has_kind (reading_behind start words).state.flags && not (has_flag flag (reading_behind start words).state.flags)) ≡ b → with_flags (reading_behind start words).state (if b then None else Some (with_flag flag (reading_behind start words).state.flags)) ≡ None → IsReason SecondKind words place) [
+      elim (has_kind (reading_behind start words).state.flags && not (has_flag flag (reading_behind start words).state.flags)) as (λ b. (has_kind (reading_behind start words).state.flags && not (has_flag flag (reading_behind start words).state.flags)) ≡ b → with_flags (reading_behind start words).state (if b then None else Some (with_flag flag (reading_behind start words).state.flags)) ≡ None → IsUsageReason SecondKind words place) [
         | true ↦ λ e n. (let both = and_parts (has_kind (reading_behind start words).state.flags) (not (has_flag flag (reading_behind start words).state.flags)) e in (word, at, (start, s, (flag, both.0, is_false (has_flag flag (reading_behind start words).state.flags) both.1, (option, o, m)))))
         | false ↦ λ e n. absurd (none-some (state_by (with_flag flag (reading_behind start words).state.flags) (reading_behind start words).state.values (reading_behind start words).state.awaiting) (sym n))
       ] refl u
@@ -261,13 +261,13 @@ module _ (words : List (List ℕ)) (start : Start) (s : line_start words ≡ Ok 
       is_false true h = absurd (false≢true h)
       is_false false h = refl
   meaning_why place word option at o None h (Value rule) m u =
-      elim (is_spent rule (reading_behind start words).state.values) as (λ b. is_spent rule (reading_behind start words).state.values ≡ b → (if b then None else Some (state_by (reading_behind start words).state.flags (reading_behind start words).state.values (Some rule))) ≡ None → IsReason OptionRepeated words place) [
+      elim (is_spent rule (reading_behind start words).state.values) as (λ b. is_spent rule (reading_behind start words).state.values ≡ b → (if b then None else Some (state_by (reading_behind start words).state.flags (reading_behind start words).state.values (Some rule))) ≡ None → IsUsageReason OptionRepeated words place) [
         | true ↦ λ e n. (let both = and_parts rule.single (is_given rule.letter (reading_behind start words).state.values) e in (word, at, (start, s, (rule, both.0, both.1, inr (option, o, m)))))
         | false ↦ λ e n. absurd (none-some (state_by (reading_behind start words).state.flags (reading_behind start words).state.values (Some rule)) (sym n))
       ] refl u
 
   -- a word that cannot be read
-  word_why : (place : ℕ) → IsUnreadWord start.applet words place (reading_behind start words).state → IsReason (usage_reason words place) words place
+  word_why : (place : ℕ) → IsUnreadWord start.applet words place (reading_behind start words).state → IsUsageReason (usage_reason words place) words place
   word_why place u = by_awaiting (reading_behind start words).state.awaiting refl
     where
       state : OptionState
@@ -280,19 +280,19 @@ module _ (words : List (List ℕ)) (start : Start) (s : line_start words ≡ Ok 
             | false ↦ λ k. refl
           ] n
 
-      unknown : option_spelled (options_of start.applet) (option_name u.word) ≡ None → IsReason (option_reason u.word None) words place
+      unknown : option_spelled (options_of start.applet) (option_name u.word) ≡ None → IsUsageReason (option_reason u.word None) words place
       unknown o =
           let parts = start_parts words start s in
           (u.word, u.at, (parts.site, parts.found, subst (λ (x : Start). option_spelled (options_of x.applet) (option_name u.word) ≡ None) (sym parts.same) o))
 
-      by_option : (reading_behind start words).state.awaiting ≡ None → (found : Option OptionSpec) → option_spelled (options_of start.applet) (option_name u.word) ≡ found → IsReason (option_reason u.word found) words place
+      by_option : (reading_behind start words).state.awaiting ≡ None → (found : Option OptionSpec) → option_spelled (options_of start.applet) (option_name u.word) ≡ found → IsUsageReason (option_reason u.word found) words place
       by_option a None o = unknown o
       by_option a (Some option) o =
           meaning_why place u.word option u.at o (held_value u.word) refl option.meaning refl
           (sym (ap (with_word_by (options_of start.applet) (reading_behind start words).state place u.word) a
           ∙ ap (option_and_then (λ (e : OptionSpec). with_meaning_at (reading_behind start words).state place (held_value u.word) e.meaning)) o) ∙ u.unread)
 
-      by_awaiting : (awaiting : Option ValueRule) → (reading_behind start words).state.awaiting ≡ awaiting → IsReason (usage_reason words place) words place
+      by_awaiting : (awaiting : Option ValueRule) → (reading_behind start words).state.awaiting ≡ awaiting → IsUsageReason (usage_reason words place) words place
       by_awaiting (Some rule) a =
           holds place (value_reason rule u.word)
           (word_is place u.word (NextValue start.applet rule) u.at (u.next ∙ ap (next_by_rule start.applet) a))
@@ -305,12 +305,12 @@ module _ (words : List (List ℕ)) (start : Start) (s : line_start words ≡ Ok 
           ∙ ap (λ b. if b then option_reason u.word (option_spelled (options_of start.applet) (option_name u.word)) else operand_reason u.word (line_rule words start)) option)
           (by_option a (option_spelled (options_of start.applet) (option_name u.word)) refl)
 
-  unread_why : (place : ℕ) → IsUnreadAt start.applet words place (reading_behind start words).state → IsReason (usage_reason words place) words place
+  unread_why : (place : ℕ) → IsUnreadAt start.applet words place (reading_behind start words).state → IsUsageReason (usage_reason words place) words place
   unread_why place (inl u) = word_why place u
-  unread_why place (inr u) = subst (λ r. IsReason r words place) (sym (end_is place (NextValue start.applet u.rule) u.end u.next)) (u.end, (start, s, ap is_some u.awaits))
+  unread_why place (inr u) = subst (λ r. IsUsageReason r words place) (sym (end_is place (NextValue start.applet u.rule) u.end u.next)) (u.end, (start, s, ap is_some u.awaits))
 
   -- a word that is missing
-  missing_why : (place : ℕ) → place ≡ length words + 1 → lacks_word start.applet (line_rule words start) (reading_behind start words) ≡ true → IsReason (missing_reason (needed_option start.applet) (line_rule words start)) words place
+  missing_why : (place : ℕ) → place ≡ length words + 1 → lacks_word start.applet (line_rule words start) (reading_behind start words) ≡ true → IsUsageReason (missing_reason (needed_option start.applet) (line_rule words start)) words place
   missing_why place e k = by_needed (needed_option start.applet) refl
     where
       operands_read : List Operand
@@ -332,7 +332,7 @@ module _ (words : List (List ℕ)) (start : Start) (s : line_start words ≡ Ok 
       not_given true h = absurd (false≢true h)
       not_given false h = refl
 
-      by_rule : needed_option start.applet ≡ None → (rule : Option OperandRule) → line_rule words start ≡ rule → IsReason (missing_reason None rule) words place
+      by_rule : needed_option start.applet ≡ None → (rule : Option OperandRule) → line_rule words start ≡ rule → IsUsageReason (missing_reason None rule) words place
       by_rule n None r = (e, (start, s, r))
       by_rule n (Some rule) r =
           let short : nat_lt (length operands_read) rule.least ≡ true =
@@ -340,7 +340,7 @@ module _ (words : List (List ℕ)) (start : Start) (s : line_start words ≡ Ok 
           (sym (ap (λ o. lacks_operand o operands_read || lacks_value (needed_option start.applet) (reading_behind start words).state.values) r) ∙ k) in
           (e, (start, s, (rule, r, (refl, ltb-true (length operands_read) rule.least short))))
 
-      by_needed : (needed : Option ℕ) → needed_option start.applet ≡ needed → IsReason (missing_reason needed (line_rule words start)) words place
+      by_needed : (needed : Option ℕ) → needed_option start.applet ≡ needed → IsUsageReason (missing_reason needed (line_rule words start)) words place
       by_needed (Some letter) n =
           let enough : lacks_operand (line_rule words start) operands_read ≡ false =
           ap (λ o. lacks_operand o operands_read) (needed_rule start.applet (reading_behind start words).state.flags letter n) ∙ le-ltb (length operands_read) 0 (omega arith) in
@@ -349,26 +349,26 @@ module _ (words : List (List ℕ)) (start : Start) (s : line_start words ≡ Ok 
           (e, (start, s, (letter, n, not_given (is_given letter (reading_behind start words).state.values) none)))
       by_needed None n = by_rule n (line_rule words start) refl
 
-  lacks_why : (place : ℕ) → place ≡ length words + 1 → (reading_behind start words).unread ≡ None → lacks_word start.applet (line_rule words start) (reading_behind start words) ≡ true → IsReason (usage_reason words place) words place
+  lacks_why : (place : ℕ) → place ≡ length words + 1 → (reading_behind start words).unread ≡ None → lacks_word start.applet (line_rule words start) (reading_behind start words) ≡ true → IsUsageReason (usage_reason words place) words place
   lacks_why place e u k =
-      elim (free u) as (λ _. IsReason (usage_reason words place) words place) [
-        | inl n ↦ subst (λ r. IsReason r words place) (sym (end_is place (OperandAlone start.applet) e n)) (missing_why place e k)
-        | inr n ↦ subst (λ r. IsReason r words place) (sym (end_is place (OptionOrOperand start.applet) e n)) (missing_why place e k)
+      elim (free u) as (λ _. IsUsageReason (usage_reason words place) words place) [
+        | inl n ↦ subst (λ r. IsUsageReason r words place) (sym (end_is place (OperandAlone start.applet) e n)) (missing_why place e k)
+        | inr n ↦ subst (λ r. IsUsageReason r words place) (sym (end_is place (OptionOrOperand start.applet) e n)) (missing_why place e k)
       ]
 
   -- all that can be judged bad
-  judged_why : (place : ℕ) → verdict (length words + 1) start.applet (reading_behind start words) ≡ Err place → IsReason (usage_reason words place) words place
-  judged_why place h = elim (judged_at start.applet (reading_behind start words) (length words + 1) place h) as (λ _. IsReason (usage_reason words place) words place) [
+  judged_why : (place : ℕ) → verdict (length words + 1) start.applet (reading_behind start words) ≡ Err place → IsUsageReason (usage_reason words place) words place
+  judged_why place h = elim (judged_at start.applet (reading_behind start words) (length words + 1) place h) as (λ _. IsUsageReason (usage_reason words place) words place) [
     | inl first ↦ by_refused (refused_operand (line_rule words start) (reading_behind start words).operands) refl first
     | inr last ↦ (let none = both_none (refused_operand (line_rule words start) (reading_behind start words).operands) (reading_behind start words).unread last.0 in
         lacks_why place last.1 none.1 (lacking none.0 none.1 (lacks_word start.applet (line_rule words start) (reading_behind start words)) refl))
   ]
     where
-      by_rule : (rule : Option OperandRule) → line_rule words start ≡ rule → refused_operand rule (reading_behind start words).operands ≡ Some place → IsReason (usage_reason words place) words place
+      by_rule : (rule : Option OperandRule) → line_rule words start ≡ rule → refused_operand rule (reading_behind start words).operands ≡ Some place → IsUsageReason (usage_reason words place) words place
       by_rule None r e = absurd (none-some place e)
       by_rule (Some rule) r e = refused_why place rule r (refused_is start.applet words rule 0 place (reading_behind start words).operands operands e)
 
-      by_refused : (o : Option ℕ) → refused_operand (line_rule words start) (reading_behind start words).operands ≡ o → option_or o (reading_behind start words).unread ≡ Some place → IsReason (usage_reason words place) words place
+      by_refused : (o : Option ℕ) → refused_operand (line_rule words start) (reading_behind start words).operands ≡ o → option_or o (reading_behind start words).unread ≡ Some place → IsUsageReason (usage_reason words place) words place
       by_refused None e f = unread_why place (unread place f)
       by_refused (Some at) e f = by_rule (line_rule words start) refl (e ∙ f)
 
@@ -376,20 +376,20 @@ module _ (words : List (List ℕ)) (start : Start) (s : line_start words ≡ Ok 
       lacking r u true k = k
       lacking r u false k = absurd (let good : Ok (command_read (length words + 1) start.applet (reading_behind start words)) ≡ Err place = sym (judged_good start.applet (reading_behind start words) (length words + 1) r u k) ∙ h in cc)
 
-pub reason_so : (words : List (List ℕ)) (place : ℕ) → command_of words ≡ Err place → IsReason (usage_reason words place) words place
+pub reason_so : (words : List (List ℕ)) (place : ℕ) → command_of words ≡ Err place → IsUsageReason (usage_reason words place) words place
 unfolding line_command usage_reason
 reason_so words place c =
-    elim (line_start words) as (λ s. line_start words ≡ s → command_from words s ≡ Err place → IsReason (reason_from words place s) words place) [
-      | Ok start ↦ λ s h. subst (λ r. IsReason r words place) (ap (reason_from words place) s) (judged_why words start s place h)
+    elim (line_start words) as (λ s. line_start words ≡ s → command_from words s ≡ Err place → IsUsageReason (reason_from words place s) words place) [
+      | Ok start ↦ λ s h. subst (λ r. IsUsageReason r words place) (ap (reason_from words place) s) (judged_why words start s place h)
       | Err at ↦ λ s (h : Err at ≡ Err place). (let same : at ≡ place = cc in early_why (s ∙ ap Err same))
     ] refl (offends_unasked words place c).offends
   where
-    early_why : line_start words ≡ Err place → IsReason (early_reason (applet_site 1 words) (next_after (take (place - 1) words)) (slice_get words (place - 1))) words place
+    early_why : line_start words ≡ Err place → IsUsageReason (early_reason (applet_site 1 words) (next_after (take (place - 1) words)) (slice_get words (place - 1))) words place
     early_why s =
-        elim (no_start words place s) as (λ _. IsReason (early_reason (applet_site 1 words) (next_after (take (place - 1) words)) (slice_get words (place - 1))) words place) [
-          | inl e ↦ subst (λ r. IsReason (early_reason r (next_after (take (place - 1) words)) (slice_get words (place - 1))) words place) (sym e)
+        elim (no_start words place s) as (λ _. IsUsageReason (early_reason (applet_site 1 words) (next_after (take (place - 1) words)) (slice_get words (place - 1))) words place) [
+          | inl e ↦ subst (λ r. IsUsageReason (early_reason r (next_after (take (place - 1) words)) (slice_get words (place - 1))) words place) (sym e)
               (command_why words place e (sought_err [] words place refl e))
-          | inr f ↦ subst (λ r. IsReason (early_reason r (next_after (take (place - 1) words)) (slice_get words (place - 1))) words place) (sym f.found)
+          | inr f ↦ subst (λ r. IsUsageReason (early_reason r (next_after (take (place - 1) words)) (slice_get words (place - 1))) words place) (sym f.found)
               (let word = foreign_word no_flags 1 place words f.site f.found f.early in
               (word.word, word.at, (f.site, f.found, unspelled f.site.applet word.flags word.word word.early word.refused)))
         ]

@@ -68,44 +68,44 @@ OfRule words start P = (rule : OperandRule) × (line_rule words start ≡ Some r
 -- ---- the reasons
 
 -- a reason that words are a usage error at a place is so
-abbrev pub IsReason : UsageReason → List (List ℕ) → ℕ → Type 0
-IsReason CommandMissing words place = IsEnd words place × IsTrue (not (is_ok (applet_site 1 words)))
-IsReason CommandUnknown words place = OfWord words place (λ word. applet_of word ≡ None)
-IsReason OptionEarly words place =
+abbrev pub IsUsageReason : UsageReason → List (List ℕ) → ℕ → Type 0
+IsUsageReason CommandMissing words place = IsEnd words place × IsTrue (not (is_ok (applet_site 1 words)))
+IsUsageReason CommandUnknown words place = OfWord words place (λ word. applet_of word ≡ None)
+IsUsageReason OptionEarly words place =
     OfWord words place (λ word. IsTrue (is_option word) × IsTrue (not (is_early word)))
-IsReason OptionUnknown words place =
+IsUsageReason OptionUnknown words place =
     OfWord words place (λ word. OfApplet words (λ applet.
     option_spelled (options_of applet) (option_name word) ≡ None))
-IsReason ValueGiven words place =
+IsUsageReason ValueGiven words place =
     OfWord words place (λ word. OfReading words (λ start reading.
     OfMeaning start.applet word (λ meaning. rule_in meaning ≡ None) × IsTrue (is_some (held_value word))))
-IsReason OptionRepeated words place =
+IsUsageReason OptionRepeated words place =
     OfWord words place (λ word. OfReading words (λ start reading. (rule : ValueRule)
     × IsTrue rule.single × IsTrue (is_given rule.letter reading.state.values)
     × IsRuleAt start reading word rule))
-IsReason SecondKind words place =
+IsUsageReason SecondKind words place =
     OfWord words place (λ word. OfReading words (λ start reading. (flag : Flag)
     × IsTrue (has_kind reading.state.flags) × (has_flag flag reading.state.flags ≡ false)
     × OfMeaning start.applet word (λ meaning. meaning ≡ Kind flag)))
-IsReason ValueMissing words place =
+IsUsageReason ValueMissing words place =
     IsEnd words place × OfReading words (λ start reading. IsTrue (is_some reading.state.awaiting))
-IsReason (ValueBad kind) words place =
+IsUsageReason (ValueBad kind) words place =
     OfWord words place (λ word. OfReading words (λ start reading.
     OfValue start reading word (λ rule text. (rule.kind ≡ kind) × (is_value kind text ≡ false))))
-IsReason ScriptRepeated words place =
+IsUsageReason ScriptRepeated words place =
     OfWord words place (λ word. OfReading words (λ start reading.
     OfValue start reading word (λ rule text. IsTrue (is_excluded rule text reading.state.values))))
-IsReason TooManyOperands words place =
+IsUsageReason TooManyOperands words place =
     OfReading words (λ start reading. OfRule words start (λ rule. (most : ℕ) × (rule.most ≡ Some most)
     × (most < length reading.operands)))
-IsReason (OperandBad kind) words place =
+IsUsageReason (OperandBad kind) words place =
     OfWord words place (λ word. OfReading words (λ start reading. OfRule words start (λ rule.
     (rule.kind ≡ kind) × (is_of_kind kind word ≡ false))))
-IsReason (OperandMissing kind) words place =
+IsUsageReason (OperandMissing kind) words place =
     IsEnd words place × OfReading words (λ start reading. OfRule words start (λ rule.
     (rule.kind ≡ kind) × (length reading.operands < rule.least)))
-IsReason KindMissing words place =
+IsUsageReason KindMissing words place =
     IsEnd words place × OfReading words (λ start reading. line_rule words start ≡ None)
-IsReason OptionMissing words place =
+IsUsageReason OptionMissing words place =
     IsEnd words place × OfReading words (λ start reading. (letter : ℕ)
     × (needed_option start.applet ≡ Some letter) × (is_given letter reading.state.values ≡ false))

@@ -11,7 +11,7 @@ ghost use Rattle.words_core.specs.Lines.{IsLineOf};
 ghost use Rattle.words_core.specs.Options.{applets, common_options, own_options};
 ghost use Rattle.words_core.specs.Explained.{are_listed, asking_options, explain};
 ghost use Rattle.words_core.specs.HelpTexts.{common_help, option_help};
-ghost use Rattle.words_core.specs.Reasons.{IsReason};
+ghost use Rattle.words_core.specs.Reasons.{IsUsageReason};
 ghost use Rattle.words_core.specs.Rows.{has_its_letter};
 ghost use Rattle.words_core.specs.Usage.{usage_reason};
 ghost use Rattle.words_core.specs.Stuck.{are_stuck};
@@ -79,7 +79,7 @@ pub fn letters_are_those_of_short_words()
 /// before it.
 pub fn a_reason_is_so()
     ensures { (words : List (List ℕ)) (place : ℕ) → command_of words ≡ Err place →
-        IsReason (usage_reason words place) words place }
+        IsUsageReason (usage_reason words place) words place }
 {}
 
 /// The help of a command explains each option of it, in the order of the table of options, and nothing
