@@ -1,4 +1,4 @@
-//! Why words are a usage error, and the line that tells a person so. It takes no memory.
+//! Why words are a usage error, and the line that explains it to the user. It allocates no memory.
 //! The texts are listed in `docs/commands.md`, "Help".
 ghost use Rattle.std.specs.Prelude.{◌≡◌, ◌-◌, ◌+◌, ◌<◌, ◌≤◌, Some, IsTrue, drop, length, map, slice_get, take};
 ghost use Rattle.std.specs.Option.{option_map};
@@ -9,12 +9,13 @@ ghost use Rattle.words_core.specs.Options.{options_of};
 ghost use Rattle.words_core.specs.Rows.{option_spec};
 ghost use Rattle.words_core.specs.Steps.{asks_flags, flags_spelled, has_no_values};
 ghost use Rattle.words_core.specs.declared.next.NextWord.TheVariants.{OptionOrOperand};
-ghost use Rattle.words_core.specs.Usage.{asked_space, asked_word, command_reason, early_reason, end_reason, hex_digit, hint_end, hint_text, is_plain_byte, line_reason, line_rule, longest_shown, meaning_reason, missing_reason, operand_kind_text, operand_reason, option_reason, place_text, reason_kind, reason_text, repeated_by, shown_byte, shown_bytes, texts_joined, usage_after, usage_reason, value_kind_text, value_reason, word_end, word_front, word_reason};
+ghost use Rattle.words_core.specs.Usage.{asked_space, asked_word, command_reason, early_reason, end_reason, hex_digit, hint_end, hint_text, is_plain_byte, line_reason, line_rule, longest_shown, meaning_reason, missing_reason, operand_reason, option_reason, place_text, repeated_by, shown_byte, shown_bytes, texts_joined, usage_after, usage_reason, value_reason, word_end, word_front, word_reason};
 
 use crate::help_rows::PROGRAM_USAGE;
 use crate::next::{NextWord, next_after};
 use crate::options::{Meaning, OptionRow, applet_word, option_spelled, with_option};
 use crate::reading::{Start, find_applet, read_start};
+use crate::usage_texts::{reason_kind, reason_text};
 use crate::word::{held_value, is_end, is_option, option_name};
 use base_core::{Sink, SinkFault, Words, write_all};
 use command_core::{Applet, Flags, OperandKind, OperandRule, ValueKind, ValueRule};
@@ -142,7 +143,7 @@ fn end_reason(applet: Applet, rule: Option<OperandRule>, next: NextWord) -> Usag
     }
 }
 
-// Which word is missing after the last one, where no value is awaited.
+// Which word is missing after the last one, if no value is awaited.
 fn missing_reason(needed: Option<u8>, rule: Option<OperandRule>) -> UsageReason
     ensures { result ≡ missing_reason needed rule }
 {
@@ -155,7 +156,7 @@ fn missing_reason(needed: Option<u8>, rule: Option<OperandRule>) -> UsageReason
     }
 }
 
-// Why a word after the command offends.
+// Why a word after the command is wrong.
 fn word_reason(rule: Option<OperandRule>, word: &[u8], next: NextWord) -> UsageReason
     ensures { result ≡ word_reason rule word.now next }
 {
@@ -168,7 +169,7 @@ fn word_reason(rule: Option<OperandRule>, word: &[u8], next: NextWord) -> UsageR
     }
 }
 
-// Why a word after the command offends that is an option or an operand.
+// Why a word after the command is wrong that is an option or an operand.
 fn free_reason(applet: Applet, rule: Option<OperandRule>, word: &[u8]) -> UsageReason
     ensures { result ≡ word_reason rule word.now (OptionOrOperand applet) }
 {
@@ -251,7 +252,7 @@ fn asks_flags(applet: Applet) -> bool
     matches!(applet, Applet::Info | Applet::Version)
 }
 
-// The flags that are read, where no option of the command has values.
+// The flags that are read, if no option of the command has values.
 #[tactic(auto, unfolding(crate::specs::Grammar::reading_behind))]
 fn read_flags(words: &Words, start: &Start) -> Flags
     requires read { start.now.read ≤ length words.now }
@@ -264,7 +265,7 @@ fn read_flags(words: &Words, start: &Start) -> Flags
     flags_behind(words, start)
 }
 
-// The flags that are read, where options can follow the command.
+// The flags that are read, if options can follow the command.
 fn flags_behind(words: &Words, start: &Start) -> Flags
     requires read { start.now.read ≤ length words.now }
     requires plain { IsTrue (has_no_values start.now.applet) }
@@ -289,8 +290,8 @@ fn flags_behind(words: &Words, start: &Start) -> Flags
     flags
 }
 
-// Flags with the option that a word is. None: it is none of the command, has a value, or is a second
-// kind.
+// Flags with the option that a word is. None: it is none of the command, has a value, or is a
+// second kind.
 fn flags_with(applet: Applet, flags: Flags, word: &[u8]) -> Option<Flags>
     requires { IsTrue (is_option word.now) }
     ensures { result ≡ flags_spelled (options_of applet) flags word.now }
@@ -303,8 +304,9 @@ fn flags_with(applet: Applet, flags: Flags, word: &[u8]) -> Option<Flags>
 
 // ---- the line
 
-/// Writes the line that says to a person why words are a usage error at a place: which word it is, why
-/// it is none, and whose help to read. It takes no memory. After a fault a front of it was written.
+/// Writes the line that explains a usage error at a place to the user: which word it is, why it is
+/// wrong, and whose help to read. It allocates no memory. If the sink fails, a prefix of the line
+/// was written.
 pub fn explain_usage<S: Sink>(words: &Words, place: u32, sink: &mut S) -> Result<(), SinkFault>
     ensures { Writes (hint_text words.now place)
         (sink_change S.bytes S.counts sink.old sink.new) result }
@@ -325,7 +327,7 @@ fn write_place<S: Sink>(words: &Words, place: u32, sink: &mut S) -> Result<(), S
     }
 }
 
-// Writes a word that offends, and its place.
+// Writes a wrong word, and its place.
 fn write_word<S: Sink>(place: u32, word: &[u8], sink: &mut S) -> Result<(), SinkFault>
     ensures { Writes (place_text place (Some word.now))
         (sink_change S.bytes S.counts sink.old sink.new) result }
@@ -438,7 +440,7 @@ fn hint_end(words: &Words, reason: UsageReason) -> [&'static [u8]; 7]
     ]
 }
 
-// A space, where a command was found.
+// A space, if a command was found.
 fn asked_space(words: &Words) -> &'static [u8]
     ensures { result.now ≡ asked_space (applet_site 1 words.now) }
 {
@@ -448,7 +450,7 @@ fn asked_space(words: &Words) -> &'static [u8]
     }
 }
 
-// The word of the command whose help is named, or nothing where none was found.
+// The word of the command whose help is named, or nothing if none was found.
 fn asked_word(words: &Words) -> &'static [u8]
     ensures { result.now ≡ asked_word (applet_site 1 words.now) }
 {
@@ -458,78 +460,10 @@ fn asked_word(words: &Words) -> &'static [u8]
     }
 }
 
-// How the program is called, where there are no words.
+// The usage of the program, if there are no words.
 #[tactic(auto, unfolding(crate::specs::HelpTexts::program_usage))]
 fn usage_after(words: &Words) -> &'static [u8]
     ensures { result.now ≡ usage_after words.now }
 {
     if words.is_empty() { PROGRAM_USAGE } else { b"" }
-}
-
-// ---- texts
-
-// The text of a reason.
-fn reason_text(reason: UsageReason) -> &'static [u8]
-    ensures { result.now ≡ reason_text reason }
-{
-    match reason {
-        UsageReason::CommandMissing => b"a command is missing",
-        UsageReason::CommandUnknown => b"unknown command",
-        UsageReason::OptionEarly => b"no option that can be before the command",
-        UsageReason::OptionUnknown => b"no option of this command",
-        UsageReason::OptionRepeated => b"this option was given before",
-        UsageReason::SecondKind => b"only one such option can be given",
-        UsageReason::ValueGiven => b"this option has no value",
-        UsageReason::ValueMissing => b"the value of the last option is missing",
-        UsageReason::ValueBad(_) => b"the value must be ",
-        UsageReason::ScriptRepeated => b"a script of this type was given before",
-        UsageReason::TooManyOperands => b"too many operands",
-        UsageReason::OperandBad(_) => b"an operand must be ",
-        UsageReason::OperandMissing(_) => b"an operand is missing: ",
-        UsageReason::KindMissing => b"an option is missing: --test or --check",
-        UsageReason::OptionMissing => b"an option is missing: --output",
-    }
-}
-
-// What ends the text of a reason: the kind of the value or operand, if it is about one.
-fn reason_kind(reason: UsageReason) -> &'static [u8]
-    ensures { result.now ≡ reason_kind reason }
-{
-    match reason {
-        UsageReason::ValueBad(kind) => value_kind_text(kind),
-        UsageReason::OperandBad(kind) | UsageReason::OperandMissing(kind) => {
-            operand_kind_text(kind)
-        }
-        _ => b"",
-    }
-}
-
-// What a value of an option is.
-fn value_kind_text(kind: ValueKind) -> &'static [u8]
-    ensures { result.now ≡ value_kind_text kind }
-{
-    match kind {
-        ValueKind::Any => b"a text",
-        ValueKind::Nonempty => b"a text that is not empty",
-        ValueKind::File => b"a path below this folder",
-        ValueKind::Output => b"a path of at most 1016 bytes below this folder",
-        ValueKind::Uncompressed => b"none",
-        ValueKind::Script => b"TYPE:FILE with the type of a script",
-    }
-}
-
-// What an operand is.
-fn operand_kind_text(kind: OperandKind) -> &'static [u8]
-    ensures { result.now ≡ operand_kind_text kind }
-{
-    match kind {
-        OperandKind::File => b"a path below this folder",
-        OperandKind::Any => b"a text",
-        OperandKind::Dependency => b"a dependency",
-        OperandKind::DependencyName => b"the name of a dependency",
-        OperandKind::PackageName => b"the name of a package",
-        OperandKind::Path => b"a path",
-        OperandKind::Number => b"a number from 1 to 20000",
-        OperandKind::Pattern => b"a pattern",
-    }
 }
