@@ -1,5 +1,5 @@
 -- What is gathered of the candidates of a version, one more at a time.
-use Rattle.std.proofs.Common.{◌≡◌, inl, inr, ℕ, zero, suc, ◌+◌, ◌<◌, ◌≤◌, Bool, true, false, List, [], ◌∷◌, ◌++◌, length, take, get_or, refl, sym, ap, subst, ◌∙◌, arith}
+use Rattle.std.proofs.Common.{◌≡◌, inl, inr, ℕ, ◌+◌, ◌≤◌, Bool, false, List, [], ◌∷◌, ◌++◌, take, refl, sym, ap, subst, ◌∙◌, arith}
 use Rattle.std.specs.Prelude.{Option, Some, None, option_to_list, slice_get, ◌||◌}
 use Rattle.std.specs.List.{cons_option, filter_map, list_any}
 use Rattle.std.specs.List.Sorted.{IsPermutation, IsSorted}
@@ -14,8 +14,7 @@ use Rattle.candidate_core.specs.Options.{IsIn}
 use Rattle.candidate_core.proofs.Steps.{any_snoc, take_one_more}
 use Rattle.option_ranks.specs.Ranking.{Ranking}
 use Rattle.option_ranks.proofs.MovedMembers.{moved_member}
-use Rattle.query_core.specs.Policy.{is_of_repository}
-use Rattle.query_core.specs.VersionPlaces.{NeverFall, SaysPlacesOf, VersionPlaces, version_places_by}
+use Rattle.query_core.specs.VersionPlaces.{NeverFall, SaysPlacesOf, version_places_by}
 use Rattle.query_core.proofs.RisingLines.{has_number, numbered, numbers_of}
 
 -- the candidates of rankings
@@ -45,7 +44,7 @@ numbers_more cs rs i r d before after h e was is =
 
 -- ---- sorted numbers
 
-each_in : {X : Type 0} (P : X → Type 0) (xs : List X) (x : X) → Each P xs → IsIn x xs → P x
+pub each_in : {X : Type 0} (P : X → Type 0) (xs : List X) (x : X) → Each P xs → IsIn x xs → P x
 each_in P [] x all h = absurd h
 each_in P (y ∷ xs) x all (inl e) = subst P (sym e) all.0
 each_in P (y ∷ xs) x all (inr h) = each_in P xs x all.1 h

@@ -1,6 +1,6 @@
 -- The candidates of a name in the order of queries: those with one version are side by side, and are just those that have it.
-use Rattle.std.proofs.Common.{◌≡◌, ◌⊎◌, inl, inr, All, ℕ, zero, suc, ◌+◌, ◌-◌, ◌<◌, ◌≤◌, Bool, true, false, List, [], ◌∷◌, length, drop, take, map, get_or, refl, sym, ap, subst, ◌∙◌, arith}
-use Rattle.std.specs.Prelude.{Option, Some, None, nat_lt, slice_get, ◌&&◌}
+use Rattle.std.proofs.Common.{◌≡◌, inl, inr, All, ℕ, suc, ◌+◌, ◌-◌, ◌<◌, ◌≤◌, Bool, true, false, List, [], ◌∷◌, length, drop, take, map, get_or, refl, sym, ap, subst, ◌∙◌, arith}
+use Rattle.std.specs.Prelude.{Option, Some, nat_lt, slice_get, ◌&&◌}
 use Rattle.std.specs.Option.{option_cmp, option_map_or}
 use Rattle.std.specs.List.{cons_option, filter, filter_map, list_any}
 use Rattle.std.specs.Cmp.{IsTotalOrder, tied_itself}
@@ -8,7 +8,6 @@ use Rattle.std.specs.Ordering.{is_lt, nat_cmp, ordering_reverse, ordering_then}
 use Rattle.std.specs.declared.cmp.Ordering.{Ordering}
 use Rattle.std.specs.declared.cmp.Ordering.TheVariants.{Less, Equal, Greater}
 use Rattle.std.specs.List.Sorted.{IsSorted}
-use Rattle.std.specs.Str.{bytes_eq}
 use Rattle.std.proofs.lemmas.List.Sorted.{ranks_by, sorted_far}
 use Rattle.std.proofs.lemmas.Slice.Eq.{bytes_eq-Decides}
 use Rattle.version_core.specs.Order.{version_cmp}
@@ -26,7 +25,7 @@ use Rattle.option_ranks.specs.declared.rank.VersionKey.{VersionKey}
 use Rattle.option_ranks.proofs.CountedRanks.{here_is}
 use Rattle.option_ranks.proofs.MovedMembers.{member_of_all, moved_member}
 use Rattle.option_ranks.proofs.RankedOptions.{place_of}
-use Rattle.query_core.specs.Order.{name_and_version_cmp, query_cmp, selected_candidates, selected_places}
+use Rattle.query_core.specs.Order.{name_and_version_cmp, query_cmp, selected_places}
 use Rattle.query_core.specs.Policy.{has_name_and_version, has_own_name, is_of_repository, versions_of_name, versions_once}
 use Rattle.query_core.specs.QueryRanking.{AreInQueryOrder, IsQueryRanking, have_one_version}
 use Rattle.query_core.specs.VersionPlaces.{SaysPlacesOf, VersionPlaces}

@@ -9,3 +9,7 @@ mod LineParts
 mod ProvidedNames
 mod OwnNames
 mod Gathered
+mod Parts
+mod AskedFor
+mod InOrder
+mod SameQueries

@@ -7,7 +7,7 @@ use Rattle.candidate_core.proofs.OptionLists.{bool_cases}
 use Rattle.dep_core.specs.Repositories.{Repository}
 use Rattle.option_ranks.specs.Ranking.{Ranking}
 use Rattle.option_ranks.proofs.RankedOptions.{place_of}
-use Rattle.query_core.specs.Lines.{line_of}
+use Rattle.query_core.specs.Lines.{line_in_form}
 use Rattle.query_core.specs.QueryRanking.{IsQueryRanking}
 use Rattle.report_core.specs.QueryReports.{database_line, version_heading}
 use Rattle.query_core.specs.Order.{printed_version}
@@ -38,9 +38,9 @@ nothing_left (x ∷ xs) (suc i) h = nothing_left xs i (omega (arith, h))
 -- ---- the lines of what is left
 
 abbrev pub lines_of : LineForm → List Candidate → List Ranking → List ℕ
-lines_of form cs rs = flat_map (line_of form) (filter_map (slice_get cs) (map place_of rs))
+lines_of form cs rs = flat_map (line_in_form form) (filter_map (slice_get cs) (map place_of rs))
 
-pub lines_left : (form : LineForm) (cs : List Candidate) (rs : List Ranking) (i : ℕ) (r : Ranking) (c : Candidate) → slice_get rs i ≡ Some r → slice_get cs r.place ≡ Some c → lines_of form cs (drop i rs) ≡ line_of form c ++ lines_of form cs (drop (i + 1) rs)
+pub lines_left : (form : LineForm) (cs : List Candidate) (rs : List Ranking) (i : ℕ) (r : Ranking) (c : Candidate) → slice_get rs i ≡ Some r → slice_get cs r.place ≡ Some c → lines_of form cs (drop i rs) ≡ line_in_form form c ++ lines_of form cs (drop (i + 1) rs)
 lines_left form cs rs i r c h e = ap (lines_of form cs) (left_at rs i r h) ∙ rw e refl
 
 pub versions_left : (repositories : List Repository) (vs : List VersionPlaces) (i : ℕ) (v : VersionPlaces) → slice_get vs i ≡ Some v → flat_map (version_lines repositories) (drop i vs) ≡ version_lines repositories v ++ flat_map (version_lines repositories) (drop (i + 1) vs)

@@ -1,6 +1,6 @@
 -- Candidates that are sorted by what was read of each, and by the texts or the ranks of their versions, are in the order of queries.
-use Rattle.std.proofs.Common.{◌≡◌, All, ℕ, ◌+◌, ◌<◌, Bool, true, false, List, [], ◌∷◌, length, map, get_or, refl, sym, ap, subst, ◌∙◌, arith}
-use Rattle.std.specs.Prelude.{Option, Some, None, ◌==◌, slice_get, bytes_eq}
+use Rattle.std.proofs.Common.{◌≡◌, All, ℕ, ◌+◌, ◌<◌, true, false, List, [], length, map, get_or, refl, sym, ap, subst, ◌∙◌, arith}
+use Rattle.std.specs.Prelude.{Option, Some, None, ◌==◌, slice_get}
 use Rattle.std.specs.Option.{option_cmp}
 use Rattle.std.specs.Cmp.{IsTotalOrder, nat_cmp_total, on_total, then_total, ranks}
 use Rattle.std.specs.Cmp.Lexicographic.{nat_list_cmp_total, options_total}
@@ -15,9 +15,7 @@ use Rattle.std.proofs.lemmas.Map.Text.{is_eq-slice_cmp}
 use Rattle.std.proofs.lemmas.Slice.Eq.{bytes_eq-Decides}
 use Rattle.version_core.specs.Order.{version_cmp}
 use Rattle.candidate_core.specs.Candidates.{Candidate, is_same_version}
-use Rattle.candidate_core.specs.Options.{IsIn}
 use Rattle.candidate_core.specs.Rank.{bytes_cmp, greater_version}
-use Rattle.candidate_core.specs.declared.versions.RankedVersion.{RankedVersion}
 use Rattle.candidate_core.specs.declared.versions.VersionKind.{VersionKind}
 use Rattle.candidate_core.specs.declared.versions.VersionKind.TheVariants.{Under, Own}
 use Rattle.option_ranks.specs.Ranking.{Ranking, ranking_by, ranking_cmp, version_order}

@@ -6,6 +6,8 @@ pub mod List
 pub mod Search
 pub mod Policy
 pub mod Queries
+-- what only the laws say
+pub mod Asked
 -- what only inner contracts and proofs use
 pub mod Appends
 pub mod QueryRanking

@@ -19,6 +19,6 @@ description_part c =
     ++ installed_mark c.installed
 
 -- the line of a candidate in a form
-abbrev pub line_of : LineForm → Candidate → List ℕ
-line_of Full c = candidate_line c
-line_of Short c = search_line c.name (printed_version c.version)
+abbrev pub line_in_form : LineForm → Candidate → List ℕ
+line_in_form Full c = candidate_line c
+line_in_form Short c = search_line c.name (printed_version c.version)

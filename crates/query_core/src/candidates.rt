@@ -1,10 +1,9 @@
 //! The lines of candidates, one after another: what `list` and `search` print.
 //! The rules are in `docs/commands.md`, "`list`" and "`search`".
-ghost use Rattle.candidate_core.specs.Candidates.{Candidate};
 ghost use Rattle.query_core.specs.Appends.{Appends};
-ghost use Rattle.query_core.specs.Lines.{description_part, line_of};
+ghost use Rattle.query_core.specs.Lines.{description_part, line_in_form};
 ghost use Rattle.query_core.specs.Order.{printed_version, query_cmp};
-ghost use Rattle.report_core.specs.QueryReports.{installed_mark, list_line, search_line, text_between};
+ghost use Rattle.report_core.specs.QueryReports.{installed_mark, text_between};
 ghost use Rattle.report_core.specs.Reports.{name_version};
 ghost use Rattle.base_core.specs.Sorted.{sorted_by};
 ghost use Rattle.std.specs.List.{filter_map, flat_map};
@@ -63,7 +62,7 @@ pub(crate) fn report(
     form: LineForm,
 ) -> Result<Text, AllocError>
     requires { All (λ place. place < length pool.now.candidates) places.now }
-    ensures { IfOk result (λ report. report ≡ flat_map (line_of form)
+    ensures { IfOk result (λ report. report ≡ flat_map (line_in_form form)
         (filter_map (slice_get pool.now.candidates)
         (sorted_by (query_cmp pool.now.candidates) places.now))) }
 {
@@ -86,7 +85,7 @@ fn put_lines<O: ReportOut>(
     form: LineForm,
 ) -> Result<(), AllocError>
     requires { All (λ r. r.place < length pool.now.candidates) rankings.now }
-    ensures { OnOk result (Appends O.holds out.old out.new (flat_map (line_of form)
+    ensures { OnOk result (Appends O.holds out.old out.new (flat_map (line_in_form form)
         (filter_map (slice_get pool.now.candidates) (map (λ r. r.place) rankings.now)))) }
 {
     for i in 0..rankings.len() {
@@ -102,7 +101,7 @@ fn put_line<O: ReportOut>(
     details: &Details<'_>,
     form: LineForm,
 ) -> Result<(), AllocError>
-    ensures { OnOk result (Appends O.holds out.old out.new (line_of form details.now)) }
+    ensures { OnOk result (Appends O.holds out.old out.new (line_in_form form details.now)) }
 {
     put_name_version(out, details)?;
     if let LineForm::Full = form {

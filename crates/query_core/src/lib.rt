@@ -6,6 +6,7 @@
 #![tactic(auto)]
 
 mod candidates;
+mod laws;
 mod list_query;
 mod order;
 mod policy_query;
@@ -13,6 +14,11 @@ mod report_out;
 mod search_query;
 mod version_places;
 
+pub use laws::{
+    a_query_selects_what_passes_its_test, list_prints_what_is_asked_for,
+    policy_prints_each_version_once, search_prints_what_is_asked_for,
+    the_order_of_queries_is_total, world_changes_no_query,
+};
 pub use list_query::list;
 pub use policy_query::policy;
 pub use search_query::search;

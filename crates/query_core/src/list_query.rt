@@ -1,7 +1,7 @@
 //! What `list` prints (apk(8)). The rule is in `docs/commands.md`, "`list`".
 ghost use Rattle.candidate_core.specs.Options.{places_from};
 ghost use Rattle.query_core.specs.List.{is_list_candidate, is_name_matched, list_report};
-ghost use Rattle.std.specs.Prelude.{◌≡◌, ◌==◌, ◌||◌, IfOk, length};
+ghost use Rattle.std.specs.Prelude.{◌≡◌, IfOk};
 
 use crate::candidates::{LineForm, place_of, push_if, report};
 use base_core::Text;

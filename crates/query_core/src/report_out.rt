@@ -3,7 +3,7 @@
 //! longer than what was read.
 //! No document has a rule for this.
 ghost use Rattle.query_core.specs.Appends.{Appends};
-ghost use Rattle.std.specs.Prelude.{◌≡◌, ◌+◌, OnOk};
+ghost use Rattle.std.specs.Prelude.{◌≡◌, OnOk};
 
 use std::alloc::AllocError;
 

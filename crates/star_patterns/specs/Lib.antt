@@ -1,4 +1,4 @@
--- what the contracts of this crate's calls say
+-- what the contract of `apk` says
 pub mod Patterns
 -- what its law says
 pub mod Fills

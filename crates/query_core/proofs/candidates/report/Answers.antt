@@ -1,9 +1,5 @@
-use Rattle.std.proofs.Common.{◌≡◌, ◌<◌, ◌∙◌, [], ◌++◌, All, List, ℕ, length, map, get_or, sym, ap, subst, arith}
-use Rattle.std.specs.Prelude.{slice_get}
-use Rattle.std.specs.List.{filter_map, flat_map}
-use Rattle.candidate_core.specs.Candidates.{Candidate}
+use Rattle.std.proofs.Common.{All, List, sym, subst}
 use Rattle.option_ranks.specs.Ranking.{Ranking}
-use Rattle.query_core.specs.Lines.{line_of}
 use Rattle.query_core.specs.QueryRanking.{IsQueryRanking}
 use Rattle.query_core.proofs.LineParts.{read_within}
 use Rattle.query_core.proofs.candidates.report.Goals as goal

@@ -3,7 +3,7 @@ use Rattle.std.specs.Prelude.{slice_get}
 use Rattle.std.specs.List.{filter_map, flat_map}
 use Rattle.base_core.specs.Sorted.{sorted_by}
 use Rattle.candidate_core.proofs.Steps.{if_ok}
-use Rattle.query_core.specs.Lines.{line_of}
+use Rattle.query_core.specs.Lines.{line_in_form}
 use Rattle.query_core.specs.List.{is_list_candidate}
 use Rattle.query_core.specs.Order.{query_cmp}
 use Rattle.query_core.specs.declared.candidates.LineForm.TheVariants.{Full}
@@ -17,4 +17,4 @@ report-requires c =
 pub returns : goal.returns
 returns c =
     let cs = c.args.pool.now.candidates in
-    if_ok c.report.result _ _ (λ r e. e ∙ ap (λ (ps : List ℕ). flat_map (line_of Full) (filter_map (slice_get cs) (sorted_by (query_cmp cs) ps))) (c.deref.ensures.value ∙ c.in_ok-places.ensures)) c.report.ensures
+    if_ok c.report.result _ _ (λ r e. e ∙ ap (λ (ps : List ℕ). flat_map (line_in_form Full) (filter_map (slice_get cs) (sorted_by (query_cmp cs) ps))) (c.deref.ensures.value ∙ c.in_ok-places.ensures)) c.report.ensures

@@ -1,4 +1,4 @@
-use Rattle.std.proofs.Common.{◌≡◌, ◌∙◌, ◌++◌, All, List, ℕ, ap, map, subst, sym}
+use Rattle.std.proofs.Common.{◌∙◌, ◌++◌, All, List, ℕ, ap}
 use Rattle.std.specs.List.{flat_map}
 use Rattle.report_core.specs.QueryReports.{policy_heading}
 use Rattle.candidate_core.proofs.Steps.{on_ok}

@@ -1,4 +1,4 @@
-use Rattle.std.proofs.Common.{◌≡◌, ◌∙◌, ◌++◌, [], ap}
+use Rattle.std.proofs.Common.{◌∙◌, ◌++◌, [], ap}
 use Rattle.std.specs.Prelude.{if◌then◌else◌}
 use Rattle.report_core.specs.QueryReports.{database_line, version_heading}
 use Rattle.query_core.specs.VersionPlaces.{rising_lines, version_lines}

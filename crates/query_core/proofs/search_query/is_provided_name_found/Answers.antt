@@ -1,4 +1,4 @@
-use Rattle.std.proofs.Common.{◌≡◌, ◌≤◌, ◌∙◌, List, ap, sym, arith, length}
+use Rattle.std.proofs.Common.{◌≤◌, ◌∙◌, ap, sym, arith, length}
 use Rattle.std.specs.List.{list_any}
 use Rattle.std.proofs.lemmas.List.{take_all}
 use Rattle.candidate_core.proofs.LoopTests.{any_at, none_next}

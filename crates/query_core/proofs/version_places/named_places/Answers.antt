@@ -1,4 +1,4 @@
-use Rattle.std.proofs.Common.{◌∙◌, List, ℕ, ap}
+use Rattle.std.proofs.Common.{◌∙◌, ℕ, ap}
 use Rattle.std.specs.List.{filter}
 use Rattle.candidate_core.specs.Rank.{is_at}
 use Rattle.query_core.specs.Policy.{has_own_name}

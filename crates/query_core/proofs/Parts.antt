@@ -1,0 +1,130 @@
+-- A pattern is found in a name just if it matches a part of it.
+use Rattle.std.proofs.Common.{◌≡◌, inl, inr, ℕ, Bool, true, false, List, [], ◌∷◌, ◌++◌, refl, sym, ap, ◌∙◌, append_assoc, true≢false}
+use Rattle.std.specs.Prelude.{◌==◌, ◌&&◌, ◌||◌, if◌then◌else◌}
+use Rattle.std.specs.List.{list_any}
+use Rattle.std.proofs.lemmas.Bool.{and_parts, or_right}
+use Rattle.star_patterns.specs.Ends.{is_end_matched}
+use Rattle.star_patterns.specs.Patterns.{is_byte_then, is_matched, is_matched_within, suffixes_of}
+use Rattle.candidate_core.proofs.OptionLists.{bool_cases}
+
+literal_byte : (p : ℕ) (q b : List ℕ) → (p == 42) ≡ false → is_matched (p ∷ q) b ≡ is_byte_then p (is_matched q) b
+literal_byte p q b e = ap (λ t. if t then list_any (is_matched q) (suffixes_of b) else is_byte_then p (is_matched q) b) e
+
+-- an end of a text that a pattern matches
+record IsEnd (q b : List ℕ) : Type 0 where
+  pub front : List ℕ
+  pub rest : List ℕ
+  pub is : b ≡ front ++ rest
+  pub matched : is_matched q rest ≡ true
+
+end_next : (q b : List ℕ) (c : ℕ) (t : Bool) → is_matched q (c ∷ b) ≡ t → (t || is_end_matched q b) ≡ true → (is_end_matched q b ≡ true → IsEnd q b) → IsEnd q (c ∷ b)
+end_next q b c true e m find = record { front = []; rest = c ∷ b; is = refl; matched = e }
+end_next q b c false e m find =
+    let further = find m in
+    record { front = c ∷ further.front; rest = further.rest; is = ap (λ z. c ∷ z) further.is; matched = further.matched }
+
+end_of_nothing : (q : List ℕ) (t : Bool) → is_matched q [] ≡ t → (t || false) ≡ true → IsEnd q []
+end_of_nothing q true e m = record { front = []; rest = []; is = refl; matched = e }
+end_of_nothing q false e m = absurd (true≢false (sym m))
+
+end_found : (q b : List ℕ) → is_end_matched q b ≡ true → IsEnd q b
+end_found q [] m = end_of_nothing q (is_matched q []) refl m
+end_found q (c ∷ b) m = end_next q b c (is_matched q (c ∷ b)) refl m (λ further. end_found q b further)
+
+whole_end : (q b : List ℕ) → is_matched q b ≡ true → is_end_matched q b ≡ true
+whole_end q [] m = ap (λ t. t || false) m
+whole_end q (c ∷ b) m = ap (λ t. t || is_end_matched q b) m
+
+end_matched : (q front rest : List ℕ) → is_end_matched q rest ≡ true → is_end_matched q (front ++ rest) ≡ true
+end_matched q [] rest m = m
+end_matched q (c ∷ front) rest m = or_right (is_matched q (c ∷ (front ++ rest))) (is_end_matched q (front ++ rest)) (end_matched q front rest m)
+
+-- the empty pattern matches the empty end of any text
+empty_end : (text : List ℕ) → is_end_matched [] text ≡ true
+empty_end [] = refl
+empty_end (b ∷ text) = or_right (is_matched [] (b ∷ text)) (is_end_matched [] text) (empty_end text)
+
+star_matched : (b : ℕ) (p text : List ℕ) → (b == 42) ≡ true → is_end_matched p text ≡ true → is_matched (b ∷ p) text ≡ true
+star_matched b p text e m = ap (λ t. if t then list_any (is_matched p) (suffixes_of text) else is_byte_then b (is_matched p) text) e ∙ m
+
+matched_star : (b : ℕ) (p text : List ℕ) → (b == 42) ≡ true → is_matched (b ∷ p) text ≡ true → is_end_matched p text ≡ true
+matched_star b p text e m = sym (ap (λ t. if t then list_any (is_matched p) (suffixes_of text) else is_byte_then b (is_matched p) text) e) ∙ m
+
+-- a text begins with a part that the pattern matches
+pub record BeginsWithMatch (p text : List ℕ) : Type 0 where
+  pub part : List ℕ
+  pub after : List ℕ
+  pub is : text ≡ part ++ after
+  pub matched : is_matched p part ≡ true
+
+front_star : (b : ℕ) (p text : List ℕ) → (b == 42) ≡ true → ((rest : List ℕ) → is_matched (p ++ 42 ∷ []) rest ≡ true → BeginsWithMatch p rest) → is_end_matched (p ++ 42 ∷ []) text ≡ true → BeginsWithMatch (b ∷ p) text
+front_star b p text e again m =
+    let found = end_found (p ++ 42 ∷ []) text m in
+    let further = again found.rest found.matched in
+    record {
+      part = found.front ++ further.part;
+      after = further.after;
+      is = found.is ∙ (ap (λ z. found.front ++ z) further.is ∙ sym (append_assoc found.front further.part further.after));
+      matched = star_matched b p (found.front ++ further.part) e (end_matched p found.front further.part (whole_end p further.part further.matched));
+    }
+
+front_byte : (b : ℕ) (p text : List ℕ) → (b == 42) ≡ false → ((rest : List ℕ) → is_matched (p ++ 42 ∷ []) rest ≡ true → BeginsWithMatch p rest) → is_byte_then b (is_matched (p ++ 42 ∷ [])) text ≡ true → BeginsWithMatch (b ∷ p) text
+front_byte b p [] e again m = absurd (true≢false (sym m))
+front_byte b p (t ∷ text) e again m =
+    let both = and_parts (b == t) (is_matched (p ++ 42 ∷ []) text) m in
+    let further = again text both.1 in
+    record {
+      part = t ∷ further.part;
+      after = further.after;
+      is = ap (λ z. t ∷ z) further.is;
+      matched = literal_byte b p (t ∷ further.part) e ∙ (ap (λ x. x && is_matched p further.part) both.0 ∙ further.matched);
+    }
+
+front : (p text : List ℕ) → is_matched (p ++ 42 ∷ []) text ≡ true → BeginsWithMatch p text
+front [] text m = record { part = []; after = text; is = refl; matched = refl }
+front (b ∷ p) text m = elim (bool_cases (b == 42)) [
+  | inl e ↦ front_star b p text e (λ rest h. front p rest h) (matched_star b (p ++ 42 ∷ []) text e m)
+  | inr e ↦ front_byte b p text e (λ rest h. front p rest h) (sym (literal_byte b (p ++ 42 ∷ []) text e) ∙ m)
+]
+
+back_byte : (b : ℕ) (p part after : List ℕ) → (b == 42) ≡ false → ((rest : List ℕ) → is_matched p rest ≡ true → is_matched (p ++ 42 ∷ []) (rest ++ after) ≡ true) → is_byte_then b (is_matched p) part ≡ true → is_matched (b ∷ p ++ 42 ∷ []) (part ++ after) ≡ true
+back_byte b p [] after e again m = absurd (true≢false (sym m))
+back_byte b p (t ∷ part) after e again m =
+    let both = and_parts (b == t) (is_matched p part) m in
+    literal_byte b (p ++ 42 ∷ []) (t ∷ (part ++ after)) e ∙ (ap (λ x. x && is_matched (p ++ 42 ∷ []) (part ++ after)) both.0 ∙ again part both.1)
+
+back : (p part after : List ℕ) → is_matched p part ≡ true → is_matched (p ++ 42 ∷ []) (part ++ after) ≡ true
+back [] part after m = empty_end (part ++ after)
+back (b ∷ p) part after m = elim (bool_cases (b == 42)) [
+  | inl e ↦
+      let found = end_found p part (matched_star b p part e m) in
+      let text : part ++ after ≡ found.front ++ (found.rest ++ after) = ap (λ z. z ++ after) found.is ∙ append_assoc found.front found.rest after in
+      star_matched b (p ++ 42 ∷ []) (part ++ after) e
+      (ap (is_end_matched (p ++ 42 ∷ [])) text ∙ end_matched (p ++ 42 ∷ []) found.front (found.rest ++ after) (whole_end (p ++ 42 ∷ []) (found.rest ++ after) (back p found.rest after found.matched)))
+  | inr e ↦ back_byte b p part after e (λ rest h. back p rest after h) (sym (literal_byte b p part e) ∙ m)
+]
+
+-- a part of a name that the pattern matches
+pub record HasMatchedPart (p name : List ℕ) : Type 0 where
+  pub before : List ℕ
+  pub part : List ℕ
+  pub after : List ℕ
+  pub is : name ≡ before ++ part ++ after
+  pub matched : is_matched p part ≡ true
+
+pub part_found : (p name : List ℕ) → is_matched_within p name ≡ true → HasMatchedPart p name
+part_found p name m =
+    let found = end_found (p ++ 42 ∷ []) name m in
+    let further = front p found.rest found.matched in
+    record {
+      before = found.front;
+      part = further.part;
+      after = further.after;
+      is = found.is ∙ (ap (λ z. found.front ++ z) further.is ∙ sym (append_assoc found.front further.part further.after));
+      matched = further.matched;
+    }
+
+pub found_in_part : (p before part after name : List ℕ) → name ≡ before ++ part ++ after → is_matched p part ≡ true → is_matched_within p name ≡ true
+found_in_part p before part after name is m =
+    let text : name ≡ before ++ (part ++ after) = is ∙ append_assoc before part after in
+    ap (is_end_matched (p ++ 42 ∷ [])) text ∙ end_matched (p ++ 42 ∷ []) before (part ++ after) (whole_end (p ++ 42 ∷ []) (part ++ after) (back p part after m))

@@ -1,0 +1,51 @@
+-- What a query asks for, in other words. Serves the laws of `src/laws.rt`; the rules are in
+-- `docs/commands.md`, "`list`", "`search`" and "`policy`".
+use Rattle.std.specs.Prelude.{◌≡◌, ◌⊎◌, ℕ, false, List, [], ◌∷◌, ◌++◌, Option, Some, slice_get}
+use Rattle.std.specs.declared.cmp.Ordering.{Ordering}
+use Rattle.std.specs.declared.cmp.Ordering.TheVariants.{Less}
+use Rattle.candidate_core.specs.Candidates.{Candidate}
+use Rattle.candidate_core.specs.Options.{IsIn}
+use Rattle.command_core.specs.declared.operands.Operand.{Operand}
+use Rattle.dep_core.specs.Dependency.{Dependency}
+use Rattle.star_patterns.specs.Fills.{IsFilledTo}
+
+-- the stars of one of the patterns can be replaced by bytes so that it reads as the name
+pub record IsNameAsked (patterns : List Operand) (name : List ℕ) : Type 0 where
+  pub pattern : Operand
+  pub given : IsIn pattern patterns
+  pub filled : IsFilledTo pattern.text name
+
+-- the stars of one of the patterns can be replaced by bytes so that it reads as a part of the name
+pub record IsPartAsked (patterns : List Operand) (name : List ℕ) : Type 0 where
+  pub pattern : Operand
+  pub given : IsIn pattern patterns
+  pub before : List ℕ
+  pub part : List ℕ
+  pub after : List ℕ
+  pub name_is : name ≡ before ++ part ++ after
+  pub filled : IsFilledTo pattern.text part
+
+-- a candidate provides a name: an entry of its provides has the name and is no conflict
+pub record ProvidesName (c : Candidate) (name : List ℕ) : Type 0 where
+  pub entry : Dependency
+  pub provided : IsIn entry c.provides
+  pub no_conflict : entry.conflict ≡ false
+  pub name_is : entry.name ≡ name
+
+-- a candidate has a name: its own, or one that it provides
+abbrev pub IsNameOf : Candidate → List ℕ → Type 0
+IsNameOf c name = (c.name ≡ name) ⊎ ProvidesName c name
+
+-- there is a candidate of this name of its own with this version
+pub record IsVersionOfName (candidates : List Candidate) (name : List ℕ) (version : Option (List ℕ))
+    : Type 0 where
+  pub place : ℕ
+  pub candidate : Candidate
+  pub here : slice_get candidates place ≡ Some candidate
+  pub name_is : candidate.name ≡ name
+  pub version_is : candidate.version ≡ version
+
+-- each element of a list comes before all that follow it
+abbrev pub ComeInOrder : {X : Type 0} → (X → X → Ordering) → List X → Type 0
+ComeInOrder cmp [] = Unit {0}
+ComeInOrder {X} cmp (x ∷ xs) = ((y : X) → IsIn y xs → cmp x y ≡ Less) × ComeInOrder cmp xs

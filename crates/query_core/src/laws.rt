@@ -1,0 +1,114 @@
+//! What the definitions of queries keep, each as the contract of a function that does nothing.
+//! The rules are in `docs/commands.md`, "`list`", "`search`" and "`policy`".
+ghost use Rattle.candidate_core.specs.Candidates.{Candidate};
+ghost use Rattle.candidate_core.specs.Options.{IsIn};
+ghost use Rattle.candidate_core.specs.Rank.{UpgradedNames, bytes_cmp, greater_version, sealed_pool_by};
+ghost use Rattle.command_core.specs.Command.{CommandLine};
+ghost use Rattle.command_core.specs.declared.operands.Operand.{Operand};
+ghost use Rattle.dep_core.specs.Dependency.{Dependency};
+ghost use Rattle.dep_core.specs.Repositories.{Repository};
+ghost use Rattle.query_core.specs.Asked.{ComeInOrder, IsNameOf, IsNameAsked, IsPartAsked, IsVersionOfName};
+ghost use Rattle.query_core.specs.List.{is_list_candidate};
+ghost use Rattle.query_core.specs.Order.{query_cmp, selected_places};
+ghost use Rattle.query_core.specs.Policy.{name_policy, versions_of_name};
+ghost use Rattle.query_core.specs.Queries.{queried};
+ghost use Rattle.query_core.specs.Search.{is_search_candidate};
+ghost use Rattle.report_core.specs.QueryReports.{policy_heading};
+ghost use Rattle.std.specs.Cmp.{IsTotalOrder};
+ghost use Rattle.std.specs.Option.{option_cmp, option_map_or};
+ghost use Rattle.std.specs.Ordering.{then_cmp};
+ghost use Rattle.std.specs.Prelude.{◌≡◌, ◌⊎◌, ◌↔◌, ◌<◌, ℕ, Bool, true, false, List, [], Option, Some, is_some, slice_get};
+ghost use Rattle.std.specs.declared.cmp.Ordering.TheVariants.{Equal, Greater, Less};
+ghost use Rattle.version_core.specs.Order.{version_cmp};
+
+use star_patterns::a_pattern_matches_what_its_stars_are_filled_to;
+use version_core::order_is_total;
+
+/// The order of queries is a strict total order on the places of a list of candidates: by the name,
+/// then the greater version, then the text of the version, then the place.
+pub fn the_order_of_queries_is_total()
+    ensures total { (cs : List Candidate) → IsTotalOrder (query_cmp cs) }
+    ensures strict { (cs : List Candidate) (a b : ℕ) → query_cmp cs a b ≡ Equal → a ≡ b }
+    // The byte-lesser name comes first.
+    ensures name { (cs : List Candidate) (a b : ℕ) (x y : Candidate)
+        → slice_get cs a ≡ Some x → slice_get cs b ≡ Some y
+        → bytes_cmp x.name y.name ≡ Less → query_cmp cs a b ≡ Less }
+    // Of one name the greater version comes first.
+    ensures version { (cs : List Candidate) (a b : ℕ) (x y : Candidate) (v w : List ℕ)
+        → slice_get cs a ≡ Some x → slice_get cs b ≡ Some y → x.name ≡ y.name
+        → x.version ≡ Some v → y.version ≡ Some w → version_cmp v w ≡ Greater
+        → query_cmp cs a b ≡ Less }
+    // Of versions that are equal in order the byte-lesser text comes first.
+    ensures text { (cs : List Candidate) (a b : ℕ) (x y : Candidate) (v w : List ℕ)
+        → slice_get cs a ≡ Some x → slice_get cs b ≡ Some y → x.name ≡ y.name
+        → x.version ≡ Some v → y.version ≡ Some w → version_cmp v w ≡ Equal
+        → bytes_cmp v w ≡ Less → query_cmp cs a b ≡ Less }
+    // Of one name and version the earlier place comes first.
+    ensures place { (cs : List Candidate) (a b : ℕ) (x y : Candidate)
+        → slice_get cs a ≡ Some x → slice_get cs b ≡ Some y → x.name ≡ y.name
+        → x.version ≡ y.version → a < b → query_cmp cs a b ≡ Less }
+{
+    order_is_total();
+}
+
+/// A query selects just the candidates that pass its test, each once and in the order of queries.
+pub fn a_query_selects_what_passes_its_test()
+    ensures those { (test : Candidate → Bool) (cs : List Candidate) (place : ℕ)
+        → IsIn place (selected_places test cs) →
+        option_map_or test (slice_get cs place) false ≡ true }
+    ensures each { (test : Candidate → Bool) (cs : List Candidate) (place : ℕ)
+        → option_map_or test (slice_get cs place) false ≡ true →
+        IsIn place (selected_places test cs) }
+    ensures order { (test : Candidate → Bool) (cs : List Candidate)
+        → ComeInOrder (query_cmp cs) (selected_places test cs) }
+{
+    order_is_total();
+}
+
+/// `list` prints a candidate if no pattern is given, or the stars of one can be replaced by bytes so
+/// that it reads as the candidate's name; and, with `--installed`, if it is installed too.
+pub fn list_prints_what_is_asked_for()
+    ensures { (patterns : List Operand) (installed_only : Bool) (c : Candidate)
+        → (is_list_candidate patterns installed_only c ≡ true)
+        ↔ (((patterns ≡ []) ⊎ IsNameAsked patterns c.name)
+        × (installed_only ≡ true → c.installed ≡ true)) }
+{
+    a_pattern_matches_what_its_stars_are_filled_to();
+}
+
+/// `search` prints a candidate if it is of a repository, and the stars of a pattern can be replaced
+/// by bytes so that it reads as a part of the candidate's name, or of a name that it provides.
+pub fn search_prints_what_is_asked_for()
+    ensures { (patterns : List Operand) (c : Candidate)
+        → (is_search_candidate patterns c ≡ true)
+        ↔ ((is_some c.repository ≡ true)
+        × ((name : List ℕ) × (IsNameOf c name × IsPartAsked patterns name))) }
+{
+    a_pattern_matches_what_its_stars_are_filled_to();
+}
+
+/// `policy` prints just the versions of the candidates that have the name for their own, each once
+/// and in order, and of a name that none has its first line alone.
+pub fn policy_prints_each_version_once()
+    ensures those { (cs : List Candidate) (name : List ℕ) (version : Option (List ℕ))
+        → IsIn version (versions_of_name cs name) → IsVersionOfName cs name version }
+    ensures each { (cs : List Candidate) (name : List ℕ) (version : Option (List ℕ))
+        → IsVersionOfName cs name version → IsIn version (versions_of_name cs name) }
+    // The greater version comes first, and of equal ones the byte-lesser text.
+    ensures order { (cs : List Candidate) (name : List ℕ)
+        → ComeInOrder (then_cmp greater_version (option_cmp bytes_cmp)) (versions_of_name cs name) }
+    ensures unknown { (cs : List Candidate) (repositories : List Repository) (name : List ℕ)
+        → ((version : Option (List ℕ)) → IsVersionOfName cs name version → ⊥)
+        → name_policy cs repositories name ≡ policy_heading name }
+{
+    order_is_total();
+}
+
+/// What a query prints does not depend on world, nor on what is upgraded: it speaks of all
+/// candidates, also of those that may not be selected.
+pub fn world_changes_no_query()
+    ensures { (command : CommandLine) (cs : List Candidate) (repositories : List Repository)
+        (one other : List Dependency) (upgraded others : UpgradedNames) →
+        queried command (sealed_pool_by cs one upgraded) repositories
+        ≡ queried command (sealed_pool_by cs other others) repositories }
+{}
