@@ -11,7 +11,7 @@ use Rattle.base_core.specs.Tree.{TreeState, files_of}
 use Rattle.journal_core.specs.Quiet.{IsQuiet}
 use Rattle.journal_core.specs.Recovery.{IsSettled, RestsOn, intent_name}
 use Rattle.outcome.specs.Effect.{output}
-use Rattle.run_lists.specs.Events.{Crashes, Edits, Ends, Event, HasSeen, HasSeenToOneState, IsAllSynced, IsIdleRun, IsMomentOf, IsRunFrom, KeepsOneState, LeadsOn, MakesOneState, Run, Stops, ignored_behind, ignored_by, ignored_in, nothing_ignored, with_scratch}
+use Rattle.run_lists.specs.Events.{Crashes, Edits, Ends, Event, HasNoPendingRun, HasSeen, HasSeenToOneState, IsAllSynced, IsIdleRun, IsMomentOf, IsRunFrom, KeepsOneState, LeadsOn, MakesOneState, Run, Stops, ignored_behind, ignored_by, ignored_in, nothing_ignored, with_scratch}
 use Rattle.run_lists.specs.Safety.{IsAtomic, IsSafe, LeavesOutcome}
 use Rattle.run_lists.proofs.AtMoments.{now_at}
 use Rattle.run_lists.proofs.Ending.{Resting, ends_at_rest, ends_so}
@@ -154,3 +154,11 @@ module _ (facts : Facts) (start : Ignored) (off : start intent_name ≡ false) (
   seen_atomic v events seen run is_run =
       let here = seen_one v events seen in
       atomic facts (ignored_behind start events) v run is_run (behind_hides start off events) here.orderly here.settled
+
+-- a list whose runs end, or are cut off by a crash, keeps one state
+pub unbroken : (first v : TreeState) (events : List Event) → HasSeen first events v → HasNoPendingRun events → HasSeenToOneState first events v
+unbroken first v [] is none = is
+unbroken first v (Ends run ∷ earlier) (u, seen, leads) (fault, before) = (u, leads, inr (unbroken first u earlier seen before, inl fault))
+unbroken first v (Stops run ∷ earlier) seen none = absurd none
+unbroken first v (Crashes ∷ earlier) (u, seen, leads) none = (u, leads, inl (seen, tt))
+unbroken first v (Edits ∷ earlier) (u, seen, leads) none = (u, leads, inl (seen, tt))

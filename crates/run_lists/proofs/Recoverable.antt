@@ -25,7 +25,7 @@ use Rattle.report_core.specs.declared.refusal.Refusal.TheVariants.{IntentBad}
 use Rattle.words_core.specs.Grammar.{command_of}
 use Rattle.run_lists.specs.Events.{Crashes, Edits, Ends, Event, HasSeen, HasSeenIdly, IsIdle, IsIdleRun, IsMomentOf, IsOutcomeFrom, IsRunFrom, LeadsOn, Run, Stops, ignored_behind, ignored_in, nothing_ignored}
 use Rattle.run_lists.specs.Reading.{HasBadIntent}
-use Rattle.run_lists.specs.Recovered.{HasSeenNoBadIntent, HasStateBeforeOrOutcome, IsRecoveredBy, IsUnrefused, LeavesNoBadIntent, PutsNoBadIntent}
+use Rattle.run_lists.specs.Recovered.{HasSeenNoBadIntent, HasStateBeforeOrOutcome, HasStateOf, IsRecoveredBy, IsUnrefused, LeavesNoBadIntent, PutsNoBadIntent}
 use Rattle.run_lists.specs.Safety.{HasOldOrOutcome, IsOldOrOutcome}
 use Rattle.run_lists.proofs.Along.{as_crash, seen_orderly}
 use Rattle.run_lists.proofs.Committed.{CommitsNoIntent, ReadSound, absent_now}
@@ -68,6 +68,10 @@ no_fault Tells files good = good_fault files good
 no_fault Makes files good = good_fault files good
 no_fault Changes files good = good_fault files good
 
+pub seen_plainly : (first v : TreeState) (events : List Event) → HasSeenNoBadIntent first events v → HasSeen first events v
+seen_plainly first v [] is = is
+seen_plainly first v (event ∷ earlier) (u, seen, leads, puts) = (u, seen_plainly first u earlier seen, leads)
+
 module _ (same : HasSameBadIntent) where
   bad_both : (ignored : Ignored) (a b : Files) → ignored intent_name ≡ false → state_of ignored a ≡ state_of ignored b → HasBadIntent a → HasBadIntent b
   bad_both ignored a b shown is (cause, fault) = (cause, same ignored a b cause shown is fault)
@@ -98,10 +102,6 @@ module _ (same : HasSameBadIntent) where
           good (files_of w) crash.left (bad_both nothing_ignored image (files_of w) refl (facts.crash_settled nothing_ignored v w crash image is) bad)
       led_good names Edits v w shown orderly good synced puts = λ image is bad.
           puts (bad_both nothing_ignored image (files_of w) refl (facts.crash_settled nothing_ignored w w (as_crash facts w synced) image is) bad)
-
-      pub seen_plainly : (first v : TreeState) (events : List Event) → HasSeenNoBadIntent first events v → HasSeen first events v
-      seen_plainly first v [] is = is
-      seen_plainly first v (event ∷ earlier) (u, seen, leads, puts) = (u, seen_plainly first u earlier seen, leads)
 
       module _ (start : Ignored) (off : start intent_name ≡ false) (first : TreeState) (orderly : IsOrderly (RestsOn start) first) (good : LeavesNoBadIntent first) where
         pub seen_good : (v : TreeState) (events : List Event) → HasSeenNoBadIntent first events v → LeavesNoBadIntent v
@@ -158,11 +158,11 @@ state_again ignored files i q = by (ignored q) refl i
     by false shown = state_read ignored (unstaged_files files) q shown ∙ (again (is_staged q) refl ∙ sym (state_read ignored files q shown))
 
 module _ (names : Ignored) (v : TreeState) (run : Run) where
-  state_on : (a b : Files) → state_of names a ≡ state_of names b → HasStateBeforeOrOutcome names v run b → HasStateBeforeOrOutcome names v run a
+  pub state_on : (a b : Files) → state_of names a ≡ state_of names b → HasStateBeforeOrOutcome names v run b → HasStateBeforeOrOutcome names v run a
   state_on a b is (inl (was, left, same)) = inl (was, left, is ∙ same)
   state_on a b is (inr (o, one, commits, same)) = inr (o, one, commits, is ∙ same)
 
-  left_state : (m : TreeState) → IsOldOrOutcome names v run m → (image : Files) → IsImage m image → HasStateBeforeOrOutcome names v run image
+  pub left_state : (m : TreeState) → IsOldOrOutcome names v run m → (image : Files) → IsImage m image → HasStateBeforeOrOutcome names v run image
   left_state m (inl quiet) image is = let was = quiet image is in inl (was.0, was.1, was.2)
   left_state m (inr (o, one, commits, old_or_new)) image is =
       ⊎_elim (λ was. inl (was.0, was.1, was.2)) (λ new. inr (o, one, commits, new)) (old_or_new image is)
@@ -201,36 +201,51 @@ module _ (facts : Facts) (crash_quiet : (ignored : Ignored) (v w : TreeState) �
       (recovered : (v : TreeState) (run : Run) → IsRunFrom v run → does_recover (effect_by (command_of run.words)) ≡ true → recovery_fault (effect_by (command_of run.words)) (files_of v) ≡ None
       → AnswersOutcome run.answer → HasIdleOutcome (IsOutcomeFrom v run) → HasNow run.now (λ w. files_of w ≡ unstaged_files (files_of v))) where
     -- from a moment of a run on, over what crashes and idle runs leave
-    pub next_recovers : (v : TreeState) (run : Run) (m w : TreeState) (later : List Event) (next : Run) → IsOldOrOutcome names v run m → IsOrderly (RestsOn names) m → LeavesNoBadIntent m
-        → HasSeenIdly m later w → IsRunFrom w next → does_recover (effect_by (command_of next.words)) ≡ true → IsRecoveredBy names v run w next
-    next_recovers v run m w later next either orderly good seen is_next recovers =
+    pub next_recovers : (m w : TreeState) (later : List Event) (next : Run) → IsOrderly (RestsOn names) m → LeavesNoBadIntent m
+        → HasSeenIdly m later w → IsRunFrom w next → does_recover (effect_by (command_of next.words)) ≡ true → (image : Files) × IsImage m image × IsRecoveredBy (HasStateOf names image) w next
+    next_recovers m w later next orderly good seen is_next recovers =
         let on = seen_quiet m w later orderly seen in
         let here : LeavesNoBadIntent w = quiet_good same names m w shown on.quiet good in
         let fault = good_recovers facts w next.words here in
         let was = on.quiet (files_of w) (facts.read_left w) in
-        record {
+        (was.0, was.1, record {
           unrefused = good_unrefused facts only w next is_next recovers here;
           works = fault;
           files = record {
             intent = absent_now sound (files_of w) (files_of w intent_name) refl (good_fault (files_of w) (here (files_of w) (facts.read_left w)));
             stage = staged_none (files_of w);
-            state = state_on names v run (unstaged_files (files_of w)) was.0 (state_again names (files_of w) ∙ was.2) (left_state names v run m either was.0 was.1);
+            state = state_again names (files_of w) ∙ was.2;
           };
           read = recovered w next is_next recovers fault;
-        }
+        })
+
+pub recovered_as : (A B : Files → Type 0) → ((files : Files) → A files → B files) → (w : TreeState) (next : Run) → IsRecoveredBy A w next → IsRecoveredBy B w next
+recovered_as A B leads w next is = record {
+  unrefused = is.unrefused;
+  works = is.works;
+  files = record { intent = is.files.intent; stage = is.files.stage; state = leads (unstaged_files (files_of w)) is.files.state };
+  read = is.read;
+}
 
 -- behind a list
-pub stopped_recovers : (facts : Facts) → HasSameBadIntent → CommitsNoIntent → OnlyBadRefused → ReadSound → ((ignored : Ignored) (v w : TreeState) → IsCrashOf v w → IsQuiet ignored v w)
-    → ((v : TreeState) (run : Run) → IsRunFrom v run → does_recover (effect_by (command_of run.words)) ≡ true → recovery_fault (effect_by (command_of run.words)) (files_of v) ≡ None
+module _ (facts : Facts) (same : HasSameBadIntent) (committed : CommitsNoIntent) (only : OnlyBadRefused) (sound : ReadSound) (crash_quiet : (ignored : Ignored) (v w : TreeState) → IsCrashOf v w → IsQuiet ignored v w)
+    (recovered : (v : TreeState) (run : Run) → IsRunFrom v run → does_recover (effect_by (command_of run.words)) ≡ true → recovery_fault (effect_by (command_of run.words)) (files_of v) ≡ None
     → AnswersOutcome run.answer → HasIdleOutcome (IsOutcomeFrom v run) → HasNow run.now (λ w. files_of w ≡ unstaged_files (files_of v)))
-    → (start : Ignored) → start intent_name ≡ false → (first : TreeState) → IsOrderly (RestsOn start) first → LeavesNoBadIntent first
-    → (v m w : TreeState) (events later : List Event) (run next : Run) → HasSeenNoBadIntent first events v → IsRunFrom v run → IsMomentOf run m → HasSeenIdly m later w
-    → IsRunFrom w next → does_recover (effect_by (command_of next.words)) ≡ true → IsRecoveredBy (ignored_in run (ignored_behind start events)) v run w next
-stopped_recovers facts same committed only sound crash_quiet recovered start off first orderly good v m w events later run next seen is_run moment idly is_next recovers =
-    let names = ignored_behind start events in
-    let shown = behind_hides start off events in
-    let here = seen_orderly facts start off first v events orderly (seen_plainly same committed facts first v events seen) in
-    let all_safe = safe facts names v run is_run shown here in
-    let moment_order = orderly_at facts names v run is_run shown here (is_run.crash (ignored_in run names) (now_orderly facts names v run is_run shown here) (now_hides facts names v run is_run shown here)) m moment in
-    let moment_good = run_good same committed facts names v run is_run shown here (seen_good same committed facts start off first orderly good v events seen) m moment in
-    next_recovers facts crash_quiet (ignored_in run names) same (scratch_hides (output run.words) names shown) only sound recovered v run m w later next (all_safe.moments m moment) moment_order moment_good idly is_next recovers
+    (start : Ignored) (off : start intent_name ≡ false) (first : TreeState) (orderly : IsOrderly (RestsOn start) first) (good : LeavesNoBadIntent first) where
+  pub stopped_left : (v m w : TreeState) (events later : List Event) (run next : Run) → HasSeenNoBadIntent first events v → IsRunFrom v run → IsMomentOf run m → HasSeenIdly m later w
+      → IsRunFrom w next → does_recover (effect_by (command_of next.words)) ≡ true → (image : Files) × IsImage m image × IsRecoveredBy (HasStateOf (ignored_in run (ignored_behind start events)) image) w next
+  stopped_left v m w events later run next seen is_run moment idly is_next recovers =
+      let names = ignored_behind start events in
+      let shown = behind_hides start off events in
+      let here = seen_orderly facts start off first v events orderly (seen_plainly first v events seen) in
+      let moment_order = orderly_at facts names v run is_run shown here (is_run.crash (ignored_in run names) (now_orderly facts names v run is_run shown here) (now_hides facts names v run is_run shown here)) m moment in
+      let moment_good = run_good same committed facts names v run is_run shown here (seen_good same committed facts start off first orderly good v events seen) m moment in
+      next_recovers facts crash_quiet (ignored_in run names) same (scratch_hides (output run.words) names shown) only sound recovered m w later next moment_order moment_good idly is_next recovers
+
+  pub stopped_recovers : (v m w : TreeState) (events later : List Event) (run next : Run) → HasSeenNoBadIntent first events v → IsRunFrom v run → IsMomentOf run m → HasSeenIdly m later w
+      → IsRunFrom w next → does_recover (effect_by (command_of next.words)) ≡ true → IsRecoveredBy (HasStateBeforeOrOutcome (ignored_in run (ignored_behind start events)) v run) w next
+  stopped_recovers v m w events later run next seen is_run moment idly is_next recovers =
+      let names = ignored_in run (ignored_behind start events) in
+      let at = stopped_left v m w events later run next seen is_run moment idly is_next recovers in
+      let either = (safe facts (ignored_behind start events) v run is_run (behind_hides start off events) (seen_orderly facts start off first v events orderly (seen_plainly first v events seen))).moments m moment in
+      recovered_as (HasStateOf names at.0) (HasStateBeforeOrOutcome names v run) (λ files same. state_on names v run files at.0 same (left_state names v run m either at.0 at.1)) w next at.2

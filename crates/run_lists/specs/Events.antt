@@ -167,6 +167,14 @@ HasSeenToOneState first (event ∷ earlier) w =
     × ((HasSeen first earlier v × MakesOneState v event)
     ⊎ (HasSeenToOneState first earlier v × KeepsOneState v event))
 
+-- since the last crash, or change by others, no run was stopped, and none ended by a fault of the tree
+abbrev pub HasNoPendingRun : List Event → Type 0
+HasNoPendingRun [] = Unit {0}
+HasNoPendingRun (Ends run ∷ earlier) = (run.answer ≢ TreeFault) × HasNoPendingRun earlier
+HasNoPendingRun (Stops run ∷ earlier) = ⊥
+HasNoPendingRun (Crashes ∷ earlier) = Unit {0}
+HasNoPendingRun (Edits ∷ earlier) = Unit {0}
+
 -- ---- the names that are ignored
 
 -- the set of ignored names on an ordinary root, which is empty
