@@ -1,6 +1,6 @@
 -- The definitions of `gen_core`. The head of each file says where its rule is.
 
--- what the contract of `gen_` says
+-- cited by the contract of `apk`
 pub mod Generated
 -- what a law says
 pub mod FirstBadLine

@@ -3,8 +3,8 @@
 pub mod Options
 pub mod Grammar
 pub mod HelpTexts
-pub mod Usage
 -- what only inner contracts and proofs use
+pub mod Usage
 pub mod Rows
 pub mod Steps
 pub mod Faults
