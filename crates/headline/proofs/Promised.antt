@@ -1,5 +1,5 @@
 -- What a run recovers to, at each of its moments.
-use Rattle.std.proofs.Common.{◌≡◌, ◌⊎◌, inl, inr, ⊎_elim, ℕ, Bool, true, false, List, [], ◌∷◌, Ok, refl, sym, subst, ◌∙◌}
+use Rattle.std.proofs.Common.{◌≡◌, ◌⊎◌, inl, inr, ℕ, true, false, List, [], ◌∷◌, Ok, refl, subst, ◌∙◌}
 use Rattle.apk_front.specs.Moments.{AnswersOutcome, HidesScratchOf, IsAtRest, Settles}
 use Rattle.base_core.specs.Calls.{HasNow, IfObservable}
 use Rattle.base_core.specs.Crash.{IsImage, IsOrderly}
@@ -13,7 +13,7 @@ use Rattle.outcome.specs.Words.{IsOutcome}
 use Rattle.words_core.specs.Grammar.{command_of}
 use Rattle.run_lists.specs.Events.{Event, HasNoPendingRun, HasSeen, HasSeenIdly, HasSeenToOneState, IsIdleRun, IsMomentOf, IsOutcomeFrom, IsRunFrom, Run, ignored_behind, ignored_in, with_scratch}
 use Rattle.run_lists.specs.Recovered.{HasSeenNoBadIntent, HasStateBefore, HasStateBeforeOrOutcome, HasStateOf, IsRecoveredBy, LeavesNoBadIntent}
-use Rattle.run_lists.specs.Safety.{HasOldOrOutcome, IsSafe, IsSafeBehindAll, LeavesOutcome}
+use Rattle.run_lists.specs.Safety.{HasOldOrOutcome, IsAtomicBehindAll, IsSafe, IsSafeBehindAll, LeavesOutcome}
 use Rattle.run_lists.proofs.AtMoments.{History}
 use Rattle.run_lists.proofs.Facts.{AreMore, Ignored}
 use Rattle.run_lists.proofs.Moments.{last_moment}
@@ -32,8 +32,8 @@ recovers_to : (names : Ignored) (m : TreeState) → IsLeftAt names m → (HasSta
 recovers_to names m left HasState same crash = record {
   crash = crash;
   next = λ later w next seen is_run recovers.
-  let at = left w later next seen is_run recovers in
-  recovered_as (HasStateOf names at.0) HasState (λ files is. same files at.0 is (crash at.0 at.1)) w next at.2;
+      let at = left w later next seen is_run recovers in
+      recovered_as (HasStateOf names at.0) HasState (λ files is. same files at.0 is (crash at.0 at.1)) w next at.2;
 }
 
 before_on : (names : Ignored) (v : TreeState) (a b : Files) → HasStateOf names b a → HasStateBefore names v b → HasStateBefore names v a
@@ -114,10 +114,15 @@ module _ (begins : (ignored : Ignored) (first v : TreeState) (events : List Even
       change = λ command o named changes is. ended run.words command (files_of v) o named changes is;
     },
     λ rest to. more_settled (ignored_behind ignored events) Names (files_of v) v (scratch_more (output run.words) (ignored_behind ignored events))
-    (one_state ignored first v events past.counts rest (to_one to)).settled)
+        (one_state ignored first v events past.counts rest (to_one to)).settled,
+  )
 
 -- ---- of a call
 
-pub of_call : (h : History) (A B C : TreeState → Type 0) → ((v : TreeState) → A v → B v) → IfObservable h (λ v. A v × C v) → IfObservable h (λ v. A v × B v)
-of_call [] A B C f is = is
-of_call (v ∷ rest) A B C f (a, c) = (a, f v a)
+pub of_call : ((v : TreeState) (run : Run) → IsRunFrom v run → IsAsPromisedBehindAll v run) → (run : Run) → IfObservable run.old (λ v. IsRunFrom v run × IsSafeBehindAll v run × IsAtomicBehindAll v run)
+    → IfObservable run.old (λ v. IsRunFrom v run × IsAsPromisedBehindAll v run)
+of_call holds run = by run.old
+  where
+    by : (h : History) → IfObservable h (λ v. IsRunFrom v run × IsSafeBehindAll v run × IsAtomicBehindAll v run) → IfObservable h (λ v. IsRunFrom v run × IsAsPromisedBehindAll v run)
+    by [] is = is
+    by (v ∷ rest) (is_run, all_safe, all_atomic) = (is_run, holds v run is_run)

@@ -1,7 +1,7 @@
 -- The sentence with which the README of the repository begins, as one statement. What it cites is
--- defined in `run_lists` (runs and what a root has seen), `apk_front` (answers and moments), `journal_core`
--- (states), `outcome` (what a command comes to) and `refusal_laws` (what a refusal says).
-use Rattle.std.specs.Prelude.{◌≡◌, ◌⊎◌, ℕ, Bool, true, false, List, Option, Some, None, Result, Ok}
+-- defined in `run_lists` (runs, and what a root has seen), `apk_front` (answers), `journal_core` (states),
+-- `outcome` (what a command comes to) and `refusal_laws` (what a refusal says).
+use Rattle.std.specs.Prelude.{◌≡◌, ◌⊎◌, ℕ, Bool, true, false, List, Some, None, Ok}
 use Rattle.apk_front.specs.Answers.{IsAnswerTo, LeavesFiles}
 use Rattle.apk_front.specs.Moments.{AnswersOutcome, IsAtRest, Settles}
 use Rattle.base_core.specs.Calls.{HasNow}
@@ -32,7 +32,7 @@ pub record HasGoodPast (ignored : List ℕ → Bool) (first : TreeState) (events
   pub good : LeavesNoBadIntent first
   pub seen : HasSeenNoBadIntent first events v
 
--- From a moment on a root recovers to such files. Each crash then leaves such files. And the next run that
+-- From a moment on a root recovers to such files. Each crash then leaves such files. The next run that
 -- recovers works on such files, after any crashes and any runs, ended or stopped, that commit nothing.
 pub record RecoversTo (HasState : Files → Type 0) (m : TreeState) : Type 0 where
   pub crash : (image : Files) → IsImage m image → HasState image
@@ -40,9 +40,9 @@ pub record RecoversTo (HasState : Files → Type 0) (m : TreeState) : Type 0 whe
       → IsRunFrom w next → does_recover (effect_by (command_of next.words)) ≡ true
       → IsRecoveredBy HasState w next
 
--- A change is refused only for what is so, or since no selection satisfies the new world. Else the first
--- preferred selection is carried out and reported; the packages are then just the selected ones, unless
--- the change is only simulated.
+-- A change is refused only for what is so, or because no selection satisfies the new world. Else the
+-- first preferred selection is carried out and reported. The packages are then just the selected ones,
+-- unless the change is only simulated.
 pub record EndsAsStated (command : CommandLine) (files : Files) (o : Outcome) : Type 0 where
   pub end : IsRunEnd command files o
   pub fault : (refusal : Refusal) → o.refusal ≡ Some refusal → IsFaultOfRun command files refusal
@@ -58,16 +58,16 @@ pub record IsAsPromised (ignored : List ℕ → Bool) (v : TreeState) (run : Run
   -- the state from before is one, if each crash left the state of the files as read
   pub one : IsSettled ignored (files_of v) v → (m : TreeState) → IsMomentOf run m
       → RecoversTo (HasOldOrOutcome ignored v run) m
-  -- once its outcome is answered (Ok, a refusal, or a fault of an output stream), to the outcome's state,
-  -- if it settles: it commits, or each crash left one state before, or an intent was found
+  -- to its outcome's state, once that is answered (Ok, a refusal, or a fault of an output stream), if it
+  -- settles: it commits, or each crash left the state as read before, or an intent was found
   pub answered : AnswersOutcome run.answer → (o : Outcome) → IsOutcomeFrom v run o
       → Settles (effect_by (command_of run.words)) ignored v o
       → HasNow run.now (RecoversTo (HasStateOf ignored o.files))
   -- to a state from before it, if it is refused, is out of memory, or commits nothing
   pub left : IsIdleRun v run → (m : TreeState) → IsMomentOf run m
       → RecoversTo (HasStateBefore ignored v) m
-  -- the answer, all bytes printed and the files left are the outcome's; or it reports a fault of the tree
-  -- or of an output stream, with its cause, or that it is out of memory
+  -- the answer, the printed bytes and the files left are the outcome's; or it reports a fault of the
+  -- tree or of an output stream, with its cause, or that it is out of memory
   pub answer : IsAnswerTo run.words (files_of v) (LeavesFiles run.now)
       (HasCause run.before run.after) run.answer run.out run.err
   -- a run that changes the installed packages ends in one of the stated ways
@@ -75,9 +75,9 @@ pub record IsAsPromised (ignored : List ℕ → Bool) (v : TreeState) (run : Run
       → effect_of command.applet ≡ Changes → IsOutcomeFrom v run o
       → EndsAsStated command (files_of v) o
 
--- The sentence: whatever list a root has seen, the run is as promised. If the root had one state at first,
--- it has one state when the run begins, unless a run that might commit was stopped, or failed by the tree,
--- and neither a crash nor a change by others nor such an end as *HasSeenToOneState* names came after it.
+-- The sentence: whatever list a root has seen, the run is as promised. If a root had one state at first,
+-- it has one when the run begins, unless a run that might commit was stopped, or failed by the tree.
+-- Even then it has one again after a crash, or after an event that *HasSeenToOneState* names.
 abbrev pub IsAsPromisedBehindAll : TreeState → Run → Type 0
 IsAsPromisedBehindAll v run =
     (ignored : List ℕ → Bool) (first : TreeState) (events : List Event)

@@ -207,17 +207,20 @@ module _ (facts : Facts) (crash_quiet : (ignored : Ignored) (v w : TreeState) �
         let on = seen_quiet m w later orderly seen in
         let here : LeavesNoBadIntent w = quiet_good same names m w shown on.quiet good in
         let fault = good_recovers facts w next.words here in
-        let was = on.quiet (files_of w) (facts.read_left w) in
-        (was.0, was.1, record {
-          unrefused = good_unrefused facts only w next is_next recovers here;
-          works = fault;
-          files = record {
-            intent = absent_now sound (files_of w) (files_of w intent_name) refl (good_fault (files_of w) (here (files_of w) (facts.read_left w)));
-            stage = staged_none (files_of w);
-            state = state_again names (files_of w) ∙ was.2;
-          };
-          read = recovered w next is_next recovers fault;
-        })
+        let was = on.quiet (files_of w) (facts.read_left w) in (
+          was.0,
+          was.1,
+          record {
+            unrefused = good_unrefused facts only w next is_next recovers here;
+            works = fault;
+            files = record {
+              intent = absent_now sound (files_of w) (files_of w intent_name) refl (good_fault (files_of w) (here (files_of w) (facts.read_left w)));
+              stage = staged_none (files_of w);
+              state = state_again names (files_of w) ∙ was.2;
+            };
+            read = recovered w next is_next recovers fault;
+          },
+        )
 
 pub recovered_as : (A B : Files → Type 0) → ((files : Files) → A files → B files) → (w : TreeState) (next : Run) → IsRecoveredBy A w next → IsRecoveredBy B w next
 recovered_as A B leads w next is = record {

@@ -72,8 +72,8 @@ pub fn whatever_a_root_has_seen_a_run_is_safe()
         → HasSeenToOneState first events v
         → IsAtRest (ignored_behind ignored events) (files_of v) v }
 
-    // A list keeps it so if no run was stopped, or failed by the tree, since the last crash or change
-    // by others: a power cut during a run is a crash.
+    // A list keeps it so if no run was stopped, or failed by the tree, since the last crash or
+    // change by others: a power cut during a run is a crash.
     ensures without_pending_run { (first v : TreeState) (events : List Event)
         → HasSeen first events v → HasNoPendingRun events → HasSeenToOneState first events v }
 
