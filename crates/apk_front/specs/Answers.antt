@@ -1,6 +1,6 @@
--- What a run of the top call answers, and what it prints on its two sinks. The rules stand in
--- `docs/commands.md`, "Answers and statuses", and of faults in `docs/crash-safety.md`,
--- "Misuses, faults and counts".
+-- What a run of the top call answers, and what it prints on its two sinks. The rules are in
+-- `docs/commands.md`, "Answers and statuses", and for faults in `docs/crash-safety.md`, "Misuses,
+-- faults and counts".
 use Rattle.std.specs.Prelude.{◌≡◌, ◌≢◌, ◌⊎◌, ◌<◌, ℕ, ◌-◌, ◌^◌, false, Bool, ◌||◌, List, [], Option, Some, None, is_ok}
 use Rattle.base_core.specs.Calls.{HasNow}
 use Rattle.base_core.specs.Faults.{Counts, HasCause, IsNoFault, Rose}
@@ -17,22 +17,22 @@ use Rattle.apk_front.specs.declared.answer.Answer.TheVariants.{Ok, Refused, Tree
 
 -- ---- the answer of an outcome
 
--- the answer of a command that came to its end: it is done, or refused where there is a refusal
+-- the answer of a command that reached its end: it is refused if there is a refusal, and done otherwise
 abbrev pub answer_by : Option Refusal → Answer
 answer_by None = Ok
 answer_by (Some refusal) = Refused refusal
 
--- the answer that an outcome has; its bytes and files do not count
+-- the answer of an outcome; its bytes and files do not matter
 abbrev pub answer_of : Outcome → Answer
 answer_of outcome = answer_by outcome.refusal
 
 -- ---- what is printed
 
--- a sink did not fail: its counts of faults and of wants stand as before
+-- a sink did not fail: its counts of faults and of calls without memory are unchanged
 abbrev pub DidNotFail : SinkChange → Type 0
 DidNotFail sink = IsNoFault sink.before sink.after
 
--- a sink gets a whole line, or a front of the line where the sink failed
+-- a sink gets a whole line, or a prefix of the line if the sink failed
 abbrev pub GetsLine : SinkChange → List ℕ → Type 0
 GetsLine sink line = (Gets sink line × DidNotFail sink) ⊎ (GetsSome sink line × SinkFailed sink)
 
@@ -51,7 +51,7 @@ pub record IsStated (outcome : Outcome) (answer : Answer) (out err : SinkChange)
 
 -- just one sink failed while an outcome was printed
 pub record IsOutFault (outcome : Outcome) (out err : SinkChange) : Type 0 where
-  -- out, and then nothing is printed on err; or err, behind the whole report on out
+  -- out failed, and then nothing is printed on err; or err failed, after the whole report on out
   pub which :
       (FailedAt out outcome.out × Gets err [] × DidNotFail err)
       ⊎ (FailedAt err outcome.err × Gets out outcome.out × DidNotFail out)
@@ -66,8 +66,8 @@ pub record IsFault (line : List ℕ) (out err : SinkChange) : Type 0 where
 
 -- ---- the answer
 
--- The answer of one of these outcomes, with its bytes and what it leaves; or a fault of the tree,
--- where that had its cause; or want of memory.
+-- The answer of one of these outcomes, with its bytes and files; or an I/O error of the tree that has
+-- its cause there; or out of memory.
 abbrev pub IsAnswerOf :
     (Outcome → Type 0) → (Outcome → Type 0) → Type 0 → Answer → SinkChange → SinkChange → Type 0
 IsAnswerOf IsOne Leaves tree_failed Ok out err =
@@ -82,13 +82,13 @@ IsAnswerOf IsOne Leaves tree_failed OutFault out err =
 IsAnswerOf IsOne Leaves tree_failed TreeFault out err = tree_failed × IsFault tree_line out err
 IsAnswerOf IsOne Leaves tree_failed Memory out err = IsFault memory_line out err
 
--- an answer to these words over these files, with what the run prints and leaves
+-- an answer to these arguments over these files, with what the run prints and leaves
 abbrev pub IsAnswerTo :
     List (List ℕ) → Files → (Outcome → Type 0) → Type 0 → Answer → SinkChange → SinkChange → Type 0
 IsAnswerTo words files Leaves tree_failed answer out err =
     IsAnswerOf (IsOutcome words files) Leaves tree_failed answer out err
 
--- the files as read behind a run are its outcome's
+-- the files as read after a run are its outcome's
 abbrev pub LeavesFiles : List TreeState → Outcome → Type 0
 LeavesFiles now outcome = HasNow now (λ w. files_of w ≡ outcome.files)
 
@@ -96,12 +96,12 @@ LeavesFiles now outcome = HasNow now (λ w. files_of w ≡ outcome.files)
 abbrev pub LeavesAny : Outcome → Type 0
 LeavesAny outcome = Unit {0}
 
--- ---- what failed
+-- ---- causes of failures
 
--- What failed, by the answer, the counts of the tree before and after, and those of the sinks:
--- behind Ok and a refusal nothing failed. A fault of the tree has its cause there. Behind a fault
--- of a sink just one sink failed, and not the tree. Want of memory is answered only where the tree
--- did not fail. A fault of the tree and want of memory print just their line.
+-- What failed, by the answer, the counts of the tree before and after, and those of the sinks. After Ok
+-- and a refusal nothing failed. An I/O error of the tree has its cause there. After a fault of a sink
+-- exactly one sink failed, and the tree did not. Out of memory is answered only if the tree did not
+-- fail. After an I/O error of the tree, and out of memory, exactly its line is printed.
 abbrev pub HasCauses : Answer → Counts → Counts → SinkChange → SinkChange → Type 0
 HasCauses Ok before after out err = IsNoFault before after × DidNotFail out × DidNotFail err
 HasCauses (Refused refusal) before after out err =
@@ -124,8 +124,8 @@ IsComplete words files answer =
     (answer ≡ Memory)
     ⊎ ((outcome : Outcome) × IsOutcome words files outcome × (answer ≡ answer_of outcome))
 
--- no failure of a tree or a sink is planned, and its count of misuses is below its last value,
--- 2^64 - 1, so that one more misuse would show
+-- no failure of a tree or a sink is planned, and its count of misuses is below its last value, 2^64 -
+-- 1, so that one more misuse would be counted
 pub record IsUnplanned (counts : Counts) : Type 0 where
   pub unplanned : counts.fallible ≡ false
   pub below : counts.misuses < 2 ^ 64 - 1
@@ -151,7 +151,7 @@ IsOutcomeUnlessMemory words files Leaves OutFault before after out err =
     Rose out.before.wants out.after.wants ⊎ Rose err.before.wants err.after.wants
 IsOutcomeUnlessMemory words files Leaves Memory before after out err = Unit {0}
 
--- whether words name an applet after the options that come first, or are a command without one, which
--- asks for help or for the version
+-- whether the arguments name an applet after the options that precede it, or are a command without one,
+-- which asks for help or for the version
 abbrev pub name_a_command : List (List ℕ) → Bool
 name_a_command words = is_ok (line_start words) || is_ok (command_of words)

@@ -1,6 +1,6 @@
--- What the parts of `adbdump`, `mkpkg` and `mkndx` hand on. Serves the proofs of `adbdump`, `mkpkg`
--- and `mkndx` in `src/dump.rt` and `src/make.rt`; the rules stand in `docs/commands.md`,
--- "`adbdump FILE`", "`mkpkg`" and "`mkndx PACKAGE..`".
+-- The intermediate results of `adbdump`, `mkpkg` and `mkndx`. Serves the proofs in `src/dump.rt` and
+-- `src/make.rt`; the rules are in `docs/commands.md`, "`adbdump FILE`", "`mkpkg`" and "`mkndx
+-- PACKAGE..`".
 use Rattle.std.specs.Prelude.{◌≡◌, ℕ, Bool, true, false, List, Option, Some, None, Result, Ok, Err, Vec}
 use Rattle.std.specs.declared.alloc.Global.{Global}
 use Rattle.adb_block.specs.Reading.{Reading, done, fault, more}
@@ -25,8 +25,8 @@ use Rattle.outcome.specs.Outcome.{Outcome}
 
 -- ---- the text of a container
 
--- why a container has no text, as the definition of its text says; want of memory says nothing of
--- the file
+-- why a container has no text, as the definition of its text says; running out of memory says nothing
+-- of the file
 abbrev pub IsDumpFault : ReadFault → Result (List ℕ) Cause → Type 0
 IsDumpFault (ReadFaults.Bad cause) text = text ≡ Err cause
 IsDumpFault ReadFaults.Memory text = Unit {0}
@@ -37,8 +37,7 @@ first_form_fault which done = None
 first_form_fault which (fault c) = Some c
 first_form_fault which (more b at r) = form_fault which b.payload
 
--- a first block with this payload passed its tests, and the reader that stood before it stands
--- behind it
+-- a first block with this payload passed its tests, and the reader that was before it is after it
 abbrev pub IsShapedFirst : Which → List ℕ → Reading → Reading → Type 0
 IsShapedFirst which payload done later = ⊥
 IsShapedFirst which payload (fault c) later = ⊥
@@ -47,23 +46,24 @@ IsShapedFirst which payload (more b at r) later =
 
 -- ---- a container that is made
 
--- what was made, or why it was not, without where its bytes lie in memory
+-- what was made, or why it was not, without where its bytes are in memory
 abbrev pub made_in : Result (Vec ℕ Global) MakeFault → Result (List ℕ) MakeFault
 made_in (Ok file) = Ok file.items
 made_in (Err why) = Err why
 
--- whether a fault of the tree or want of memory stopped the making, which then refuses nothing
+-- whether an I/O error of the tree or running out of memory stopped the making, which then refuses
+-- nothing
 abbrev pub is_cut : MakeFault → Bool
 is_cut Disk = true
 is_cut Memory = true
 is_cut other = false
 
--- whether a fault stopped the making, so that no outcome is told
+-- whether a fault stopped the making, so that no outcome is answered
 abbrev pub is_cut_off : Result (Vec ℕ Global) MakeFault → Bool
 is_cut_off (Ok file) = false
 is_cut_off (Err why) = is_cut why
 
--- what was made, or why not, has this meaning; a fault of the tree and want of memory have none
+-- what was made, or why not, has this meaning; an I/O error of the tree and out of memory have none
 abbrev pub OnMade :
     Result (Vec ℕ Global) MakeFault → (Result (List ℕ) MakeFault → Type 0) → Type 0
 OnMade (Ok file) Means = Means (Ok file.items)
@@ -96,7 +96,7 @@ IsIndexOutcome command files outcome = outcome ≡ mkndx (reads_in files) files 
 
 -- ---- by some names below the folder, and some reads
 
--- the index that is made of a command by some reads, as on a tree that shows no files
+-- the index that is made of a command by some reads, as on a tree that is not observable
 pub record IsIndexFound (command : CommandLine) (made : Result (List ℕ) MakeFault) : Type 0 where
   pub read : Reads
   pub files : AreFiles read 0 command.operands

@@ -1,5 +1,5 @@
--- What a run leads to in the tree of `demo`. Serves the proofs of `demo` in `src/demo.rt`; the rule
--- stands in `docs/commands.md`, "`demo N`".
+-- The result of a run in the tree of `demo`. Serves the proofs of `demo` in `src/demo.rt`; the rule is
+-- in `docs/commands.md`, "`demo N`".
 use Rattle.std.specs.Prelude.{◌≡◌}
 use Rattle.base_core.specs.Tree.{files_of}
 use Rattle.outcome.specs.Outcome.{Outcome}

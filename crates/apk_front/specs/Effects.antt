@@ -1,5 +1,5 @@
--- Whether a run only reads below its root. The rule stands in `docs/crash-safety.md`,
--- "What the host's tree does": one run writes, or any number read.
+-- Whether a run only reads below its root. The rule is in `docs/crash-safety.md`, "What the host's tree
+-- does": one run writes, or any number read.
 use Rattle.std.specs.Prelude.{Bool, true, false}
 use Rattle.apk_front.specs.declared.judge.RootAccess.{RootAccess}
 use Rattle.apk_front.specs.declared.judge.RootAccess.TheVariants.{Read, Write}

@@ -1,7 +1,7 @@
--- what the contract of `apk` says, in the order in which it is best read
+-- cited by the contract of `apk`, in the order in which it is best read
 pub mod Answers
 pub mod Moments
--- what only inner contracts and proofs use
+-- used by inner contracts and proofs only
 pub mod Status
 pub mod Verdicts
 pub mod Runs

@@ -1,5 +1,5 @@
--- What a run of the top call does to the tree, moment by moment. The rules stand in
--- `docs/crash-safety.md`, "Recovery": the table of what a run of `apk` may leave, and what follows
+-- The effect of a run of the top call on the tree, moment by moment. The rules are in
+-- `docs/crash-safety.md`, "Recovery": the table of what a run of `apk` may leave, and the text after
 -- it.
 use Rattle.std.specs.Prelude.{◌≡◌, ◌⊎◌, ◌||◌, ℕ, Bool, true, false, if◌then◌else◌, List, [], ◌∷◌, Option, Some, None, IsSome}
 use Rattle.std.specs.Str.{bytes_eq}
@@ -39,14 +39,14 @@ ignored_but None ignored q = ignored q
 ignored_but (Some name) ignored q =
     if bytes_eq q name || bytes_eq q (scratch_of name) then false else ignored q
 
--- ---- room
+-- ---- free paths
 
--- the files stay folder-like with an output and its scratch name
+-- the paths of an output and its scratch name are free in the files
 abbrev pub HasRoomFor : Option (List ℕ) → Files → Type 0
 HasRoomFor None files = Unit {0}
 HasRoomFor (Some name) files = HasRoom name files
 
--- the files leave room for what a command writes into them
+-- the paths that a command writes are free in the files
 abbrev pub HasRoomToWrite : Effect → Option (List ℕ) → Files → Type 0
 HasRoomToWrite Computes output files = Unit {0}
 HasRoomToWrite Reads output files = Unit {0}
@@ -54,23 +54,23 @@ HasRoomToWrite Tells output files = Unit {0}
 HasRoomToWrite Makes output files = HasRoomFor output files
 HasRoomToWrite Changes output files = HasRoomToStage files
 
--- Files leave room for a run with these outcomes: those of a recovery have room, and the recovered
--- files leave room for what the command writes, where its outcome commits.
+-- The paths that a run with these outcomes writes are free: those of recovery in the files, and those
+-- that the command writes in the recovered files, if its outcome commits.
 abbrev pub LeavesRoomFor : Effect → Option (List ℕ) → (Outcome → Type 0) → Files → Type 0
 LeavesRoomFor effect output IsOne files =
     (does_recover effect ≡ true → HasRoomToReplay files)
     × ((outcome : Outcome) → IsOne outcome → outcome.commits ≡ true
     → HasRoomToWrite effect output (work_files effect files))
 
--- files leave room for a run of this command line
+-- the paths that a run of this command line writes are free
 abbrev pub LeavesRoom : List (List ℕ) → Files → Type 0
 LeavesRoom words files =
     LeavesRoomFor (effect_by (command_of words)) (output words) (IsOutcome words files) files
 
 -- ---- what is read while the command works
 
--- whether a name is one under which a command makes what it then moves to its name: the scratch
--- name of an output, or any below the stage
+-- whether a name is a draft: a command makes a file there that it then moves to its name. It is the
+-- scratch name of an output, or any name below the staging area.
 abbrev pub is_draft_name : Effect → Option (List ℕ) → List ℕ → Bool
 is_draft_name Makes (Some name) q = bytes_eq q (scratch_of name)
 is_draft_name Makes None q = false
@@ -84,8 +84,8 @@ abbrev pub IsDrafting : Effect → Option (List ℕ) → Files → TreeState →
 IsDrafting effect output files w =
     (q : List ℕ) → is_draft_name effect output q ≡ false → files_of w q ≡ files q
 
--- a change has published its intent, and a recovery leaves the new files; each name that does not
--- wait has its old bytes or its new ones
+-- a change has committed its journal entry (intent), and recovery yields the new files; each name
+-- outside the staging area has its old bytes or its new ones
 pub record IsPublished (effect : Effect) (new old : Files) (w : TreeState) : Type 0 where
   pub changes : effect ≡ Changes
   pub intent : IsSome (w.names intent_name)
@@ -93,37 +93,38 @@ pub record IsPublished (effect : Effect) (new old : Files) (w : TreeState) : Typ
   pub bytes : HasOldOrNewBytes old new w
 
 -- the files as read are the old ones, apart from the draft names; or on the way to the new ones by a
--- published change; or the new ones
+-- committed change; or the new ones
 abbrev pub IsReadAtWork : Effect → Option (List ℕ) → Files → Files → TreeState → Type 0
 IsReadAtWork effect output new old w =
     IsDrafting effect output old w ⊎ (IsPublished effect new old w ⊎ (files_of w ≡ new))
 
 -- ---- recovery
 
--- a run has nothing to recover: its command does not recover, or there is neither an intent nor
--- anything that waits
+-- a run has nothing to recover: its command does not recover, or there is neither an intent nor a
+-- staged file
 abbrev pub HasNothingToRecover : Effect → TreeState → Type 0
 HasNothingToRecover effect v =
     (does_recover effect ≡ false) ⊎ ((v.names intent_name ≡ None) × IsEmptyStage v.names)
 
--- a run can recover: its command does, and what stands under the intent's name is an intent
+-- a run can recover: its command does, and the file under the intent's name is an intent
 abbrev pub CanRecover : Effect → TreeState → Type 0
 CanRecover effect v = (does_recover effect ≡ true) × IsSome (intent_of (files_of v))
 
--- the files as read stand for what the old ones do, apart from what waits; each other name has its
--- old bytes or its recovered ones; and the intent and all that waits is as it was or is gone
+-- recovery of the files as read yields what it yields of the old ones, apart from staged files; each
+-- other name has its old bytes or its recovered ones; and the intent and each staged file is unchanged
+-- or removed
 pub record IsRecovering (v w : TreeState) : Type 0 where
   pub reads : unstaged_files (files_of w) ≡ unstaged_files (files_of v)
   pub bytes : HasOldOrNewBytes (files_of v) (unstaged_files (files_of v)) w
   pub waiting : IsLessWaiting v w
 
--- at a moment of a run the tree is being recovered, if the command does that; or what is asked
--- behind a recovery holds
+-- at a moment of a run the tree is being recovered, if the command does that; or what is required after
+-- recovery holds
 abbrev pub IsBehindRecovery : Effect → (TreeState → Type 0) → TreeState → TreeState → Type 0
 IsBehindRecovery effect IsNext v w = ((does_recover effect ≡ true) × IsRecovering v w) ⊎ IsNext w
 
--- Behind a recovery, the files as read are those that it leaves; or the run has an outcome that
--- commits, and works on them.
+-- After recovery, the files as read are those that it leaves; or the run has an outcome that commits,
+-- and works on them.
 abbrev pub AreReadOnTheWay :
     (Outcome → Type 0) → Effect → Option (List ℕ) → TreeState → List TreeState → List TreeState
     → Type 0
@@ -135,8 +136,8 @@ AreReadOnTheWay IsOne effect output v old now =
     × Since (IsBehindRecovery effect
     (IsReadAtWork effect output outcome.files (work_files effect (files_of v))) v) old now)
 
--- where no intent is read, a crash undoes no change of a name, but for those of the output and of
--- what waits
+-- if no intent is read, a crash undoes no change of a name, except for those of the output and of
+-- staged files
 abbrev pub UnreadNamesLast : Option (List ℕ) → TreeState → Type 0
 UnreadNamesLast output w =
     w.names intent_name ≡ None → ShownNamesLastBut (output_names output) w
@@ -144,14 +145,14 @@ UnreadNamesLast output w =
 -- ---- what a crash leaves
 
 -- The moments of a run that leads to these files. At each the tree is orderly, and a crash leaves a
--- state from before or that of the files; one from before as long as no intent is published, unless
--- the run makes one file, for which it needs no intent.
+-- state from before or that of the files. It leaves one from before as long as no intent is committed,
+-- unless the run makes one file, for which it needs no intent.
 abbrev pub AreOnTheWay :
     Bool → (List ℕ → Bool) → Files → TreeState → List TreeState → List TreeState → Type 0
 AreOnTheWay true ignored files v old now = Since (IsReplacing ignored files v) old now
 AreOnTheWay false ignored files v old now = SinceBy (IsOnTheWay ignored files v) old now
 
--- Nothing happens to the state; or the run has an outcome that commits, and leads to its files.
+-- The state is unchanged; or the run has an outcome that commits, and leads to its files.
 abbrev pub AreSafe :
     (Outcome → Type 0) → Bool → (List ℕ → Bool) → TreeState → List TreeState → List TreeState
     → Type 0
@@ -162,7 +163,7 @@ AreSafe IsOne makes ignored v old now =
     × (outcome.commits ≡ true)
     × AreOnTheWay makes ignored outcome.files v old now)
 
--- an outcome's files last where it commits, or where each crash left the old ones before
+-- an outcome's files are durable if it commits, or if each crash left the old ones before
 abbrev pub SettlesUnrecovered : (List ℕ → Bool) → TreeState → Outcome → Type 0
 SettlesUnrecovered ignored v outcome =
     (outcome.commits ≡ true) ⊎ IsSettled ignored (files_of v) v
@@ -201,18 +202,18 @@ AnswersOutcome other = ⊥
 abbrev pub HasIdleOutcome : (Outcome → Type 0) → Type 0
 HasIdleOutcome IsOne = (outcome : Outcome) × IsOne outcome × (outcome.commits ≡ false)
 
--- a run was left undone, or its outcome commits nothing, whatever was answered in its place
+-- a run was not carried out, or its outcome commits nothing, whatever was answered instead
 abbrev pub CommitsNothing : (Outcome → Type 0) → Answer → Type 0
 CommitsNothing IsOne answer = IsLeftUndone answer ⊎ HasIdleOutcome IsOne
 
--- each crash behind a run leaves the outcome's files, where something makes them last
+-- each crash after a run leaves the outcome's files, if something makes them durable
 abbrev pub LeavesSettled :
     Effect → (List ℕ → Bool) → TreeState → List TreeState → Outcome → Type 0
 LeavesSettled effect ignored v now outcome =
     Settles effect ignored v outcome → HasNow now (IsSettled ignored outcome.files)
 
--- Once the outcome is answered, a refusal too, or a sink's fault in its place, its files last,
--- where something makes them.
+-- Once the outcome is answered, even a refusal, or a sink's fault instead, its files are durable, if
+-- something makes them so.
 abbrev pub LeavesLasting :
     (Outcome → Type 0) → Effect → (List ℕ → Bool) → TreeState → List TreeState → Answer → Type 0
 LeavesLasting IsOne effect ignored v now Ok =
@@ -230,7 +231,7 @@ LeavesLasting IsOne effect ignored v now OutFault =
 LeavesLasting IsOne effect ignored v now other = Unit {0}
 
 -- the tree is at rest with the files of one of these outcomes, if it commits: the output and its
--- scratch name count again, also where they were ignored
+-- scratch name are no longer ignored
 abbrev pub LeavesAtRest :
     (Outcome → Type 0) → Option (List ℕ) → (List ℕ → Bool) → List TreeState → Type 0
 LeavesAtRest IsOne output ignored now =

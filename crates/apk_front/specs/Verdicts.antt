@@ -1,5 +1,5 @@
--- What a run is judged to come to, and how that is printed. Serves the contracts of `judge` and
--- `show`, of which `apk` is made; the rule stands in `docs/commands.md`, "Answers and statuses".
+-- The verdict on a run, and how it is printed. Serves the contracts of `judge` and `show`, of which
+-- `apk` is made; the rule is in `docs/commands.md`, "Answers and statuses".
 use Rattle.std.specs.Prelude.{◌≡◌, ◌⊎◌, [], Option, Some, None, Result, Ok, Err}
 use Rattle.base_core.specs.Files.{Files}
 use Rattle.base_core.specs.Sink.{SinkChange, Gets, GetsSome, SinkFailed}
@@ -26,7 +26,7 @@ Reports verdict outcome =
 abbrev pub ReportsOne : (Outcome → Type 0) → Verdict → Type 0
 ReportsOne IsOne verdict = (outcome : Outcome) × IsOne outcome × Reports verdict outcome
 
--- the answer and the bytes that stand for an outcome: its own, or a sink's fault in its place
+-- the answer and the bytes of an outcome: its own, or a sink's fault instead
 abbrev pub IsPrinted : Outcome → Answer → SinkChange → SinkChange → Type 0
 IsPrinted outcome Good out err = IsStated outcome Good out err
 IsPrinted outcome (Refused refusal) out err = IsStated outcome (Refused refusal) out err
@@ -34,15 +34,15 @@ IsPrinted outcome OutFault out err = IsOutFault outcome out err
 IsPrinted outcome TreeFailed out err = ⊥
 IsPrinted outcome Memory out err = ⊥
 
--- the answer and the bytes of standard error behind a report: a refusal, if there is one, or a
--- fault of that sink in its place
+-- the answer and the bytes of standard error after a report: a refusal, if there is one, or a fault of
+-- that sink instead
 abbrev pub IsRefusalPrinted : Option Refusal → Answer → SinkChange → Type 0
 IsRefusalPrinted None answer err = (answer ≡ Good) × Gets err [] × DidNotFail err
 IsRefusalPrinted (Some refusal) answer err =
     ((answer ≡ Refused refusal) × Gets err (refusal_line refusal) × DidNotFail err)
     ⊎ ((answer ≡ OutFault) × GetsSome err (refusal_line refusal) × SinkFailed err)
 
--- the answer to what was judged, and the bytes of the two sinks
+-- the answer to a verdict, and the bytes of the two sinks
 abbrev pub IsShown : Result Verdict TreeFault → Answer → SinkChange → SinkChange → Type 0
 IsShown (Ok verdict) answer out err =
     (files : Files) → IsPrinted (as_outcome files verdict) answer out err

@@ -1,5 +1,5 @@
-//! What a run answers: what it was judged to come to is printed on the two sinks. The rules stand
-//! in `docs/commands.md`, "Answers and statuses", and the texts in "Error lines".
+//! The answer of a run: what it was judged to answer is printed on the two sinks. The rules are in
+//! `docs/commands.md`, "Answers and statuses", and the texts in "Error lines".
 ghost use Rattle.std.specs.Prelude.{◌≡◌, ◌≢◌, [], OnErr, Err};
 ghost use Rattle.apk_front.specs.Answers.{GetsLine};
 ghost use Rattle.apk_front.specs.Status.{status_of};
@@ -13,12 +13,12 @@ use base_core::{Sink, SinkFault, Text, TreeFault, counts_of_calls_in_a_row_join,
 use report_core::{Refusal, write_error};
 use std::alloc::Global;
 
-/// What a run answers.
+/// The answer of a run.
 #[derive(Drop)]
 pub enum Answer {
     /// The command was carried out.
     Ok,
-    /// The command was refused, for a fault of its words or files.
+    /// The command was refused, for a fault of its arguments or files.
     Refused(Refusal),
     /// The tree failed.
     TreeFault,
@@ -42,12 +42,12 @@ pub fn status(answer: &Answer) -> u8
     }
 }
 
-/// What a command comes to: a report, and a refusal behind it, if there is one.
+/// The result of a command: a report, and a refusal after it, if there is one.
 #[derive(Drop)]
 pub(crate) struct Verdict {
-    /// What goes to standard output.
+    /// The bytes for standard output.
     pub(crate) report: Text,
-    /// Why the command is refused: a line on standard error, behind the report.
+    /// Why the command is refused: a line on standard error, after the report.
     pub(crate) refusal: Option<Refusal>,
 }
 
@@ -80,8 +80,8 @@ impl Verdict {
     }
 }
 
-/// Prints what was judged, and answers it: the verdict's answer, a fault of the tree or want of
-/// memory, or the fault of a sink.
+/// Prints a verdict, and returns the run's answer: the verdict's, an I/O error of the file tree or
+/// out of memory, or the fault of a sink.
 pub(crate) fn show<O: Sink, E: Sink>(
     judged: Result<Verdict, TreeFault>,
     out: &mut O,
@@ -100,8 +100,8 @@ pub(crate) fn show<O: Sink, E: Sink>(
     }
 }
 
-// Prints the line of a fault of the tree, or of want of memory. Nothing goes to `_out`; the clauses
-// name it.
+// Prints the line of an I/O error of the file tree, or of running out of memory. Nothing is written
+// to `_out`; the clauses name it.
 fn print_fault<O: Sink, E: Sink>(fault: TreeFault, _out: &mut O, err: &mut E) -> Answer
     ensures shown { IsShown (Err fault) result
         (sink_change O.bytes O.counts _out.old _out.new)
@@ -121,7 +121,7 @@ fn print_fault<O: Sink, E: Sink>(fault: TreeFault, _out: &mut O, err: &mut E) ->
     }
 }
 
-// Prints the report, and the line of the refusal behind it.
+// Prints the report, and then the line of the refusal.
 fn print_verdict<O: Sink, E: Sink>(verdict: Verdict, out: &mut O, err: &mut E) -> Answer
     ensures printed { (files : Files) → IsPrinted (as_outcome files verdict) result
         (sink_change O.bytes O.counts out.old out.new)
@@ -129,7 +129,7 @@ fn print_verdict<O: Sink, E: Sink>(verdict: Verdict, out: &mut O, err: &mut E) -
     ensures out_counts { IsProperUse (sink_change O.bytes O.counts out.old out.new) }
     ensures err_counts { IsProperUse (sink_change E.bytes E.counts err.old err.new) }
 {
-    // A law that the proof needs; it computes nothing.
+    // A law that the proof needs; it has no effect at run time.
     counts_of_calls_in_a_row_join();
     match print_report(verdict.report.as_bytes(), out) {
         Ok(()) => print_refusal(verdict.refusal, err),
@@ -148,7 +148,7 @@ fn print_report<O: Sink>(bytes: &[u8], out: &mut O) -> Result<(), SinkFault>
     write_all(out, bytes)
 }
 
-// Prints the line of a refusal, if there is one, and gives the answer of the run.
+// Prints the line of a refusal, if there is one, and returns the answer of the run.
 fn print_refusal<E: Sink>(refusal: Option<Refusal>, err: &mut E) -> Answer
     ensures printed { IsRefusalPrinted refusal result
         (sink_change E.bytes E.counts err.old err.new) }
@@ -163,7 +163,7 @@ fn print_refusal<E: Sink>(refusal: Option<Refusal>, err: &mut E) -> Answer
     }
 }
 
-// Prints a fault's line. A fault of the sink changes nothing in the answer: the status tells the
+// Prints a fault's line. A fault of the sink does not change the answer: the status reports the
 // first fault.
 fn print_line<E: Sink>(line: &[u8], err: &mut E)
     ensures line { GetsLine (sink_change E.bytes E.counts err.old err.new) line.now }

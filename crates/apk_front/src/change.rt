@@ -1,6 +1,5 @@
-//! `add`, `del`, `upgrade` and `fix`: what is installed changes, and that is reported. The rules
-//! stand in `docs/commands.md`, "`add` and `del`" and "`upgrade` and `fix`"; the engine is
-//! `engine_core`.
+//! `add`, `del`, `upgrade` and `fix` change what is installed, and report it. The rules are in
+//! `docs/commands.md`, "`add` and `del`" and "`upgrade` and `fix`"; the engine is `engine_core`.
 ghost use Rattle.std.specs.Prelude.{◌≡◌, true, IfOk, IsErrOf, OnOk};
 ghost use Rattle.apk_front.specs.Moments.{HasRoomToWrite};
 ghost use Rattle.apk_front.specs.Runs.{IfNothingWaits, IsRun};
@@ -20,7 +19,7 @@ use engine_core::Refused;
 use outcome::{a_command_that_commits_nothing_leaves_the_files, an_outcome_over_files_is_unique};
 use std::alloc::Global;
 
-/// Changes what is installed, and reports it. Nothing asks for memory once the change is carried
+/// Changes what is installed, and reports it. No memory is allocated once the change is carried
 /// out. The clauses are those of `run_recovered`, which calls this.
 pub(crate) fn change<T: Tree>(
     alloc: Global,
@@ -49,14 +48,14 @@ pub(crate) fn change<T: Tree>(
         (output_if (effect_of command.now.applet) command.now) (files_of v))
         → (T.counts tree.new).misuses ≡ (T.counts tree.old).misuses) }
 {
-    // Laws that the proof needs; they compute nothing.
+    // Laws that the proof needs; they have no effect at run time.
     an_outcome_over_files_is_unique();
     a_command_that_commits_nothing_leaves_the_files();
     let answer = engine_core::change(alloc, command, tree);
     verdict_of(alloc, answer)
 }
 
-// What the engine answered, as a verdict: its report or its refusal.
+// The engine's answer as a verdict: its report or its refusal.
 fn verdict_of(alloc: Global, answer: Result<Text, Refused>) -> Result<Verdict, TreeFault>
     ensures { IsToldAs answer result }
 {

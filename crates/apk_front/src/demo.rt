@@ -1,5 +1,5 @@
-//! `demo`: so many small packages are made, indexed and installed, in a tree of their own. The
-//! rules stand in `docs/commands.md`, "`demo N`".
+//! `demo` makes, indexes and installs small packages in a tree of its own. The rules are in
+//! `docs/commands.md`, "`demo N`".
 //!
 //! Each command line is run by the function that runs it on every other tree, too.
 ghost use Rattle.std.specs.Prelude.{◌≡◌, IfOk, IsTrue, MatchResult, OnOk, Some};
@@ -35,8 +35,8 @@ use words_core::{WordsFault, read_words};
 /// The file that lists the repositories (`docs/formats.md`, "Repositories").
 const REPOSITORIES: &[u8] = b"etc/apk/repositories";
 
-/// Makes, indexes and installs so many packages as the operand says, and tells the last line of
-/// that. Whatever fails, it is for want of memory.
+/// Makes, indexes and installs the number of packages that the operand says, and reports the last
+/// line. It fails only by running out of memory.
 pub(crate) fn demo(alloc: Global, operands: &Operands) -> Result<Verdict, TreeFault>
     requires { IsTrue (are_operands (Some (exactly 1 Number)) operands.now) }
     ensures { MatchResult result
@@ -52,7 +52,7 @@ pub(crate) fn demo(alloc: Global, operands: &Operands) -> Result<Verdict, TreeFa
     }
 }
 
-// What is told of the last run: its refusal, or the line of `demo` with the last line of its
+// The report on the last run: its refusal, or the line of `demo` with the last line of that run's
 // report.
 fn told(alloc: Global, count: u16, last: Verdict) -> Result<Verdict, TreeFault>
     ensures { MatchResult result
@@ -74,8 +74,8 @@ fn unless_refused(alloc: Global, refusal: Option<Refusal>, report: Text) -> Verd
     }
 }
 
-// Makes packages 1 to n, indexes and installs them, in an empty tree. Gives the verdict of the last
-// run that was not left out.
+// Makes packages 1 to n, indexes and installs them, in an empty tree. Returns the verdict of the
+// last run that was not skipped.
 fn install(alloc: Global, n: u16, tree: &mut MemoryTree) -> Result<Verdict, TreeFault>
     requires { files_of (tree_state tree.old) ≡ no_names }
     ensures { IfOk result (λ verdict. IsRunTo (AreInstalled n) verdict tree.new) }
@@ -87,8 +87,8 @@ fn install(alloc: Global, n: u16, tree: &mut MemoryTree) -> Result<Verdict, Tree
     run_behind(alloc, indexed, &words, tree)
 }
 
-// Lists the repository, and makes the packages 1 to n, up to the first that is refused. Gives the
-// last verdict.
+// Writes the list of repositories, and makes the packages 1 to n, up to the first that is refused.
+// Returns the last verdict.
 fn package_all(alloc: Global, n: u16, tree: &mut MemoryTree) -> Result<Verdict, TreeFault>
     requires { files_of (tree_state tree.old) ≡ no_names }
     ensures { IfOk result (λ verdict. IsRunTo (ArePackaged n) verdict tree.new) }
@@ -101,7 +101,7 @@ fn package_all(alloc: Global, n: u16, tree: &mut MemoryTree) -> Result<Verdict, 
     Ok(last)
 }
 
-// Makes package i, unless the last run was refused: then that verdict stays.
+// Makes package i, unless the last run was refused: then that verdict is returned.
 fn package_behind(
     alloc: Global,
     last: Verdict,
@@ -131,7 +131,7 @@ fn package(alloc: Global, i: u16, tree: &mut MemoryTree) -> Result<Verdict, Tree
     run_words(alloc, &words, tree)
 }
 
-// Runs a command line, unless the last run was refused: then that verdict stays.
+// Runs a command line, unless the last run was refused: then that verdict is returned.
 fn run_behind(
     alloc: Global,
     last: Verdict,
@@ -163,8 +163,8 @@ fn run_words(alloc: Global, words: &Words, tree: &mut MemoryTree) -> Result<Verd
     }
 }
 
-// Puts a file under a name. No name of `demo` is bad, or a folder of another; should one be, it
-// would be told as want of memory.
+// Puts a file under a name. No name of `demo` is bad, or a folder of another one; such a name would
+// be reported as out of memory.
 fn put(alloc: Global, name: &[u8], bytes: &[u8], tree: &mut MemoryTree) -> Result<(), AllocError>
     ensures { OnOk result (files_of (tree_state tree.new)
         ≡ put_name (files_of (tree_state tree.old)) name.now bytes.now) }

@@ -1,5 +1,5 @@
-//! `adbdump`: a container is printed as text. The rules stand in `docs/commands.md`,
-//! "`adbdump FILE`" (which tests are made, and in which order), and `docs/formats.md`, "Dump text".
+//! `adbdump` prints a container as text. The rules are in `docs/commands.md`, "`adbdump FILE`" (the
+//! tests and their order), and in `docs/formats.md`, "Dump text".
 ghost use Rattle.std.specs.Prelude.{◌≡◌, None, Ok, IsTrue, IfOk, IfErr, is_some, length};
 ghost use Rattle.std.specs.Result.{result_err};
 ghost use Rattle.adb_block.specs.Reading.{reading_of};
@@ -30,8 +30,8 @@ use command_core::Operands;
 use report_core::Refusal;
 use std::alloc::{AllocError, Global};
 
-/// Prints the text of the file that the one operand names. Of a tree that shows its files it is
-/// that file's text (`found`), of each tree that of some bytes (`by_reads`).
+/// Prints the text of the file that the one operand names: on an observable tree the text of that
+/// file (`found`), on every tree that of some bytes (`by_reads`).
 pub(crate) fn adbdump<T: Tree>(
     alloc: Global,
     operands: &Operands,
@@ -44,7 +44,7 @@ pub(crate) fn adbdump<T: Tree>(
         ≡ adbdump (reads_in (files_of v)) (files_of v) operands.now)) }
     ensures by_reads { IfOk result (λ verdict. (read : Reads)
         × (as_outcome no_names verdict ≡ adbdump read no_names operands.now)) }
-    // The tree is only read; a fault of it has its cause.
+    // The tree is only read; an I/O error has its cause there.
     ensures tree { OnlyReads TreeFault.Disk (T.history tree.old) (T.history tree.new)
         (T.counts tree.old) (T.counts tree.new) result }
 {
@@ -121,7 +121,7 @@ fn shape_first<'a>(blocks: &mut Blocks<'a>, which: Which) -> Result<Shaped<'a>, 
     ensures bad { IfErr result (λ cause.
         first_form_fault which (reading_of blocks.old) ≡ Some cause) }
     ensures table { IfOk result (λ shaped. table_of shaped ≡ which) }
-    // The reader then stands behind that block.
+    // The reader is then after that block.
     ensures behind { IfOk result (λ shaped. IsShapedFirst which (payload_of (adb_of shaped))
         (reading_of blocks.old) (reading_of blocks.new)) }
 {
@@ -135,14 +135,14 @@ fn shape_first<'a>(blocks: &mut Blocks<'a>, which: Which) -> Result<Shaped<'a>, 
 fn shape_payload<'a>(payload: &'a [u8], which: Which) -> Result<Shaped<'a>, Cause>
     ensures exact { result_err result ≡ form_fault which payload.entry.now }
     ensures table { IfOk result (λ shaped. table_of shaped ≡ which) }
-    // What is shaped is this payload, not a copy.
+    // The shaped payload is this payload, not a copy.
     ensures lent { IfOk result (λ shaped. payload_of (adb_of shaped) ≡ payload.entry.now) }
 {
     let adb = Adb::new(payload)?;
     shape(adb, which)
 }
 
-// Tests the framing of the blocks behind the first.
+// Tests the framing of the blocks after the first.
 fn check_framing(blocks: &mut Blocks<'_>) -> Result<(), Cause>
     ensures { result_err result ≡ framing_fault (reading_of blocks.old) }
 {

@@ -1,6 +1,6 @@
-//! The top call. Its contract is what this repository proves of a run of `apk`. What a run comes to
-//! stands in `docs/commands.md`, what it leaves of a tree in `docs/crash-safety.md`, "Recovery", in
-//! the table of what a run of `apk` may leave.
+//! The top call. Its contract is what this repository proves of a run of `apk`. The outcome of a
+//! run is described in `docs/commands.md`, and its effect on a tree in `docs/crash-safety.md`,
+//! "Recovery", in the table of what a run of `apk` may leave.
 ghost use Rattle.std.specs.Prelude.{◌≡◌, ℕ, Bool, List, IsSome, IsTrue, is_some};
 ghost use Rattle.apk_front.specs.Answers.{name_a_command, IsAnswerOf, IsAnswerTo, LeavesFiles, LeavesAny, HasCauses, IsFaultless, IsComplete, IsUnplanned, IsOutcomeUnlessMemory};
 ghost use Rattle.apk_front.specs.Moments.{AnswersOutcome, AreReadOnTheWay, AreSafe, CommitsNothing, HasNothingToRecover, HidesScratchOf, LeavesAtRest, LeavesLasting, LeavesRoom, UnreadNamesLast};
@@ -26,12 +26,12 @@ use std::alloc::Global;
 /// Runs a command line, without the program's name, on a tree of files and two sinks, as apk(8)
 /// describes it.
 ///
-/// `Outcome` says what a command answers, prints and leaves. A fault of the tree or of a sink, and
-/// want of memory, are answered in its place.
+/// `Outcome` says what a command answers, prints and leaves. An I/O error of the file tree, a fault
+/// of a sink, or out of memory may be answered instead.
 ///
-/// A clause that begins with `IfObservable` speaks of a tree whose history is observable, as of the
-/// one in memory; `v` is the state in which the run begins. `ignored` are names whose files a crash
-/// may leave as they are: they contain OUTPUT.apk-tmp, and not lib/apk/intent.
+/// A clause that begins with `IfObservable` holds of a tree whose history is observable, such as
+/// the one in memory; `v` is the state in which the run begins. `ignored` are names whose files a
+/// crash may leave in any state: they contain OUTPUT.apk-tmp, and not lib/apk/intent.
 pub fn apk<T: Tree, O: Sink, E: Sink>(
     alloc: Global,
     words: &Words,
@@ -39,45 +39,46 @@ pub fn apk<T: Tree, O: Sink, E: Sink>(
     out: &mut O,
     err: &mut E,
 ) -> Answer
-    // ---- what is answered, printed and left
+    // ---- answer, output and files
 
-    // The answer, the bytes of the two sinks and the files left are the outcome's, also where it
-    // is a refusal; or in its place stands a fault of the tree or of a sink, with its cause, or
-    // want of memory. Behind a sink's fault the files left are the outcome's all the same.
+    // The answer, the bytes of the two sinks and the files left are the outcome's, also for a
+    // refusal. An I/O error of the tree or a fault of a sink, with its cause, or out of memory, may
+    // be answered instead. After a sink's fault the files left are still the outcome's.
     ensures stated { IfObservable (T.history tree.old) (λ v.
         IsAnswerTo words.now (files_of v) (LeavesFiles (T.history tree.new))
         (HasCause (T.counts tree.old) (T.counts tree.new)) result
         (sink_change O.bytes O.counts out.old out.new)
         (sink_change E.bytes E.counts err.old err.new)) }
 
-    // Where no count of faults rose, the answer is the outcome's, or memory ran out.
+    // If no count of faults rose, the answer is the outcome's, or memory ran out.
     ensures complete { IfObservable (T.history tree.old) (λ v.
         IsFaultless (T.counts tree.old) (T.counts tree.new)
         (sink_change O.bytes O.counts out.old out.new)
         (sink_change E.bytes E.counts err.old err.new)
         → IsComplete words.now (files_of v) result) }
 
-    // On every tree: an outcome that rests on the words alone is the answer, and the tree never
-    // fails.
+    // On every tree: an outcome that depends on the arguments alone is the answer, and the tree
+    // never fails.
     ensures every_tree { IsTrue (rests_on_words (command_of words.now))
         → IsAnswerTo words.now no_names LeavesAny ⊥ result
         (sink_change O.bytes O.counts out.old out.new)
         (sink_change E.bytes E.counts err.old err.new) }
 
-    // On every tree: the answer and the bytes are what the specification gives for some listing,
-    // some contents at each read, and the first clash of names among some files; or a package that
-    // comes is no longer what was tested, and is told as bad as some file is that has its identity
-    // and other contents. That these are the real ones of a file system is trusted.
+    // On every tree: the answer and the bytes are those of the specification for some listing, some
+    // contents at each read, and the first clash of names among some files. Or an added package is
+    // no longer what was tested, and is reported as bad, with the cause of some file that has its
+    // identity and other contents. That these are the real ones of a file system is trusted.
     ensures found { IsAnswerOf (IsFoundOutcome words.now) LeavesAny
         (HasCause (T.counts tree.old) (T.counts tree.new)) result
         (sink_change O.bytes O.counts out.old out.new)
         (sink_change E.bytes E.counts err.old err.new) }
 
-    // ---- what failed, on every tree and sink
+    // ---- causes of failures, on every tree and sink
 
-    // Behind `Ok` and a refusal nothing failed, neither the tree nor a sink. A fault of the tree or
-    // of a sink has its cause. Want of memory, and a fault of a sink, hide no fault of the tree. A
-    // fault of the tree and want of memory print just their line.
+    // After `Ok` and a refusal neither the tree nor a sink has failed. An I/O error of the tree or
+    // a fault of a sink has its cause there. Running out of memory, or a fault of a sink, hides no
+    // I/O error of the tree. After an I/O error of the tree, or out of memory, exactly its line is
+    // printed.
     ensures causes { HasCauses result (T.counts tree.old) (T.counts tree.new)
         (sink_change O.bytes O.counts out.old out.new)
         (sink_change E.bytes E.counts err.old err.new) }
@@ -87,16 +88,17 @@ pub fn apk<T: Tree, O: Sink, E: Sink>(
     ensures out_counts { IsProperUse (sink_change O.bytes O.counts out.old out.new) }
     ensures err_counts { IsProperUse (sink_change E.bytes E.counts err.old err.new) }
 
-    // Out of memory is answered only if the words name an applet, or ask for help or the version.
+    // Out of memory is answered only if the arguments name an applet, or ask for help or the
+    // version.
     ensures memory { result ≡ Answer.Memory → IsTrue (name_a_command words.now) }
 
-    // No call is a misuse of the tree, where its files leave room for what an intent has still to
-    // do, and the recovered ones for what the outcome writes: OUTPUT and OUTPUT.apk-tmp are no
-    // folder of another file then, and none is a folder of them.
+    // No call is a misuse of the tree if two conditions hold: the paths that recovery writes are
+    // free in the files, and those that the outcome writes are free in the recovered files. Then
+    // OUTPUT and OUTPUT.apk-tmp are no folder of another file, and no file is a folder of them.
     ensures proper { IfObservable (T.history tree.old) (λ v. LeavesRoom words.now (files_of v)
         → (T.counts tree.new).misuses ≡ (T.counts tree.old).misuses) }
 
-    // Where besides no failure is planned of the tree and the sinks, the run ends as its outcome
+    // If moreover no failure of the tree and the sinks is planned, the run ends as its outcome
     // says, unless memory ran out: the run's, or the own memory of one of the three.
     ensures unless_memory { IfObservable (T.history tree.old) (λ v.
         LeavesRoom words.now (files_of v) → IsUnplanned (T.counts tree.old)
@@ -106,7 +108,7 @@ pub fn apk<T: Tree, O: Sink, E: Sink>(
         (sink_change O.bytes O.counts out.old out.new)
         (sink_change E.bytes E.counts err.old err.new)) }
 
-    // ---- what is done to the tree
+    // ---- effect on the tree
 
     // Where the outcome rests on the words alone, no call is made on the tree.
     ensures untouched { IsTrue (rests_on_words (command_of words.now)) → tree.new ≡ tree.old }
@@ -115,46 +117,48 @@ pub fn apk<T: Tree, O: Sink, E: Sink>(
     ensures same { IsTrue (reads_only (command_of words.now))
         → T.history tree.new ≡ T.history tree.old }
 
-    // Where there is nothing to recover, nothing is written by a run that is refused, that finds no
-    // memory, or whose outcome commits nothing, whatever is answered in its place.
+    // If there is nothing to recover, nothing is written by a run that is refused, that runs out of
+    // memory, or whose outcome commits nothing, whatever is answered instead.
     ensures idle { IfObservable (T.history tree.old) (λ v.
         CommitsNothing (IsOutcome words.now (files_of v)) result
         → HasNothingToRecover (effect_by (command_of words.now)) v
         → T.history tree.new ≡ T.history tree.old) }
 
-    // Where the intent is bad nothing is written, whatever is answered.
+    // If the intent is bad nothing is written, whatever is answered.
     ensures bad_intent { IfObservable (T.history tree.old) (λ v.
         IsSome (recovery_fault (effect_by (command_of words.now)) (files_of v))
         → T.history tree.new ≡ T.history tree.old) }
 
-    // At each moment the files as read stand for what the old ones do, and what waits only goes,
-    // if the command recovers. Behind that they are the files on which it works, but for the names
-    // under which it makes new files if its outcome commits; or a change has published its intent,
-    // and a recovery leaves the outcome's files; or they are the outcome's. So each name but the
-    // intent's and those of drafts has its old bytes, its recovered ones or the outcome's, also
-    // where the tree fails: no file goes for a while. That none is replaced by a copy of itself is
-    // not said.
+    // First, if the command recovers: at each moment recovery of the files as read yields what it
+    // yields of the old ones, and staged files are only removed. After recovery the files as read
+    // are those on which the command works, except under the names at which an outcome that commits
+    // makes new files; or a change has committed its journal entry (intent), and recovery yields
+    // the outcome's files; or they are the outcome's. So each name except the intent's and those of
+    // drafts has its old bytes, its recovered ones or the outcome's, even if the tree fails: no
+    // file is ever temporarily missing. Not proved: that an unchanged file is never rewritten with
+    // the same bytes.
     ensures reads { IfObservable (T.history tree.old) (λ v.
         AreReadOnTheWay (IsOutcome words.now (files_of v)) (effect_by (command_of words.now))
         (output words.now) v (T.history tree.old) (T.history tree.new)) }
 
-    // Where there was an intent, and as soon as none is read, a crash undoes no change of a name:
-    // what it said is done for good. But for OUTPUT and OUTPUT.apk-tmp, and what waits.
+    // If there was an intent, then from the moment at which none is read a crash undoes no change
+    // of a name: the intent's change is durable. This excludes OUTPUT, OUTPUT.apk-tmp and staged
+    // files.
     ensures last { IfObservable (T.history tree.old) (λ v. IsSome (v.names intent_name)
         → Since (UnreadNamesLast (output words.now)) (T.history tree.old) (T.history tree.new)) }
 
-    // ---- what a crash leaves, of a tree that was orderly
+    // ---- what a crash leaves, of a tree that was orderly: its files were durable
 
-    // A run that commits nothing leaves the state as it was: at each moment a crash leaves a state
+    // A run that commits nothing leaves the state unchanged: at each moment a crash leaves a state
     // from before, and the files as read have the old one.
     ensures left { IfObservable (T.history tree.old) (λ v.
         CommitsNothing (IsOutcome words.now (files_of v)) result → (ignored : List ℕ → Bool)
         → IsOrderly (RestsOn ignored) v
         → Since (IsStill ignored v) (T.history tree.old) (T.history tree.new)) }
 
-    // Of each run: so it is, or the run has an outcome that commits, and at each moment a crash
-    // leaves the old files or the outcome's; OUTPUT.apk-tmp may be left too. A state shows a bad
-    // intent: so where no crash left one before, none does.
+    // Every run leaves the state unchanged, or it has an outcome that commits, and at each moment a
+    // crash leaves the old files or the outcome's; OUTPUT.apk-tmp may be left too. A state includes
+    // a bad intent, so a crash leaves one only if it might have left one before.
     ensures crash { IfObservable (T.history tree.old) (λ v. (ignored : List ℕ → Bool)
         → IsOrderly (RestsOn ignored) v → HidesScratchOf (output words.now) ignored
         → AreSafe (IsOutcome words.now (files_of v)) (is_some (output words.now)) ignored v
@@ -165,23 +169,23 @@ pub fn apk<T: Tree, O: Sink, E: Sink>(
         → IsOrderly (RestsOn ignored) v → HidesScratchOf (output words.now) ignored
         → HasNow (T.history tree.new) (IsOrderly (RestsOn ignored))) }
 
-    // Once the outcome is answered, a refusal too, or a sink's fault in its place, each crash
-    // leaves its files; where it commits nothing, if each crash left the old ones before, or an
+    // Once the outcome is answered, even a refusal, or a sink's fault instead, each crash leaves
+    // its files. If it commits nothing, this holds if each crash left the old ones before, or if an
     // intent was found and done.
     ensures settled { IfObservable (T.history tree.old) (λ v. (ignored : List ℕ → Bool)
         → IsOrderly (RestsOn ignored) v → HidesScratchOf (output words.now) ignored
         → LeavesLasting (IsOutcome words.now (files_of v)) (effect_by (command_of words.now))
         ignored v (T.history tree.new) result) }
 
-    // Once an outcome that commits is answered, or a sink's fault in its place, OUTPUT and
-    // OUTPUT.apk-tmp count again: the tree is orderly, and each crash leaves the outcome's files,
-    // under these names too, also where they were ignored.
+    // Once an outcome that commits is answered, or a sink's fault instead, OUTPUT and
+    // OUTPUT.apk-tmp are no longer ignored: the tree is orderly, and each crash leaves the
+    // outcome's files, under these names too.
     ensures at_rest { IfObservable (T.history tree.old) (λ v. (ignored : List ℕ → Bool)
         → IsOrderly (RestsOn ignored) v → HidesScratchOf (output words.now) ignored
         → AnswersOutcome result → LeavesAtRest (IsOutcome words.now (files_of v))
         (output words.now) ignored (T.history tree.new)) }
 {
-    // A law that the proof needs; it computes nothing.
+    // A law that the proof needs; it has no effect at run time.
     a_refusal_commits_nothing();
     let judged = judge(alloc, words, tree);
     show(judged, out, err)

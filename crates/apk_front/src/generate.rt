@@ -1,5 +1,5 @@
-//! `adbgen`: a dump text is turned into a container. The rules are in `docs/commands.md`,
-//! "`adbgen FILE`", and in `docs/formats.md`, "Dump text"; the container is made by `gen_core`.
+//! `adbgen` turns a dump text into a container. The rules are in `docs/commands.md`, "`adbgen
+//! FILE`", and in `docs/formats.md`, "Dump text"; the container is made by `gen_core`.
 ghost use Rattle.std.specs.Prelude.{◌≡◌, IsTrue, IfOk, length};
 ghost use Rattle.apk_front.specs.Verdicts.{as_outcome};
 ghost use Rattle.base_core.specs.Calls.{IfObservable};
@@ -18,8 +18,8 @@ use gen_core::{GenFault, gen_};
 use report_core::Refusal;
 use std::alloc::{AllocError, Global};
 
-/// Prints the container of the text in the file that the one operand names. Of a tree that shows its
-/// files it is that file's text (`found`), of each tree that of some bytes (`by_reads`).
+/// Prints the container of the text in the file that the one operand names: on an observable tree
+/// of that file's text (`found`), on every tree of some bytes (`by_reads`).
 pub(crate) fn adbgen<T: Tree>(
     alloc: Global,
     operands: &Operands,
@@ -32,7 +32,7 @@ pub(crate) fn adbgen<T: Tree>(
         ≡ adbgen (reads_in (files_of v)) (files_of v) operands.now)) }
     ensures by_reads { IfOk result (λ verdict. (read : Reads)
         × (as_outcome no_names verdict ≡ adbgen read no_names operands.now)) }
-    // The tree is only read; a fault of it has its cause.
+    // The tree is only read; an I/O error has its cause there.
     ensures tree { OnlyReads TreeFault.Disk (T.history tree.old) (T.history tree.new)
         (T.counts tree.old) (T.counts tree.new) result }
 {

@@ -1,8 +1,7 @@
-//! A command line is judged: its words are read, and its applet is run. What it may do below its
-//! root is known before, as a host wants it. The rules stand in `docs/commands.md`, "Words" and
-//! "Commands that recover first"; and of what a run may do below its root in
-//! `docs/crash-safety.md`, "What the host's tree does"; how counts explain an answer, in "Misuses,
-//! faults and counts".
+//! Judges a command line: parses its arguments, and runs its applet. A host asks beforehand what
+//! the run may do below its root. The rules are in `docs/commands.md`, "Words" and "Commands that
+//! recover first"; for the access below the root in `docs/crash-safety.md`, "What the host's tree
+//! does"; and for how counts explain an answer in "Misuses, faults and counts".
 
 ghost use Rattle.std.specs.Prelude.{◌≡◌, [], None, Ok, IfOk, IsErrOf, IsTrue, MatchResult, OnOk};
 ghost use Rattle.apk_front.specs.Answers.{name_a_command};
@@ -35,8 +34,8 @@ use report_core::Refusal;
 use std::alloc::{AllocError, Global};
 use words_core::{WordsFault, help, read_words, version_line};
 
-/// Judges a command line over a tree, and carries it out: gives what it reports, and its refusal,
-/// if there is one. Nothing is printed yet.
+/// Judges a command line over a tree, and carries it out. Returns its report, and its refusal, if
+/// there is one. Nothing is printed yet.
 pub(crate) fn judge<T: Tree>(
     alloc: Global,
     words: &Words,
@@ -54,13 +53,13 @@ pub(crate) fn judge<T: Tree>(
         (λ verdict. (files : Files) → IsOutcome words.now files (as_outcome files verdict))
         (λ fault. fault ≡ TreeFault.Memory) }
     ensures untouched { IsTrue (rests_on_words (command_of words.now)) → tree.new ≡ tree.old }
-    // What the run leaves of the tree: crashes, files and calls, by *IsWholeRun*.
+    // The effect of the run on the tree: crashes, files and calls, by *IsWholeRun*.
     ensures run { IfObservable (T.history tree.old) (λ v. IsWholeRun
         (IsOutcome words.now (files_of v)) (effect_by (command_of words.now)) (output words.now)
         result v (T.history tree.old) (T.history tree.new)) }
     ensures same { IsTrue (reads_only (command_of words.now))
         → T.history tree.new ≡ T.history tree.old }
-    // How the tree's counts explain the answer: no count falls, a fault has its cause, and any
+    // How the tree's counts explain the answer: no count falls, an I/O error has its cause, and any
     // other answer hides none.
     ensures goes_on { GoesOn (T.counts tree.old) (T.counts tree.new) }
     ensures disk { IsErrOf result TreeFault.Disk
@@ -82,7 +81,7 @@ pub(crate) fn judge<T: Tree>(
 }
 
 // Runs an applet; `demo` runs others, in a tree of its own. The clauses are those of `judge`, for a
-// command that was read.
+// parsed command.
 #[tactic(auto, using(crate::proofs::Operands::demo_operands))]
 fn carry_out<T: Tree>(alloc: Global, command: &Command, tree: &mut T) -> Result<Verdict, TreeFault>
     ensures found { IfOk result (λ verdict. IfObservable (T.history tree.old) (λ v.
@@ -205,8 +204,8 @@ fn look<T: Tree>(alloc: Global, command: &Command, tree: &mut T) -> Result<Verdi
     }
 }
 
-/// What a run does below its root, by which the host's tree locks the root: runs that read go on
-/// together, one that writes goes on alone.
+/// What a run does below its root. The host's tree locks the root by it: runs that read may go on
+/// together, one that writes is alone.
 #[derive(Clone, Copy, PartialEq, Eq)]
 pub enum RootAccess {
     /// The run only reads.
@@ -215,8 +214,8 @@ pub enum RootAccess {
     Write,
 }
 
-/// What the run of a command line does below its root. Words that are no command do nothing, so
-/// they only read.
+/// What the run of a command line does below its root. Arguments that are no command do nothing, so
+/// such a run only reads.
 pub fn access_for(alloc: Global, words: &Words) -> Result<RootAccess, AllocError>
     ensures { IfOk result (λ access. access ≡ access_of (reads_only (command_of words.now))) }
 {
@@ -227,7 +226,7 @@ pub fn access_for(alloc: Global, words: &Words) -> Result<RootAccess, AllocError
     }
 }
 
-/// What an applet does below its root: one that recovers the root first writes, whatever it does
+/// What an applet does below its root: one that first recovers the root writes, whatever it does
 /// then.
 pub(crate) fn applet_access(applet: Applet) -> RootAccess
     ensures { result ≡ access_of (does_only_read (effect_of applet)) }

@@ -1,6 +1,5 @@
-//! Laws: what the clauses of `apk` say of each outcome that a command line has, and not only of the
-//! one that they name. They serve `run_lists`; the rules stand in `docs/crash-safety.md`,
-//! "Recovery".
+//! Laws: the clauses of `apk` hold of each outcome that a command line has, and not only of the one
+//! that they name. They serve `run_lists`; the rules are in `docs/crash-safety.md`, "Recovery".
 ghost use Rattle.std.specs.Prelude.{◌≡◌, ℕ, Bool, true, List, None, is_some};
 ghost use Rattle.apk_front.specs.Moments.{AreSafe, HasNothingToRecover, IsCarriedOut, IsRecovering, LeavesLasting, Settles};
 ghost use Rattle.apk_front.specs.declared.answer.Answer.{Answer};
@@ -18,8 +17,8 @@ ghost use Rattle.words_core.specs.Grammar.{command_of};
 use journal_core::quiet_then_old_or_new_is_old_or_new;
 use outcome::an_outcome_is_unique;
 
-/// What `crash` says: whichever outcome a command line has, at each moment the tree is orderly, and
-/// a crash leaves the old files or the outcome's.
+/// From `crash`: for every outcome of a command line, at each moment the tree is orderly, and a
+/// crash leaves the old files or the outcome's.
 pub fn a_crash_leaves_the_old_files_or_those_of_the_outcome()
     ensures { (words : List (List ℕ)) (ignored : List ℕ → Bool) (v : TreeState) (outcome : Outcome)
         (old now : List TreeState)
@@ -31,9 +30,9 @@ pub fn a_crash_leaves_the_old_files_or_those_of_the_outcome()
     quiet_then_old_or_new_is_old_or_new();
 }
 
-/// What `settled` says: whichever outcome a command line has, if it is no refusal, each crash
-/// leaves its files once it is carried out; where it commits nothing, if each crash left the old
-/// ones before, or an intent was found and done.
+/// From `settled`: for every outcome of a command line, each crash leaves its files once it is
+/// carried out. If it commits nothing, this holds if each crash left the old ones before, or if an
+/// intent was found and done.
 pub fn what_is_carried_out_lasts()
     ensures { (words : List (List ℕ)) (ignored : List ℕ → Bool) (v : TreeState) (outcome : Outcome)
         (now : List TreeState) (answer : Answer)
@@ -46,8 +45,8 @@ pub fn what_is_carried_out_lasts()
     an_outcome_is_unique();
 }
 
-/// What `reads` says where there is nothing to recover: a moment at which the tree is recovered has
-/// the old files, and the command works on these.
+/// From `reads`, if there is nothing to recover: while the tree is being recovered it has the old
+/// files, and the command works on these.
 pub fn where_nothing_is_recovered_the_files_are_the_old_ones()
     ensures moments { (effect : Effect) (v w : TreeState) → HasNothingToRecover effect v
         → (does_recover effect ≡ true) × IsRecovering v w → files_of w ≡ files_of v }

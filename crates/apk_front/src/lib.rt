@@ -1,11 +1,11 @@
-//! The top call of the package keeper: words, a tree of files and two sinks come in, an answer goes
-//! out.
+//! The top call of the package keeper: arguments, a tree of files and two sinks are passed in, and
+//! an answer is returned.
 //!
-//! A run is first judged, by the words and the tree, and carried out on the tree, and then printed
-//! on the sinks. The contract of `apk` cites `outcome` (what a command answers, prints and leaves),
-//! `words_core` (what the words ask for), `journal_core` (what a crash leaves), and of `specs/`
-//! `Answers` (how an answer relates to an outcome, and what stands in its place) and `Moments`
-//! (what a run does to the tree).
+//! A run is first judged and carried out on the tree, and then printed on the sinks. The contract
+//! of `apk` cites `outcome` (what a command answers, prints and leaves), `words_core` (what the
+//! arguments ask for) and `journal_core` (what a crash leaves). Of `specs/` it cites `Answers` (how
+//! an answer relates to an outcome, and what may replace it) and `Moments` (the effect of a run on
+//! the tree).
 #![tactic(auto)]
 
 mod answer;

@@ -1,5 +1,5 @@
-//! `mkpkg` and `mkndx`: a container is made, and stands whole under its name. The rules stand in
-//! `docs/commands.md`, "`mkpkg`" and "`mkndx PACKAGE..`", and of the writing in
+//! `mkpkg` and `mkndx` make a container, and replace the whole file under its name. The rules are
+//! in `docs/commands.md`, "`mkpkg`" and "`mkndx PACKAGE..`", and for the writing in
 //! `docs/crash-safety.md`, "A whole file replaced". The container is made by `make_core`.
 ghost use Rattle.std.specs.Prelude.{◌≡◌, ◌≢◌, ◌⊎◌, ℕ, false, true, List, Ok, Err, IsSome, IfOk, IsErrOf, OnOk};
 ghost use Rattle.make_package.specs.Answers.{IsMadeBySome};
@@ -40,7 +40,7 @@ use outcome::a_listing_of_a_tree_is_that_of_its_files;
 use report_core::Refusal;
 use std::alloc::{AllocError, Global};
 
-/// Makes a package, and writes it under the output's name. It reports nothing. Beside the clauses
+/// Makes a package, and writes it under the output's name. It reports nothing. Besides the clauses
 /// of `run_recovered`, which calls this, `refused` says that a refusal writes nothing.
 pub(crate) fn mkpkg<T: Tree>(
     alloc: Global,
@@ -71,7 +71,7 @@ pub(crate) fn mkpkg<T: Tree>(
         → outcome.commits ≡ true → HasRoomFor (output_name command.now) (files_of v))
         → (T.counts tree.new).misuses ≡ (T.counts tree.old).misuses) }
 {
-    // Laws that the proof needs; they compute nothing.
+    // Laws that the proof needs; they have no effect at run time.
     counts_of_calls_in_a_row_join();
     files_have_one_list_of_names();
     a_package_with_information_has_an_output();
@@ -91,7 +91,7 @@ pub(crate) fn mkndx<T: Tree>(
     requires applet { command.now.applet ≡ Mkndx }
     ensures found { IfOk result (λ verdict. IfObservable (T.history tree.old) (λ v.
         ReportsOne (IsIndexOutcome command.now (files_of v)) verdict)) }
-    // Of every tree, for some contents at each read; the files do not count, so none are given.
+    // On every tree, for some contents at each read; the files are not used, so none are given.
     ensures by_reads { IfOk result (λ verdict. (read : Reads)
         × AreFiles read 0 command.now.operands
         × Reports verdict (mkndx read no_names command.now)) }
@@ -112,7 +112,7 @@ pub(crate) fn mkndx<T: Tree>(
         → outcome.commits ≡ true → HasRoomFor (output_name command.now) (files_of v))
         → (T.counts tree.new).misuses ≡ (T.counts tree.old).misuses) }
 {
-    // Laws that the proof needs; they compute nothing.
+    // Laws that the proof needs; they have no effect at run time.
     counts_of_calls_in_a_row_join();
     an_index_has_an_output();
     let report = index_line(alloc, command.operands().len())?;
@@ -120,19 +120,19 @@ pub(crate) fn mkndx<T: Tree>(
     finish(alloc, command, container, report, tree)
 }
 
-// Reads what a package is made of, and makes its container in memory.
+// Reads the inputs of a package, and makes its container in memory.
 fn package<T: Tree>(alloc: Global, command: &Command, tree: &mut T) -> Result<Vec<u8>, MakeFault>
     requires { command.now.applet ≡ Mkpkg }
-    // What is made of this tree's files, where it shows them.
+    // On an observable tree: what is made of its files.
     ensures made { IfObservable (T.history tree.old) (λ v.
         OnMade result (IsPackageMade command.now (files_of v))) }
-    // What is made of some contents at each read, on every tree.
+    // On every tree: what is made of some contents at each read.
     ensures found { OnMade result (IsMadeBySome command.now) }
-    // The tree is only read; a fault of it has its cause.
+    // The tree is only read; an I/O error has its cause there.
     ensures tree { OnlyReads MakeFault.Disk (T.history tree.old) (T.history tree.new)
         (T.counts tree.old) (T.counts tree.new) result }
 {
-    // A law that the proof needs; it computes nothing.
+    // A law that the proof needs; it has no effect at run time.
     a_listing_of_a_tree_is_that_of_its_files();
     make_core::mkpkg(alloc, command, tree)
 }
@@ -140,19 +140,19 @@ fn package<T: Tree>(alloc: Global, command: &Command, tree: &mut T) -> Result<Ve
 // Reads the packages of an index, and makes its container in memory.
 fn index<T: Tree>(alloc: Global, command: &Command, tree: &mut T) -> Result<Vec<u8>, MakeFault>
     requires { command.now.applet ≡ Mkndx }
-    // What is made of this tree's files, where it shows them.
+    // On an observable tree: what is made of its files.
     ensures made { IfObservable (T.history tree.old) (λ v.
         OnMade result (IsIndexMade command.now (files_of v))) }
-    // What is made of some contents at each read, on every tree.
+    // On every tree: what is made of some contents at each read.
     ensures found { OnMade result (IsIndexFound command.now) }
-    // The tree is only read; a fault of it has its cause.
+    // The tree is only read; an I/O error has its cause there.
     ensures tree { OnlyReads MakeFault.Disk (T.history tree.old) (T.history tree.new)
         (T.counts tree.old) (T.counts tree.new) result }
 {
     make_core::mkndx(alloc, command, tree)
 }
 
-// The report of `mkndx` over so many packages.
+// The report of `mkndx` over this many packages.
 fn index_line(alloc: Global, count: usize) -> Result<Text, AllocError>
     ensures { IfOk result (λ line. line ≡ index_line count) }
 {
@@ -160,9 +160,9 @@ fn index_line(alloc: Global, count: usize) -> Result<Text, AllocError>
     Text::of(alloc, line.as_bytes())
 }
 
-// Writes the container that was made, or refuses. Clauses as of `mkpkg`; `done` and `cut`: where a
-// fault stopped the making, nothing is judged and nothing is written; `lost`: a fault of the tree
-// is not told as want of memory.
+// Writes the container that was made, or refuses. The clauses are those of `mkpkg`, and three more.
+// `done` and `cut`: if a fault stopped the making, nothing is judged and nothing is written.
+// `lost`: an I/O error of the tree is not reported as out of memory.
 fn finish<T: Tree>(
     alloc: Global,
     command: &Command,
@@ -233,7 +233,7 @@ fn write<T: Tree>(
         → HasRoomFor (output_name command.now) (files_of v))
         → (T.counts tree.new).misuses ≡ (T.counts tree.old).misuses) }
 {
-    // Laws that the proof needs; they compute nothing.
+    // Laws that the proof needs; they have no effect at run time.
     an_output_is_short();
     an_image_has_the_state_of_its_map();
     // A command of which a container was made has an output.
@@ -247,14 +247,15 @@ fn write<T: Tree>(
     Ok(Verdict::reported(report))
 }
 
-// The verdict where no container was made: its refusal, or the fault that stopped the making.
+// The verdict if no container was made: its refusal, or the fault that stopped the making.
 fn refuse(alloc: Global, command: &Command, fault: MakeFault) -> Result<Verdict, TreeFault>
     ensures reported { IfOk result (λ verdict. (files : Files) (report : List ℕ)
         → Reports verdict (make_outcome files (output_name command.now) report (Err fault))) }
     ensures refused { IfOk result (λ verdict. IsSome verdict.refusal) }
     // A fault that stops the making gives no verdict.
     ensures done { IfOk result (λ verdict. is_cut fault ≡ false) }
-    // A fault of the tree and want of memory stay what they are; memory may also be wanting here.
+    // An I/O error of the tree and out of memory are returned as they are; memory may also run out
+    // here.
     ensures disk { IsErrOf result TreeFault.Disk → fault ≡ MakeFault.Disk }
     ensures lost { IsErrOf result TreeFault.Memory → fault ≢ MakeFault.Disk }
 {
@@ -262,8 +263,8 @@ fn refuse(alloc: Global, command: &Command, fault: MakeFault) -> Result<Verdict,
     Ok(Verdict::refused(alloc, refusal))
 }
 
-// Why no container was made: the refusal, or the fault that stopped the making. A reserved name
-// comes before a result too large. The clauses are those of `refuse`.
+// Why no container was made: the refusal, or the fault that stopped the making. A reserved name is
+// refused before a result that is too large. The clauses are those of `refuse`.
 fn refusal_of(alloc: Global, command: &Command, fault: MakeFault) -> Result<Refusal, TreeFault>
     ensures reported { IfOk result (λ refusal. (files : Files) (report : List ℕ)
         → make_outcome files (output_name command.now) report (Err fault)
@@ -285,7 +286,7 @@ fn refusal_of(alloc: Global, command: &Command, fault: MakeFault) -> Result<Refu
     }
 }
 
-// The refusal where a container is too large; a reserved output is refused before that.
+// The refusal of a container that is too large; a reserved output is refused before that.
 fn too_large(
     alloc: Global,
     command: &Command,

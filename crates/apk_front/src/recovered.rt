@@ -1,6 +1,5 @@
-//! A command that recovers: what an intent has still to do is done first. The rules stand in
-//! `docs/commands.md`, "Commands that recover first", and in `docs/crash-safety.md`,
-//! "Recovery".
+//! A command that recovers first finishes the change of an intent that is found. The rules are in
+//! `docs/commands.md`, "Commands that recover first", and in `docs/crash-safety.md`, "Recovery".
 ghost use Rattle.std.specs.Prelude.{◌≡◌, true, None, Ok, IfOk, IsErrOf, IsSome, OnOk};
 ghost use Rattle.apk_front.specs.Moments.{HasRoomToWrite, LeavesRoomFor};
 ghost use Rattle.apk_front.specs.Runs.{IfNothingWaits, IsRun, IsWholeRun};
@@ -29,7 +28,7 @@ use journal_recovery::{RecoverFault, recover};
 use report_core::Refusal;
 use std::alloc::Global;
 
-/// Recovers the tree, and runs a command over what is then there. The clauses are those of
+/// Recovers the tree, and runs a command over the recovered files. The clauses are those of
 /// `run_recovered`, for the state before the recovery.
 pub(crate) fn recover_and_run<T: Tree>(
     alloc: Global,
@@ -57,7 +56,7 @@ pub(crate) fn recover_and_run<T: Tree>(
         (IsOutcomeOf (Ok command.now) (files_of v)) (files_of v)
         → (T.counts tree.new).misuses ≡ (T.counts tree.old).misuses) }
 {
-    // Laws that the proof needs; they compute nothing.
+    // Laws that the proof needs; they have no effect at run time.
     counts_of_calls_in_a_row_join();
     still_moments_join();
     settled_then_quiet_is_settled();
@@ -69,7 +68,7 @@ pub(crate) fn recover_and_run<T: Tree>(
     }
 }
 
-// Runs a command over what is there, behind a recovery.
+// Runs a command over the files that are there after recovery.
 fn run_recovered<T: Tree>(
     alloc: Global,
     command: &Command,
@@ -81,23 +80,23 @@ fn run_recovered<T: Tree>(
         ReportsOne (IsOutcomeOver command.now (files_of v)) verdict)) }
     // On every tree it is that of an outcome for some listing and some contents at each read.
     ensures by_reads { IfOk result (λ verdict. ReportsOne (IsFoundOver command.now) verdict) }
-    // What the run leaves of the tree: crashes, files and calls, by *IsRun*.
+    // The effect of the run on the tree: crashes, files and calls, by *IsRun*.
     ensures run { IfNothingWaits (T.history tree.old) (λ v. IsRun
         (IsOutcomeOver command.now (files_of v)) (effect_of command.now.applet)
         (output_if (effect_of command.now.applet) command.now)
         result v (T.history tree.old) (T.history tree.new)) }
-    // Where memory ran out nothing was written.
+    // If memory ran out nothing was written.
     ensures undone { IfNothingWaits (T.history tree.old) (λ v.
         IsErrOf result TreeFault.Memory → T.history tree.new ≡ T.history tree.old) }
-    // How the tree's counts explain the answer: no count falls, a fault of the tree has its cause,
-    // and any other answer hides none.
+    // How the tree's counts explain the answer: no count falls, an I/O error of the tree has its
+    // cause, and any other answer hides none.
     ensures goes_on { GoesOn (T.counts tree.old) (T.counts tree.new) }
     ensures disk { IsErrOf result TreeFault.Disk
         → HasCause (T.counts tree.old) (T.counts tree.new) }
     ensures kept { OnOk result (IsNoFault (T.counts tree.old) (T.counts tree.new)) }
     ensures memory { IsErrOf result TreeFault.Memory
         → IsNoFault (T.counts tree.old) (T.counts tree.new) }
-    // No call is a misuse where the files leave room for what an outcome that commits writes.
+    // No call is a misuse if the paths are free that an outcome that commits writes.
     ensures proper { IfNothingWaits (T.history tree.old) (λ v.
         ((outcome : Outcome) → IsOutcomeOver command.now (files_of v) outcome
         → outcome.commits ≡ true → HasRoomToWrite (effect_of command.now.applet)
@@ -119,8 +118,8 @@ fn run_recovered<T: Tree>(
     }
 }
 
-// What is judged where the recovery did not end: a bad intent is refused, a fault of the tree and
-// want of memory are handed on.
+// The verdict if the recovery did not end: a bad intent is refused; an I/O error of the tree and
+// out of memory are returned.
 fn refuse_to_recover(alloc: Global, fault: RecoverFault) -> Result<Verdict, TreeFault>
     ensures refused { IfOk result (λ verdict. (cause : Cause)
         × (fault ≡ RecoverFault.IntentBad cause)

@@ -1,5 +1,5 @@
-//! The commands that only report on what is installed: `info`. The rules are in `docs/commands.md`,
-//! under each command's name; the reports are made by `tell_core`.
+//! The commands that only report on what is installed or available. The rules are in
+//! `docs/commands.md`, under each command's name; the reports are made by `tell_core`.
 ghost use Rattle.std.specs.Prelude.{◌≡◌, true, IfOk, IsErrOf, OnOk};
 ghost use Rattle.apk_front.specs.Moments.{HasRoomToWrite};
 ghost use Rattle.apk_front.specs.Runs.{IfNothingWaits, IsRun};
@@ -18,8 +18,8 @@ use command_core::Command;
 use std::alloc::Global;
 use tell_core::{InfoDone, Refused, tell};
 
-/// Reports on what is installed. A refusal may stand beside the report; nothing is written. The
-/// clauses are those of `run_recovered`, which calls this.
+/// Reports on what is installed or available. A refusal may follow the report; nothing is written.
+/// The clauses are those of `run_recovered`, which calls this.
 pub(crate) fn report<T: Tree>(
     alloc: Global,
     command: &Command,
@@ -51,7 +51,8 @@ pub(crate) fn report<T: Tree>(
     verdict_of(alloc, answer)
 }
 
-// What was answered, as a verdict: the report, with the refusal beside it, or a refusal in its place.
+// The answer as a verdict: the report, with the refusal after it, if there is one; or a refusal
+// instead.
 fn verdict_of(alloc: Global, answer: Result<InfoDone, Refused>) -> Result<Verdict, TreeFault>
     ensures { IsReportedAs answer result }
 {

@@ -1,5 +1,5 @@
-//! `verify`: containers are tested. The rules stand in `docs/commands.md`, "`verify FILE..`", and
-//! the tests in `docs/formats.md`, "Tests of a container".
+//! `verify` tests containers. The rules are in `docs/commands.md`, "`verify FILE..`", and the tests
+//! in `docs/formats.md`, "Tests of a container".
 ghost use Rattle.std.specs.Prelude.{◌≡◌, List, Option, ℕ, IsTrue, IfOk};
 ghost use Rattle.apk_front.specs.Verdicts.{as_outcome};
 ghost use Rattle.base_core.specs.Calls.{IfObservable};
@@ -20,8 +20,8 @@ use pkg_core::PackageFault;
 use report_core::Refusal;
 use std::alloc::{AllocError, Global};
 
-/// Tests the files that the operands name, one after another up to the first that is no sound
-/// container. On a tree that shows its files these are tested (`found`), on each tree some bytes
+/// Tests the files that the operands name, one after another, up to the first that is no sound
+/// container. On an observable tree its files are tested (`found`), on every tree some bytes
 /// (`by_reads`).
 pub(crate) fn verify<T: Tree>(
     alloc: Global,
@@ -34,7 +34,7 @@ pub(crate) fn verify<T: Tree>(
         ≡ verify (reads_in (files_of v)) (files_of v) operands.now)) }
     ensures by_reads { IfOk result (λ verdict. (read : Reads)
         × (as_outcome no_names verdict ≡ verify read no_names operands.now)) }
-    // The tree is only read; a fault of it has its cause.
+    // The tree is only read; an I/O error has its cause there.
     ensures tree { OnlyReads TreeFault.Disk (T.history tree.old) (T.history tree.new)
         (T.counts tree.old) (T.counts tree.new) result }
 {
@@ -59,24 +59,24 @@ fn verdict_by(
     }
 }
 
-// The refusal of the first operand whose file is no sound container. What is held of a file is
-// dropped before the next is read.
+// The refusal of the first operand whose file is no sound container. The memory for a file is freed
+// before the next one is read.
 fn first_refusal<T: Tree>(
     alloc: Global,
     operands: &Operands,
     tree: &mut T,
 ) -> Result<Option<Refusal>, TreeFault>
     requires { IsTrue (are_files operands.now) }
-    // On a tree that shows its files it is the refusal of these.
+    // On an observable tree it is the refusal of its files.
     ensures found { IfOk result (λ refusal. IfObservable (T.history tree.old) (λ v.
         refusal ≡ verify_refusal (reads_in (files_of v)) 0 operands.now)) }
-    // On each tree it is the refusal of some bytes at each read.
+    // On every tree it is the refusal of some bytes at each read.
     ensures by_reads { IfOk result (λ refusal. (read : Reads)
         × (refusal ≡ verify_refusal read 0 operands.now)) }
     ensures tree { OnlyReads TreeFault.Disk (T.history tree.old) (T.history tree.new)
         (T.counts tree.old) (T.counts tree.new) result }
 {
-    // A law that the proof needs; it computes nothing.
+    // A law that the proof needs; it has no effect at run time.
     readings_in_a_row_join::<Option<Refusal>, Option<Refusal>, TreeFault>();
     for i in 0..operands.len() {
         let place = operands.get(i).place;
@@ -99,13 +99,13 @@ fn test_file<T: Tree>(
     // On a tree that shows its files the file under this name is tested.
     ensures found { IfOk result (λ refusal. IfObservable (T.history tree.old) (λ v.
         refusal ≡ file_refusal place (files_of v file.now))) }
-    // On each tree some bytes are, or none.
+    // On every tree some bytes are tested, or none are found.
     ensures by_reads { IfOk result (λ refusal. (found : Option (List ℕ))
         × (refusal ≡ file_refusal place found)) }
     ensures tree { OnlyReads TreeFault.Disk (T.history tree.old) (T.history tree.new)
         (T.counts tree.old) (T.counts tree.new) result }
 {
-    // A law that the proof needs; it computes nothing.
+    // A law that the proof needs; it has no effect at run time.
     readings_in_a_row_join::<PackageTest, Option<Refusal>, TreeFault>();
     match test_package(alloc, tree, file)? {
         PackageTest::Absent => Ok(Some(Refusal::FileMissing { place })),
@@ -152,7 +152,7 @@ fn refusal_of(
     }
 }
 
-// The report where all files are sound: a line `FILE: OK` for each operand.
+// The report if all files are sound: a line `FILE: OK` for each operand.
 fn lines(alloc: Global, operands: &Operands) -> Result<Text, AllocError>
     requires { IsTrue (are_files operands.now) }
     ensures { IfOk result (λ report. report ≡ sound_lines operands.now) }

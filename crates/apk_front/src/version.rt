@@ -1,6 +1,6 @@
-//! `version`: two versions are compared, or texts are checked for being versions. The rules stand
-//! in `docs/commands.md`, "`version --test VERSION VERSION`" and "`version --check TEXT..`", and
-//! the order in `docs/formats.md`, "Versions".
+//! `version` compares two versions, or checks texts for being versions. The rules are in
+//! `docs/commands.md`, "`version --test VERSION VERSION`" and "`version --check TEXT..`", and the
+//! order in `docs/formats.md`, "Versions".
 ghost use Rattle.std.specs.Prelude.{◌≡◌, ◌++◌, length, true, IfOk, OnOk};
 ghost use Rattle.apk_front.specs.Verdicts.{as_outcome};
 ghost use Rattle.base_core.specs.Files.{Files};
@@ -33,7 +33,7 @@ pub(crate) fn version(
 }
 
 // The verdict of `--test`: the order of two versions, or the refusal of the first operand that is
-// none.
+// no version.
 fn compare(alloc: Global, operands: &Operands) -> Result<Verdict, AllocError>
     requires { length operands.now ≡ 2 }
     ensures { IfOk result (λ verdict. (files : Files) → as_outcome files verdict
@@ -52,7 +52,7 @@ fn compare(alloc: Global, operands: &Operands) -> Result<Verdict, AllocError>
     Ok(Verdict::reported(Text::of(alloc, line)?))
 }
 
-// The line that says how the first version stands to the second.
+// The line with the order of two versions.
 fn order_line(order: Ordering) -> &'static [u8]
     ensures { result.now ≡ order_line order }
 {
@@ -99,7 +99,7 @@ fn lines(alloc: Global, operands: &Operands) -> Result<Text, AllocError>
     Ok(Text::from_vec(report))
 }
 
-// Adds the line of a text that is no version; a version adds none.
+// Adds the line of a text that is no version; for a version nothing is added.
 fn add_line(report: &mut Vec<u8>, text: &[u8]) -> Result<(), AllocError>
     ensures { OnOk result (report.new.items ≡ report.old.items ++ invalid_line text.now) }
 {

@@ -1,4 +1,4 @@
--- What the values of the program stand for. No rule of a document: serves the contracts of
+-- What the values of the program mean. No rule of a document: serves the contracts of
 -- `src/records.rt` and `src/comparing.rt`.
 use Rattle.std.specs.Prelude.{Option, Some, None, if◌then◌else◌}
 use Rattle.adb_view.specs.Values.{value_at}

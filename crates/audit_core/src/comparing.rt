@@ -32,8 +32,8 @@ pub enum Difference {
 
 /// Compares each file that the packages of a database list with its record, and reports those that
 /// differ: `X PATH` of a file that is missing, `U PATH` of one with other bytes, in byte order of
-/// the paths. Each file is read once, in pieces of 65,536 bytes, and the tree stays as it is,
-/// whatever the answer. It takes a few words for each file that is listed, and the report.
+/// the paths. Each file is read once, in pieces of 65,536 bytes, and the tree is left as it
+/// is, whatever the answer. It takes a few words for each file that is listed, and the report.
 ///
 /// # Errors
 ///

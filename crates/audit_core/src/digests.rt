@@ -105,7 +105,7 @@ fn push_folder<'a>(
     ensures { OnOk result (report.new.items ≡ report.old.items
         ++ flat_map manifest_line (folder_records (entry_in (list_value folders.now) i))) }
 {
-    // Never so, by the contract; `len` tells that a list has less than 2^32 entries.
+    // Excluded by the contract; `len` says that a list has fewer than 2^32 entries.
     if i >= folders.len() {
         unreachable!();
     }
@@ -141,7 +141,7 @@ fn push_file<'a>(
     ensures { OnOk result (report.new.items ≡ report.old.items
         ++ manifest_line (file_record folder.now (entry_in (list_value files.now) i))) }
 {
-    // Never so, by the contract; `len` tells that a list has less than 2^32 entries.
+    // Excluded by the contract; `len` says that a list has fewer than 2^32 entries.
     if i >= files.len() {
         unreachable!();
     }
@@ -151,7 +151,7 @@ fn push_file<'a>(
     push_path(report, folder, file.name())
 }
 
-// Adds a digest with the name of its function, which its length tells.
+// Adds a digest with the name of its function, which its length determines.
 fn push_digest(alloc: Global, report: &mut Vec<u8>, digest: &[u8]) -> Result<(), AllocError>
     ensures { OnOk result (report.new.items ≡ report.old.items ++ named_digest digest.now) }
 {

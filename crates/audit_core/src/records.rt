@@ -127,7 +127,7 @@ fn add_folder<'a>(
     ensures { OnOk result (map record_seen records.new.items ≡ map record_seen records.old.items
         ++ folder_records (entry_in (list_value folders.now) i)) }
 {
-    // Never so, by the contract; `len` tells that a list has less than 2^32 entries.
+    // Excluded by the contract; `len` says that a list has fewer than 2^32 entries.
     if i >= folders.len() {
         unreachable!();
     }
@@ -161,7 +161,7 @@ fn add_file<'a>(
     ensures { OnOk result (map record_seen records.new.items ≡ map record_seen records.old.items
         ++ file_record folder.entry.now (entry_in (list_value files.now) i) ∷ []) }
 {
-    // Never so, by the contract; `len` tells that a list has less than 2^32 entries.
+    // Excluded by the contract; `len` says that a list has fewer than 2^32 entries.
     if i >= files.len() {
         unreachable!();
     }

@@ -1,6 +1,5 @@
--- What each applet may have, after apk(8): flags, options with values, operands.
--- The rules stand in `docs/commands.md`, "Words", and for each applet in the section of
--- `docs/commands.md` that has its name.
+-- What each applet may have, after apk(8): flags, options with values, operands. The rules are in
+-- `docs/commands.md`, "Words", and for each applet in the section with its name.
 use Rattle.std.specs.Prelude.{ℕ, ◌||◌, Option, Some, None, if◌then◌else◌}
 use Rattle.command_core.specs.declared.command.Applet.{Applet}
 use Rattle.command_core.specs.declared.command.Applet.TheVariants.{Add, Del, Upgrade, Fix, Info, Verify, Adbdump, Mkpkg, Mkndx, Version, Demo, Adbgen, Audit, Manifest, List, Search, Policy, Help, ProgramVersion}
@@ -10,7 +9,7 @@ use Rattle.command_core.specs.declared.operands.OperandRule.{OperandRule}
 use Rattle.command_core.specs.declared.values.TheConstants.{OUTPUT}
 use Rattle.command_core.specs.Operands.{at_least, at_most, exactly}
 
--- the letter of the option that an applet needs, so that it has to be given a value, if there is one
+-- the letter of the option that an applet needs, so that it must have a value, if there is one
 abbrev pub needed_option : Applet → Option ℕ
 needed_option Mkndx = Some OUTPUT
 needed_option applet = None
@@ -25,15 +24,16 @@ info_operands flags =
     if flags.installed || flags.contents || flags.depends then at_least 1 PackageName else
     at_least 0 PackageName
 
--- the operands of `version`: two texts to compare, or one or more to check; None where the flag is
--- lacking that says which of the two
+-- the operands of `version`: two texts to compare, or one or more to check; None if the flag is missing
+-- that selects one of the two
 abbrev pub version_operands : Flags → Option OperandRule
 version_operands flags =
     if flags.test then Some (exactly 2 Any) else
     if flags.check then Some (at_least 1 Any) else
     None
 
--- the operands of an applet under its flags; None where the flag is lacking that says what is done
+-- the operands of an applet under its flags; None if the flag is missing that selects the kind of the
+-- command
 abbrev pub operand_rule : Applet → Flags → Option OperandRule
 operand_rule Add flags = Some (at_least 0 Dependency)
 operand_rule Del flags = Some (at_least 1 DependencyName)

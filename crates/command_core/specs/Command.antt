@@ -1,13 +1,12 @@
--- What a command line asks for, and when it is a command.
--- The rules stand in `docs/commands.md`, "Words".
+-- What a command line asks for, and when it is a command. The rules are in `docs/commands.md`, "Words".
 use Rattle.std.specs.Prelude.{ℕ, List}
 use Rattle.command_core.specs.declared.command.Applet.{Applet}
 use Rattle.command_core.specs.declared.command.Flags.{Flags}
 use Rattle.command_core.specs.declared.operands.Operand.{Operand}
 use Rattle.command_core.specs.declared.values.OptionValue.{OptionValue}
 
--- an applet, the flags given, the operands, each with its place and its text as given, the values
--- of options, and the place behind the last word
+-- an applet, the flags given, the operands, each with its place and its text as given, the values of
+-- options, and the place after the last word
 pub record CommandLine : Type 0 where
   pub applet : Applet
   pub flags : Flags

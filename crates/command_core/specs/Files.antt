@@ -1,6 +1,5 @@
--- Files and paths, as operands and values name them.
--- The rules stand in `docs/commands.md`, "Words", the last paragraph and the row of `-o`; of a path in
--- "`info`".
+-- Files and paths, as operands and values name them. The rules are in `docs/commands.md`, "Words", the
+-- last paragraph and the row of `-o`; for a path in "`info`".
 use Rattle.std.specs.Prelude.{ℕ, nat_le, Bool, ◌&&◌, List, length, take, drop, codes, if◌then◌else◌}
 use Rattle.std.specs.Str.{bytes_eq}
 use Rattle.base_core.specs.Name.{is_name}
@@ -14,8 +13,8 @@ without_dot text = if bytes_eq (take 2 text) (codes "./") then drop 2 text else 
 abbrev pub is_file : List ℕ → Bool
 is_file text = is_name (without_dot text)
 
--- the longest path of a file that is made, in bytes: its scratch name, `.apk-tmp` behind the path, has
--- eight bytes more, and a name at most 1,024
+-- the longest path of a file that is made, in bytes: its scratch name, the path with `.apk-tmp` after
+-- it, has eight bytes more, and a name at most 1,024
 abbrev pub longest_output : ℕ
 longest_output = 1016
 

@@ -1,12 +1,12 @@
--- The options of a command line that take no value.
--- The rules stand in `docs/commands.md`, "Words", the table of options, the rows without a value.
+-- The options of a command line that take no value. The rules are in `docs/commands.md`, "Words", the
+-- table of options, the rows without a value.
 use Rattle.std.specs.Prelude.{Bool, true, false, List, [], ◌∷◌}
 use Rattle.std.specs.List.{list_any}
 use Rattle.command_core.specs.declared.command.Flag.{Flag}
 use Rattle.command_core.specs.declared.command.Flag.TheVariants.{AllowUntrusted, NoScripts, Initdb, Simulate, Purge, Installed, Contents, Depends, WhoOwns, Test, Check}
 use Rattle.command_core.specs.declared.command.Flags.{Flags}
 
--- the flags where none is given
+-- no flags
 abbrev pub no_flags : Flags
 no_flags = record {
   allow_untrusted = false;
@@ -50,10 +50,10 @@ with_flag WhoOwns flags = record flags { who_owns = true }
 with_flag Test flags = record flags { test = true }
 with_flag Check flags = record flags { check = true }
 
--- the flags that say of which kind a command is: those of `info`, of `list`, and of `version`
+-- the flags that select the kind of a command: those of `info`, of `list`, and of `version`
 abbrev pub kinds : List Flag
 kinds = Installed ∷ (Contents ∷ (Depends ∷ (WhoOwns ∷ (Test ∷ (Check ∷ [])))))
 
--- whether a flag that says of which kind the command is was given
+-- whether a flag that selects the kind of the command was given
 abbrev pub has_kind : Flags → Bool
 has_kind flags = list_any (λ flag. has_flag flag flags) kinds

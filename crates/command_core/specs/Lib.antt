@@ -1,11 +1,11 @@
--- The definitions of this crate. Each file names the place of its rule.
--- what the contract of `apk` says
+-- The definitions of this crate. The head of each file names the section with its rule. Cited by the
+-- contract of `apk`:
 pub mod Flags
 pub mod Files
 pub mod Operands
 pub mod Values
 pub mod Applets
 pub mod Command
--- what only inner contracts and proofs use
+-- used by inner contracts and proofs only
 pub mod Named
 pub mod Sound

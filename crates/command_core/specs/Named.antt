@@ -1,7 +1,6 @@
--- The names of operands and values that are files.
--- The rule stands in `docs/commands.md`, "Words", the last paragraph. Serves the law
--- `file_operands_are_files` and what lends a name (`Operands::file`, `Values::first_file`,
--- `Values::script_file`).
+-- The names of operands and values that are files. The rule is in `docs/commands.md`, "Words", the last
+-- paragraph. Serves the law `file_operands_are_files` and the functions that return a name
+-- (`Operands::file`, `Values::first_file`, `Values::script_file`).
 use Rattle.std.specs.Prelude.{ℕ, ◌==◌, Bool, List, Option, Some, None, if◌then◌else◌}
 use Rattle.std.specs.List.{list_all}
 use Rattle.command_core.specs.declared.operands.Operand.{Operand}
@@ -10,7 +9,7 @@ use Rattle.command_core.specs.declared.values.TheConstants.{SCRIPT}
 use Rattle.command_core.specs.Files.{is_file, without_dot}
 use Rattle.command_core.specs.Values.{script_file}
 
--- the name of the file that a text names; None where it names none
+-- the name of the file that a text names; None if it names none
 abbrev pub file_name : List ℕ → Option (List ℕ)
 file_name text = if is_file text then Some (without_dot text) else None
 
@@ -22,11 +21,11 @@ operand_file operand = without_dot operand.text
 abbrev pub are_files : List Operand → Bool
 are_files operands = list_all (λ (o : Operand). is_file o.text) operands
 
--- the part of a value of the option with this letter that may name a file: of a script what stands
--- behind the first `:`, of others all
+-- the part of a value of the option with this letter that may name a file: the part of a script after
+-- the first `:`, and all of any other value
 abbrev pub file_part : ℕ → List ℕ → List ℕ
 file_part letter text = if letter == SCRIPT then script_file text else text
 
--- the name of the file in a value; None where there is none
+-- the name of the file in a value; None if there is none
 abbrev pub file_in : OptionValue → Option (List ℕ)
 file_in v = file_name (file_part v.letter v.text)

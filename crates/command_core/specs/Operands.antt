@@ -1,6 +1,6 @@
--- Operands: of which kind a text is, and which operands a rule takes.
--- The rules stand in `docs/commands.md`, "Words", and for each applet in the section of
--- `docs/commands.md` that has its name; of a number in "`demo N`".
+-- Operands: of which kind a text is, and which operands a rule takes. The rules are in
+-- `docs/commands.md`, "Words", and for each applet in the section with its name; for a number in "`demo
+-- N`".
 use Rattle.std.specs.Prelude.{ℕ, ◌+◌, ◌==◌, nat_lt, nat_le, Bool, true, false, not, ◌&&◌, List, [], ◌∷◌, length, Option, Some, None, is_some, if◌then◌else◌}
 use Rattle.std.specs.Char.{is_ascii_digit, is_ascii_graphic}
 use Rattle.std.specs.List.{list_all}
@@ -19,7 +19,7 @@ operand_at place word = record { place = place; text = word }
 
 -- ---- kinds
 
--- whether a zero (48) stands before other bytes
+-- whether a zero (48) precedes other bytes
 abbrev pub has_zero_in_front : List ℕ → Bool
 has_zero_in_front [] = false
 has_zero_in_front (d ∷ ds) = (d == 48) && nat_lt 0 (length ds)
@@ -67,17 +67,16 @@ at_most most kind = record { kind = kind; least = 0; most = Some most }
 abbrev pub exactly : ℕ → OperandKind → OperandRule
 exactly count kind = record { kind = kind; least = count; most = Some count }
 
--- whether one more operand may stand behind some, by the most that there may be and how many stand
--- before it
+-- whether one more operand may follow some, by the most that there may be and how many precede it
 abbrev pub has_room : Option ℕ → ℕ → Bool
 has_room None before = true
 has_room (Some most) before = nat_lt before most
 
--- whether a rule takes a text as an operand, by how many operands stand before it
+-- whether a rule takes a text as an operand, by how many operands precede it
 abbrev pub takes : OperandRule → ℕ → List ℕ → Bool
 takes rule before text = has_room rule.most before && is_of_kind rule.kind text
 
--- the place of the first operand that a rule does not take, where so many stand before
+-- the place of the first operand that a rule does not take, if this many precede it
 abbrev pub first_refused : OperandRule → ℕ → List Operand → Option ℕ
 first_refused rule before [] = None
 first_refused rule before (operand ∷ operands) =

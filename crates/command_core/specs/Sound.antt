@@ -1,6 +1,5 @@
--- When flags, operands and values are a command's: each is one that its applet may have, and none
--- is lacking.
--- The rules stand in `docs/commands.md`, "Words", the table of options and what follows it.
+-- When flags, operands and values form a command: each is allowed for its applet, and none is missing.
+-- The rules are in `docs/commands.md`, "Words", the table of options and what follows it.
 use Rattle.std.specs.Prelude.{ℕ, ◌==◌, nat_le, Bool, true, false, not, ◌&&◌, ◌||◌, List, [], ◌∷◌, length, Option, Some, None, IsTrue}
 use Rattle.std.specs.List.{find, list_all, list_any}
 use Rattle.command_core.specs.declared.command.Applet.{Applet}
@@ -38,7 +37,7 @@ abbrev pub are_within : Flags → Flags → Bool
 are_within allowed flags =
     list_all (λ flag. not (has_flag flag flags) || has_flag flag allowed) all_flags
 
--- the flags that every applet may have that a word names
+-- the flags that every applet with a word may have
 abbrev pub common_flags : Flags
 common_flags = with_flag AllowUntrusted (with_flag NoScripts no_flags)
 
@@ -56,8 +55,8 @@ allowed_flags Help = no_flags
 allowed_flags ProgramVersion = no_flags
 allowed_flags applet = common_flags
 
--- whether an applet may have some flags: each is one of its own, and at most one says of which kind
--- the command is
+-- whether an applet may have some flags: each is one of its own, and at most one selects the kind of
+-- the command
 abbrev pub may_have : Applet → Flags → Bool
 may_have applet flags = are_within (allowed_flags applet) flags && is_single kinds flags
 
@@ -68,8 +67,8 @@ abbrev pub is_at_most : Option ℕ → ℕ → Bool
 is_at_most None count = true
 is_at_most (Some most) count = nat_le count most
 
--- whether operands are those of an applet: each of its kind, and as many as it takes. There are
--- none of an applet that lacks its kind
+-- whether operands are those of an applet: each of its kind, and as many as it takes. An applet without
+-- its kind has none
 abbrev pub are_operands : Option OperandRule → List Operand → Bool
 are_operands None operands = false
 are_operands (Some rule) operands =
@@ -115,8 +114,7 @@ are_values rules (v ∷ vs) =
 
 -- ---- the command
 
--- whether flags, operands and values are ones that the applet may have together, and none is
--- lacking
+-- whether the applet may have flags, operands and values together, and none is missing
 abbrev pub is_command : CommandLine → Bool
 is_command c =
     may_have c.applet c.flags && are_operands (operand_rule c.applet c.flags) c.operands

@@ -1,6 +1,5 @@
--- Options with values: what the values may be, and which may stand together.
--- The rules stand in `docs/commands.md`, "Words", the rows of options with a value; the types of
--- scripts in "`mkpkg`".
+-- Options with values: which values are allowed, and which may be combined. The rules are in
+-- `docs/commands.md`, "Words", the rows of options with a value; the types of scripts in "`mkpkg`".
 use Rattle.std.specs.Prelude.{ℕ, ◌==◌, nat_lt, Bool, true, false, not, ◌&&◌, List, [], ◌∷◌, length, codes, Option, Some, None}
 use Rattle.std.specs.List.{after_first, before_first, find, list_any}
 use Rattle.std.specs.Str.{bytes_eq}
@@ -35,11 +34,11 @@ script_types =
 abbrev pub colon : ℕ
 colon = 58
 
--- the type of a script: what stands before the first colon of TYPE:FILE, or all where there is none
+-- the type of a script: the part before the first colon of TYPE:FILE, or all if there is none
 abbrev pub script_type : List ℕ → List ℕ
 script_type text = before_first (λ b. b == colon) text
 
--- the file of a script: what stands behind the first colon of TYPE:FILE
+-- the file of a script: the part after the first colon of TYPE:FILE
 abbrev pub script_file : List ℕ → List ℕ
 script_file text = after_first (λ b. b == colon) text
 
@@ -66,15 +65,15 @@ excludes kind a b = false
 
 -- ---- rules
 
--- the rule of `-I`: it may stand often, with any text; `make_info` says which of them offend
+-- the rule of `-I`: it may be given often, with any text; `make_info` says which of them are bad
 abbrev pub info_rule : ValueRule
 info_rule = record { letter = INFO; single = false; kind = Any }
 
--- the rule of `-s`: it may stand once for each type of script
+-- the rule of `-s`: it may be given once for each type of script
 abbrev pub script_rule : ValueRule
 script_rule = record { letter = SCRIPT; single = false; kind = Script }
 
--- the rule of `-t`: it may stand often, and its value is not empty
+-- the rule of `-t`: it may be given often, and its value is not empty
 abbrev pub trigger_rule : ValueRule
 trigger_rule = record { letter = TRIGGER; single = false; kind = Nonempty }
 
@@ -94,17 +93,17 @@ compression_rule = record { letter = COMPRESSION; single = true; kind = Uncompre
 abbrev pub description_rule : ValueRule
 description_rule = record { letter = DESCRIPTION; single = true; kind = Any }
 
--- whether an option may not stand again: it may stand once, and was given a value
+-- whether an option may not be given again: it may be given once, and has a value
 abbrev pub is_spent : ValueRule → List OptionValue → Bool
 is_spent rule values = rule.single && is_given rule.letter values
 
--- whether a value of the option given before excludes this text
+-- whether an earlier value of the option excludes this text
 abbrev pub is_excluded : ValueRule → List ℕ → List OptionValue → Bool
 is_excluded rule text values =
     list_any (λ (v : OptionValue). (v.letter == rule.letter) && excludes rule.kind v.text text)
     values
 
--- whether the option that has to be given a value, if there is one, was given none
+-- whether the option that must have a value, if there is one, has none
 abbrev pub lacks_value : Option ℕ → List OptionValue → Bool
 lacks_value None values = false
 lacks_value (Some letter) values = not (is_given letter values)

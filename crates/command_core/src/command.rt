@@ -1,6 +1,5 @@
-//! Applets, the options without a value, and what a command line asks for.
-//! The rules stand in `docs/commands.md`, "Words"; which operands an applet takes, in the section
-//! of `docs/commands.md` that has its name.
+//! Applets, the options without a value, and what a command line asks for. The rules are in
+//! `docs/commands.md`, "Words"; which operands an applet takes is in the section with its name.
 ghost use Rattle.std.specs.Prelude.{◌≡◌, IsTrue};
 ghost use Rattle.command_core.specs.Applets.{info_operands, needed_option, operand_rule, version_operands};
 ghost use Rattle.command_core.specs.Command.{command_by};
@@ -14,13 +13,13 @@ use std::marker::Model;
 /// What a command does (apk(8)).
 #[derive(Clone, Copy, PartialEq, Eq)]
 pub enum Applet {
-    /// Put packages into the world, and install what it then needs.
+    /// Put packages into world, and install what it then needs.
     Add,
-    /// Take packages out of the world, and remove what it then no longer needs.
+    /// Take packages out of world, and remove what it then no longer needs.
     Del,
     /// Bring packages to the versions that are preferred.
     Upgrade,
-    /// Install packages again as they are.
+    /// Reinstall packages as they are.
     Fix,
     /// Tell of installed packages.
     Info,
@@ -34,7 +33,7 @@ pub enum Applet {
     Mkndx,
     /// Compare two versions, or check texts for being versions.
     Version,
-    /// Show an installation of so many packages in memory.
+    /// Show an installation of many packages in memory.
     Demo,
     /// Make a container from the text that `adbdump` prints.
     Adbgen,
@@ -54,7 +53,7 @@ pub enum Applet {
     ProgramVersion,
 }
 
-/// An option without a value; the fields of `Flags` say what each asks for.
+/// An option without a value; the fields of `Flags` explain each.
 #[derive(Clone, Copy)]
 pub enum Flag {
     /// `--allow-untrusted`.
@@ -110,7 +109,7 @@ pub struct Flags {
 }
 
 impl Flags {
-    /// The flags where none is given.
+    /// No flags.
     pub fn none() -> Flags
         ensures { result ≡ no_flags }
     {
@@ -148,7 +147,7 @@ impl Flags {
         }
     }
 
-    /// Whether a flag was given that says of which kind the command is: one of `info`, of `list`, or
+    /// Whether a flag was given that selects the kind of the command: one of `info`, of `list`, or
     /// of `version`.
     pub fn has_kind(&self) -> bool
         ensures { result ≡ has_kind self.now }
@@ -181,7 +180,7 @@ impl Flags {
 }
 
 impl Applet {
-    /// The letter of the option that has to be given a value, if there is one.
+    /// The letter of the option that must have a value, if there is one.
     pub fn needed_option(self) -> Option<u8>
         ensures { result ≡ needed_option self }
     {
@@ -191,8 +190,8 @@ impl Applet {
         }
     }
 
-    /// Which operands the applet takes under some flags. None: the flag is lacking that says what
-    /// is done.
+    /// Which operands the applet takes under some flags. None: the flag is missing that selects the
+    /// kind of the command.
     pub fn operands(self, flags: Flags) -> Option<OperandRule>
         ensures { result ≡ operand_rule self flags }
     {
@@ -233,7 +232,7 @@ fn info_operands(flags: Flags) -> OperandRule
     OperandRule::at_least(0, OperandKind::PackageName)
 }
 
-// The operands of `version` under some flags, one of which says what is done.
+// The operands of `version` under some flags, one of which selects the kind of the command.
 fn version_operands(flags: Flags) -> Option<OperandRule>
     ensures { result ≡ version_operands flags }
 {
@@ -253,7 +252,7 @@ pub struct Command {
     flags: Flags,
     operands: Operands,
     values: Values,
-    // The place behind the last word.
+    // The place after the last word.
     behind: u32,
 }
 
@@ -307,7 +306,7 @@ impl Command {
         self.flags
     }
 
-    /// The operands behind the applet.
+    /// The operands after the applet.
     pub fn operands(&self) -> &Operands
         ensures value { result.now ≡ self.now.operands }
         ensures command { IsCommand self.now }
@@ -323,7 +322,7 @@ impl Command {
         &self.values
     }
 
-    /// The place behind the last word, counted from 1, which is reported where a word is missing.
+    /// The place after the last word, counted from 1, which is reported if a word is missing.
     pub fn behind(&self) -> u32
         ensures { result ≡ self.now.behind }
     {

@@ -1,10 +1,10 @@
-//! What a command is, after apk(8): its applet, the options that it was given, its operands, and
-//! which of them may stand together.
+//! The parts of a command, after apk(8): its applet, the options that it was given, its operands,
+//! and which of them may be combined.
 //!
-//! `words_core` reads a `Command` from the words of a command line; what is done with it needs this
-//! crate alone. The contracts cite `Command` and `Sound` (what a command is), `Applets` (which
-//! operands each applet takes), `Flags`, `Operands`, `Values`, `Files` and `Named` of `specs/`.
-//! The rules stand in `docs/commands.md`, "Words".
+//! `words_core` reads a `Command` from the words of a command line; to carry it out needs only this
+//! crate. Of `specs/` the contracts cite `Command` and `Sound` (what a command is), `Applets`
+//! (which operands each applet takes), `Flags`, `Operands`, `Values`, `Files` and `Named`. The
+//! rules are in `docs/commands.md`, "Words".
 #![tactic(auto)]
 
 mod command;

@@ -1,7 +1,6 @@
-//! Operands: which an applet takes, those that a command has, and what every command keeps of its
-//! files and of the option that it needs.
-//! The rules stand in `docs/commands.md`, "Words", and for each applet in the section of
-//! `docs/commands.md` that has its name.
+//! Operands: which an applet takes, those that a command has, and the properties of every command's
+//! files and of the option that it needs. The rules are in `docs/commands.md`, "Words", and for
+//! each applet in the section with its name.
 
 ghost use Rattle.std.specs.Prelude.{◌≡◌, ◌<◌, ◌==◌, ◌++◌, ◌∷◌, [], IfOk, IsTrue, None, OnErr, OnOk, Some, length, slice_get, ℕ};
 ghost use Rattle.std.specs.Option.{option_map};
@@ -25,7 +24,7 @@ use std::marker::Model;
 /// Which texts may be an operand.
 #[derive(Clone, Copy)]
 pub enum OperandKind {
-    /// A file, as a path below the root, which one leading `./` may stand before.
+    /// A file, as a path below the root, after one optional `./`.
     File,
     /// Any text.
     Any,
@@ -35,7 +34,7 @@ pub enum OperandKind {
     DependencyName,
     /// The name of a package.
     PackageName,
-    /// A path below the root, which one leading `/` may stand before.
+    /// A path below the root, after one optional `/`.
     Path,
     /// A decimal number from 1 to 20,000, without leading zeros.
     Number,
@@ -107,7 +106,7 @@ impl OperandRule {
     }
 
     /// The place, counted from 1, of the first operand that the rule does not take, because of its
-    /// kind or because too many stand before it.
+    /// kind or because too many precede it.
     pub fn first_refused(&self, operands: &Operands) -> Option<u32>
         ensures { result ≡ first_refused self.now 0 operands.now }
     {
@@ -120,7 +119,7 @@ impl OperandRule {
         None
     }
 
-    // Whether the rule takes a text as an operand, by how many operands stand before it.
+    // Whether the rule takes a text as an operand, by how many operands precede it.
     fn takes(&self, before: usize, text: &[u8]) -> bool
         ensures { result ≡ takes self.now before text.now }
     {
@@ -130,7 +129,7 @@ impl OperandRule {
         self.kind.has(text)
     }
 
-    // Whether there may be one more operand, by how many stand before it.
+    // Whether there may be one more operand, by how many precede it.
     fn has_room(&self, before: usize) -> bool
         ensures { result ≡ has_room self.now.most before }
     {
@@ -150,7 +149,7 @@ pub struct Operand {
     pub text: Text,
 }
 
-// An operand, with the name that it is where it is a file.
+// An operand, with its name if it is a file.
 #[derive(Drop)]
 struct OperandEntry {
     operand: Operand,
@@ -191,7 +190,7 @@ impl Operands {
         }
     }
 
-    /// Adds the word at a place as an operand. A refused call changes nothing.
+    /// Adds the word at a place as an operand. A call that fails changes nothing.
     pub fn push(&mut self, place: u32, word: &[u8]) -> Result<(), AllocError>
         ensures ok { OnOk result (self.new ≡ self.old ++ operand_at place word.now ∷ []) }
         ensures err { OnErr result (self.new ≡ self.old) }
@@ -242,7 +241,7 @@ impl Operands {
     }
 }
 
-/// The operands of a command are ones of its applet, and so are the values of its options; the
+/// The operands of a command are allowed for its applet, and so are the values of its options; the
 /// option that it needs is given.
 pub fn a_command_has_what_its_applet_may_have()
     ensures operands { (c : CommandLine) → IsCommand c →
@@ -253,7 +252,7 @@ pub fn a_command_has_what_its_applet_may_have()
         needed_option c.applet ≡ Some letter → IsTrue (is_given letter c.values) }
 {}
 
-/// Where the applet takes files, the operands are files.
+/// If the applet takes files, the operands are files.
 pub fn file_operands_are_files()
     ensures { (c : CommandLine) (rule : OperandRule) → IsCommand c →
         operand_rule c.applet c.flags ≡ Some rule → rule.kind ≡ OperandKind.File →

@@ -1,6 +1,6 @@
-//! What a single text is: a file, a path, a script, a number.
-//! The rules stand in `docs/commands.md`, "Words", the last paragraph; the types of scripts in
-//! "`mkpkg`", the number in "`demo N`".
+//! The kinds of a single text: a file, a path, a script, a number. The rules are in
+//! `docs/commands.md`, "Words", the last paragraph; the types of scripts in "`mkpkg`", the number
+//! in "`demo N`".
 ghost use Rattle.std.specs.Prelude.{◌≡◌, ◌==◌, IfOk, drop};
 ghost use Rattle.std.specs.Char.{is_ascii_digit, is_ascii_graphic};
 ghost use Rattle.std.specs.List.{list_all, list_any, position};
@@ -15,7 +15,7 @@ use dep_core::without_slash;
 use std::alloc::{AllocError, Global};
 use std::str;
 
-/// The longest path of a file that is made, in bytes: with `.apk-tmp` behind it, eight bytes more,
+/// The longest path of a file that is made, in bytes: with `.apk-tmp` after it, eight bytes more,
 /// it is still a name, which has at most 1,024.
 pub const LONGEST_OUTPUT: usize = 1016;
 
@@ -44,14 +44,14 @@ pub fn without_dot(text: &[u8]) -> &[u8]
     }
 }
 
-/// Whether a text is a file: a path below the root, which one leading `./` may stand before.
+/// Whether a text is a file: a path below the root, after one optional `./`.
 pub(crate) fn is_file(text: &[u8]) -> bool
     ensures { result ≡ is_file text.now }
 {
     is_name(without_dot(text))
 }
 
-/// The name that a text is, without one leading `./`. None comes where it is no file.
+/// The name that a text is, without one leading `./`. None if it is no file.
 pub(crate) fn read_file(alloc: Global, text: &[u8]) -> Result<Option<Name>, AllocError>
     ensures { IfOk result (λ file. file ≡ file_name text.now) }
 {
@@ -68,7 +68,7 @@ pub(crate) fn is_output(text: &[u8]) -> bool
     without_dot(text).len() <= LONGEST_OUTPUT
 }
 
-/// Whether a text is a path below the root, which one leading `/` may stand before.
+/// Whether a text is a path below the root, after one optional `/`.
 pub(crate) fn is_path(text: &[u8]) -> bool
     ensures { result ≡ is_path text.now }
 {
@@ -99,7 +99,7 @@ pub fn is_among(texts: &[&[u8]], text: &[u8]) -> bool
     texts.iter().any(|one| *one == text)
 }
 
-/// The type of a script: of TYPE:FILE the part before the first `:`, or all where there is none.
+/// The type of a script: the part of TYPE:FILE before the first `:`, or all if there is none.
 pub(crate) fn script_type(text: &[u8]) -> &[u8]
     ensures { result.now ≡ script_type text.now }
 {
@@ -109,8 +109,7 @@ pub(crate) fn script_type(text: &[u8]) -> &[u8]
     }
 }
 
-/// The file of a script: of TYPE:FILE the part behind the first `:`, or nothing where there is
-/// none.
+/// The file of a script: the part of TYPE:FILE after the first `:`, or nothing if there is none.
 pub(crate) fn script_file(text: &[u8]) -> &[u8]
     ensures { result.now ≡ script_file text.now }
 {
@@ -120,7 +119,7 @@ pub(crate) fn script_file(text: &[u8]) -> &[u8]
     }
 }
 
-// Where the first `:` stands.
+// The index of the first `:`.
 fn colon(text: &[u8]) -> Option<usize>
     ensures { result ≡ position (λ b. b == colon) text.now }
 {

@@ -1,5 +1,5 @@
-//! Options with values: which values each may have, and those that a command was given.
-//! The rules stand in `docs/commands.md`, "Words", the table of options, the rows with a value.
+//! Options with values: which values each may have, and those that a command was given. The rules
+//! are in `docs/commands.md`, "Words", the table of options, the rows with a value.
 ghost use Rattle.std.specs.Prelude.{◌≡◌, ◌<◌, ◌==◌, ◌++◌, ◌∷◌, [], IfOk, IfSome, IsTrue, OnErr, OnOk, Some, length, not, slice_get};
 ghost use Rattle.std.specs.Option.{option_map};
 ghost use Rattle.command_core.specs.Files.{is_file, without_dot};
@@ -32,7 +32,7 @@ pub const TRIGGER: u8 = b't';
 pub struct ValueRule {
     /// The letter of the option's short word.
     pub letter: u8,
-    /// Whether the option may stand only once.
+    /// Whether the option may be given only once.
     pub single: bool,
     /// Which texts may be its value.
     pub kind: ValueKind,
@@ -50,9 +50,9 @@ pub enum ValueKind {
     /// A file to be written: its path has at most 1,016 bytes, so that a scratch name beside it is
     /// a path too.
     Output,
-    /// The word `none`: what is written is not compressed.
+    /// The word `none`: the output is not compressed.
     Uncompressed,
-    /// TYPE:FILE, with the type of a package's script. No type may stand twice.
+    /// TYPE:FILE, with the type of a package's script. No type may be given twice.
     Script,
 }
 
@@ -103,7 +103,7 @@ impl OptionValue {
     }
 }
 
-// A value, with the name of the file in it where there is one.
+// A value, with the name of the file in it if there is one.
 #[derive(Drop)]
 struct ValueEntry {
     value: OptionValue,
@@ -144,7 +144,7 @@ impl Values {
         }
     }
 
-    /// Adds a value of the option with a letter, which the word at a place holds. A refused call
+    /// Adds a value of the option with a letter, which is in the word at a place. A call that fails
     /// changes nothing.
     pub fn push(&mut self, place: u32, letter: u8, text: &[u8]) -> Result<(), AllocError>
         ensures ok { OnOk result (self.new ≡ self.old ++ option_value place letter text.now ∷ []) }
@@ -172,7 +172,7 @@ impl Values {
             .any(|entry| entry.value.letter == letter)
     }
 
-    /// Whether the option with this rule may not stand again: it may stand once, and was given a
+    /// Whether the option with this rule may not be given again: it may be given once, and has a
     /// value.
     pub fn are_spent(&self, rule: ValueRule) -> bool
         ensures { result ≡ is_spent rule self.now }
@@ -180,7 +180,7 @@ impl Values {
         rule.single && self.is_given(rule.letter)
     }
 
-    /// Whether a value that the option was given before excludes this text.
+    /// Whether an earlier value of the option excludes this text.
     pub fn exclude(&self, rule: ValueRule, text: &[u8]) -> bool
         ensures { result ≡ is_excluded rule text.now self.now }
     {

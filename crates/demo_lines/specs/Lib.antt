@@ -1,4 +1,4 @@
--- what the contract of `apk` says
+-- cited by the contract of `apk`
 pub mod Count
 pub mod Lines
 pub mod Report

@@ -1,10 +1,10 @@
 -- What `demo` runs: a small package of each number is made, then an index of all of them, and then
--- those are added on which no other depends. The rules stand in `docs/commands.md`, "`demo N`".
+-- those are added on which no other depends. The rules are in `docs/commands.md`, "`demo N`".
 use Rattle.std.specs.Prelude.{ℕ, zero, suc, ◌+◌, ◌*◌, ◌/◌, ◌%◌, nat_lt, List, [], ◌∷◌, ◌++◌, codes, if◌then◌else◌}
 
 -- ---- package i
 
--- the byte `0` of ASCII, behind which the other digits follow
+-- the byte `0` of ASCII, which the other digits follow
 abbrev pub digit_zero : ℕ
 digit_zero = 48
 
@@ -22,7 +22,7 @@ demo_name i =
 abbrev pub demo_version : ℕ → List ℕ
 demo_version i = codes "1." ++ (digit_at 1 (i % 7) ∷ codes "-r" ++ (digit_at 1 (i % 3) ∷ []))
 
--- the folder whose files package i holds
+-- the folder with the files of package i
 abbrev pub demo_folder : ℕ → List ℕ
 demo_folder i = codes "demo/" ++ demo_name i
 
@@ -30,7 +30,7 @@ demo_folder i = codes "demo/" ++ demo_name i
 abbrev pub demo_file : ℕ → List ℕ
 demo_file i = demo_folder i ++ codes "/usr/share/demo/" ++ demo_name i
 
--- what the one file of package i holds: its name and a line end
+-- the contents of the one file of package i: its name and a line end
 abbrev pub demo_text : ℕ → List ℕ
 demo_text i = demo_name i ++ codes "\n"
 
@@ -38,10 +38,10 @@ demo_text i = demo_name i ++ codes "\n"
 abbrev pub demo_package : ℕ → List ℕ
 demo_package i = demo_folder i ++ codes "-" ++ demo_version i ++ codes ".apk"
 
--- ---- what is run
+-- ---- the command lines
 
--- the words that tell what package i depends on: from the second on, each depends on that of half
--- its number, rounded down
+-- the words with the dependency of package i: from the second on, each depends on that of half its
+-- number, rounded down
 abbrev pub depends_words : ℕ → List (List ℕ)
 depends_words i =
     if nat_lt i 2 then [] else codes "-I" ∷ (codes "depends:" ++ demo_name (i / 2)) ∷ []
@@ -57,7 +57,7 @@ mkpkg_words i =
 abbrev pub demo_index : List ℕ
 demo_index = codes "demo/index.adb"
 
--- what `etc/apk/repositories` holds
+-- the contents of `etc/apk/repositories`
 abbrev pub demo_repositories : List ℕ
 demo_repositories = demo_index ++ codes "\n"
 

@@ -1,4 +1,4 @@
--- What `demo` prints. The line stands in `docs/commands.md`, "`demo N`".
+-- What `demo` prints. The line is in `docs/commands.md`, "`demo N`".
 use Rattle.std.specs.Prelude.{ℕ, ◌-◌, List, ◌++◌, length, take, codes}
 use Rattle.std.specs.Fmt.{decimal}
 use Rattle.std.specs.List.{after_last}

@@ -1,8 +1,8 @@
-//! How many packages `demo` makes, what it runs, and what it prints. The rules stand in
-//! `docs/commands.md`, "`demo N`".
+//! The number of packages that `demo` makes, the command lines that it runs, and its report. The
+//! rules are in `docs/commands.md`, "`demo N`".
 //!
-//! `Count` of `specs/` says how an operand is read, `Lines` which command lines make, index and
-//! install so many small packages, and `Report` how their installation is told.
+//! `Count` of `specs/` defines the number that an operand means, `Lines` the command lines that
+//! make, index and install that many small packages, and `Report` the report on their installation.
 #![tactic(auto)]
 
 mod lines;

@@ -1,8 +1,8 @@
-//! The command lines that `demo` runs: how many packages it makes, and what it prints. The rules
-//! stand in `docs/commands.md`, "`demo N`".
+//! The command lines that `demo` runs, the number of packages that it makes, and its report. The
+//! rules are in `docs/commands.md`, "`demo N`".
 //!
-//! How many words there are before a call that adds some is bounded by round numbers, 16, 32 and
-//! 100,000: a list of words has a limit, 4,294,967,294, and no command of `demo` comes near it.
+//! The number of words before a call that adds some is bounded by round numbers, 16, 32 and
+//! 100,000. A list of words has a limit, 4,294,967,294, which no command of `demo` comes near.
 
 ghost use Rattle.std.specs.Prelude.{◌≡◌, ◌<◌, ◌++◌, ◌∷◌, [], codes, length, IfOk, OnOk, true, IsTrue, Some};
 ghost use Rattle.demo_lines.specs.Lines.{add_words, demo_name, demo_package, demo_packages, demo_version, depends_words, mkndx_words, mkpkg_words, top_name, top_names};
@@ -29,7 +29,7 @@ pub fn mkpkg_words(alloc: Global, i: u16) -> Result<Words, AllocError>
     Ok(words)
 }
 
-// Adds the words that make package i, where there is no word yet.
+// Adds the words that make package i, to a list without words.
 fn push_mkpkg(words: &mut Words, alloc: Global, i: u16) -> Result<(), AllocError>
     requires { words.old ≡ [] }
     ensures { OnOk result (words.new ≡ mkpkg_words i) }
@@ -42,7 +42,7 @@ fn push_mkpkg(words: &mut Words, alloc: Global, i: u16) -> Result<(), AllocError
     push_depends(words, alloc, i)
 }
 
-// Adds the words that tell what package i depends on, if it depends on one.
+// Adds the words with the dependency of package i, if it has one.
 fn push_depends(words: &mut Words, alloc: Global, i: u16) -> Result<(), AllocError>
     requires { length words.old < 16 }
     ensures { OnOk result (words.new ≡ words.old ++ depends_words i) }
@@ -62,7 +62,7 @@ fn push_option(words: &mut Words, option: &[u8], value: &[u8]) -> Result<(), All
     words.push(value)
 }
 
-// A word that begins so, and ends with the name of package i.
+// A word with this beginning, which ends with the name of package i.
 fn name_word(alloc: Global, front: &[u8], i: u16) -> Result<Vec<u8>, AllocError>
     ensures { IfOk result (λ text. text.items ≡ front.now ++ demo_name i) }
 {
@@ -150,7 +150,7 @@ fn push_if_top(words: &mut Words, alloc: Global, n: u16, i: u16) -> Result<(), A
     Ok(())
 }
 
-/// How many packages `demo` makes, as its one operand says.
+/// The number of packages that `demo` makes: its one operand.
 #[tactic(auto, using(crate::proofs::Numbers::one_operand))]
 pub fn demo_count(operands: &Operands) -> u16
     requires { IsTrue (are_operands (Some (exactly 1 Number)) operands.now) }
@@ -192,7 +192,7 @@ fn last_line(report: &[u8]) -> &[u8]
     behind_lines(&report[..report.len().saturating_sub(1)])
 }
 
-// What stands behind the last line end of a text.
+// The bytes after the last line end of a text.
 fn behind_lines(text: &[u8]) -> &[u8]
     ensures { result.now ≡ after_last is_line_end text.now }
 {

@@ -1,5 +1,4 @@
-//! The texts that package i is made of, and those of its files. The rules stand in
-//! `docs/commands.md`, "`demo N`".
+//! The texts of package i and of its file. The rules are in `docs/commands.md`, "`demo N`".
 ghost use Rattle.std.specs.Prelude.{◌≡◌, ◌<◌, ◌++◌, IfOk, OnOk};
 ghost use Rattle.demo_lines.specs.Lines.{demo_file, demo_folder, demo_index, demo_name, demo_package, demo_repositories, demo_text, demo_version, digit_at};
 
@@ -8,7 +7,7 @@ use std::alloc::{AllocError, Global};
 /// The path of the index of all packages.
 pub(crate) const INDEX: &[u8] = b"demo/index.adb";
 
-/// What `etc/apk/repositories` holds in the tree of `demo`: one line, which names the index.
+/// The contents of `etc/apk/repositories` in the tree of `demo`: one line, which names the index.
 pub fn demo_repositories() -> &'static [u8]
     ensures { result.now ≡ demo_repositories }
 {
@@ -25,7 +24,7 @@ pub fn demo_file(alloc: Global, i: u16) -> Result<Vec<u8>, AllocError>
     Ok(text)
 }
 
-/// What the one file of package i holds: its name and a line end.
+/// The contents of the one file of package i: its name and a line end.
 pub fn demo_text(alloc: Global, i: u16) -> Result<Vec<u8>, AllocError>
     ensures { IfOk result (λ text. text.items ≡ demo_text i) }
 {
@@ -35,7 +34,7 @@ pub fn demo_text(alloc: Global, i: u16) -> Result<Vec<u8>, AllocError>
     Ok(text)
 }
 
-/// The folder whose files package i holds, which `mkpkg` is given with `-F`.
+/// The folder with the files of package i, which `mkpkg` is given with `-F`.
 pub(crate) fn demo_folder(alloc: Global, i: u16) -> Result<Vec<u8>, AllocError>
     ensures { IfOk result (λ text. text.items ≡ demo_folder i) }
 {

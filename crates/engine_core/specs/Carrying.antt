@@ -1,6 +1,6 @@
--- How a change that is made ready is carried through. Serves the proofs of `carry_change` and
--- `finish_change` in `src/carrying.rt`; the rules stand in `docs/commands.md`, "`add` and `del`",
--- and in `docs/crash-safety.md`, "A change of several files".
+-- How a prepared change is carried through. Serves the proofs of `carry_change` and `finish_change` in
+-- `src/carrying.rt`; the rules are in `docs/commands.md`, "`add` and `del`", and in
+-- `docs/crash-safety.md`, "A change of several files".
 use Rattle.std.specs.Prelude.{◌≡◌, ℕ, List, Some, Result, slice_get}
 use Rattle.adb_write.specs.Canonical.{overflow_of}
 use Rattle.base_core.specs.Files.{Files}
@@ -20,10 +20,10 @@ use Rattle.report_core.specs.declared.refusal.Refusal.TheVariants.{PackageBad}
 use Rattle.engine_core.specs.Finishing.{IsPlanned}
 use Rattle.engine_core.specs.declared.planning.Planned.{Planned}
 
--- ---- what it comes to
+-- ---- the result
 
--- what a change comes to that is ready but for the intent, with these bytes of the database: it is
--- done, or refused where the intent passes a limit of the writer
+-- the result of a change that is prepared except for the intent, with these bytes of the database: it
+-- is done, or refused if the intent exceeds a limit of the writer
 abbrev pub ready_change :
     Inputs → Replacement → ChangeWishes → List MemberFound → Files → List ℕ
     → Result ChangeDone Refusal
@@ -41,14 +41,14 @@ HasPlan history wishes p =
 
 -- ---- a package that was changed
 
--- the refusal names the member at a place, whose file is bad, and tells the test that failed
+-- the refusal names the member at a place, whose file is bad, and reports the test that failed
 abbrev pub IsPackageBad : List Member → ℕ → Cause → Refusal → Type 0
 IsPackageBad members place cause refusal =
     (m : Member)
     × (slice_get members place ≡ Some m)
     × (refusal ≡ PackageBad (member_name m) (version_text m.pkg) cause)
 
--- how carrying out fails where the package of the member at a place was changed since it was tested
+-- how carrying out fails if the package of the member at a place was changed since it was tested
 abbrev pub IsRefusedPackage : List Member → ℕ → Cause → Refused → Type 0
 IsRefusedPackage members place cause (IsRefused refusal) = IsPackageBad members place cause refusal
 IsRefusedPackage members place cause Disk = ⊥

@@ -1,6 +1,6 @@
--- What a run of a change answers, and what it makes of the tree. The rules stand in
--- `docs/commands.md`, "`add` and `del`" and "`upgrade` and `fix`"; what a crash leaves in
--- `docs/crash-safety.md`, "A change of several files".
+-- The answer of a run of a change, and its effect on the tree. The rules are in `docs/commands.md`,
+-- "`add` and `del`" and "`upgrade` and `fix`"; crashes are in `docs/crash-safety.md`, "A change of
+-- several files".
 use Rattle.std.specs.Prelude.{◌≡◌, ◌⊎◌, ℕ, true, List, Option, Some, None, Result, Ok, Err, OnOk, IfErr, Contains}
 use Rattle.base_core.specs.Calls.{IfObservable}
 use Rattle.base_core.specs.Faults.{Counts}
@@ -29,23 +29,23 @@ use Rattle.engine_core.specs.Changed.{IsClashForOver, change_of_command, package
 use Rattle.engine_core.specs.Choice.{IsChoiceFrom}
 use Rattle.engine_core.specs.Selecting.{pool_for}
 
--- ---- what it answers
+-- ---- the answer
 
--- the report as it is answered: nothing comes behind it
+-- the report as it is answered: nothing follows it
 abbrev pub report_as_is : List ℕ → List ℕ
 report_as_is report = report
 
--- what a change comes to, of which only the report counts, or its refusal
+-- the report of a change, or its refusal
 abbrev pub report_in : Result ChangeDone Refusal → Result (List ℕ) Refusal
 report_in wanted = and_then wanted (λ done. Ok done.report)
 
--- a change comes to its end, and writes or removes something
+-- a change is not refused, and writes or removes something
 abbrev pub DoesCommit : Result ChangeDone Refusal → Type 0
 DoesCommit (Ok done) = done.commits ≡ true
 DoesCommit (Err refusal) = ⊥
 
 -- One of the packages that reads found is spoiled: `tested` is what its read found, and the refusal
--- tells this package as bad with the cause of some file that is spoiled beside it.
+-- reports this package as bad, with the cause of some file that is spoiled beside it.
 pub record HasSpoiledPackage (packages : Result (List MemberFound) Refusal) (refusal : Refusal) :
     Type 0 where
   pub found : List MemberFound
@@ -59,9 +59,9 @@ pub record HasSpoiledPackage (packages : Result (List MemberFound) Refusal) (ref
   pub spoiled : IsSpoiledFile tested file cause
   pub is : refusal ≡ PackageBad (member_name one.member) (version_text one.member.pkg) cause
 
--- The file of a package that comes is not what it was when it was tested, as its contents are read
--- once more: what is told of it is told of some file with other contents. Where a tree shows its
--- files, and neither an intent is read nor anything waits, this does not happen.
+-- The file of an added package is not what was tested, when its contents are read once more. The report
+-- on it is that on some file with other contents. This does not happen on an observable tree without an
+-- intent and staged files.
 pub record IsFoundChanged (packages : Result (List MemberFound) Refusal)
     (wanted : Result ChangeDone Refusal) (history : List TreeState)
     (result : Result (List ℕ) Refused) : Type 0 where
@@ -72,7 +72,7 @@ pub record IsFoundChanged (packages : Result (List MemberFound) Refusal)
   pub spoiled : HasSpoiledPackage packages refusal
   pub is : result ≡ Err (IsRefused refusal)
 
--- ---- what it makes of the tree
+-- ---- the effect on the tree
 
 -- a change is staged and carried through, or the tree failed on the way
 pub record IsCommit (wanted : Result ChangeDone Refusal) (v : TreeState)
@@ -84,8 +84,8 @@ pub record IsCommit (wanted : Result ChangeDone Refusal) (v : TreeState)
   pub ok : OnOk result (IsStageRunDone done.files v now)
   pub err : IfErr result (λ refused. refused ≡ Disk)
 
--- nothing happens to the tree, and then only a change that commits nothing comes to its end; or the
--- change is carried through
+-- the tree is unchanged, which ends a change only if it commits nothing; or the change is carried
+-- through
 abbrev pub IsNoneOrCommit :
     Result ChangeDone Refusal → TreeState → List TreeState → List TreeState
     → Result (List ℕ) Refused → Type 0
@@ -94,11 +94,11 @@ IsNoneOrCommit wanted v old now result =
 
 -- ---- both
 
--- How a run of a change ends that comes to `wanted`, for which the reads find these packages: it
--- answers that report or refusal, or that one of these packages has changed, or that the tree failed
--- or memory ran out. Where at its start neither an intent is read nor anything waits, nothing happens
--- to the tree, or the change is carried through or the tree fails on the way, and no call is a misuse
--- if a change that commits has room for its stage.
+-- How a run ends whose change has the result `wanted`, and for which the reads find these packages. It
+-- answers that report or refusal, or that one of these packages has changed, or that the tree failed or
+-- memory ran out. If there is neither an intent nor a staged file at its start, the tree is unchanged,
+-- or the change is carried through, or the tree fails on the way. No call is a misuse if the paths are
+-- free for the stage of a change that commits.
 pub record ComesTo (packages : Result (List MemberFound) Refusal)
     (wanted : Result ChangeDone Refusal) (old now : List TreeState) (before after : Counts)
     (result : Result (List ℕ) Refused) : Type 0 where
@@ -109,9 +109,9 @@ pub record ComesTo (packages : Result (List MemberFound) Refusal)
   pub proper : IfObservable old (λ v. v.names intent_name ≡ None → IsEmptyStage (files_of v)
       → (DoesCommit wanted → HasRoomToStage (files_of v)) → after.misuses ≡ before.misuses)
 
--- A run of a command's change: by what reads find, by some files, by what is chosen, and by the
--- first clash of names among some standing files. Where the tree shows its files both are the files
--- that it has at the start.
+-- A run of a command's change: by what reads find, by some files, by what is chosen, and by the first
+-- clash of names among some present files. On an observable tree both are the files that it has at the
+-- start.
 pub record IsChangeRun (command : CommandLine) (old now : List TreeState) (before after : Counts)
     (result : Result (List ℕ) Refused) : Type 0 where
   pub read : Reads

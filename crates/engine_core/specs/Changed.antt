@@ -1,6 +1,6 @@
--- What a command that changes the installed packages comes to: it is refused, or it reports, and
--- leaves files. The rules stand in `docs/commands.md`, "`add` and `del`", what is refused and
--- reported, and "`upgrade` and `fix`"; which candidates are chosen in `docs/selection.md`.
+-- The result of a command that changes the installed packages: it is refused, or it reports, and leaves
+-- files. The rules are in `docs/commands.md`, "`add` and `del`", what is refused and reported, and
+-- "`upgrade` and `fix`"; which candidates are chosen is in `docs/selection.md`.
 use Rattle.std.specs.Prelude.{◌≡◌, ℕ, Bool, true, false, if◌then◌else◌, List, Option, Some, None, Result, Ok, Err}
 use Rattle.base_core.specs.Files.{Files}
 use Rattle.change_inputs.specs.Chains.{and_then}
@@ -20,13 +20,13 @@ use Rattle.engine_core.specs.Wishes.{names_to_reinstall, unknown_place, unless_p
 
 -- ---- the selection
 
--- what is read, and the packages before with the candidates that are to take their place
+-- what is read, and the packages before with the candidates that are to replace them
 pub record Selected : Type 0 where
   pub inputs : Inputs
   pub replacement : Replacement
 
--- what is selected by a choice of candidates; where none is chosen no selection satisfies the new
--- world, and that is refused
+-- what is selected by a choice of candidates; without a choice no selection satisfies the new world,
+-- and that is refused
 abbrev pub selected_by :
     CommandLine → Inputs → SealedPool → Option (List ℕ) → Result Selected Refusal
 selected_by command inputs pool None = Err Unsatisfied
@@ -37,8 +37,8 @@ selected_by command inputs pool (Some trace) =
           inputs pool trace;
     })
 
--- What is selected by the inputs and a choice. Too many candidates are refused before a word that
--- names no package, and that before a world that no selection satisfies.
+-- What is selected by the inputs and a choice. Too many candidates are refused first, then an operand
+-- that names no package, and then a world that no selection satisfies.
 abbrev pub selected_of_inputs :
     CommandLine → Option (List ℕ) → Inputs → Result Selected Refusal
 selected_of_inputs command chosen inputs =
@@ -46,8 +46,7 @@ selected_of_inputs command chosen inputs =
     unless_place (unknown_place command.applet inputs command.operands)
     (selected_by command inputs pool chosen))
 
--- what a command selects by what reads find and by the candidates that are chosen, or its first
--- refusal
+-- what a command selects by what reads find and by the chosen candidates, or its first refusal
 abbrev pub selected_for : CommandLine → Reads → Option (List ℕ) → Result Selected Refusal
 selected_for command read chosen =
     and_then (inputs_of command read) (selected_of_inputs command chosen)
@@ -58,22 +57,21 @@ abbrev pub packages_found :
 packages_found command read selected =
     and_then selected (λ s. change_members s.inputs s.replacement (wishes_of command) read)
 
--- ---- what comes of it
+-- ---- the result
 
--- what a change with `--simulate` comes to: the report alone, and nothing is written
+-- the result of a change with `--simulate`: the report alone; nothing is written
 abbrev pub simulated_change : Replacement → ChangeWishes → Files → ChangeDone
 simulated_change r wishes files =
     record { report = simulated_report r wishes.to_go; files = files; commits = false }
 
--- what a change comes to whose candidates are selected, by the first clash of names, if there is
--- one
+-- the result of a change whose candidates are selected, by the first clash of names, if there is one
 abbrev pub change_of_selected :
     CommandLine → Reads → Files → Option NamePair → Selected → Result ChangeDone Refusal
 change_of_selected command read files clash s =
     if command.flags.simulate then Ok (simulated_change s.replacement (wishes_of command) files) else
     change_or_refusal s.inputs s.replacement (wishes_of command) read clash files
 
--- what a command that changes what is installed comes to, or its first refusal
+-- the result of a command that changes what is installed, or its first refusal
 unfoldable pub change_of_command :
     CommandLine → Reads → Files → Option (List ℕ) → Option NamePair → Result ChangeDone Refusal
 change_of_command command read files chosen clash =
@@ -81,42 +79,41 @@ change_of_command command read files chosen clash =
 
 -- ---- the first clash
 
--- what a change is given as its first clash of names; one that is only simulated does not ask for
--- it
+-- what a change is given as its first clash of names; a simulated one does not test for it
 abbrev pub IsClashUnlessSimulatedOver :
     Bool → ChangeWishes → Reads → Files → Files → Selected → Option NamePair → Type 0
 IsClashUnlessSimulatedOver true wishes read files standing s clash = clash ≡ None
 IsClashUnlessSimulatedOver false wishes read files standing s clash =
     IsClashOfChangeOver s.inputs s.replacement wishes read files standing clash
 
--- what a command is given as its first clash of names; one that is refused before does not ask for
--- it
+-- what a command is given as its first clash of names; one that is refused earlier does not test for it
 abbrev pub IsClashOfSelectedOver :
     CommandLine → Reads → Files → Files → Result Selected Refusal → Option NamePair → Type 0
 IsClashOfSelectedOver command read files standing (Ok s) clash =
     IsClashUnlessSimulatedOver command.flags.simulate (wishes_of command) read files standing s clash
 IsClashOfSelectedOver command read files standing (Err refusal) clash = clash ≡ None
 
--- The first clash of the names after a change; where the command comes not so far, none. By `files`
--- configuration is kept or a file is laid beside it, and among the `standing` ones names clash.
+-- The first clash of the names after a change; none if the command is refused before that test. By
+-- `files` configuration is kept or a file is written beside it, and names clash among the `standing`
+-- ones.
 abbrev pub IsClashForOver :
     CommandLine → Reads → Files → Files → Option (List ℕ) → Option NamePair → Type 0
 IsClashForOver command read files standing chosen clash =
     IsClashOfSelectedOver command read files standing (selected_for command read chosen) clash
 
--- *IsClashUnlessSimulatedOver* where both are the same files, as on a tree that shows its files
+-- *IsClashUnlessSimulatedOver* if both are the same files, as on an observable tree
 abbrev pub IsClashUnlessSimulated :
     Bool → ChangeWishes → Reads → Files → Selected → Option NamePair → Type 0
 IsClashUnlessSimulated simulate wishes read files s clash =
     IsClashUnlessSimulatedOver simulate wishes read files files s clash
 
--- *IsClashOfSelectedOver* where both are the same files
+-- *IsClashOfSelectedOver* if both are the same files
 abbrev pub IsClashOfSelected :
     CommandLine → Reads → Files → Result Selected Refusal → Option NamePair → Type 0
 IsClashOfSelected command read files selected clash =
     IsClashOfSelectedOver command read files files selected clash
 
--- *IsClashForOver* where both are the same files
+-- *IsClashForOver* if both are the same files
 abbrev pub IsClashFor :
     CommandLine → Reads → Files → Option (List ℕ) → Option NamePair → Type 0
 IsClashFor command read files chosen clash = IsClashForOver command read files files chosen clash

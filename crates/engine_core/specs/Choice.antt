@@ -1,18 +1,17 @@
--- Which candidates are chosen. The rules stand in `docs/selection.md`, "What satisfies world" and
--- "Which selection is taken".
+-- Which candidates are chosen. The rules are in `docs/selection.md`, "What satisfies world" and "Which
+-- selection is taken".
 use Rattle.std.specs.Prelude.{◌≡◌, ℕ, List, Option, Some, None, Result, Ok, Err}
 use Rattle.candidate_core.specs.Rank.{SealedPool}
 use Rattle.report_core.specs.declared.refusal.Refusal.{Refusal}
 use Rattle.search_tables.specs.Selection.{IsFirstSelection, IsSatisfying}
 
--- what is chosen among candidates: the places of the first preferred selection; or none, where no
--- selection satisfies the world
+-- the choice among candidates: the places of the first preferred selection; or none, if no selection
+-- satisfies the world
 abbrev pub IsChoice : SealedPool → Option (List ℕ) → Type 0
 IsChoice pool None = (selection : List ℕ) → IsSatisfying pool selection → ⊥
 IsChoice pool (Some trace) = IsFirstSelection pool trace
 
--- what is chosen where candidates are made, or refused: nothing where a refusal stands in their
--- place
+-- the choice if candidates are made, or refused: none if there is a refusal
 abbrev pub IsChoiceFrom : Result SealedPool Refusal → Option (List ℕ) → Type 0
 IsChoiceFrom (Ok pool) chosen = IsChoice pool chosen
 IsChoiceFrom (Err refusal) chosen = chosen ≡ None

@@ -1,11 +1,11 @@
--- What a choice among candidates comes to. Serves the contract of `choose` in `src/choosing.rt`;
--- the rule stands in `docs/selection.md`, "`unable to select packages`".
+-- The result of a choice among candidates. Serves the contract of `choose` in `src/choosing.rt`; the
+-- rule is in `docs/selection.md`, "`unable to select packages`".
 use Rattle.std.specs.Prelude.{◌≡◌, ℕ, List, Option, Some, None, Result, Ok, Err}
 use Rattle.change_inputs.specs.declared.root.Refused.{Refused}
 use Rattle.change_inputs.specs.declared.root.Refused.TheVariants.{Disk, Memory, Refusal as IsRefused}
 use Rattle.report_core.specs.declared.refusal.Refusal.TheVariants.{Unsatisfied}
 
--- how a choice is answered: these are chosen; or none, and that is refused; want of memory says
+-- how a choice is answered: these are chosen; or none, and that is refused; running out of memory says
 -- nothing of the choice
 abbrev pub IsChosen : Option (List ℕ) → Result (List ℕ) Refused → Type 0
 IsChosen chosen (Ok trace) = chosen ≡ Some trace

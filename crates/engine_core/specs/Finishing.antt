@@ -1,6 +1,6 @@
--- What is known of a change as it is made ready. Serves the contracts between the steps of a
--- change, from `make_change` to `carry_change`; the rules stand in `docs/commands.md`,
--- "What a change does with files" and "`add` and `del`".
+-- What is known of a change while it is prepared. Serves the contracts between the steps of a change,
+-- from `make_change` to `carry_change`; the rules are in `docs/commands.md`, "What a change does with
+-- files" and "`add` and `del`".
 use Rattle.std.specs.Prelude.{◌≡◌, ℕ, Bool, true, false, not, List, All, Option, Some, None, bytes_eq}
 use Rattle.std.specs.Option.{option_copied}
 use Rattle.adb_schema.specs.Reserved.{is_reserved}
@@ -32,25 +32,25 @@ use Rattle.engine_core.specs.declared.planning.Planned.{Planned}
 use Rattle.engine_core.specs.declared.finishing.NewRecords.{NewRecords}
 use Rattle.engine_core.specs.declared.writes.RecordWrites.{RecordWrites}
 
--- where the tree shows its files, the database and world were read from these
+-- on an observable tree, the database and world were read from its files
 abbrev pub IsRootRead : List TreeState → Inputs → Type 0
 IsRootRead history inputs = IfObservable history (λ v. IsRootOfFiles (files_of v) inputs.root)
 
 -- ---- the packages
 
--- what was read of the root, as it is known when the packages have arrived
+-- what was read of the root, as it is known once the packages have arrived
 abbrev pub inputs_arrived : Arrived → Inputs
 inputs_arrived a = inputs_of_selection a.selection.now
 
--- which packages take the place of which, as it is known when they have arrived
+-- which packages replace which, as it is known once they have arrived
 abbrev pub replacement_arrived : Arrived → Replacement
 replacement_arrived a = replacement_seen a.selection.now
 
--- the packages after the change, those that come among them
+-- the packages after the change, including the added ones
 abbrev pub members_arrived : Arrived → List Member
 members_arrived a = members_of a.members.now
 
--- the packages that come were read, and with those that stay they are the ones that are found
+-- the added packages were read, and with the kept ones they are those that are found
 pub record AreArrivals (history : List TreeState) (s : Selection) (names : PlacedNames)
     (arrivals : Arrivals) (found : List MemberFound) : Type 0 where
   pub database : HasItsDatabase s
@@ -59,15 +59,14 @@ pub record AreArrivals (history : List TreeState) (s : Selection) (names : Place
   pub read : AreMembersRead history (packages_of s.db.now) (arrivals_seen arrivals) found
   pub root : IsRootRead history (inputs_of_selection s)
 
--- the packages after a change have arrived: they were read, and their members stand one beside the
--- other
+-- the packages after a change have arrived: they were read, and one database can list their members
 pub record IsArrived (history : List TreeState) (a : Arrived) (found : List MemberFound) : Type 0 where
   pub read : AreArrivals history a.selection.now a.names.now a.arrivals.now found
   pub members : members_arrived a ≡ members_found found
 
 -- ---- the plan
 
--- the files of a change are planned, over these files where the tree shows its files
+-- the files of a change are planned, over these files if the tree is observable
 pub record IsPlanned (history : List TreeState) (wishes : ChangeWishes) (p : Planned)
     (found : List MemberFound) (files : Files) : Type 0 where
   pub arrived : IsArrived history p.arrived.now found
@@ -83,8 +82,8 @@ pub record IsPlanned (history : List TreeState) (wishes : ChangeWishes) (p : Pla
 
 -- ---- the database and world
 
--- the new database and world of a change: the text is that of the new world, and both have the
--- names of their files
+-- the new database and world of a change: the text is that of the new world, and both have the names of
+-- their files
 pub record AreRecordsOf (inputs : Inputs) (records : NewRecords) : Type 0 where
   pub world : records.world ≡ world_text inputs.root.new_world
   pub database_name : records.database_name ≡ Names.database_name

@@ -1,10 +1,10 @@
--- what the contract of `apk` says
+-- cited by the contract of `apk`
 pub mod Choice
 pub mod Selecting
 pub mod Wishes
 pub mod Changed
 pub mod ChangeRun
--- what only inner contracts and proofs use
+-- used by inner contracts and proofs only
 pub mod Chosen
 pub mod Runs
 pub mod SelectionSeen

@@ -1,5 +1,5 @@
--- A run by the packages that are found. Serves the contract of `change_members` in `src/making.rt`;
--- the rules stand in `docs/commands.md`, "What a change does with files".
+-- A run by the packages that are found. Serves the contract of `change_members` in `src/making.rt`; the
+-- rules are in `docs/commands.md`, "What a change does with files".
 use Rattle.std.specs.Prelude.{◌≡◌, ℕ, List, Option, Result, Ok}
 use Rattle.base_core.specs.Calls.{IfObservable}
 use Rattle.base_core.specs.Faults.{Counts}
@@ -14,7 +14,7 @@ use Rattle.package_changes.specs.Changes.{Replacement}
 use Rattle.path_clashes.specs.Clash.{NamePair}
 use Rattle.engine_core.specs.ChangeRun.{ComesTo}
 
--- a run of a change by these packages, where reads find them
+-- a run of a change by these packages, if reads find them
 pub record IsFoundRun (inputs : Inputs) (r : Replacement) (wishes : ChangeWishes)
     (found : List MemberFound) (old now : List TreeState) (before after : Counts)
     (result : Result (List ℕ) Refused) : Type 0 where
@@ -27,7 +27,7 @@ pub record IsFoundRun (inputs : Inputs) (r : Replacement) (wishes : ChangeWishes
   pub comes : ComesTo (Ok found) (change_with_members inputs r wishes clash files found)
       old now before after result
 
--- what a run comes to where reads find each package that comes, and no test of it fails
+-- the result of a run if reads find each added package, and no test of it fails
 abbrev pub IsMembersRun :
     Inputs → Replacement → ChangeWishes → Reads → List MemberFound → List TreeState
     → List TreeState → Counts → Counts → Result (List ℕ) Refused → Type 0

@@ -1,5 +1,5 @@
--- How it is told why there is no plan. Serves the contract of `refused_plan` in `src/planning.rt`;
--- the rules stand in `docs/commands.md`, "What a change does with files", the three tests.
+-- How a missing plan is reported. Serves the contract of `refused_plan` in `src/planning.rt`; the rules
+-- are in `docs/commands.md`, "What a change does with files", the three tests.
 use Rattle.std.specs.Prelude.{◌≡◌}
 use Rattle.change_inputs.specs.declared.root.Refused.{Refused}
 use Rattle.change_inputs.specs.declared.root.Refused.TheVariants as Commands
@@ -7,7 +7,7 @@ use Rattle.own_core.specs.declared.fault.PlanFault.{PlanFault}
 use Rattle.own_core.specs.declared.fault.PlanFault.TheVariants as Plans
 use Rattle.report_core.specs.declared.refusal.Refusal.TheVariants.{Owned, PathClash, Reserved}
 
--- the refusal that tells why there is no plan
+-- the refusal that reports why there is no plan
 abbrev pub IsRefusedFor : PlanFault → Refused → Type 0
 IsRefusedFor (Plans.Reserved path) refused = refused ≡ Commands.Refusal (Reserved path)
 IsRefusedFor (Plans.PathClash path other) refused =

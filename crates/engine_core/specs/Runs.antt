@@ -1,4 +1,4 @@
--- What the parts of a run of a change say, each by what it is given. Serves the contracts of
+-- What the steps of a run of a change promise, each by its inputs. Serves the contracts of
 -- `src/changing.rt`; the contract of the whole run is *IsChangeRun*.
 use Rattle.std.specs.Prelude.{◌≡◌, ℕ, List, Option, Result, OnOk, IfErr, IsErrOf}
 use Rattle.base_core.specs.Calls.{IfObservable}
@@ -19,7 +19,7 @@ use Rattle.engine_core.specs.Changed.{IsClashOfSelectedOver, Selected, change_of
 use Rattle.engine_core.specs.Choice.{IsChoiceFrom}
 use Rattle.engine_core.specs.Selecting.{pool_by}
 
--- a run by what is selected, or by the refusal in its place
+-- a run by what is selected, or by the refusal instead
 pub record IsSelectedRun (command : CommandLine) (selected : Result Selected Refusal)
     (old now : List TreeState) (before after : Counts)
     (result : Result (List ℕ) Refused) : Type 0 where
@@ -45,12 +45,13 @@ IsRunBy command inputs old now before after result =
     × IsSelectedRun command (selected_of_inputs command chosen inputs)
     old now before after result
 
--- what a call does to the counts of a tree that it may write
+-- the effect of a call on the counts of a tree that it may write
 pub record IsRunCounted {A : Type 0} (before after : Counts) (result : Result A Refused) : Type 0 where
   -- no count falls
   pub goes_on : GoesOn before after
-  -- the tree failed only where that has its cause
+  -- the tree is reported as failed only if that has its cause
   pub disk : IsErrOf result Disk → HasCause before after
-  -- an answer that is no fault of the tree raised neither faults nor wants
+  -- an answer that is no I/O error of the tree raised neither the count of faults nor that of calls
+  -- without memory
   pub kept : OnOk result (IsNoFault before after)
   pub others : IfErr result (λ refused. (refused ≡ Disk → ⊥) → IsNoFault before after)

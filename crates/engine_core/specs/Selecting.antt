@@ -1,4 +1,4 @@
--- The candidates of a command, and what a choice among them leads to. The rules stand in
+-- The candidates of a command, and the effect of a choice among them. The rules are in
 -- `docs/selection.md`, "What there is to choose from".
 use Rattle.std.specs.Prelude.{ℕ, List, Result}
 use Rattle.change_inputs.specs.Candidates.{root_pool}
@@ -21,8 +21,8 @@ pool_by command inputs = root_pool inputs (names_to_upgrade command.applet comma
 abbrev pub pool_for : CommandLine → Reads → Result SealedPool Refusal
 pool_for command read = and_then (inputs_of command read) (pool_by command)
 
--- what a choice does to the packages before: the chosen candidates take their place, and some names
--- are installed again
+-- the effect of a choice on the packages before: the chosen candidates replace them, and some names are
+-- reinstalled
 abbrev pub replacement_of_choice : List (List ℕ) → Inputs → SealedPool → List ℕ → Replacement
 replacement_of_choice again inputs pool trace = record {
   before = inputs.root.database.packages;

@@ -1,5 +1,5 @@
--- What a selection of the program stands for. Serves the contracts of `src/changing.rt` and
--- `src/making.rt`, of which a `Selection` is handed on.
+-- What a selection of the program means. Serves the contracts of `src/changing.rt` and `src/making.rt`,
+-- which pass a `Selection` on.
 use Rattle.std.specs.Prelude.{◌≡◌}
 use Rattle.change_inputs.specs.Inputs.{Inputs}
 use Rattle.change_inputs.specs.Seen.{inputs_seen}

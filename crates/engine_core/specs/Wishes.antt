@@ -1,5 +1,5 @@
--- What a command says of a change beside world. The rules stand in `docs/commands.md`,
--- "`add` and `del`" and "`upgrade` and `fix`".
+-- What a command asks of a change besides world. The rules are in `docs/commands.md`, "`add` and `del`"
+-- and "`upgrade` and `fix`".
 use Rattle.std.specs.Prelude.{ℕ, Bool, ◌||◌, if◌then◌else◌, List, [], ◌∷◌, map, Option, Some, None, Result, Err}
 use Rattle.change_inputs.specs.Inputs.{Inputs}
 use Rattle.change_outcome.specs.ChangeOutcome.{ChangeWishes}
@@ -17,23 +17,23 @@ use Rattle.report_core.specs.declared.refusal.Refusal.TheVariants.{NotInstalled}
 abbrev pub operand_texts : List Operand → List (List ℕ)
 operand_texts operands = map (λ o. o.text) operands
 
--- the names that were to go, whether they do or not: those that `del` takes out of world
+-- the names to be removed, whether they are or not: those that `del` takes out of world
 abbrev pub names_to_go : Applet → List Operand → List (List ℕ)
 names_to_go Del operands = operand_texts operands
 names_to_go applet operands = []
 
--- the names that `upgrade` upgrades: those of its operands, or all where it has none
+-- the names that `upgrade` upgrades: those of its operands, or all if it has none
 abbrev pub names_to_upgrade : Applet → List Operand → UpgradedNames
 names_to_upgrade Upgrade [] = all_names
 names_to_upgrade Upgrade (o ∷ operands) = listed_names (operand_texts (o ∷ operands))
 names_to_upgrade applet operands = no_names
 
--- the names that `fix` installs again: those of its operands
+-- the names that `fix` reinstalls: those of its operands
 abbrev pub names_to_reinstall : Applet → List Operand → List (List ℕ)
 names_to_reinstall Fix operands = operand_texts operands
 names_to_reinstall applet operands = []
 
--- what a command wishes beside its world
+-- what a command asks for besides its world
 abbrev pub wishes_of : CommandLine → ChangeWishes
 wishes_of command = record {
   purge = command.flags.purge;
@@ -55,15 +55,15 @@ first_unknown is_known [] = None
 first_unknown is_known (o ∷ operands) =
     if is_known o.text then first_unknown is_known operands else Some o.place
 
--- the word that is refused as not installed: `del` is refused a name that is neither in world nor
--- installed; `upgrade` and `fix` are refused one that is not installed
+-- the word that is refused as not installed: for `del` a name that is neither in world nor installed,
+-- for `upgrade` and `fix` one that is not installed
 abbrev pub unknown_place : Applet → Inputs → List Operand → Option ℕ
 unknown_place Del inputs operands = first_unknown (is_known_name inputs) operands
 unknown_place Upgrade inputs operands = first_unknown (is_installed_name inputs) operands
 unknown_place Fix inputs operands = first_unknown (is_installed_name inputs) operands
 unknown_place applet inputs operands = None
 
--- what comes next, unless an operand that names no known package refuses the command
+-- the next result, unless an operand that names no known package refuses the command
 abbrev pub unless_place : {A : Type 0} → Option ℕ → Result A Refusal → Result A Refusal
 unless_place None next = next
 unless_place (Some place) next = Err (NotInstalled place)

@@ -1,6 +1,5 @@
--- What a change writes, and where it comes from. Serves the contracts of `src/writes.rt`; the rules
--- stand in `docs/commands.md`, "What a change does with files" and "`add` and `del`", what is
--- written.
+-- What a change writes, and its source. Serves the contracts of `src/writes.rt`; the rules are in
+-- `docs/commands.md`, "What a change does with files" and "`add` and `del`", what is written.
 use Rattle.std.specs.Prelude.{◌≡◌, ◌⊎◌, ℕ, true, false, List, [], ◌∷◌, ◌++◌, Option, Some, None, Contains, is_some, option_and_then, slice_get}
 use Rattle.std.specs.Borrow.{Bor}
 use Rattle.arrivals.specs.Arrivals.{arrivals_seen, package_in}
@@ -29,7 +28,7 @@ abbrev pub entry_of_write : List Member → FileWrite → Plain
 entry_of_write members w =
     listed_file_at (folders_if_any (slice_get members w.member)) w.folder w.file
 
--- the packages that were read for the members that come, by their places
+-- the packages that were read for the added members, by their places
 abbrev pub Packages : Type 0
 Packages = ℕ → Option TestedPackage
 
@@ -40,7 +39,7 @@ pub record IsFileOfWrite (packages : Packages) (w : FileWrite) (f : PackagedFile
   pub folder : f.folder ≡ w.folder
   pub file : f.file ≡ w.file
 
--- where the bytes of a write come from: a link's text, or the file in the package
+-- the source of a write's bytes: a link's text, or the file in the package
 abbrev pub IsSourceOfWrite : List Member → Packages → FileWrite → Source → Type 0
 IsSourceOfWrite members packages w (Bytes own) = ⊥
 IsSourceOfWrite members packages w (Link target) =
@@ -49,7 +48,7 @@ IsSourceOfWrite members packages w (Link target) =
 IsSourceOfWrite members packages w (File f) =
     (has_target (entry_of_write members w) ≡ false) × IsFileOfWrite packages w f
 
--- what is staged under a name is the file that the plan writes there
+-- the staged file of a name is the one that the plan writes there
 pub record IsFileWrite (members : List Member) (packages : Packages) (planned : List FileWrite)
     (write : StagedWrite) : Type 0 where
   pub file : FileWrite
@@ -65,23 +64,22 @@ HasBytes bytes (Bytes own) = own.now ≡ bytes
 HasBytes bytes (Link target) = ⊥
 HasBytes bytes (File f) = ⊥
 
--- what is staged under this name are these bytes
+-- the staged file of this name has these bytes
 pub record IsRecordWrite (name bytes : List ℕ) (write : StagedWrite) : Type 0 where
   pub named : write_name write ≡ name
   pub source : HasBytes bytes write.source
 
--- a write is that of a record, whose bytes are given where it is written; where none are given it
--- stays
+-- a write is that of a record, which has bytes if it is written; without bytes it is unchanged
 abbrev pub IsRecordOf : List ℕ → Option (Bor (List ℕ)) → StagedWrite → Type 0
 IsRecordOf name None write = ⊥
 IsRecordOf name (Some bytes) write = IsRecordWrite name bytes.now write
 
--- the writes of a record, the database or world: one where it changes, none where it stays
+-- the writes of a record, the database or world: one if it changes, none if it is unchanged
 abbrev pub record_writes : Bor (List ℕ) → Option (Bor (List ℕ)) → List StagedWrite
 record_writes name None = []
 record_writes name (Some bytes) = record { name = name; source = Bytes bytes } ∷ []
 
--- the names of the database and of world, where they are written
+-- the names of the database and of world, if they are written
 abbrev pub record_names : RecordWrites → List (List ℕ)
 record_names r =
     name_if_needed (is_some r.database) r.database_name.now
@@ -103,7 +101,7 @@ IsWriteBy members packages planned r write =
 abbrev pub package_at : Arrivals → ℕ → Option TestedPackage
 package_at arrivals place = option_and_then package_in (slice_get (arrivals_seen arrivals) place)
 
--- the package of each member that comes was read
+-- the package of each added member was read
 abbrev pub HasPackages : List Member → Arrivals → Type 0
 HasPackages members arrivals = (place : ℕ) (m : Member) → slice_get members place ≡ Some m
     → is_coming m ≡ true → is_some (package_at arrivals place) ≡ true

@@ -1,6 +1,5 @@
-//! A change that is made ready is carried through. The rules stand in `docs/commands.md`,
-//! "`add` and `del`", what is written and refused, and in `docs/crash-safety.md`,
-//! "A change of several files".
+//! Carries a prepared change through. The rules are in `docs/commands.md`, "`add` and `del`", what
+//! is written and refused, and in `docs/crash-safety.md`, "A change of several files".
 ghost use Rattle.base_core.specs.Files.{Files};
 ghost use Rattle.change_inputs.specs.Chains.{and_then};
 ghost use Rattle.change_outcome.specs.ChangeOutcome.{file_change, touched_paths, unless_too_large};
@@ -28,8 +27,8 @@ use piece_reader::Piece;
 use stage_files::{StageFault, carry_out};
 use std::alloc::Global;
 
-/// Carries a change through, the triggers of which are tested. All memory is asked for first, and
-/// where nothing is to be done, no call is made on the tree.
+/// Carries a change through whose triggers are tested. All memory is allocated first. If there is
+/// nothing to do, the tree is not called.
 fn carry_change<T: Tree>(
     alloc: Global,
     command: &Command,
@@ -41,7 +40,7 @@ fn carry_change<T: Tree>(
     requires plan { HasPlan (T.history tree.old) (wishes_of command.now) planned.now }
     // These records are those of what was read.
     requires records { AreRecordsOf (inputs_arrived planned.now.arrived.now) records.now }
-    // The run comes to the change with these records, or to the refusal that its intent is too
+    // The run ends in the change with these records, or in the refusal that its intent is too
     // large.
     ensures comes { (found : List MemberFound) (files : Files)
         → IsPlanned (T.history tree.old) (wishes_of command.now) planned.now found files
@@ -52,7 +51,7 @@ fn carry_change<T: Tree>(
     // How the tree's counts explain the answer.
     ensures counts { IsRunCounted (T.counts tree.old) (T.counts tree.new) result }
 {
-    // A law that the proof needs; it computes nothing.
+    // A law that the proof needs; it has no effect at run time.
     a_package_that_was_read_is_that_of_its_file();
     let Planned { arrived, plan } = *planned;
     let loaded = arrived.selection.loaded;
@@ -66,7 +65,7 @@ fn carry_change<T: Tree>(
     )?;
     let removals = removals_of(alloc, plan.removals(), loaded.is_from_text())?;
     let names = names_of(alloc, &writes)?;
-    // Two laws: what a list of names holds are names, so the intent of both lists is one.
+    // Two laws: the elements of a list of names are names, so both lists give one intent.
     removals.are_names();
     names.are_names();
     let report = report_of(alloc, command, planned)?;
@@ -74,7 +73,7 @@ fn carry_change<T: Tree>(
     if is_idle(&removals, &names) {
         return Ok(report);
     }
-    // A law: none of the names is the intent's or below the stage.
+    // A law: none of the names is the intent's or below the staging area.
     stage.names_are_free();
     let mut piece = Piece::new();
     match carry_out(&mut stage, tree, &writes, &mut piece) {
@@ -90,8 +89,8 @@ fn carry_change<T: Tree>(
 ///
 /// # Errors
 ///
-/// `TriggerNeeded`, and `ResultTooLarge` of the database and then of the intent; `PackageBad` where
-/// a package is not any more what it was when it was tested; `Disk`, or `Memory`.
+/// `TriggerNeeded`, and `ResultTooLarge` of the database and then of the intent; `PackageBad` if a
+/// package is no longer what was tested; `Disk`, or `Memory`.
 pub(crate) fn finish_change<T: Tree>(
     alloc: Global,
     command: &Command,
@@ -99,7 +98,7 @@ pub(crate) fn finish_change<T: Tree>(
     tree: &mut T,
 ) -> Result<Text, Refused>
     requires { HasPlan (T.history tree.old) (wishes_of command.now) planned.now }
-    // The run comes to the change, unless a trigger is due or a limit of the writer is passed.
+    // The run ends in the change, unless a trigger is due or a limit of the writer is exceeded.
     ensures comes { (found : List MemberFound) (files : Files)
         → IsPlanned (T.history tree.old) (wishes_of command.now) planned.now found files
         → ComesTo (Ok found) (and_then (unless_trigger (wishes_of command.now).no_scripts

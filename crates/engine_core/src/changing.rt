@@ -1,6 +1,6 @@
-//! A change of what is installed, from the words to its end, or only simulated. The rules stand in
-//! `docs/commands.md`, "`add` and `del`" and "`upgrade` and `fix`": the refusals, in their order,
-//! and the report.
+//! A change of what is installed, from its arguments to its end, or only simulated. The rules are
+//! in `docs/commands.md`, "`add` and `del`" and "`upgrade` and `fix`": the refusals, in their
+//! order, and the report.
 
 ghost use Rattle.change_inputs.specs.Seen.{inputs_seen};
 ghost use Rattle.engine_core.specs.ChangeRun.{IsChangeRun};
@@ -27,26 +27,26 @@ use pool_core::Sealed;
 use report_core::Refusal;
 use std::alloc::{AllocError, Global};
 
-/// Changes what is installed, as `add`, `del`, `upgrade` or `fix` asks for it, and reports it; with
-/// `--simulate` it only reports what would change. All is read, tested and made ready first, then
-/// the new files are staged, and one step lets all of them count. All memory is asked for before
+/// Changes what is installed, as `add`, `del`, `upgrade` or `fix` asks for, and reports it; with
+/// `--simulate` it only reports what would change. Everything is read, tested and prepared first.
+/// Then the new files are staged, and one step commits all of them. All memory is allocated before
 /// the first file is staged.
 ///
 /// # Errors
 ///
-/// The refusals of what is read, `TooMany`, `NotInstalled` of all but `add`, and `Unsatisfied`;
-/// then, unless the change is only simulated, those of the packages that come, `Reserved`,
-/// `PathClash`, `Owned`, `TriggerNeeded`, and `ResultTooLarge` of the database and then of the
-/// intent. `Disk` where the tree failed, and `Memory`.
+/// The refusals of what is read, `TooMany`, `NotInstalled` of all except `add`, and `Unsatisfied`;
+/// then, unless the change is only simulated, those of the added packages, `Reserved`, `PathClash`,
+/// `Owned`, `TriggerNeeded`, and `ResultTooLarge` of the database and then of the intent. `Disk` if
+/// the tree failed, and `Memory`.
 pub fn change<T: Tree>(alloc: Global, command: &Command, tree: &mut T) -> Result<Text, Refused>
-    // What is answered, and what is done to the tree, moment by moment.
+    // The answer, and the effect on the tree, moment by moment.
     ensures run { IsChangeRun command.now (T.history tree.old) (T.history tree.new)
         (T.counts tree.old) (T.counts tree.new) result }
-    // How the tree's counts explain the answer: no count falls, a fault has its cause, and any
+    // How the tree's counts explain the answer: no count falls, an I/O error has its cause, and any
     // other answer hides none.
     ensures counts { IsRunCounted (T.counts tree.old) (T.counts tree.new) result }
 {
-    // Laws that the proof needs; they compute nothing.
+    // Laws that the proof needs; they have no effect at run time.
     a_choice_exists();
     a_change_has_a_first_clash_or_none();
     inputs_rest_on_their_own_reads();
@@ -56,7 +56,7 @@ pub fn change<T: Tree>(alloc: Global, command: &Command, tree: &mut T) -> Result
     change_loaded(alloc, command, &loaded, tree)
 }
 
-// Goes on with what was read of the root: makes the candidates.
+// Continues with what was read of the root: makes the candidates.
 fn change_loaded<T: Tree>(
     alloc: Global,
     command: &Command,
@@ -68,7 +68,7 @@ fn change_loaded<T: Tree>(
         (T.history tree.new) (T.counts tree.old) (T.counts tree.new) result }
     ensures counts { IsRunCounted (T.counts tree.old) (T.counts tree.new) result }
 {
-    // Laws that the proof needs; they compute nothing.
+    // Laws that the proof needs; they have no effect at run time.
     a_choice_exists();
     a_change_has_a_first_clash_or_none();
     let again = names_to_reinstall(alloc, command)?;
@@ -79,7 +79,7 @@ fn change_loaded<T: Tree>(
     }
 }
 
-// Goes on with the candidates: refuses an operand that is not installed, and chooses.
+// Continues with the candidates: refuses an operand that is not installed, and chooses.
 fn change_in_pool<'a, T: Tree>(
     alloc: Global,
     command: &Command,
@@ -91,14 +91,14 @@ fn change_in_pool<'a, T: Tree>(
     // The candidates are those of the command and of what was read.
     requires pool { pool_by command.now (inputs_seen loaded.now) ≡ Ok pool.now }
     requires again { again.now ≡ names_to_reinstall command.now.applet command.now.operands }
-    // The database and world still stand as they were read, where the tree shows its files.
+    // On an observable tree the database and world are still as they were read.
     requires root { IsRootRead (T.history tree.old) (inputs_seen loaded.now) }
     // The run is one by what was read and by whatever is chosen.
     ensures run { IsRunBy command.now (inputs_seen loaded.now) (T.history tree.old)
         (T.history tree.new) (T.counts tree.old) (T.counts tree.new) result }
     ensures counts { IsRunCounted (T.counts tree.old) (T.counts tree.new) result }
 {
-    // Laws that the proof needs; they compute nothing.
+    // Laws that the proof needs; they have no effect at run time.
     a_choice_exists();
     a_change_has_a_first_clash_or_none();
     let db = loaded.db(alloc)?;
@@ -116,8 +116,8 @@ fn change_in_pool<'a, T: Tree>(
     change_selected(alloc, command, &selection, tree)
 }
 
-// Goes on with the candidates that are selected: reports with `--simulate`, and else makes the
-// change.
+// Continues with the selected candidates: reports with `--simulate`, and makes the change
+// otherwise.
 fn change_selected<T: Tree>(
     alloc: Global,
     command: &Command,
@@ -134,7 +134,7 @@ fn change_selected<T: Tree>(
         (T.history tree.old) (T.history tree.new) (T.counts tree.old) (T.counts tree.new) result }
     ensures counts { IsRunCounted (T.counts tree.old) (T.counts tree.new) result }
 {
-    // A law that the proof needs; it computes nothing.
+    // A law that the proof needs; it has no effect at run time.
     a_change_has_a_first_clash_or_none();
     if command.flags().simulate {
         let report = simulate(alloc, command, selection)?;

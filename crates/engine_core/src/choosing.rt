@@ -1,6 +1,5 @@
-//! The candidates that take the place of the packages before, and how they are chosen. Laws:
-//! something is chosen, and just one thing. The rules stand in `docs/selection.md`,
-//! "Which selection is taken".
+//! The candidates that replace the packages before, and how they are chosen. Laws: there is always
+//! exactly one choice. The rules are in `docs/selection.md`, "Which selection is taken".
 
 ghost use Rattle.change_inputs.specs.Seen.{inputs_seen};
 ghost use Rattle.engine_core.specs.Chosen.{IsChosen};
@@ -17,11 +16,11 @@ use report_core::Refusal;
 use solve_core::{Trace, solve, the_first_selection_is_unique};
 use std::alloc::{AllocError, Global};
 
-/// The first preferred selection under the new world.
+/// The first preferred selection (the preferred solution) under the new world.
 ///
 /// # Errors
 ///
-/// `Unsatisfied` where no selection satisfies the new world; or `Memory`.
+/// `Unsatisfied` if no selection satisfies the new world; or `Memory`.
 pub(crate) fn choose<'a>(
     alloc: Global,
     loaded: &'a Loaded,
@@ -30,7 +29,7 @@ pub(crate) fn choose<'a>(
     requires { pool.now.world ≡ (inputs_seen loaded.now).root.new_world }
     ensures { (chosen : Option (List ℕ)) × IsChoice pool.now chosen × IsChosen chosen result }
 {
-    // A law that the proof needs; it computes nothing.
+    // A law that the proof needs; it has no effect at run time.
     a_choice_exists();
     match solve(alloc, pool, loaded.new_world()) {
         Ok(Some(trace)) => Ok(trace),
@@ -39,7 +38,7 @@ pub(crate) fn choose<'a>(
     }
 }
 
-/// The candidates that take the place of the packages before, with what they were chosen from.
+/// The candidates that replace the packages before, with what they were chosen from.
 #[derive(Clone, Copy)]
 pub(crate) struct Selection<'r, 'a> {
     /// What was read of the root.
@@ -50,11 +49,11 @@ pub(crate) struct Selection<'r, 'a> {
     pub pool: &'r Sealed<'a>,
     /// The places of the chosen candidates, in the order in which they were chosen.
     pub trace: &'r Trace,
-    /// The names that are to be installed again, which `fix` asks for.
+    /// The names to be reinstalled, which `fix` asks for.
     pub again: &'r Words,
 }
 
-/// Something is chosen: the first preferred selection, or none.
+/// There is always a choice: the first preferred selection, or none.
 pub fn a_choice_exists()
     ensures { (pool : Result SealedPool Refusal) →
         (chosen : Option (List ℕ)) × IsChoiceFrom pool chosen }
@@ -62,7 +61,7 @@ pub fn a_choice_exists()
     options_are_the_best_first();
 }
 
-/// Just one thing is chosen, so a choice depends on the candidates alone.
+/// There is only one choice, so it depends on the candidates alone.
 pub fn a_choice_is_unique()
     ensures { (pool : Result SealedPool Refusal) (a b : Option (List ℕ)) →
         IsChoiceFrom pool a → IsChoiceFrom pool b → a ≡ b }

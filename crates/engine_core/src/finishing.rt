@@ -1,7 +1,6 @@
-//! What a change needs behind the plan of its files: the database and world, the report, and what
-//! is refused last. The rules stand in `docs/commands.md`, "`add` and `del`" (what is written,
-//! reported and refused), and of the database's bytes in `docs/formats.md`,
-//! "The database after a change".
+//! What a change needs after the plan of its files: the database and world, the report, and the
+//! last refusals. The rules are in `docs/commands.md`, "`add` and `del`" (what is written, reported
+//! and refused), and for the database's bytes in `docs/formats.md`, "The database after a change".
 ghost use Rattle.base_core.specs.Files.{Files};
 ghost use Rattle.base_core.specs.Tree.{TreeState};
 ghost use Rattle.change_inputs.specs.Answers.{Agrees};
@@ -47,7 +46,7 @@ pub(crate) struct NewRecords {
 ///
 /// # Errors
 ///
-/// `ResultTooLarge` where the database passes a limit of the writer, or `Memory`.
+/// `ResultTooLarge` if the database exceeds a limit of the writer, or `Memory`.
 pub(crate) fn new_records(
     alloc: Global,
     planned: &Planned<'_, '_, '_, '_>,
@@ -69,7 +68,7 @@ pub(crate) fn new_records(
     })
 }
 
-/// The bytes of a file, if they differ from those that stand there and so are to be written.
+/// The bytes of a file, if they differ from its old ones and so are to be written.
 fn bytes_if(is_other: bool, bytes: &[u8]) -> Option<&[u8]>
     ensures { option_copied result ≡ bytes_if is_other bytes.now }
 {
@@ -79,8 +78,8 @@ fn bytes_if(is_other: bool, bytes: &[u8]) -> Option<&[u8]>
     Some(bytes)
 }
 
-/// What of the database and world is written: the database where its file is absent or has other
-/// bytes, and world where it differs.
+/// What of the database and world is written: the database if its file is absent or has other
+/// bytes, and world if it differs.
 pub(crate) fn record_writes_of<'c>(loaded: &Loaded, records: &'c NewRecords) -> RecordWrites<'c>
     ensures { AreRecordWrites (inputs_seen loaded.now) records.now result }
 {
@@ -94,7 +93,7 @@ pub(crate) fn record_writes_of<'c>(loaded: &Loaded, records: &'c NewRecords) -> 
     }
 }
 
-/// The report of a change that is made: what becomes of each package, of the names that were to go,
+/// The report of a change that is made: what becomes of each package, of the names to be removed,
 /// of configuration and triggers, and the total.
 pub(crate) fn report_of(
     alloc: Global,
@@ -107,7 +106,7 @@ pub(crate) fn report_of(
         (wishes_of command.now) (file_change (inputs_arrived planned.now.arrived.now)
         (wishes_of command.now) found) files) }
 {
-    // A law that the proof needs; it computes nothing.
+    // A law that the proof needs; it has no effect at run time.
     places_lead_to_packages_and_candidates();
     let arrived = planned.arrived;
     let selection = arrived.selection;
@@ -139,7 +138,7 @@ pub(crate) fn is_idle(removals: &Names, writes: &Names) -> bool
     writes.is_empty()
 }
 
-/// The refusal of a package, a file of which does not have its digest any more.
+/// The refusal of a package if one of its files no longer has its digest.
 fn package_bad(
     alloc: Global,
     members: &Members<'_>,
@@ -159,8 +158,8 @@ fn package_bad(
     })
 }
 
-/// How a change ends where a package that was tested is bad when it is read once more:
-/// `package_bad`, or want of memory.
+/// How a change ends if a tested package is bad when it is read once more: `package_bad`, or out of
+/// memory.
 pub(crate) fn refused_package(
     alloc: Global,
     members: &Members<'_>,

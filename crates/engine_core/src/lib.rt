@@ -1,10 +1,10 @@
-//! A change of what is installed: `add`, `del`, `upgrade` and `fix`, from their words to their
+//! A change of what is installed: `add`, `del`, `upgrade` and `fix`, from their arguments to their
 //! end.
 //!
-//! The contract of `change` cites `ChangeRun` of `specs/` (what a run answers, and what it makes of
-//! the tree), `Changed` (what a command comes to, by what is read and by what is chosen) and
-//! `Choice` (which candidates are chosen). `laws` says that there is one choice. Each command's
-//! rules stand in `docs/commands.md`, under its name.
+//! The contract of `change` cites these modules of `specs/`: `ChangeRun` (the answer of a run, and
+//! its effect on the tree), `Changed` (the result of a command, by what is read and by what is
+//! chosen) and `Choice` (which candidates are chosen). `laws` says that there is exactly one
+//! choice. Each command's rules are in `docs/commands.md`, under its name.
 #![tactic(auto)]
 
 mod carrying;

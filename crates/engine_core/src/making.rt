@@ -1,6 +1,6 @@
-//! A change is made: its packages are read, its files are planned, and it is carried through. The
-//! rules stand in `docs/commands.md`, "What a change does with files", and the order of the
-//! refusals in "`add` and `del`".
+//! Makes a change: reads its packages, plans its files, and carries it through. The rules are in
+//! `docs/commands.md`, "What a change does with files", and the order of the refusals in "`add` and
+//! `del`".
 ghost use Rattle.base_core.specs.Tree.{TreeState};
 ghost use Rattle.change_inputs.specs.Inputs.{Inputs};
 ghost use Rattle.change_outcome.specs.MembersAfter.{MemberFound};
@@ -29,7 +29,7 @@ use own_core::plan;
 use package_changes::PlacedNames;
 use std::alloc::Global;
 
-/// Makes the change of a selection: reads the packages that come, and goes on with them.
+/// Makes the change of a selection: reads the added packages, and continues with them.
 ///
 /// # Errors
 ///
@@ -52,7 +52,7 @@ pub(crate) fn make_change<T: Tree>(
         (T.history tree.old) (T.history tree.new) (T.counts tree.old) (T.counts tree.new) result }
     ensures counts { IsRunCounted (T.counts tree.old) (T.counts tree.new) result }
 {
-    // A law that the proof needs; it computes nothing.
+    // A law that the proof needs; it has no effect at run time.
     a_change_has_a_first_clash_or_none();
     let Selection {
         db,
@@ -74,7 +74,7 @@ pub(crate) fn make_change<T: Tree>(
     change_members(alloc, command, selection, &names, &arrivals, tree)
 }
 
-/// Goes on with the packages that were read: sets them beside those that stay, as the members after
+/// Continues with the packages that were read: joins them with the kept ones, as the members after
 /// the change.
 fn change_members<'a, 'm, T: Tree>(
     alloc: Global,
@@ -84,13 +84,13 @@ fn change_members<'a, 'm, T: Tree>(
     arrivals: &'m Arrivals,
     tree: &mut T,
 ) -> Result<Text, Refused>
-    // The packages that come and those that stay may stand in one database.
+    // One database can list both the added packages and the kept ones.
     requires members { CanBeMembers (packages_of selection.now.db.now)
         (arrivals_seen arrivals.now) }
     // They are those that reads find.
     requires read { (found : List MemberFound)
         × AreArrivals (T.history tree.old) selection.now names.now arrivals.now found }
-    // Where reads find these packages, the run is the change with them.
+    // If reads find these packages, the run is the change with them.
     ensures run { (found : List MemberFound) (read : Reads)
         → AreArrivals (T.history tree.old) selection.entry.now names.entry.now arrivals.entry.now
         found
@@ -99,7 +99,7 @@ fn change_members<'a, 'm, T: Tree>(
         (T.history tree.old) (T.history tree.new) (T.counts tree.old) (T.counts tree.new) result }
     ensures counts { IsRunCounted (T.counts tree.old) (T.counts tree.new) result }
 {
-    // Laws that the proof needs; they compute nothing.
+    // Laws that the proof needs; they have no effect at run time.
     a_change_has_a_first_clash_or_none();
     packages_that_were_read_are_those_found();
     let members = members_of_change(alloc, selection.db, arrivals)?;
@@ -112,16 +112,16 @@ fn change_members<'a, 'm, T: Tree>(
     plan_change(alloc, command, &arrived, tree)
 }
 
-/// Goes on with the members: plans the files of the change, or refuses it.
+/// Continues with the members: plans the files of the change, or refuses it.
 fn plan_change<T: Tree>(
     alloc: Global,
     command: &Command,
     arrived: &Arrived<'_, '_, '_, '_>,
     tree: &mut T,
 ) -> Result<Text, Refused>
-    // The packages that come and those that stay are those that reads find.
+    // The added and kept packages are those that reads find.
     requires { (found : List MemberFound) × IsArrived (T.history tree.old) arrived.now found }
-    // Where reads find these packages, the run is the change with them.
+    // If reads find these packages, the run is the change with them.
     ensures run { (found : List MemberFound) (read : Reads)
         → IsArrived (T.history tree.old) arrived.now found
         → IsMembersRun (inputs_arrived arrived.now) (replacement_arrived arrived.now)
@@ -129,7 +129,7 @@ fn plan_change<T: Tree>(
         (T.counts tree.old) (T.counts tree.new) result }
     ensures counts { IsRunCounted (T.counts tree.old) (T.counts tree.new) result }
 {
-    // Laws that the proof needs; they compute nothing.
+    // Laws that the proof needs; they have no effect at run time.
     a_change_has_a_first_clash_or_none();
     counts_of_calls_in_a_row_join();
     let purge = command.flags().purge;

@@ -1,6 +1,6 @@
 //! The packages after a change, and the plan of its files, by which its triggers are tested. The
-//! rules stand in `docs/commands.md`, "What a change does with files", and of triggers in
-//! "`add` and `del`", which triggers are due.
+//! rules are in `docs/commands.md`, "What a change does with files", and for triggers in "`add` and
+//! `del`", which triggers are due.
 
 ghost use Rattle.change_inputs.specs.Answers.{Agrees};
 ghost use Rattle.change_outcome.specs.ChangeOutcome.{name_at_place};
@@ -21,7 +21,7 @@ use package_changes::PlacedNames;
 use report_core::Refusal;
 use std::alloc::{AllocError, Global};
 
-/// Why a change is refused whose files cannot be planned.
+/// Why a change is refused if its files cannot be planned.
 pub(crate) fn refused_plan(fault: PlanFault) -> Refused
     ensures { IsRefusedFor fault result }
 {
@@ -44,7 +44,7 @@ pub(crate) fn refused_plan(fault: PlanFault) -> Refused
     }
 }
 
-/// Tests that no trigger is due, or that there is leave not to run it (`--no-scripts`).
+/// Tests that no trigger is due, or that scripts may be skipped (`--no-scripts`).
 ///
 /// # Errors
 ///
@@ -87,7 +87,7 @@ pub(crate) struct Arrived<'r, 'a, 'm, 'x> {
     pub selection: &'r Selection<'r, 'a>,
     /// The names of the packages before and of the candidates, each with its place.
     pub names: &'r PlacedNames<'a>,
-    /// The packages that come, read and tested, among those that stay.
+    /// The added packages, read and tested, among the kept ones.
     pub arrivals: &'m Arrivals,
     /// The packages after the change, as the database is to list them.
     pub members: &'r Members<'x>,
@@ -98,6 +98,6 @@ pub(crate) struct Arrived<'r, 'a, 'm, 'x> {
 pub(crate) struct Planned<'r, 'a, 'm, 'x> {
     /// The packages after the change.
     pub arrived: &'r Arrived<'r, 'a, 'm, 'x>,
-    /// What the change removes, writes, lays beside and keeps.
+    /// What the change removes, writes, writes beside an old file, and keeps.
     pub plan: &'m FilePlan,
 }

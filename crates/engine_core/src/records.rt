@@ -1,4 +1,4 @@
-//! The database after a change, and the stage of its files. The rules stand in `docs/formats.md`,
+//! The database after a change, and the stage of its files. The rules are in `docs/formats.md`,
 //! "The database after a change", and in `docs/crash-safety.md`, "A change of several files"; the
 //! limits in `docs/formats.md`, "Canonical layout".
 ghost use Rattle.adb_write.specs.Canonical.{overflow_of};
@@ -26,7 +26,7 @@ use std::alloc::Global;
 ///
 /// # Errors
 ///
-/// `ResultTooLarge` where the database passes a limit of the writer, or `Memory`.
+/// `ResultTooLarge` if the database exceeds a limit of the writer, or `Memory`.
 pub(crate) fn new_database(
     alloc: Global,
     members: &Members<'_>,
@@ -54,11 +54,12 @@ pub(crate) fn is_other_file(found: Option<&[u8]>, bytes: &[u8]) -> bool
     }
 }
 
-/// Begins the stage of a change: makes its intent in memory. The tree is not touched.
+/// Begins the stage of a change: makes its intent (the journal entry) in memory. The tree is not
+/// called.
 ///
 /// # Errors
 ///
-/// `ResultTooLarge` where the intent passes a limit of the writer, or `Memory`.
+/// `ResultTooLarge` if the intent exceeds a limit of the writer, or `Memory`.
 pub(crate) fn begin_stage(alloc: Global, removals: &Names, writes: &Names) -> Result<Stage, Refused>
     requires { AreChangeNames (removals.now ++ writes.now) }
     ensures stage { IfOk result (λ stage. stage ≡ new_stage removals.now writes.now) }

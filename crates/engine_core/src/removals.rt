@@ -1,5 +1,5 @@
-//! What a change removes. The rules stand in `docs/commands.md`, "What a change does with files",
-//! and of the text database in "A root of version 2".
+//! What a change removes. The rules are in `docs/commands.md`, "What a change does with files", and
+//! for the text database in "A root of version 2".
 ghost use Rattle.change_files.specs.PlanLists.{names_in_order};
 ghost use Rattle.change_outcome.specs.ChangeOutcome.{name_if_needed};
 ghost use Rattle.journal_intent.specs.FreeNames.{AreOnce};
@@ -13,7 +13,7 @@ use root_names::text_database_name;
 use std::alloc::{AllocError, Global};
 
 /// The names that a change removes, in byte order: those of its plan, and that of a text database
-/// that is taken over.
+/// that is converted.
 pub(crate) fn removals_of(
     alloc: Global,
     planned: &Names,
@@ -33,7 +33,7 @@ pub(crate) fn removals_of(
     copies_of(alloc, &names)
 }
 
-/// Adds each of some names at the end.
+/// Appends each of some names.
 fn push_each<'a>(names: &mut Vec<&'a Name>, more: &'a Names) -> Result<(), AllocError>
     ensures { OnOk result (map (λ n. n.now) names.new.items
         ≡ map (λ n. n.now) names.old.items ++ more.entry.now) }

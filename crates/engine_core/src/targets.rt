@@ -1,6 +1,5 @@
-//! What a link of a package leads to. The rule stands in `docs/formats.md`, "Tests of a container",
-//! "The texts", field 406: a target begins with the bytes `00 a0`, which say that it is a link's
-//! text.
+//! The target of a package's link. The rule is in `docs/formats.md`, "Tests of a container", "The
+//! texts", field 406: a target begins with the bytes `00 a0`, which mark a link.
 ghost use Rattle.adb_fields.specs.ListValue.{list_value};
 ghost use Rattle.adb_schema.specs.Views.{package_value};
 ghost use Rattle.adb_view.specs.FieldIndexes.{PACKAGE_PATHS};
@@ -17,8 +16,8 @@ use adb_schema::{DirInfo, FileInfo, List, PackageView};
 use db_core::Members;
 use own_core::Write;
 
-/// The target of the file that a write is of, behind a number of two bytes; empty where the file is
-/// no link.
+/// The target of the file that a write is of, after a number of two bytes; empty if the file is no
+/// link.
 pub(crate) fn target_of<'c>(members: &Members<'c>, write: &Write) -> &'c [u8]
     requires { IsOfComingFile (members_of members.now) (write_seen write.now) }
     ensures { result.now ≡ file_target (entry_of_write (members_of members.now)

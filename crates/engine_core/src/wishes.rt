@@ -1,5 +1,5 @@
-//! What a command says of a change beside world. The rules stand in `docs/commands.md`,
-//! "`add` and `del`" and "`upgrade` and `fix`".
+//! What a command asks of a change besides world. The rules are in `docs/commands.md`, "`add` and
+//! `del`" and "`upgrade` and `fix`".
 ghost use Rattle.change_inputs.specs.Seen.{inputs_seen};
 ghost use Rattle.db_core.specs.Seen.{packages_of};
 ghost use Rattle.dep_core.specs.World.{has_name};
@@ -17,15 +17,15 @@ use dep_core::World;
 use pool_core::Upgrade;
 use std::alloc::{AllocError, Global};
 
-/// The most texts that a list of words holds (`docs/commands.md`, "Answers and statuses"):
-/// 2^32 - 2.
+/// The most texts that a list of words holds (`docs/commands.md`, "Answers and statuses"): 2^32 -
+/// 2.
 const MOST_NAMES: usize = 4294967294;
 
-/// The names that were to go, whether they do or not: those that `del` takes out of world.
+/// The names to be removed, whether they are or not: those that `del` takes out of world.
 ///
 /// # Errors
 ///
-/// Want of memory, also where they are more than a list of words holds.
+/// Out of memory, also if there are more than a list of words holds.
 pub(crate) fn names_to_go(alloc: Global, command: &Command) -> Result<Words, AllocError>
     ensures { IfOk result
         (λ names. names ≡ names_to_go command.now.applet command.now.operands) }
@@ -36,11 +36,11 @@ pub(crate) fn names_to_go(alloc: Global, command: &Command) -> Result<Words, All
     }
 }
 
-/// The names that `fix` installs again: those of its operands.
+/// The names that `fix` reinstalls: those of its operands.
 ///
 /// # Errors
 ///
-/// Want of memory, also where they are more than a list of words holds.
+/// Out of memory, also if there are more than a list of words holds.
 pub(crate) fn names_to_reinstall(alloc: Global, command: &Command) -> Result<Words, AllocError>
     ensures { IfOk result
         (λ names. names ≡ names_to_reinstall command.now.applet command.now.operands) }
@@ -51,7 +51,7 @@ pub(crate) fn names_to_reinstall(alloc: Global, command: &Command) -> Result<Wor
     }
 }
 
-/// The names that `upgrade` upgrades, by the texts of its operands.
+/// The names that `upgrade` upgrades: the texts of its operands.
 pub(crate) fn names_to_upgrade<'a>(command: &Command, names: &'a Words) -> Upgrade<'a>
     requires { names.now ≡ operand_texts command.now.operands }
     ensures { names_upgraded_by result
@@ -63,7 +63,7 @@ pub(crate) fn names_to_upgrade<'a>(command: &Command, names: &'a Words) -> Upgra
     }
 }
 
-// What `upgrade` upgrades: the listed names, or all where none is listed.
+// The names that `upgrade` upgrades: the listed ones, or all if none is listed.
 fn all_or_listed(names: &Words) -> Upgrade<'_>
     ensures all { names.entry.now ≡ [] → names_upgraded_by result ≡ all_names }
     ensures listed { (names.entry.now ≡ [] → ⊥)
@@ -79,7 +79,7 @@ fn all_or_listed(names: &Words) -> Upgrade<'_>
 ///
 /// # Errors
 ///
-/// Want of memory, also where they are more than a list of words holds.
+/// Out of memory, also if there are more than a list of words holds.
 pub(crate) fn operand_texts(alloc: Global, operands: &Operands) -> Result<Words, AllocError>
     ensures { IfOk result (λ texts. texts ≡ operand_texts operands.now) }
 {
@@ -93,8 +93,8 @@ pub(crate) fn operand_texts(alloc: Global, operands: &Operands) -> Result<Words,
     Ok(texts)
 }
 
-/// The place of the first operand that the command does not know: of `del` one that is neither in
-/// world nor installed, of `upgrade` and `fix` one that is not installed.
+/// The place of the first operand that the command does not know: for `del` one that is neither in
+/// world nor installed, for `upgrade` and `fix` one that is not installed.
 pub(crate) fn unknown_operand(command: &Command, loaded: &Loaded, db: &Db<'_>) -> Option<u32>
     requires { packages_of db.now ≡ (inputs_seen loaded.now).root.database.packages }
     ensures { result

@@ -1,4 +1,4 @@
-//! What a change writes. The rules stand in `docs/commands.md`, "What a change does with files" and
+//! What a change writes. The rules are in `docs/commands.md`, "What a change does with files" and
 //! "`add` and `del`", what is written.
 ghost use Rattle.change_files.specs.PlanLists.{names_in_order};
 ghost use Rattle.db_core.specs.Seen.{members_of};
@@ -20,21 +20,21 @@ use own_core::{FilePlan, Write};
 use stage_files::{PackagedFile, Source, StagedWrite};
 use std::alloc::{AllocError, Global};
 
-/// The database and world, as they are written. Where no bytes are given the file stays as it is.
+/// The database and world, as they are written. A file without given bytes is unchanged.
 #[derive(Clone, Copy)]
 pub(crate) struct RecordWrites<'c> {
     /// The name of the database's file.
     pub database_name: &'c Name,
-    /// Its new bytes, where it is written.
+    /// Its new bytes, if it is written.
     pub database: Option<&'c [u8]>,
     /// The name of world's file.
     pub world_name: &'c Name,
-    /// Its new text, where it is written.
+    /// Its new text, if it is written.
     pub world: Option<&'c [u8]>,
 }
 
-/// Where the bytes of a planned write come from: the text of a link, or the file of the package
-/// that was read for its member.
+/// The source of a planned write: the text of a link, or the file of the package that was read for
+/// its member.
 fn source_of<'c>(members: &Members<'c>, arrivals: &'c Arrivals, write: &Write) -> Source<'c>
     requires file { IsOfComingFile (members_of members.now) (write_seen write.now) }
     requires packages { HasPackages (members_of members.now) arrivals.now }
@@ -118,16 +118,16 @@ pub(crate) fn writes_of<'c>(
     plan: &'c FilePlan,
     records: &RecordWrites<'c>,
 ) -> Result<Vec<StagedWrite<'c>>, AllocError>
-    // Each planned write is of a file of a package that comes.
+    // Each planned write is of a file of an added package.
     requires sources { HasSources (members_of members.now) plan.now }
-    // Each package that comes was read.
+    // Each added package was read.
     requires packages { HasPackages (members_of members.now) arrivals.now }
     // No name is written twice.
     requires once { AreOnce (written_names plan.now ++ record_names records.now) }
     // The names are those of the plan and of the records, in byte order.
     ensures names { IfOk result (λ writes. map write_name writes.items
         ≡ names_in_order (written_names plan.entry.now ++ record_names records.now)) }
-    // Each write has the bytes that are to stand under its name.
+    // Each write has the bytes that its name is to have.
     ensures each { IfOk result (λ writes. All (IsWriteBy (members_of members.now)
         (package_at arrivals.entry.now) (writes_in plan.entry.now.writes) records.now)
         writes.items) }

@@ -2,8 +2,8 @@
 
 -- cited by the contract of `apk`
 pub mod Generated
--- what a law says
-pub mod FirstBadLine
+-- what the laws say
+pub mod Dumps
 -- what only inner contracts and proofs use
 pub mod Cursors
 pub mod Reads

@@ -17,4 +17,6 @@ mod read;
 mod value;
 
 pub use generate::{GenFault, gen_};
-pub use laws::a_text_is_accepted_exactly_if_a_root_has_it;
+pub use laws::{
+    a_text_is_accepted_exactly_if_a_root_has_it, the_reported_line_is_the_first_that_no_dump_has,
+};

@@ -1,7 +1,7 @@
--- How a command ends that changes what is installed: it is refused for a stated fault, or since no
--- selection satisfies the new world; else the first preferred selection takes the place of the
--- packages before. What is told stands in `docs/commands.md`, "`add` and `del`", what is refused,
--- and what is taken in `docs/selection.md`, "Which selection is taken".
+-- How a command that changes what is installed ends. It is refused for a stated fault, or because no
+-- selection satisfies the new world; otherwise the first preferred selection (the preferred solution)
+-- replaces the packages before. Reports and refusals are in `docs/commands.md`, "`add` and `del`"; the
+-- solution is defined in `docs/selection.md`, "Which selection is taken".
 use Rattle.std.specs.Prelude.{◌≡◌, ◌⊎◌, ◌++◌, ℕ, Bool, true, false, List, Option, Some, Result, Ok, Err}
 use Rattle.base_core.specs.Files.{Files}
 use Rattle.base_core.specs.declared.cause.Cause.{Cause}
@@ -25,8 +25,8 @@ use Rattle.outcome.specs.Work.{recovery_fault, work_files}
 
 -- ---- stated faults
 
--- whether a refusal is of the input: of the files that are read of the root, of too many packages
--- to choose from, or of an operand whose package is not installed
+-- whether a refusal is of the input: of the files that are read of the root, of too many candidates, or
+-- of an operand whose package is not installed
 abbrev pub is_input_refusal : Refusal → Bool
 is_input_refusal NoDatabase = true
 is_input_refusal (DatabaseBad cause) = true
@@ -37,12 +37,12 @@ is_input_refusal (IndexMissing repository) = true
 is_input_refusal (IndexBad repository cause) = true
 is_input_refusal (TooMany count) = true
 is_input_refusal (NotInstalled place) = true
--- a text database that says more than a container may have
+-- a text database with more data than a container may have
 is_input_refusal (ResultTooLarge bytes values) = true
 is_input_refusal other = false
 
--- whether a refusal is of the packages that come, go and stay: of their files, scripts and
--- triggers, and of the files that they would leave
+-- whether a refusal is of the added, removed and kept packages: of their files, scripts and triggers,
+-- and of the files that they would leave
 abbrev pub is_package_refusal : Refusal → Bool
 is_package_refusal (PackageMissing name version) = true
 is_package_refusal (PackageBad name version cause) = true
@@ -57,7 +57,7 @@ is_package_refusal other = false
 
 -- ---- without a selection
 
--- a command is refused for its input, whatever might be chosen
+-- a command is refused for its input, whichever candidates might be chosen
 pub record IsInputRefused (command : CommandLine) (files : Files) (o : Outcome) : Type 0 where
   pub refusal : Refusal
   pub stated : is_input_refusal refusal ≡ true
@@ -65,7 +65,7 @@ pub record IsInputRefused (command : CommandLine) (files : Files) (o : Outcome) 
       → selected_for command (reads_in files) chosen ≡ Err refusal
   pub outcome : o ≡ just_refusal files refusal
 
--- no selection of the candidates satisfies the new world, and just that is told
+-- no selection of the candidates satisfies the new world, and exactly this is reported
 pub record HasNoSelection (command : CommandLine) (files : Files) (o : Outcome) : Type 0 where
   pub pool : SealedPool
   pub is_pool : pool_for command (reads_in files) ≡ Ok pool
@@ -74,8 +74,8 @@ pub record HasNoSelection (command : CommandLine) (files : Files) (o : Outcome) 
 
 -- ---- with the first one
 
--- A change is committed and reported: first what becomes of each package. One that is only
--- simulated leaves the files.
+-- A change is committed and reported; the report begins with what becomes of each package. A simulated
+-- one leaves the files.
 pub record IsReported (command : CommandLine) (files : Files) (selected : Selected)
     (done : ChangeDone) (o : Outcome) : Type 0 where
   pub outcome : o ≡ change_outcome files (Ok done)
@@ -83,7 +83,7 @@ pub record IsReported (command : CommandLine) (files : Files) (selected : Select
   pub report : o.out ≡ change_lines (changes_of selected.replacement) ++ rest
   pub simulated : command.flags.simulate ≡ true → (o.files ≡ files) × (o.commits ≡ false)
 
--- how a change ends whose candidates are selected: it is made, or a stated fault of its packages is
+-- how a change ends once its candidates are selected: it is made, or a stated fault of its packages is
 -- refused
 abbrev pub IsEndBy :
     CommandLine → Files → Selected → Result ChangeDone Refusal → Outcome → Type 0
@@ -91,8 +91,8 @@ IsEndBy command files selected (Ok done) o = IsReported command files selected d
 IsEndBy command files selected (Err refusal) o =
     (is_package_refusal refusal ≡ true) × (o ≡ just_refusal files refusal)
 
--- the first preferred selection of the candidates takes the place of the packages before, up to the
--- end of the change
+-- the first preferred selection of the candidates replaces the packages before, up to the end of the
+-- change
 pub record TakesFirstSelection (command : CommandLine) (files : Files) (o : Outcome) : Type 0 where
   pub pool : SealedPool
   pub is_pool : pool_for command (reads_in files) ≡ Ok pool
@@ -114,7 +114,7 @@ IsChangeEnd command files o =
     IsInputRefused command files o
     ⊎ (HasNoSelection command files o ⊎ TakesFirstSelection command files o)
 
--- a run ends with a bad intent refused, before all else, over the files in which it begins
+-- a run refuses a bad intent, before all else, over the files in which it begins
 pub record IsIntentRefused (files : Files) (o : Outcome) : Type 0 where
   pub cause : Cause
   pub bad : recovery_fault Changes files ≡ Some cause

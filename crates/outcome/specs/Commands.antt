@@ -1,6 +1,5 @@
--- The outcome of a command. `demo` is apart: it runs other commands. What comes before each command
--- stands in `docs/commands.md`, "Commands that recover first", and what each comes
--- to in its own section.
+-- The outcome of a command. `demo` is apart, since it runs other commands. The rules are in
+-- `docs/commands.md`, "Commands that recover first", and in the section of each command.
 use Rattle.std.specs.Prelude.{◌≡◌, ◌⊎◌, ℕ, true, List, [], Option, Some, None, Result, Ok, Err}
 use Rattle.adb_schema.specs.Soundness.{first_fault}
 use Rattle.adb_view.specs.declared.tables.Which.TheVariants.{Intent as IntentTable}
@@ -30,8 +29,8 @@ use Rattle.outcome.specs.Work.{recovery_fault, work_files}
 
 -- ---- the outcome of an applet
 
--- the outcome of an applet that looks at its words alone; `demo` itself comes to nothing: what it
--- runs is defined in `Demo`
+-- the outcome of an applet that reads its arguments only; `demo` has none here: what it runs is defined
+-- in `Demo`
 abbrev pub computing_outcome : Applet → CommandLine → Files → Outcome
 computing_outcome Version command files = version files command.flags command.operands
 computing_outcome Help command files = just_report files (help_text command.operands)
@@ -51,9 +50,9 @@ making_outcome Mkpkg command names read files = mkpkg read files command names
 making_outcome Mkndx command names read files = mkndx read files command
 making_outcome other command names read files = just_report files []
 
--- the outcome of an applet with an effect, by what no function computes, by what its reads find, and
--- by the files, which it may change; all commands that only report have one definition, and so have
--- all changes
+-- The outcome of an applet by its effect: from the parts that relations specify, from what its reads
+-- find, and from the files, which it may change. All commands that only report have one definition, and
+-- so have all changes.
 abbrev pub effect_outcome : Effect → Applet → CommandLine → Given → Reads → Files → Outcome
 effect_outcome Computes applet command given read files = computing_outcome applet command files
 effect_outcome OnlyReads applet command given read files = reading_outcome applet command read files
@@ -75,7 +74,7 @@ command_outcome command given read files =
 
 -- ---- over the files of a tree
 
--- what reads find in these files: each the file under its name
+-- what reads find in these files: each file under its name
 abbrev pub reads_in : Files → Reads
 reads_in files n name = files name
 
@@ -86,25 +85,25 @@ IsOutcomeOver command files outcome =
     × IsGiven command (reads_in files) files given
     × (outcome ≡ command_outcome command given (reads_in files) files)
 
--- the outcome of a command, unless it has to recover and cannot: then a bad intent is refused
--- before all else but a usage error, and nothing changes
+-- The outcome of a command, unless recovery is needed and fails. Then a bad intent is refused before
+-- all else except a usage error, and nothing changes.
 abbrev pub IsOutcomeUnless : Option Cause → CommandLine → Files → Outcome → Type 0
 IsOutcomeUnless (Some cause) command files outcome =
     outcome ≡ just_refusal files (IntentBad cause)
 IsOutcomeUnless None command files outcome =
     IsOutcomeOver command (work_files (effect_of command.applet) files) outcome
 
--- the outcome of what was read of the words: a usage error is told before any file is looked at
+-- the outcome of parsed arguments: a usage error is reported before any file is read
 abbrev pub IsOutcomeOf : Result CommandLine ℕ → Files → Outcome → Type 0
 IsOutcomeOf (Err place) files outcome = outcome ≡ just_refusal files (Usage place)
 IsOutcomeOf (Ok command) files outcome =
     IsOutcomeUnless (recovery_fault (effect_of command.applet) files) command files outcome
 
--- ---- over a tree whose files no contract knows, as a folder of the host
+-- ---- over a tree whose files no contract knows, such as a folder of the host
 
--- The file of a package that comes is read once more when a change is carried out. Where it is not
--- what it was when it was tested, the change is refused: with the cause of some file that has the
--- length and the values of the one that its read found, and other contents.
+-- The file of an added package is read once more when a change is carried out. The change is refused if
+-- the file is no longer what was tested. The refusal has the cause of some file with the length and the
+-- values that the first read found, and with other contents.
 pub record IsSpoiled (command : CommandLine) (read : Reads) (given : Given) (files : Files)
     (outcome : Outcome) : Type 0 where
   pub changes : effect_of command.applet ≡ Changes
@@ -114,8 +113,8 @@ pub record IsSpoiled (command : CommandLine) (read : Reads) (given : Given) (fil
       (packages_found command read (selected_for command read given.chosen)) refusal
   pub is : outcome ≡ just_refusal files refusal
 
--- the outcome for some listing, some contents at each read, and some files; and for the first clash
--- of names among some files that stand
+-- the outcome for some listing, some contents at each read, and some files; and for the first clash of
+-- names among some present files
 abbrev pub IsFoundOver : CommandLine → Outcome → Type 0
 IsFoundOver command outcome =
     (given : Given)
@@ -133,7 +132,7 @@ IsFoundUnrecovered outcome =
     × (first_fault IntentTable file ≡ Some cause)
     × (outcome ≡ just_refusal no_names (IntentBad cause))
 
--- *IsOutcomeOf* on a tree whose files no contract knows; a usage error and a bad intent tell of no
+-- *IsOutcomeOf* on a tree whose files no contract knows; a usage error and a bad intent say nothing of
 -- files
 abbrev pub IsFoundOutcomeOf : Result CommandLine ℕ → Outcome → Type 0
 IsFoundOutcomeOf (Err place) outcome = outcome ≡ just_refusal no_names (Usage place)

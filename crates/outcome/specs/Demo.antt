@@ -1,5 +1,4 @@
--- `demo`: other commands are run, in a tree of their own. The rules stand in `docs/commands.md`,
--- "`demo N`".
+-- `demo` runs other commands in a tree of its own. The rules are in `docs/commands.md`, "`demo N`".
 use Rattle.std.specs.Prelude.{◌≡◌, ℕ, zero, suc, List, [], Option, Some, None}
 use Rattle.base_core.specs.Files.{Files, no_names, put_name}
 use Rattle.root_names.specs.RootNames.{repositories_name}
@@ -10,21 +9,21 @@ use Rattle.demo_lines.specs.Lines.{add_words, demo_file, demo_repositories, demo
 use Rattle.demo_lines.specs.Report.{demo_line}
 use Rattle.outcome.specs.Outcome.{Outcome, just_report, report_unless}
 
--- ---- one run behind another
+-- ---- one run after another
 
--- what a run comes to behind another, whose refusal ends all; else the words are run over the files
--- that were left
+-- the outcome of a run after another one: a refusal of that ends all; otherwise the command line is run
+-- over the files that were left
 abbrev pub IsRunUnless : Option Refusal → List (List ℕ) → Files → Outcome → Outcome → Type 0
 IsRunUnless (Some refusal) words files before outcome = outcome ≡ before
 IsRunUnless None words files before outcome = IsOutcomeOf (command_of words) files outcome
 
--- the outcome of words that are run behind another outcome, over its files or changes of these
+-- the outcome of a command line that is run after another outcome, over its files or changes of these
 abbrev pub IsRunBehind : List (List ℕ) → Files → Outcome → Outcome → Type 0
 IsRunBehind words files before outcome = IsRunUnless before.refusal words files before outcome
 
 -- ---- the runs
 
--- the outcome before the first run: the repositories stand in a tree that is else empty
+-- the outcome before the first run: the tree has only the list of repositories
 abbrev pub demo_start : Outcome
 demo_start = just_report (put_name no_names repositories_name demo_repositories) []
 
@@ -40,25 +39,24 @@ ArePackaged (suc i) outcome =
     × ArePackaged i before
     × IsRunBehind (mkpkg_words (suc i)) (with_demo_file (suc i) before.files) before outcome
 
--- the packages 1 to n are made, and their index behind them
+-- the packages 1 to n are made, and then their index
 abbrev pub AreIndexed : ℕ → Outcome → Type 0
 AreIndexed n outcome =
     (before : Outcome)
     × ArePackaged n before
     × IsRunBehind (mkndx_words n) before.files before outcome
 
--- the packages 1 to n are made and indexed, and those on which no other depends are added behind
--- that
+-- the packages 1 to n are made and indexed, and then those on which no other depends are added
 abbrev pub AreInstalled : ℕ → Outcome → Type 0
 AreInstalled n outcome =
     (before : Outcome)
     × AreIndexed n before
     × IsRunBehind (add_words n) before.files before outcome
 
--- ---- what is told
+-- ---- the report
 
--- what `demo` tells: the last line of the last run, or the first refusal; of the files of the run
--- itself nothing is read, and none is changed
+-- the outcome of `demo`: the last line of the last run, or the first refusal; no file of the tree is
+-- read or changed
 abbrev pub IsDemoOutcome : ℕ → Files → Outcome → Type 0
 IsDemoOutcome n files outcome =
     (last : Outcome)

@@ -1,5 +1,5 @@
--- `adbdump`: a container is printed as text. The rules stand in `docs/commands.md`,
--- "`adbdump FILE`", and in `docs/formats.md`, "Dump text" and "Tests of a container".
+-- `adbdump` prints a container as text. The rules are in `docs/commands.md`, "`adbdump FILE`", and in
+-- `docs/formats.md`, "Dump text" and "Tests of a container".
 use Rattle.std.specs.Prelude.{ℕ, List, [], ◌∷◌, Option, Some, None, Result, Ok, Err}
 use Rattle.std.specs.Option.{option_or}
 use Rattle.base_core.specs.Files.{Files}
@@ -22,13 +22,13 @@ use Rattle.make_info.specs.Reads.{Reads}
 use Rattle.pkg_core.specs.Whole.{root_of_schema}
 use Rattle.outcome.specs.Outcome.{Outcome, just_refusal, just_report}
 
--- the first fault of the framing of the blocks that are left; nothing is asked of what they hold
+-- the first fault of the framing of the remaining blocks; their payloads are not tested
 abbrev pub framing_fault : Reading → Option Cause
 framing_fault done = None
 framing_fault (fault c) = Some c
 framing_fault (more b at r) = framing_fault r
 
--- the first fault of a payload's head and shape; nothing is asked of its texts
+-- the first fault of a payload's head and shape; its texts are not tested
 abbrev pub form_fault : Which → List ℕ → Option Cause
 form_fault which payload =
     option_or (head_fault payload) (shape_fault payload (shape_of (Obj which)) (root_of payload))
@@ -49,8 +49,7 @@ abbrev pub dump_of_blocks : Which → Reading → Result (List ℕ) Cause
 dump_of_blocks which r =
     or_text (dump_fault which r) (dump_text which (root_value which (first_payload r)))
 
--- the text of blocks by the table at their root; a schema that no table of a root has is a wrong
--- one
+-- the text of blocks by the table at their root; a schema that is no table of a root is refused
 abbrev pub dump_with_root : ℕ → Reading → Option Which → Result (List ℕ) Cause
 dump_with_root schema r None = Err (WrongSchema schema)
 dump_with_root schema r (Some which) = dump_of_blocks which r
@@ -61,12 +60,12 @@ dump_with_schema file (Err c) = Err c
 dump_with_schema file (Ok schema) =
     dump_with_root schema (reading_of (start_of schema file)) (root_of_schema schema)
 
--- the text of a file, or the first failed test: its header, its schema, which is one of the four,
--- its first block, and the framing of the others
+-- the text of a file, or the first failed test: its header, its schema, which is one of the four, its
+-- first block, and the framing of the others
 unfoldable pub dump_of : List ℕ → Result (List ℕ) Cause
 dump_of file = dump_with_schema file (header_of file)
 
--- the outcome of a text: it is the report; or the operand at this place is refused
+-- the outcome of a text: the text is the report, or the operand at this place is refused
 abbrev pub text_outcome : Files → ℕ → Result (List ℕ) Cause → Outcome
 text_outcome files place (Ok text) = just_report files text
 text_outcome files place (Err cause) = just_refusal files (FileBad place cause)
@@ -76,7 +75,7 @@ abbrev pub dump_outcome : Files → ℕ → Option (List ℕ) → Outcome
 dump_outcome files place None = just_refusal files (FileMissing place)
 dump_outcome files place (Some bytes) = text_outcome files place (dump_of bytes)
 
--- the text of the first operand's file; the grammar gives just one operand
+-- the text of the first operand's file; the grammar gives exactly one operand
 abbrev pub adbdump : Reads → Files → List Operand → Outcome
 adbdump read files [] = just_report files []
 adbdump read files (o ∷ operands) = dump_outcome files o.place (read 0 (without_dot o.text))

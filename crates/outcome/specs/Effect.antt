@@ -1,6 +1,5 @@
--- What a command looks at, and what it changes. The rules stand in `docs/commands.md`,
--- "Commands that recover first", and in `docs/crash-safety.md`,
--- "Misuses, faults and counts", its last paragraph.
+-- What a command reads, and what it changes. The rules are in `docs/commands.md`, "Commands that
+-- recover first", and in `docs/crash-safety.md`, "Misuses, faults and counts", its last paragraph.
 use Rattle.std.specs.Prelude.{ℕ, Bool, true, false, List, Option, None, Result, Ok, Err}
 use Rattle.make_info.specs.Output.{output_name}
 use Rattle.command_core.specs.Command.{CommandLine}
@@ -8,7 +7,7 @@ use Rattle.words_core.specs.Grammar.{command_of}
 use Rattle.command_core.specs.declared.command.Applet.{Applet}
 use Rattle.command_core.specs.declared.command.Applet.TheVariants.{Adbdump, Adbgen, Add, Audit, Del, Demo, Fix, Help, Info, List as ListApplet, Manifest, Mkndx, Mkpkg, Policy, ProgramVersion, Search, Upgrade, Verify, Version}
 
--- what a command may do to the files, from nothing to several of them
+-- what a command may do to the files, from nothing to changing several of them
 pub data Effect : Type 0 where
   -- the command looks at its words alone
   Computes : Effect
@@ -43,7 +42,7 @@ effect_of Del = Changes
 effect_of Upgrade = Changes
 effect_of Fix = Changes
 
--- whether what a command comes to is the same over all files
+-- whether the outcome of a command is the same over all files
 abbrev pub does_rest_on_words : Effect → Bool
 does_rest_on_words Computes = true
 does_rest_on_words Reads = false
@@ -51,7 +50,7 @@ does_rest_on_words Tells = false
 does_rest_on_words Makes = false
 does_rest_on_words Changes = false
 
--- whether a command leaves the tree as it is, whatever it finds there
+-- whether a command leaves the tree unchanged, whatever it finds there
 abbrev pub does_only_read : Effect → Bool
 does_only_read Computes = true
 does_only_read Reads = true
@@ -59,7 +58,7 @@ does_only_read Tells = false
 does_only_read Makes = false
 does_only_read Changes = false
 
--- whether a command first recovers: it finishes the change that an intent tells of
+-- whether a command first recovers: it finishes the change of an intent that is found
 abbrev pub does_recover : Effect → Bool
 does_recover Computes = false
 does_recover Reads = false
@@ -75,7 +74,7 @@ output_if Tells command = None
 output_if Makes command = output_name command
 output_if Changes command = None
 
--- ---- of a command line; a usage error looks at nothing, and changes nothing
+-- ---- of a command line; a usage error reads and changes nothing
 
 -- the effect of a command line; a usage error counts as a command that computes
 abbrev pub effect_by : Result CommandLine ℕ → Effect

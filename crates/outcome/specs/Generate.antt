@@ -11,14 +11,14 @@ use Rattle.make_info.specs.Reads.{Reads}
 use Rattle.report_core.specs.declared.refusal.Refusal.TheVariants.{FileMissing, ResultTooLarge, TextBad}
 use Rattle.outcome.specs.Outcome.{Outcome, just_refusal, just_report}
 
--- the outcome of what is generated: the container is the report; or the operand at this place is
+-- the outcome of a generated container: the container is the report, or the operand at this place is
 -- refused for its first bad line, or for the counts of a container that is too large
 abbrev pub container_outcome : Files → ℕ → Result (List ℕ) GenFault → Outcome
 container_outcome files place (Ok file) = just_report files file
 container_outcome files place (Err (Bad line)) = just_refusal files (TextBad place line)
 container_outcome files place (Err (TooLarge bytes values)) =
     just_refusal files (ResultTooLarge bytes values)
--- no text gives this: *generated_file* knows no memory
+-- no text gives this: *generated_file* never runs out of memory
 container_outcome files place (Err Memory) = just_report files []
 
 -- the outcome of what a read finds for the argument at a place
@@ -26,7 +26,7 @@ abbrev pub generate_outcome : Files → ℕ → Option (List ℕ) → Outcome
 generate_outcome files place None = just_refusal files (FileMissing place)
 generate_outcome files place (Some text) = container_outcome files place (generated_file text)
 
--- the container of the first operand's text; the grammar gives just one operand
+-- the container of the first operand's text; the grammar gives exactly one operand
 abbrev pub adbgen : Reads → Files → List Operand → Outcome
 adbgen read files [] = just_report files []
 adbgen read files (o ∷ operands) = generate_outcome files o.place (read 0 (without_dot o.text))

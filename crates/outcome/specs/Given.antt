@@ -1,7 +1,7 @@
--- What no function computes of what a command finds: the names that it lists, the candidates that
--- it chooses, and the first clash of names. The rules stand in `docs/commands.md`, "`mkpkg`"
--- (`-F DIR`) and "What a change does with files" (test 2), and in `docs/selection.md`,
--- "Which selection is taken".
+-- The parts of an outcome that relations specify, and no function computes: the names that a command
+-- lists, the candidates that it chooses, and the first clash of names. The rules are in
+-- `docs/commands.md`, "`mkpkg`" (`-F DIR`) and "What a change does with files" (test 2), and in
+-- `docs/selection.md`, "Which selection is taken".
 use Rattle.std.specs.Prelude.{◌≡◌, ℕ, List, [], Option, None}
 use Rattle.base_core.specs.Files.{Files}
 use Rattle.command_core.specs.Command.{CommandLine}
@@ -17,21 +17,21 @@ use Rattle.path_clashes.specs.Clash.{NamePair}
 use Rattle.outcome.specs.Effect.{Effect, Changes, effect_of}
 use Rattle.outcome.specs.Make.{IsListing}
 
--- what an outcome rests on beside the command, what reads find, and the files
+-- what an outcome depends on besides the command, what reads find, and the files
 pub record Given : Type 0 where
   -- the names below the folder of `-F` that the command lists
   pub names : List (List ℕ)
-  -- the places of the candidates that the command chooses, in the order in which they are chosen;
-  -- None where none satisfy the world
+  -- the places of the candidates that the command chooses, in the order of the choice; None if none
+  -- satisfy the world
   pub chosen : Option (List ℕ)
   -- the first clash of the names after a change, if there is one
   pub clash : Option NamePair
 
--- what is given to a command that lists and chooses nothing
+-- the parts for a command that lists and chooses nothing
 abbrev pub nothing_given : Given
 nothing_given = record { names = []; chosen = None; clash = None }
 
--- ---- what is chosen
+-- ---- the choice
 
 -- what a command chooses, by what reads find; only a change chooses
 abbrev pub IsChosenFor : Effect → CommandLine → Reads → Option (List ℕ) → Type 0
@@ -51,7 +51,7 @@ abbrev pub IsClashBy :
 IsClashBy Changes command read files chosen clash = IsClashFor command read files chosen clash
 IsClashBy other command read files chosen clash = clash ≡ None
 
--- all that a command is given, where reads find what stands in these files
+-- all parts that a command is given, if reads find the contents of these files
 pub record IsGiven (command : CommandLine) (read : Reads) (files : Files) (given : Given)
     : Type 0 where
   pub names : IsListingFor command.applet command files given.names
@@ -61,20 +61,20 @@ pub record IsGiven (command : CommandLine) (read : Reads) (files : Files) (given
 
 -- ---- over a tree whose files no contract knows
 
--- names that an applet may list: `mkpkg` some below its folder, in byte order and each once, the
--- others none
+-- names that an applet may list: `mkpkg` some below its folder, in byte order and each once, the others
+-- none
 abbrev pub MayBeListedFor : Applet → CommandLine → List (List ℕ) → Type 0
 MayBeListedFor Mkpkg command names = AreNamesFor (values_with FILES command.values) names
 MayBeListedFor other command names = names ≡ []
 
--- the first clash of names after a command among some standing files; only a change has one
+-- the first clash of names after a command among some present files; only a change has one
 abbrev pub MayClash :
     Effect → CommandLine → Reads → Files → Option (List ℕ) → Option NamePair → Type 0
 MayClash Changes command read files chosen clash =
     (standing : Files) × IsClashForOver command read files standing chosen clash
 MayClash other command read files chosen clash = clash ≡ None
 
--- all that a command may be given on a tree whose files no contract knows, by some files
+-- all parts that a command may be given on a tree whose files no contract knows, by some files
 pub record MayBeGiven (command : CommandLine) (read : Reads) (files : Files) (given : Given)
     : Type 0 where
   pub names : MayBeListedFor command.applet command given.names

@@ -1,4 +1,4 @@
--- what the contract of `apk` says, in the order in which it is best read
+-- cited by the contract of `apk`, in the order in which it is best read
 pub mod Outcome
 pub mod Words
 pub mod Commands
@@ -13,7 +13,7 @@ pub mod Telling
 pub mod Changing
 pub mod Given
 pub mod Demo
--- what only inner contracts and proofs use
+-- used by inner contracts and proofs only
 pub mod ChangeEnd
 pub mod Recovers
 pub mod Sound

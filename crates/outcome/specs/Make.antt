@@ -1,5 +1,5 @@
--- `mkpkg` and `mkndx`: a package or an index is made. The rules stand in `docs/commands.md`,
--- "`mkpkg`" and "`mkndx PACKAGE..`".
+-- `mkpkg` and `mkndx` make a package or an index. The rules are in `docs/commands.md`, "`mkpkg`" and
+-- "`mkndx PACKAGE..`".
 use Rattle.std.specs.Prelude.{◌≡◌, ℕ, if◌then◌else◌, List, [], ◌∷◌, ◌++◌, length, codes, nat_eq, Option, Some, None, Result, Ok, Err}
 use Rattle.std.specs.Fmt.{decimal}
 use Rattle.std.specs.List.{starts_with}
@@ -21,19 +21,18 @@ use Rattle.outcome.specs.Outcome.{Outcome, commit_report, just_refusal, just_rep
 
 -- ---- what is below the folder that `-F` names
 
--- what a listing of a folder tells of: the files below it under their whole names, with the folder
--- in front
+-- the files below a folder under their whole names, with the folder in front
 abbrev pub files_below : List ℕ → Files → Files
 files_below folder files name =
     if starts_with nat_eq name (folder ++ codes "/") then files name else None
 
--- just the names of the files below the folder, in byte order; none where no folder is given
+-- exactly the names of the files below the folder, in byte order; none if no folder is given
 abbrev pub IsListing : List OptionValue → Files → List (List ℕ) → Type 0
 IsListing [] files names = names ≡ []
 IsListing (folder ∷ values) files names =
     IsNamesOf (files_below (without_dot folder.text) files) names
 
--- ---- what comes of it
+-- ---- the outcome
 
 -- an outcome, unless its output has a reserved name, which is refused
 abbrev pub unless_reserved : Files → Option (List ℕ) → Outcome → Outcome
@@ -41,14 +40,14 @@ unless_reserved files None otherwise = otherwise
 unless_reserved files (Some name) otherwise =
     if is_reserved name then just_refusal files (Reserved name) else otherwise
 
--- the files once an output is written: these bytes stand under its name, and nothing under its
--- scratch name
+-- the files once an output is written: these bytes are under its name, and no file is under its scratch
+-- name
 abbrev pub files_with_output : Option (List ℕ) → List ℕ → Files → Files
 files_with_output None bytes files = files
 files_with_output (Some name) bytes files = replaced_files name bytes files
 
--- A container is written and reported; what cannot be made is refused. A reserved output is refused
--- behind all other refusals but that of a container that is too large.
+-- A container is written and reported; a fault of its input is refused. A reserved output is refused
+-- after all other faults except a container that is too large.
 abbrev pub make_outcome : Files → Option (List ℕ) → List ℕ → Result (List ℕ) MakeFault → Outcome
 make_outcome files output report (Ok bytes) =
     unless_reserved files output (commit_report (files_with_output output bytes files) report)
@@ -58,17 +57,17 @@ make_outcome files output report (Err (BadFile place cause)) =
 make_outcome files output report (Err (BadInfo place)) = just_refusal files (InfoBad place)
 make_outcome files output report (Err (TooLarge bytes values)) =
     unless_reserved files output (just_refusal files (ResultTooLarge bytes values))
--- a fault of the tree and want of memory: the definitions of what is made give neither
+-- an I/O error of the file tree, and out of memory: the definitions of what is made give neither
 make_outcome files output report (Err Disk) = just_report files []
 make_outcome files output report (Err Memory) = just_report files []
 
--- the outcome of `mkpkg`: a package of the names below its folder, and of what reads find; nothing
--- is reported
+-- the outcome of `mkpkg`: a package of the names below its folder, and of what reads find; nothing is
+-- reported
 abbrev pub mkpkg : Reads → Files → CommandLine → List (List ℕ) → Outcome
 mkpkg read files command names =
     make_outcome files (output_name command) [] (made_package command names read)
 
--- the report of `mkndx` over so many packages
+-- the report of `mkndx` over this many packages
 abbrev pub index_line : ℕ → List ℕ
 index_line count = codes "Index has " ++ decimal count ++ codes " packages\n"
 

@@ -1,11 +1,11 @@
--- What a command comes to. The rules stand in `docs/commands.md`, "Answers and statuses": the rows
--- of done and refused.
+-- The outcome of a command. The rules are in `docs/commands.md`, "Answers and statuses": the rows of
+-- done and refused.
 use Rattle.std.specs.Prelude.{ℕ, Bool, true, false, List, [], Option, Some, None}
 use Rattle.base_core.specs.Files.{Files}
 use Rattle.report_core.specs.Texts.{refusal_line}
 use Rattle.report_core.specs.declared.refusal.Refusal.{Refusal}
 
--- what one run comes to that comes to its end
+-- the outcome of a run that ends without an I/O error and without running out of memory
 pub record Outcome : Type 0 where
   -- why the command is refused, if it is
   pub refusal : Option Refusal
@@ -23,7 +23,7 @@ abbrev pub line_of : Option Refusal → List ℕ
 line_of None = []
 line_of (Some refusal) = refusal_line refusal
 
--- the outcome with a report, and with a refusal behind it, if there is one; nothing is written
+-- the outcome with a report, and with a refusal after it, if there is one; nothing is written
 abbrev pub outcome_of : Option Refusal → List ℕ → Files → Outcome
 outcome_of refusal report files = record {
   refusal = refusal;
@@ -37,11 +37,11 @@ outcome_of refusal report files = record {
 abbrev pub commit_report : Files → List ℕ → Outcome
 commit_report files report = record (outcome_of None report files) { commits = true }
 
--- the outcome with a report, by which nothing is written or removed
+-- the outcome with a report, without writing or removing anything
 abbrev pub just_report : Files → List ℕ → Outcome
 just_report files report = outcome_of None report files
 
--- the outcome with a refusal, by which nothing is printed on standard output, written or removed
+-- the outcome with a refusal; nothing is printed on standard output, written or removed
 abbrev pub just_refusal : Files → Refusal → Outcome
 just_refusal files refusal = outcome_of (Some refusal) [] files
 

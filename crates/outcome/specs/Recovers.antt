@@ -1,12 +1,11 @@
--- Which commands first finish what an earlier change left undone: a list by itself, beside which a
--- law sets what `Effect` says. The rule stands in `docs/commands.md`,
--- "Commands that recover first".
+-- Which commands recover first. This list is independent of `Effect`; a law compares the two. The rule
+-- is in `docs/commands.md`, "Commands that recover first".
 use Rattle.std.specs.Prelude.{Bool, true, false}
 use Rattle.command_core.specs.declared.command.Applet.{Applet}
 use Rattle.command_core.specs.declared.command.Applet.TheVariants.{Adbdump, Adbgen, Add, Audit, Del, Demo, Fix, Help, Info, List as ListApplet, Manifest, Mkndx, Mkpkg, Policy, ProgramVersion, Search, Upgrade, Verify, Version}
 
--- whether an applet has to recover first: those do that tell or change what is installed, and those
--- that make a file below the root
+-- whether an applet has to recover first: the applets that report on or change what is installed, and
+-- those that make a file below the root
 abbrev pub must_recover : Applet → Bool
 must_recover Add = true
 must_recover Del = true

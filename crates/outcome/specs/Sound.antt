@@ -1,11 +1,10 @@
--- When what a command leaves under a name is a sound container. The rule stands in
--- `docs/formats.md`, "Tests of a container"; it serves the law `what_is_made_is_sound`.
+-- When a file that a command leaves is a sound container. The rule is in `docs/formats.md`, "Tests of a
+-- container"; it serves the law `what_is_made_is_sound`.
 use Rattle.std.specs.Prelude.{◌≡◌, ℕ, ◌<◌, ◌^◌, List, length, Some, None}
 use Rattle.base_core.specs.Files.{Files}
 use Rattle.pkg_core.specs.Whole.{container_fault}
 
--- a file stands under the name; it passes all tests of a container, if it has fewer than 2 ^ 64
--- bytes
+-- there is a file under the name; it passes all tests of a container, if it has fewer than 2 ^ 64 bytes
 abbrev pub IsSoundAt : List ℕ → Files → Type 0
 IsSoundAt name files =
     (bytes : List ℕ)

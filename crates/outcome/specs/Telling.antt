@@ -1,4 +1,4 @@
--- The commands that only report on what is installed: `info`. The rules are in `docs/commands.md`,
+-- The commands that only report on what is installed or available. The rules are in `docs/commands.md`,
 -- under each command's name; their reports and refusals are defined in `tell_core`.
 use Rattle.std.specs.Prelude.{Result, Ok, Err}
 use Rattle.base_core.specs.Files.{Files}
@@ -6,8 +6,8 @@ use Rattle.installed_info.specs.declared.telling.InfoDone.{InfoDone}
 use Rattle.report_core.specs.declared.refusal.Refusal.{Refusal}
 use Rattle.outcome.specs.Outcome.{Outcome, just_refusal, outcome_of}
 
--- the outcome of a report: it is printed, and the refusal beside it, if there is one; or a refusal in
--- its place. Nothing is written.
+-- the outcome of a report: it is printed, with the refusal after it, if there is one; or a refusal
+-- instead. Nothing is written.
 abbrev pub told_outcome : Files → Result InfoDone Refusal → Outcome
 told_outcome files (Ok done) = outcome_of done.late done.report files
 told_outcome files (Err refusal) = just_refusal files refusal

@@ -1,5 +1,5 @@
--- `verify`: containers are tested. The rules stand in `docs/commands.md`, "`verify FILE..`", and
--- the tests in `docs/formats.md`, "Tests of a container".
+-- `verify` tests containers. The rules are in `docs/commands.md`, "`verify FILE..`", and the tests in
+-- `docs/formats.md`, "Tests of a container".
 use Rattle.std.specs.Prelude.{ℕ, ◌+◌, List, [], ◌∷◌, ◌++◌, codes, Option, Some, None}
 use Rattle.std.specs.Option.{option_or}
 use Rattle.base_core.specs.Files.{Files}
@@ -33,7 +33,7 @@ verify_refusal read n (o ∷ operands) =
 abbrev pub sound_line : List ℕ → List ℕ
 sound_line file = file ++ codes ": OK\n"
 
--- the report where all files are sound: a line for each operand
+-- the report if all files are sound: a line for each operand
 abbrev pub sound_lines : List Operand → List ℕ
 sound_lines [] = []
 sound_lines (o ∷ operands) = sound_line (without_dot o.text) ++ sound_lines operands

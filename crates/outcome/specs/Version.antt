@@ -1,6 +1,6 @@
--- `version`: two versions are compared, or texts are checked for being versions. The rules stand in
--- `docs/commands.md`, "`version --test VERSION VERSION`" and "`version --check TEXT..`"; what a
--- version is in `docs/formats.md`, "Versions".
+-- `version` compares two versions, or checks texts for being versions. The rules are in
+-- `docs/commands.md`, "`version --test VERSION VERSION`" and "`version --check TEXT..`"; versions are
+-- defined in `docs/formats.md`, "Versions".
 use Rattle.std.specs.Prelude.{ℕ, if◌then◌else◌, List, [], ◌∷◌, ◌++◌, codes, Option, Some, None}
 use Rattle.std.specs.declared.cmp.Ordering.{Ordering}
 use Rattle.std.specs.declared.cmp.Ordering.TheVariants.{Less, Equal, Greater}
@@ -18,19 +18,19 @@ version_refusal [] = None
 version_refusal (o ∷ operands) =
     if is_version o.text then version_refusal operands else Some (VersionBad o.place)
 
--- the line that says how the first of two versions stands to the second
+-- the line with the order of two versions
 abbrev pub order_line : Ordering → List ℕ
 order_line Less = codes "<\n"
 order_line Equal = codes "=\n"
 order_line Greater = codes ">\n"
 
--- the report of `--test`: the order of the first two operands; the grammar gives just two
+-- the report of `--test`: the order of the first two operands; the grammar gives exactly two
 abbrev pub order_report : List Operand → List ℕ
 order_report [] = []
 order_report (a ∷ []) = []
 order_report (a ∷ (b ∷ operands)) = order_line (version_cmp a.text b.text)
 
--- the line of a text, which is empty where the text is a version
+-- the line of a text, which is empty if the text is a version
 abbrev pub invalid_line : List ℕ → List ℕ
 invalid_line text = if is_version text then [] else text ++ codes "\n"
 
@@ -39,8 +39,8 @@ abbrev pub invalid_lines : List Operand → List ℕ
 invalid_lines [] = []
 invalid_lines (o ∷ operands) = invalid_line o.text ++ invalid_lines operands
 
--- `--test` prints the order, unless one operand is no version; `--check` prints the operands that
--- are no versions, and the first of them is refused behind that report
+-- `--test` prints the order, unless one operand is no version. `--check` prints the operands that are
+-- no versions, and refuses the first of them after that report.
 abbrev pub version : Files → Flags → List Operand → Outcome
 version files flags operands =
     if flags.test then report_unless files (version_refusal operands) (order_report operands) else

@@ -1,5 +1,5 @@
--- The outcome of the words of a command line. The rules stand in `docs/commands.md`: "Words", and
--- the section of each command.
+-- The outcome of a command line. The rules are in `docs/commands.md`: "Words", and the section of each
+-- command.
 use Rattle.std.specs.Prelude.{ℕ, List, Result, Ok, Err}
 use Rattle.base_core.specs.Files.{Files, no_names}
 use Rattle.command_core.specs.Command.{CommandLine}
@@ -17,7 +17,7 @@ IsOutcomeFor Demo command files outcome =
     IsDemoOutcome (demo_count command.operands) files outcome
 IsOutcomeFor other command files outcome = IsOutcomeOf (Ok command) files outcome
 
--- the outcome of what was read of the words of a command line
+-- the outcome of the parsed arguments of a command line
 abbrev pub IsOutcomeBy : Result CommandLine ℕ → Files → Outcome → Type 0
 IsOutcomeBy (Ok command) files outcome = IsOutcomeFor command.applet command files outcome
 IsOutcomeBy (Err place) files outcome = IsOutcomeOf (Err place) files outcome
@@ -28,7 +28,7 @@ IsOutcome words files outcome = IsOutcomeBy (command_of words) files outcome
 
 -- ---- over a tree whose files no contract knows
 
--- *IsOutcomeFor* on a tree whose files no contract knows: `demo` rests on no files
+-- *IsOutcomeFor* on a tree whose files no contract knows: `demo` depends on no files
 abbrev pub IsFoundOutcomeFor : Applet → CommandLine → Outcome → Type 0
 IsFoundOutcomeFor Demo command outcome =
     IsDemoOutcome (demo_count command.operands) no_names outcome

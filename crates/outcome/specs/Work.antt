@@ -1,6 +1,5 @@
--- The files on which a command works, and why it may not begin. The rules stand in
--- `docs/commands.md`, "Commands that recover first", and in `docs/crash-safety.md`,
--- "Recovery".
+-- The files on which a command works, and why it may not begin. The rules are in `docs/commands.md`,
+-- "Commands that recover first", and in `docs/crash-safety.md`, "Recovery".
 use Rattle.std.specs.Prelude.{ℕ, List, Option, Some, None}
 use Rattle.adb_schema.specs.Soundness.{first_fault}
 use Rattle.adb_view.specs.declared.tables.Which.TheVariants.{Intent as IntentTable}
@@ -10,7 +9,7 @@ use Rattle.journal_core.specs.Recovery.{intent_name}
 use Rattle.journal_core.specs.Staged.{unstaged_files}
 use Rattle.outcome.specs.Effect.{Effect, Computes, Reads, Tells, Makes, Changes}
 
--- the files on which a command works: of one that recovers those that a recovery leaves
+-- the files on which a command works: the recovered files, if it recovers
 abbrev pub work_files : Effect → Files → Files
 work_files Computes files = files
 work_files Reads files = files
@@ -18,8 +17,7 @@ work_files Tells files = unstaged_files files
 work_files Makes files = unstaged_files files
 work_files Changes files = unstaged_files files
 
--- why what stands under the intent's name is no intent container; where nothing stands, nothing is
--- wrong
+-- why the file under the intent's name is no intent container; without a file there is no fault
 abbrev pub fault_of_intent : Option (List ℕ) → Option Cause
 fault_of_intent None = None
 fault_of_intent (Some file) = first_fault IntentTable file

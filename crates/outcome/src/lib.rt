@@ -1,15 +1,20 @@
-//! What every command answers, prints and leaves, as a function of its words and of the files of
-//! the tree.
+//! The outcome of every command: its answer, output and files, as a function of its arguments and
+//! of the files of the tree.
 //!
-//! It is a crate of definitions. `Outcome` of `specs/` says what a command comes to, `Words` what a
-//! command line comes to, `Commands` what each command but `demo` does, `Effect` what it looks at
-//! and changes, and `Version`, `Verify`, `Dump`, `Generate`, `Make`, `Telling` and `Changing` what
-//! each comes to; `Demo` says what `demo` runs, and `Given` what no function computes of an outcome.
-//! `ChangeEnd`, `Recovers` and `Sound` are what laws cite: how a change ends, which commands
-//! recover, and when a file is a sound container.
+//! This is a crate of definitions. The modules of `specs/` are:
+//! - `Outcome`: the parts of a command's outcome;
+//! - `Words`: the outcome of a command line;
+//! - `Commands`: the outcome of each command except `demo`;
+//! - `Effect`: what a command reads and changes;
+//! - `Version`, `Verify`, `Dump`, `Generate`, `Make`, `Telling`, `Changing`: the outcome of each
+//!   command or group of commands;
+//! - `Demo`: the command lines that `demo` runs;
+//! - `Given`: the parts of an outcome that relations specify, and no function computes;
+//! - `ChangeEnd`, `Recovers`, `Sound`: cited by laws: how a change ends, which commands recover,
+//!   and when a file is a sound container.
 //!
 //! The functions are laws: they do nothing, and their contracts say what follows from the
-//! definitions, for all words and files. The rules stand in `docs/commands.md`, in the sections
+//! definitions, for all arguments and files. The rules are in `docs/commands.md`, in the sections
 //! that the heads of the files of `specs/` name.
 #![tactic(auto)]
 
@@ -62,7 +67,7 @@ pub fn an_outcome_exists()
     a_change_has_a_first_clash_or_none();
 }
 
-/// A command line has one outcome over some files, and no second one.
+/// A command line has at most one outcome over given files.
 pub fn an_outcome_is_unique()
     ensures { (words : List (List ℕ)) (files : Files) (a b : Outcome)
         → IsOutcome words files a → IsOutcome words files b → a ≡ b }
@@ -82,7 +87,7 @@ pub fn an_outcome_over_files_is_unique()
     a_change_has_a_first_clash_or_none();
 }
 
-/// A command that only reads leaves the files as they are, and commits nothing.
+/// A command that only reads leaves the files unchanged, and commits nothing.
 pub fn a_command_that_reads_leaves_the_files()
     ensures files { (words : List (List ℕ)) (files : Files) (o : Outcome)
         → IsTrue (reads_only (command_of words)) → IsOutcome words files o → o.files ≡ files }
@@ -93,8 +98,8 @@ pub fn a_command_that_reads_leaves_the_files()
     reading_leaves_the_files();
 }
 
-// `a_command_that_reads_leaves_the_files` for each command but `demo`, of what was read of its
-// words.
+// `a_command_that_reads_leaves_the_files` for each command except `demo`, once its arguments are
+// parsed.
 fn reading_leaves_the_files()
     ensures files { (read : Result CommandLine ℕ) (files : Files) (o : Outcome)
         → IsTrue (reads_only read) → IsOutcomeOf read files o → o.files ≡ files }
@@ -102,8 +107,8 @@ fn reading_leaves_the_files()
         → IsTrue (reads_only read) → IsOutcomeOf read files o → o.commits ≡ false }
 {}
 
-/// A command that recovers and then only reads commits nothing, and leaves the files that a
-/// recovery leaves; or the old ones, where it cannot recover.
+/// A command that recovers and then only reads commits nothing. It leaves the recovered files, or
+/// the old ones if it cannot recover.
 pub fn a_command_that_tells_leaves_the_files()
     ensures files { (words : List (List ℕ)) (files : Files) (o : Outcome)
         → effect_by (command_of words) ≡ Tells → IsOutcome words files o
@@ -112,7 +117,7 @@ pub fn a_command_that_tells_leaves_the_files()
         → effect_by (command_of words) ≡ Tells → IsOutcome words files o → o.commits ≡ false }
 {}
 
-/// A command that makes a file commits exactly where it is not refused.
+/// A command that makes a file commits exactly if it is not refused.
 pub fn a_command_that_makes_commits_unless_refused()
     ensures { (words : List (List ℕ)) (files : Files) (o : Outcome)
         → effect_by (command_of words) ≡ Makes → IsOutcome words files o
@@ -129,7 +134,7 @@ pub fn a_refusal_commits_nothing()
     a_command_that_makes_commits_unless_refused();
 }
 
-/// A command that commits nothing leaves the files as they are, or as a recovery leaves them.
+/// A command that commits nothing leaves the files unchanged, or as recovery leaves them.
 pub fn a_command_that_commits_nothing_leaves_the_files()
     // Of a command over the files on which it works.
     ensures over { (command : CommandLine) (files : Files) (o : Outcome)
@@ -143,15 +148,15 @@ pub fn a_command_that_commits_nothing_leaves_the_files()
     a_change_that_writes_nothing_leaves_the_files();
 }
 
-/// The changes `add`, `del`, `upgrade` and `fix`, `mkpkg` and `mkndx`, and the commands that report
-/// on a root, `info`, `audit`, `manifest`, `list`, `search` and `policy`, first finish what an
-/// earlier change left undone, and refuse an intent that is bad. Then they work on the files that a
-/// recovery leaves, and leave these if they commit nothing. `verify`, `adbdump`, `adbgen`,
-/// `version`, `demo`, `--help` and `--version` leave all files as they are.
+/// These commands recover first, and refuse a corrupt journal entry (intent): the changes `add`,
+/// `del`, `upgrade` and `fix`; `mkpkg` and `mkndx`; and the reports `info`, `audit`, `manifest`,
+/// `list`, `search` and `policy`. They work on the recovered files, and leave these if they commit
+/// nothing. `verify`, `adbdump`, `adbgen`, `version`, `demo`, `--help` and `--version` leave all
+/// files unchanged.
 pub fn a_command_recovers()
     // The list of `must_recover` is that of the effects.
     ensures recovers { (applet : Applet) → does_recover (effect_of applet) ≡ must_recover applet }
-    // A bad intent is refused, and all files stay.
+    // A bad intent is refused, and all files are unchanged.
     ensures bad { (words : List (List ℕ)) (command : CommandLine) (files : Files) (o : Outcome)
         (cause : Cause) → command_of words ≡ Ok command → IsTrue (must_recover command.applet)
         → fault_of_intent (files intent_name) ≡ Some cause → IsOutcome words files o
@@ -161,7 +166,7 @@ pub fn a_command_recovers()
         → command_of words ≡ Ok command → IsTrue (must_recover command.applet)
         → fault_of_intent (files intent_name) ≡ None → IsOutcome words files o
         → IsOutcomeOver command (unstaged_files files) o }
-    // These it leaves where it commits nothing.
+    // These files are left if the command commits nothing.
     ensures leaves { (words : List (List ℕ)) (command : CommandLine) (files : Files) (o : Outcome)
         → command_of words ≡ Ok command → IsTrue (must_recover command.applet)
         → fault_of_intent (files intent_name) ≡ None → IsOutcome words files o
@@ -176,8 +181,8 @@ pub fn a_command_recovers()
     a_change_that_writes_nothing_leaves_the_files();
 }
 
-/// A command that recovers is refused for a bad intent only where the intent is bad, and tells the
-/// first test that it fails.
+/// A command that recovers is refused for a bad intent only if the intent is bad. It reports the
+/// first test that the intent fails.
 pub fn only_a_bad_intent_is_refused_as_one()
     ensures { (words : List (List ℕ)) (files : Files) (o : Outcome) (cause : Cause)
         → does_recover (effect_by (command_of words)) ≡ true → IsOutcome words files o
@@ -188,13 +193,13 @@ pub fn only_a_bad_intent_is_refused_as_one()
     a_change_takes_the_first_selection_or_is_refused();
 }
 
-/// A command that only reports is refused for its input alone, in the place of its report or beside
-/// it.
+/// A command that only reports is refused for its input alone. The refusal replaces its report or
+/// follows it.
 pub fn a_teller_is_refused_for_its_input()
-    // A refusal in the report's place.
+    // The refusal replaces the report.
     ensures refused { (command : CommandLine) (read : Reads) (refusal : Refusal)
         → told_by command read ≡ Err refusal → is_input_refusal refusal ≡ true }
-    // A refusal beside the report.
+    // The refusal follows the report.
     ensures late { (command : CommandLine) (read : Reads) (done : InfoDone) (refusal : Refusal)
         → told_by command read ≡ Ok done → done.late ≡ Some refusal
         → is_input_refusal refusal ≡ true }
@@ -202,8 +207,8 @@ pub fn a_teller_is_refused_for_its_input()
     info_refuses_an_operand();
 }
 
-/// A root is refused for having no database only where neither file of one stands there, and the
-/// command may not begin one.
+/// A root is refused for having no database only if it has neither file of one, and the command may
+/// not begin one.
 pub fn a_root_has_no_database_where_no_file_of_one_stands()
     ensures { (command : CommandLine) (files : Files)
         → database_for command (reads_in files) ≡ Err NoDatabase
@@ -211,10 +216,11 @@ pub fn a_root_has_no_database_where_no_file_of_one_stands()
         × (command.flags.initdb ≡ false) }
 {}
 
-/// A command that changes what is installed is refused for a stated fault of its input, or where no
-/// selection satisfies the new world, and just there as unsatisfied; else the first preferred
-/// selection takes the place of the packages before: that is committed and reported, unless the
-/// packages have a stated fault. A bad intent is refused before all else.
+/// Each command that changes what is installed ends in one of these ways. A bad intent is refused
+/// before all else. A stated fault of its input is refused. It is refused as unsatisfied exactly if
+/// no selection satisfies the new world. Otherwise the first preferred selection (the preferred
+/// solution) replaces the packages before: this is committed and reported, unless the packages have
+/// a stated fault.
 pub fn a_change_takes_the_first_selection_or_is_refused()
     // Of a command over the files on which it works.
     ensures over { (command : CommandLine) (files : Files) (o : Outcome)
@@ -228,8 +234,8 @@ pub fn a_change_takes_the_first_selection_or_is_refused()
     a_change_that_is_made_passes_each_test();
 }
 
-/// A change leaves room for the next one: a recovery finds no intent, nothing waits, and the files
-/// stay folder-like with what a stage may make.
+/// A change leaves room for the next one: recovery finds no intent, there is no staged file, and
+/// the paths that a stage may create are free.
 pub fn a_change_leaves_room_for_the_next()
     ensures { (words : List (List ℕ)) (files : Files) (o : Outcome)
         → effect_by (command_of words) ≡ Changes → IsOutcome words files o → o.refusal ≡ None
@@ -240,8 +246,8 @@ pub fn a_change_leaves_room_for_the_next()
     an_intent_is_read_from_a_sound_container();
 }
 
-/// An outcome that rests on the words alone is the same over all other files, which it leaves. It is
-/// that of a usage error, of `version`, of `demo`, of `--help` or of `--version`
+/// An outcome that depends on the arguments alone is the same over all other files, which it
+/// leaves. It is that of a usage error, of `version`, of `demo`, of `--help` or of `--version`
 /// (`docs/commands.md`, "Words" and the sections of these commands).
 pub fn an_outcome_of_words_is_the_same_everywhere()
     ensures { (words : List (List ℕ)) (files others : Files) (o : Outcome)
@@ -251,7 +257,7 @@ pub fn an_outcome_of_words_is_the_same_everywhere()
     words_alone_are_the_same_everywhere();
 }
 
-// `an_outcome_of_words_is_the_same_everywhere` for each command but `demo`.
+// `an_outcome_of_words_is_the_same_everywhere` for each command except `demo`.
 fn words_alone_are_the_same_everywhere()
     ensures { (read : Result CommandLine ℕ) (files others : Files) (o : Outcome)
         → IsTrue (rests_on_words read) → IsOutcomeOf read files o
@@ -264,8 +270,8 @@ pub fn a_listing_of_a_tree_is_that_of_its_files()
         → IsListOf folder v names → IsNamesOf (files_below folder (files_of v)) names }
 {}
 
-/// What `mkpkg` or `mkndx` leaves under its output's name passes all tests of a container, where it
-/// has fewer than 2^64 bytes. Each state of a tree is whole.
+/// The file that `mkpkg` or `mkndx` leaves as its output passes all tests of a container, if it has
+/// fewer than 2^64 bytes. This holds in every state of a tree.
 pub fn what_is_made_is_sound()
     ensures { (words : List (List ℕ)) (v : TreeState) (o : Outcome) (name : List ℕ)
         → IsWhole v → IsOutcome words (files_of v) o → o.refusal ≡ None

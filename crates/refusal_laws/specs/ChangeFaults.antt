@@ -1,6 +1,6 @@
--- Why a change is refused whose selection was found. The refusals stand in `docs/commands.md`,
--- "What a change does with files" and "`add` and `del`", what is refused; what each says in the
--- README of this crate.
+-- Why a change is refused whose selection was found. The refusals are in `docs/commands.md`, "What a
+-- change does with files" and "`add` and `del`", what is refused; their meanings are in the README of
+-- this crate.
 use Rattle.std.specs.Prelude.{◌≡◌, ◌⊎◌, ℕ, true, false, List, Some, None, Ok, is_some}
 use Rattle.adb_fields.specs.FirstPair.{IsIn}
 use Rattle.adb_schema.specs.Reserved.{is_reserved}
@@ -31,7 +31,7 @@ use Rattle.refusal_laws.specs.PackageFaults.{IsFileBad, IsPackageMissing, IsPack
 
 -- ---- paths
 
--- a path is the first, of those that packages which come list, that apk keeps for itself
+-- a path is the first that an added package lists and that apk keeps for itself
 pub record IsFirstReserved (members : List Member) (path : List ℕ) : Type 0 where
   pub comes : IsIn path (coming_paths members)
   pub reserved : is_reserved path ≡ true
@@ -44,9 +44,9 @@ pub record IsListedBy (members : List Member) (path name : List ℕ) (l : Listin
   pub of_path : l.path ≡ path
   pub by : member_name l.member ≡ name
 
--- A path is contested: no package takes it over from all others that list it, and it is the first
--- such path. These two list it, and the one does not take over the files of the other; nor the
--- other those of the one, where no third package lists it.
+-- A path is contested: no package takes it over from all others that list it, and it is the first such
+-- path. These two list it, and the one does not take over the files of the other; nor does the other
+-- take over those of the one, if no third package lists it.
 pub record IsContested (members : List Member) (path one other : List ℕ) : Type 0 where
   pub unowned : owner_of_path members path ≡ None
   pub first : (l : Listing) → IsIn l (member_listings members) → precedes l.path path ≡ true
@@ -71,8 +71,8 @@ pub record IsWatchedFor (change : FileChange) (files : Files) (pkg : Plain) : Ty
   pub is_pattern : IsIn pattern (patterns_of pkg)
   pub matched : is_folder_matched (folder_of path) pattern ≡ true
 
--- a package of this name has a trigger script and watches the folder of a file that the change
--- touches, and scripts are not left out
+-- a package of this name has a trigger script and watches the folder of a file that the change touches,
+-- and scripts are not skipped
 pub record IsTriggerNeeded (wishes : ChangeWishes) (change : FileChange) (files : Files)
     (name : List ℕ) : Type 0 where
   pub asked : wishes.no_scripts ≡ false
@@ -84,17 +84,17 @@ pub record IsTriggerNeeded (wishes : ChangeWishes) (change : FileChange) (files 
 
 -- ---- limits
 
--- what is written of a value passes a limit, first with so many bytes and values
+-- what is written of a value exceeds a limit, first at this number of bytes and values
 abbrev pub IsTooLarge : Plain → ℕ → ℕ → Type 0
 IsTooLarge v bytes values =
     (overflow_of v ≡ Some (bytes, values)) × (passes (bytes, values) ≡ true)
 
--- what is written of the database after the change passes a limit
+-- what is written of the database after the change exceeds a limit
 abbrev pub IsDatabaseTooLarge : List Member → ℕ → ℕ → Type 0
 IsDatabaseTooLarge members bytes values =
     IsTooLarge (database_value members (owned_of members)) bytes values
 
--- the database does not pass a limit, and what is written of the change's intent does
+-- what is written of the database fits the limits, and what is written of the change's intent does not
 pub record IsIntentTooLarge (inputs : Inputs) (change : FileChange) (files : Files)
     (bytes values : ℕ) : Type 0 where
   pub database : List ℕ
@@ -102,7 +102,7 @@ pub record IsIntentTooLarge (inputs : Inputs) (change : FileChange) (files : Fil
   pub passes : (let actions = actions_of inputs change files (new_records inputs database) in
       IsTooLarge (value_of_intent (intent_of_lists actions.removals actions.writes)) bytes values)
 
--- what a change writes passes a limit: of the database or, where that fits, of the intent
+-- what a change writes exceeds a limit: of the database or, if that fits, of the intent
 abbrev pub IsResultTooLarge : Inputs → FileChange → Files → ℕ → ℕ → Type 0
 IsResultTooLarge inputs change files bytes values =
     IsDatabaseTooLarge change.members bytes values
@@ -110,7 +110,7 @@ IsResultTooLarge inputs change files bytes values =
 
 -- ---- each refusal
 
--- what a refusal says of the files that the packages after a change would leave is so
+-- a refusal is true of the files that the packages after a change would leave
 abbrev pub IsFaultOfFiles : Inputs → ChangeWishes → Files → List MemberFound → Refusal → Type 0
 IsFaultOfFiles inputs wishes files found (Reserved path) =
     IsFirstReserved (members_found found) path
@@ -125,7 +125,7 @@ IsFaultOfFiles inputs wishes files found (ResultTooLarge bytes values) =
     IsResultTooLarge inputs (file_change inputs wishes found) files bytes values
 IsFaultOfFiles inputs wishes files found other = ⊥
 
--- what a refusal says of the packages that come and go is so
+-- a refusal is true of the added and removed packages
 abbrev pub IsFaultOfPackage : Inputs → Replacement → ChangeWishes → Reads → Refusal → Type 0
 IsFaultOfPackage inputs r wishes read (PackageMissing name version) =
     IsPackageMissing inputs r read name version
@@ -137,8 +137,8 @@ IsFaultOfPackage inputs r wishes read (ScriptNeeded name script) =
     IsScriptNeeded inputs r wishes read name script
 IsFaultOfPackage inputs r wishes read other = ⊥
 
--- what a refusal of a change says is so: of a package that comes or goes; or the packages after the
--- change are found, and what they would leave has this fault
+-- a refusal of a change is true: of an added or removed package; or the packages after the change are
+-- found, and the files that they would leave have this fault
 abbrev pub IsFaultOfChange :
     Inputs → Replacement → ChangeWishes → Reads → Files → Refusal → Type 0
 IsFaultOfChange inputs r wishes read files refusal =

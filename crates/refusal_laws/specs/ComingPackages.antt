@@ -1,5 +1,5 @@
--- The packages that a change brings, as what is read says them. How the file of a package is found
--- stands in `docs/commands.md`, "`add` and `del`", what is read.
+-- The packages that a change adds, by what is read. How the file of a package is found is in
+-- `docs/commands.md`, "`add` and `del`", what is read.
 use Rattle.std.specs.Prelude.{◌≡◌, ◌+◌, ℕ, true, List, length, Option, Some, None, option_and_then, slice_get}
 use Rattle.std.specs.List.{find}
 use Rattle.adb_fields.specs.Repeated.{package_name}
@@ -17,15 +17,15 @@ use Rattle.report_core.specs.Reports.{Change}
 abbrev pub selected_of_name : Replacement → List ℕ → Option Candidate
 selected_of_name r name = find (is_selected_named name) r.selected
 
--- what the read with this number finds under the path of a candidate's file; nothing, where it has
--- no such path
+-- what the read with this number finds under the path of a candidate's file; nothing, if it has no such
+-- path
 abbrev pub package_file_read : Reads → ℕ → List Repository → Candidate → Option (List ℕ)
 package_file_read read n repositories c =
     option_and_then (read n) (package_file_of repositories c)
 
--- The selected candidate of this name comes, as something becomes of the name's package; it has
--- this version, and this is found under the path of its file. Behind the indexes there is a read
--- for each name of the packages before and of the selected ones, in byte order.
+-- The selected candidate of this name is added, since the name's package changes; it has this version,
+-- and this is found under the path of its file. After those of the indexes there is a read for each
+-- name of the packages before and of the selected ones, in byte order.
 pub record IsReadFor (inputs : Inputs) (r : Replacement) (read : Reads) (name version : List ℕ)
     (file : Option (List ℕ)) : Type 0 where
   pub candidate : Candidate
@@ -45,7 +45,7 @@ pub record IsAsSelected (c : Candidate) (file : List ℕ) : Type 0 where
   pub name : package_name (package_in_file file).value ≡ c.name
   pub version : version_text (package_in_file file).value ≡ selected_version c
 
--- a package comes: it is the one in the file of the selected candidate of its name
+-- a package is added: it is the one in the file of the selected candidate of its name
 pub record IsBrought (inputs : Inputs) (r : Replacement) (read : Reads) (name : List ℕ)
     (pkg : ComingPackage) : Type 0 where
   pub version : List ℕ

@@ -1,5 +1,5 @@
--- Why a command is refused that changes the installed packages. The refusals stand in
--- `docs/commands.md`, "`add` and `del`" and "`upgrade` and `fix`", in their order.
+-- Why a command is refused that changes the installed packages. The refusals are in `docs/commands.md`,
+-- "`add` and `del`" and "`upgrade` and `fix`", in their order.
 use Rattle.std.specs.Prelude.{◌≡◌, ◌⊎◌, ℕ, false, List, Option, Ok}
 use Rattle.adb_fields.specs.FirstPair.{IsIn}
 use Rattle.base_core.specs.Files.{Files}
@@ -22,8 +22,8 @@ use Rattle.refusal_laws.specs.InputFaults.{AreTooMany, IsFaultOfInput}
 
 -- ---- a selection
 
--- a name is none that the command knows: `del` needs one that is in world or installed, `upgrade`
--- and `fix` one that is installed
+-- a name is unknown to the command: `del` needs one that is in world or installed, `upgrade` and `fix`
+-- one that is installed
 abbrev pub IsUnknownTo : Applet → Inputs → List ℕ → Type 0
 IsUnknownTo Del inputs name =
     (has_name name inputs.root.world ≡ false) × (is_installed_name inputs name ≡ false)
@@ -44,8 +44,7 @@ pub record IsUnsatisfied (command : CommandLine) (inputs : Inputs) : Type 0 wher
   pub is_pool : pool_by command inputs ≡ Ok pool
   pub none : (selection : List ℕ) → IsSatisfying pool selection → ⊥
 
--- what a refusal says is so that comes behind the reading of the root and in front of the packages'
--- files
+-- a refusal is true that follows the reading of the root and precedes the packages' files
 abbrev pub IsFaultOfSelection : CommandLine → Inputs → Refusal → Type 0
 IsFaultOfSelection command inputs (TooMany count) = AreTooMany inputs count
 IsFaultOfSelection command inputs (NotInstalled place) = IsUnknownOperand command inputs place
@@ -54,7 +53,7 @@ IsFaultOfSelection command inputs other = ⊥
 
 -- ---- a command
 
--- what a command reads is there, and the candidates, an operand or the new world have this fault
+-- the command's inputs are read, and the candidates, an operand or the new world have this fault
 abbrev pub IsSelectionRefused : CommandLine → Reads → Refusal → Type 0
 IsSelectionRefused command read refusal =
     (inputs : Inputs) × (inputs_of command read ≡ Ok inputs)
@@ -67,7 +66,7 @@ IsChangeRefused command read files chosen refusal =
     (s : Selected) × (selected_for command read chosen ≡ Ok s) × (command.flags.simulate ≡ false)
     × IsFaultOfChange s.inputs s.replacement (wishes_of command) read files refusal
 
--- what a refusal says of what the command finds is so: of its input, its selection or its change
+-- a refusal of what the command finds is true: of its input, its selection or its change
 abbrev pub IsFaultOfCommand : CommandLine → Reads → Files → Option (List ℕ) → Refusal → Type 0
 IsFaultOfCommand command read files chosen refusal =
     IsFaultOfInput command read refusal

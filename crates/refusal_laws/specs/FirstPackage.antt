@@ -1,5 +1,5 @@
--- Which of the packages that come or go with a change is refused. The order stands in
--- `docs/commands.md`, "`add` and `del`": package by package in byte order of the names.
+-- Which added or removed package of a change is refused. The order is in `docs/commands.md`, "`add` and
+-- `del`": package by package in byte order of the names.
 use Rattle.std.specs.Prelude.{◌≡◌, ℕ, false, List, []}
 use Rattle.change_inputs.specs.Inputs.{Inputs}
 use Rattle.change_outcome.specs.ChangeOutcome.{ChangeWishes}
@@ -18,8 +18,8 @@ refused_name (PackageDiffers name version field wanted found) = name
 refused_name (ScriptNeeded name script) = name
 refused_name other = []
 
--- the package of a refusal is the first with a fault: none with one comes before it by name, and it
--- has no other fault
+-- the package of a refusal is the first with a fault: none with a fault precedes it by name, and it has
+-- no other fault
 pub record IsFirstRefused (inputs : Inputs) (r : Replacement) (wishes : ChangeWishes)
     (read : Reads) (refusal : Refusal) : Type 0 where
   pub first : (other : Refusal) → IsFaultOfPackage inputs r wishes read other

@@ -1,4 +1,4 @@
--- Why `info` is refused. The refusals stand in `docs/commands.md`, "`info`", what is refused.
+-- Why `info` is refused. The refusals are in `docs/commands.md`, "`info`", what is refused.
 use Rattle.std.specs.Prelude.{◌≡◌, ◌⊎◌, ℕ, Bool, true, false, List, ◌∷◌, ◌++◌, Ok}
 use Rattle.adb_fields.specs.FirstPair.{IsIn}
 use Rattle.adb_fields.specs.Repeated.{package_name, paths_in}
@@ -16,7 +16,7 @@ use Rattle.refusal_laws.specs.InputFaults.{HasNoDatabase, IsContainerBad, IsText
 
 -- ---- the database
 
--- what a refusal says of the database is so
+-- a refusal of the database is true
 abbrev pub IsFaultOfDatabase : CommandLine → Reads → Refusal → Type 0
 IsFaultOfDatabase command read NoDatabase = HasNoDatabase command read
 IsFaultOfDatabase command read (DatabaseBad cause) =
@@ -27,8 +27,8 @@ IsFaultOfDatabase command read other = ⊥
 
 -- ---- the operands
 
--- a package is what a text asks for: with `--who-owns` it lists the path, of which one leading `/`
--- is dropped; else it has the name
+-- a text asks for this package: with `--who-owns` it lists the path, of which one leading `/` is
+-- dropped; otherwise it has the name
 abbrev pub IsAskedFor : Bool → List ℕ → Plain → Type 0
 IsAskedFor true path pkg = IsIn (without_slash path) (paths_in pkg)
 IsAskedFor false name pkg = package_name pkg ≡ name
@@ -43,7 +43,7 @@ abbrev pub AreFoundInstalled : CommandLine → List Plain → List Operand → T
 AreFoundInstalled command packages operands =
     (o : Operand) → IsIn o operands → IsFoundInstalled command packages o.text
 
--- a refusal tells the place of the first operand that asks for what is not installed
+-- a refusal has the place of the first operand that asks for what is not installed
 pub record IsFirstNotInstalled (command : CommandLine) (packages : List Plain)
     (refusal : Refusal) : Type 0 where
   pub before : List Operand
@@ -62,7 +62,7 @@ pub record IsFaultOfOperand (command : CommandLine) (read : Reads) (refusal : Re
   pub is_database : database_for command read ≡ Ok database
   pub first : IsFirstNotInstalled command database.packages refusal
 
--- what a refusal of `info` says is so: of the database; or, where that is found, of an operand
+-- a refusal of `info` is true: of the database; or, if that is found, of an operand
 abbrev pub IsFaultOfInfo : CommandLine → Reads → Refusal → Type 0
 IsFaultOfInfo command read refusal =
     IsFaultOfDatabase command read refusal ⊎ IsFaultOfOperand command read refusal

@@ -1,5 +1,5 @@
--- Why what a change reads of a root is refused. The refusals stand in `docs/commands.md`,
--- "`add` and `del`", what is refused, in their order, and in "Error lines".
+-- Why what a change reads of a root is refused. The refusals are in `docs/commands.md`, "`add` and
+-- `del`", what is refused, in their order, and in "Error lines".
 use Rattle.std.specs.Prelude.{◌≡◌, ◌⊎◌, ◌+◌, ◌<◌, ℕ, suc, false, List, ◌∷◌, length, Option, Some, None, Ok, Err, slice_get}
 use Rattle.adb_schema.specs.Soundness.{first_fault}
 use Rattle.adb_view.specs.declared.tables.Which.TheVariants.{Idb, Index}
@@ -33,7 +33,7 @@ pub record IsContainerBad (read : Reads) (cause : Cause) : Type 0 where
   pub is_file : read database_read database_name ≡ Some file
   pub fault : first_fault Idb file ≡ Some cause
 
--- there is no container, and the text database comes to this fault
+-- there is no container, and the text database has this fault
 pub record IsTextRefused (read : Reads) (fault : V2Fault) : Type 0 where
   pub container : read database_read database_name ≡ None
   pub text : List ℕ
@@ -42,11 +42,11 @@ pub record IsTextRefused (read : Reads) (fault : V2Fault) : Type 0 where
 
 -- ---- repositories
 
--- the text of the list of repositories as it is read: none where the file is absent
+-- the text of the list of repositories as it is read: empty if the file is absent
 abbrev pub repositories_found : Reads → List ℕ
 repositories_found read = text_found (read repositories_read repositories_name)
 
--- the list names a repository, and there is no leave to read one that nobody checked
+-- the list names a repository, and reading unsigned ones is not allowed
 pub record IsUntrusted (command : CommandLine) (read : Reads) : Type 0 where
   pub no_leave : command.flags.allow_untrusted ≡ false
   pub repository : Repository
@@ -71,12 +71,12 @@ pub record IsIndexBad (read : Reads) (number : ℕ) (cause : Cause) : Type 0 whe
 
 -- ---- each refusal
 
--- what a refusal says of what was read of the root is so
+-- a refusal of what was read of the root is true
 abbrev pub IsFaultOfInput : CommandLine → Reads → Refusal → Type 0
 IsFaultOfInput command read NoDatabase = HasNoDatabase command read
 IsFaultOfInput command read (DatabaseBad cause) =
     IsContainerBad read cause ⊎ IsTextRefused read (Bad cause)
--- a text database that says more than a container may have
+-- a text database with more data than a container may have
 IsFaultOfInput command read (ResultTooLarge bytes values) =
     IsTextRefused read (TooLarge bytes values)
 IsFaultOfInput command read (WorldBad line) =
@@ -90,7 +90,7 @@ IsFaultOfInput command read other = ⊥
 
 -- ---- too many
 
--- there are more packages to choose from than may be, and the refusal tells of one too many
+-- there are more candidates than are allowed, and the refusal reports one more than that limit
 pub record AreTooMany (inputs : Inputs) (count : ℕ) : Type 0 where
   pub more : MOST_CANDIDATES < length (candidates_of inputs)
   pub told : count ≡ MOST_CANDIDATES + 1

@@ -1,4 +1,4 @@
--- what laws of changes say
+-- cited by laws of changes
 pub mod InputFaults
 pub mod ReadBefore
 pub mod InfoFaults

@@ -1,5 +1,5 @@
--- Why a package that is to be made is too large. The refusal stands in `docs/commands.md`,
--- "`mkpkg`", and the limits in `docs/formats.md`, "Canonical layout".
+-- Why a package that is to be made is too large. The refusal is in `docs/commands.md`, "`mkpkg`", and
+-- the limits in `docs/formats.md`, "Canonical layout".
 use Rattle.std.specs.Prelude.{◌≡◌, ℕ, List, Ok}
 use Rattle.command_core.specs.Command.{CommandLine}
 use Rattle.make_core.specs.ReadBack.{packed_package}
@@ -7,8 +7,8 @@ use Rattle.make_info.specs.Reads.{Reads}
 use Rattle.pkg_core.specs.Whole.{Packed}
 use Rattle.refusal_laws.specs.ChangeFaults.{IsTooLarge}
 
--- what is written of the value of the package that a command asks for passes a limit, first with so
--- many bytes and values
+-- what is written of the value of the package that a command asks for exceeds a limit, first at this
+-- number of bytes and values
 pub record IsPackageTooLarge (command : CommandLine) (names : List (List ℕ)) (read : Reads)
     (bytes values : ℕ) : Type 0 where
   pub packed : Packed

@@ -1,5 +1,5 @@
--- What holds of the candidates and the operands where a selection is refused. The order of these
--- refusals stands in `docs/commands.md`, "`add` and `del`", what is refused.
+-- What holds of the candidates and the operands if a selection is refused. The order of these refusals
+-- is in `docs/commands.md`, "`add` and `del`", what is refused.
 use Rattle.std.specs.Prelude.{◌≡◌, ℕ, List, ◌∷◌, ◌++◌, Ok}
 use Rattle.adb_fields.specs.FirstPair.{IsIn}
 use Rattle.change_inputs.specs.Inputs.{Inputs}
@@ -30,7 +30,7 @@ abbrev pub HasPool : CommandLine → Inputs → Type 0
 HasPool command inputs = (pool : SealedPool) × (pool_by command inputs ≡ Ok pool)
 
 -- what is tested before this refusal of a selection: first the candidates are counted, then the
--- operands are looked at in their order, and last a selection is searched
+-- operands are tested in their order, and last a selection is searched for
 abbrev pub HasPassedBeforeSelection : CommandLine → Inputs → Refusal → Type 0
 HasPassedBeforeSelection command inputs (NotInstalled place) =
     HasPool command inputs × IsFirstUnknown command inputs place

@@ -1,5 +1,5 @@
--- Why one of the packages that come or go with a change is refused. The refusals stand in
--- `docs/commands.md`, "`add` and `del`", what is refused package by package, and in "Error lines".
+-- Why an added or removed package of a change is refused. The refusals are in `docs/commands.md`,
+-- "`add` and `del`", what is refused package by package, and in "Error lines".
 use Rattle.std.specs.Prelude.{◌≡◌, ◌⊎◌, ℕ, true, false, List, Some, None}
 use Rattle.std.specs.List.{find}
 use Rattle.adb_fields.specs.FirstPair.{IsIn}
@@ -21,11 +21,11 @@ use Rattle.refusal_laws.specs.ComingPackages.{IsBrought, IsReadFor, selected_of_
 
 -- ---- its file
 
--- a candidate of this name and version comes, and no file of it is found
+-- a candidate of this name and version is added, and no file of it is found
 abbrev pub IsPackageMissing : Inputs → Replacement → Reads → List ℕ → List ℕ → Type 0
 IsPackageMissing inputs r read name version = IsReadFor inputs r read name version None
 
--- the file of a package that comes is there, and this is the first test that it fails
+-- the file of an added package is there, and this is the first test that it fails
 pub record IsFileBad (inputs : Inputs) (r : Replacement) (read : Reads) (name version : List ℕ)
     (cause : Cause) : Type 0 where
   pub file : List ℕ
@@ -34,7 +34,7 @@ pub record IsFileBad (inputs : Inputs) (r : Replacement) (read : Reads) (name ve
 
 -- ---- another package
 
--- the wanted id is the index's, the other that of the package's file, and they are not the same id
+-- the wanted id is the index's, the other that of the package's file, and they differ
 abbrev pub HasOtherId : Candidate → ComingPackage → List ℕ → List ℕ → Type 0
 HasOtherId c pkg wanted found =
     (wanted ≡ c.id) × (found ≡ pkg.id) × (is_same_id wanted found ≡ false)
@@ -49,8 +49,8 @@ abbrev pub HasOtherVersion : Candidate → ComingPackage → List ℕ → List �
 HasOtherVersion c pkg wanted found =
     (wanted ≡ selected_version c) × (found ≡ version_text pkg.value) × (wanted ≡ found → ⊥)
 
--- the package in a file is not the candidate's: the id is another; or it is the same, and the name
--- is another; or both are the same, and the version is another
+-- the package in a file is not the candidate's: the id is another; or it is the same, and the name is
+-- another; or both are the same, and the version is another
 abbrev pub IsOtherPackage : Candidate → ComingPackage → ℕ → List ℕ → List ℕ → Type 0
 IsOtherPackage c pkg field wanted found =
     ((field ≡ HASHES_FIELD) × HasOtherId c pkg wanted found)
@@ -58,8 +58,8 @@ IsOtherPackage c pkg field wanted found =
     ⊎ ((field ≡ VERSION_FIELD) × (is_same_id c.id pkg.id ≡ true) × (c.name ≡ package_name pkg.value)
     × HasOtherVersion c pkg wanted found))
 
--- the file of a package that comes passes all tests, and the package in it is another one than the
--- index says
+-- the file of an added package passes all tests, and the package in it is not the one that the index
+-- lists
 pub record IsPackageOther (inputs : Inputs) (r : Replacement) (read : Reads)
     (name version : List ℕ) (field : ℕ) (wanted found : List ℕ) : Type 0 where
   pub file : List ℕ
@@ -69,20 +69,20 @@ pub record IsPackageOther (inputs : Inputs) (r : Replacement) (read : Reads)
 
 -- ---- scripts
 
--- a package before goes: none of its name is selected
+-- a package before is removed: none of its name is selected
 pub record IsGoing (r : Replacement) (name : List ℕ) (pkg : Plain) : Type 0 where
   pub before : find (is_package_named name) r.before ≡ Some pkg
   pub unselected : selected_of_name r name ≡ None
 
--- a package of this name comes or goes
+-- a package of this name is added or removed
 abbrev pub IsComingOrGoing : Inputs → Replacement → Reads → List ℕ → Plain → Type 0
 IsComingOrGoing inputs r read name pkg =
     ((coming : ComingPackage) × IsBrought inputs r read name coming × (pkg ≡ coming.value))
     ⊎ IsGoing r name pkg
 
--- The change of the package of this name would run this script, the first that the package has of
--- those that would run; and scripts are not left out. `script` is its number in table 6 of
--- `docs/formats.md`, "Schemas".
+-- The change of the package of this name would run this script, the first that the package has of those
+-- that would run; and scripts are not skipped. `script` is its number in table 6 of `docs/formats.md`,
+-- "Schemas".
 pub record IsScriptNeeded (inputs : Inputs) (r : Replacement) (wishes : ChangeWishes)
     (read : Reads) (name : List ℕ) (script : ℕ) : Type 0 where
   pub asked : wishes.no_scripts ≡ false

@@ -1,6 +1,5 @@
--- Which packages there are after a change. The rules stand in `docs/commands.md`,
--- "`add` and `del`", and in `docs/formats.md`, "The database after a change", on those that stay
--- and those that come.
+-- Which packages there are after a change. The rules are in `docs/commands.md`, "`add` and `del`", and
+-- in `docs/formats.md`, "The database after a change", on the kept and the added ones.
 use Rattle.std.specs.Prelude.{◌≡◌, ◌⊎◌, ℕ, true, List, Some, None}
 use Rattle.std.specs.List.{find}
 use Rattle.adb_fields.specs.FirstPair.{IsIn}
@@ -15,8 +14,8 @@ use Rattle.package_changes.specs.Changes.{Replacement, change_of_name, is_same_s
 use Rattle.candidate_core.specs.Candidates.{Candidate}
 use Rattle.refusal_laws.specs.ComingPackages.{IsBrought, selected_of_name}
 
--- a member is the package of its name before, to the letter, which is the selected candidate; and
--- nothing becomes of it
+-- a member is the package of its name before, to the letter, which is the selected candidate and does
+-- not change
 pub record IsUnchanged (r : Replacement) (name : List ℕ) (c : Candidate) (f : MemberFound) :
     Type 0 where
   pub pkg : Plain
@@ -25,14 +24,14 @@ pub record IsUnchanged (r : Replacement) (name : List ℕ) (c : Candidate) (f : 
   pub becomes : change_of_name r name ≡ None
   pub is : f ≡ staying_found pkg
 
--- a member comes, as the selected candidate says, with the contents of its files
+-- a member is added, as the selected candidate says, with the contents of its files
 pub record HasCome (inputs : Inputs) (r : Replacement) (read : Reads) (name : List ℕ)
     (f : MemberFound) : Type 0 where
   pub pkg : ComingPackage
   pub brought : IsBrought inputs r read name pkg
   pub is : f ≡ coming_found pkg
 
--- the selected candidate of a member's name is the package before, or comes
+-- the selected candidate of a member's name is the package before, or is added
 pub record IsSelectedMember (inputs : Inputs) (r : Replacement) (read : Reads) (f : MemberFound) :
     Type 0 where
   pub candidate : Candidate

@@ -17,7 +17,7 @@ pub record HasTooManyCandidates (command : CommandLine) (read : Reads) (refusal 
   pub too_many : AreTooMany inputs count
   pub is : refusal ≡ TooMany count
 
--- what a refusal of a query says is so: of the input; or, if that is read, of its candidates
+-- a refusal of a query is true: of the input; or, if that is read, of its candidates
 abbrev pub IsFaultOfQuery : CommandLine → Reads → Refusal → Type 0
 IsFaultOfQuery command read refusal =
     IsFaultOfInput command read refusal ⊎ HasTooManyCandidates command read refusal

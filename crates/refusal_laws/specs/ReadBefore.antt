@@ -1,5 +1,5 @@
--- What was read without a refusal before a later one. The order stands in `docs/commands.md`,
--- "`add` and `del`", what is read and refused.
+-- What was read without a refusal before a later one. The order is in `docs/commands.md`, "`add` and
+-- `del`", what is read and refused.
 use Rattle.std.specs.Prelude.{◌≡◌, ◌<◌, ℕ, true, List, None, Ok}
 use Rattle.base_core.specs.declared.cause.Cause.{Cause}
 use Rattle.change_inputs.specs.Database.{Database}
@@ -33,7 +33,7 @@ HasRepositories read =
 abbrev pub HasBoth : CommandLine → Reads → Type 0
 HasBoth command read = HasDatabase command read × HasWorld read
 
--- no line of the list of repositories is bad either, and there is leave to read them
+-- no line of the list of repositories is bad either, and reading them is allowed
 abbrev pub HasLeave : CommandLine → Reads → Type 0
 HasLeave command read =
     HasBoth command read × HasRepositories read × (command.flags.allow_untrusted ≡ true)
@@ -52,9 +52,9 @@ abbrev pub ArePassedBefore : Reads → ℕ → Type 0
 ArePassedBefore read number =
     (earlier : ℕ) (cause : Cause) → earlier < number → IsIndexBad read earlier cause → ⊥
 
--- What is read before this refusal of the input: first the database, then world, then the
--- repositories, for which there has to be leave, and last their indexes. These are all looked for,
--- in the order of their numbers, before the first of them is tested.
+-- What is read before this refusal of the input: first the database, then world, then the repositories,
+-- which must be allowed, and last their indexes. All indexes are looked up, in the order of their
+-- numbers, before the first of them is tested.
 abbrev pub HasReadBefore : CommandLine → Reads → Refusal → Type 0
 HasReadBefore command read (WorldBad line) = HasDatabase command read
 HasReadBefore command read (RepositoriesBad line) = HasBoth command read

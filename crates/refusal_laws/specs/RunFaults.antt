@@ -1,5 +1,5 @@
--- Why a run is refused that changes the installed packages. The refusals stand in
--- `docs/commands.md`, "Commands that recover first" and "`add` and `del`".
+-- Why a run is refused that changes the installed packages. The refusals are in `docs/commands.md`,
+-- "Commands that recover first" and "`add` and `del`".
 use Rattle.std.specs.Prelude.{◌≡◌, ◌⊎◌, ℕ, List, Option, Some, None}
 use Rattle.base_core.specs.Files.{Files}
 use Rattle.base_core.specs.declared.cause.Cause.{Cause}
@@ -14,21 +14,21 @@ use Rattle.report_core.specs.declared.refusal.Refusal.{Refusal}
 use Rattle.report_core.specs.declared.refusal.Refusal.TheVariants.{IntentBad}
 use Rattle.refusal_laws.specs.CommandFaults.{IsFaultOfCommand}
 
--- what a refusal says is so, of the command over the files on which it works, with the candidates
--- that are to be chosen
+-- a refusal is true of the command over the files on which it works, with the candidates that are to be
+-- chosen
 pub record IsFaultOver (command : CommandLine) (files : Files) (refusal : Refusal) : Type 0 where
   pub chosen : Option (List ℕ)
   pub choice : IsChoiceFrom (pool_for command (reads_in files)) chosen
   pub fault : IsFaultOfCommand command (reads_in files) files chosen refusal
 
--- the intent of a change that was cut off fails this test first, and that is told
+-- the intent of an interrupted change fails this test first, and that is reported
 pub record IsIntentRefusal (files : Files) (refusal : Refusal) : Type 0 where
   pub cause : Cause
   pub bad : fault_of_intent (files intent_name) ≡ Some cause
   pub told : refusal ≡ IntentBad cause
 
--- what a refusal of a run says is so: a bad intent is refused before all else; then a run works on
--- the files that a recovery leaves
+-- a refusal of a run is true: a bad intent is refused before all else; otherwise a run works on the
+-- recovered files
 abbrev pub IsFaultOfRun : CommandLine → Files → Refusal → Type 0
 IsFaultOfRun command files refusal =
     IsIntentRefusal files refusal

@@ -1,4 +1,4 @@
--- Which packages there are after a run that is not refused. The rules stand in `docs/selection.md`,
+-- Which packages there are after a run that is not refused. The rules are in `docs/selection.md`,
 -- "Which selection is taken", and in `docs/commands.md`, "What a change does with files".
 use Rattle.std.specs.Prelude.{◌≡◌, ℕ, List, Some, Ok}
 use Rattle.base_core.specs.Files.{Files}
@@ -15,8 +15,8 @@ use Rattle.search_tables.specs.Selection.{IsFirstSelection}
 use Rattle.refusal_laws.specs.PackagesAfter.{AreSelectedOnes}
 use Rattle.refusal_laws.specs.TestsPassed.{HasNoFault}
 
--- a run has taken the first preferred selection: it is found, the packages after the change are
--- just those, and the files that they leave have no fault
+-- a run has taken the first preferred selection: it is found, the packages after the change are exactly
+-- those, and the files that they leave have no fault
 pub record HasFirstSelection (command : CommandLine) (files : Files) : Type 0 where
   pub pool : SealedPool
   pub is_pool : pool_for command (reads_in files) ≡ Ok pool

@@ -1,6 +1,5 @@
--- What holds of the packages after a change that has passed some of its tests. The tests stand in
--- `docs/commands.md`, "What a change does with files", 1 to 3, and "`add` and `del`", what is
--- refused.
+-- What holds of the packages after a change that has passed some of its tests. The tests are in
+-- `docs/commands.md`, "What a change does with files", 1 to 3, and "`add` and `del`", what is refused.
 use Rattle.std.specs.Prelude.{◌≡◌, ℕ, true, false, List, is_some}
 use Rattle.adb_fields.specs.FirstPair.{IsIn}
 use Rattle.adb_schema.specs.Reserved.{is_reserved}
@@ -17,7 +16,7 @@ use Rattle.report_core.specs.declared.refusal.Refusal.{Refusal}
 use Rattle.report_core.specs.declared.refusal.Refusal.TheVariants.{Owned, PathClash, ResultTooLarge, TriggerNeeded}
 use Rattle.refusal_laws.specs.ChangeFaults.{IsWatchedFor}
 
--- no package that comes lists a path that apk keeps for itself
+-- no added package lists a path that apk keeps for itself
 abbrev pub AreUnreserved : List Member → Type 0
 AreUnreserved members =
     (path : List ℕ) → IsIn path (coming_paths members) → is_reserved path ≡ false
@@ -28,7 +27,7 @@ HaveOwners members =
     (l : Listing) → IsIn l (member_listings members)
     → is_some (owner_of_path members l.path) ≡ true
 
--- no trigger of a package is due, or scripts are left out
+-- no trigger of a package is due, or scripts are skipped
 abbrev pub HasNoTrigger : ChangeWishes → FileChange → Files → Type 0
 HasNoTrigger wishes change files =
     wishes.no_scripts ≡ false → (m : Member) → IsIn m change.members
@@ -43,7 +42,8 @@ HasNamesOfItsOwn change files =
 abbrev pub HasOwners : FileChange → Files → Type 0
 HasOwners change files = HasNamesOfItsOwn change files × HaveOwners change.members
 
--- a change has none of what would refuse its files, but for the limits of what is written
+-- a change has none of the faults for which its files would be refused, except for the limits of what
+-- is written
 abbrev pub HasNoFault : ChangeWishes → FileChange → Files → Type 0
 HasNoFault wishes change files = HasOwners change files × HasNoTrigger wishes change files
 

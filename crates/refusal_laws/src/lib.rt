@@ -1,6 +1,6 @@
-//! What a refusal of a change, or of a command that only reports, says is so, and which packages
-//! there are after a change that is not refused. The refusals are in `docs/commands.md`,
-//! "Error lines", and in the section of each command.
+//! What a refusal of a change, or of a command that only reports, means, and which packages there
+//! are after a change that is not refused. The refusals are in `docs/commands.md`, "Error lines",
+//! and in the section of each command.
 //!
 //! The functions are laws. They cite `RunFaults`, `TestsPassed` and `PackagesAfter` of `specs/`,
 //! and the definitions of `outcome` and of the crates below it.

@@ -1,4 +1,4 @@
--- What the reports of `audit` and `manifest` say (apk(8)). The rules are in `docs/commands.md`,
+-- The texts of the reports of `audit` and `manifest` (apk(8)). The rules are in `docs/commands.md`,
 -- "`audit`" and "`manifest`".
 use Rattle.std.specs.Prelude.{ℕ, ◌==◌, List, ◌++◌, codes, length, if◌then◌else◌}
 use Rattle.hex.specs.Hex.{encode_lower}
@@ -15,8 +15,8 @@ changed_text path = codes "U " ++ path
 
 -- ---- `manifest`
 
--- a digest with the name of its function, as `sha256:DIGITS`; its length tells the function
--- (FIPS 180-4). `none` if there is no digest
+-- a digest with the name of its function, as `sha256:DIGITS`; its length determines the function (FIPS
+-- 180-4). `none` if there is no digest
 abbrev pub named_digest : List ℕ → List ℕ
 named_digest digest =
     if length digest == 20 then codes "sha1:" ++ encode_lower digest

@@ -1,9 +1,9 @@
--- The definitions of this crate. Each file names the place of its rule.
--- what the contract of `apk` says
+-- The definitions of this crate. The head of each file names the section with its rule. Cited by the
+-- contract of `apk`:
 pub mod Numbers
 pub mod Texts
 pub mod Reports
 pub mod AuditReports
 pub mod QueryReports
--- what only inner contracts and proofs use
+-- used by inner contracts and proofs only
 pub mod Pieces

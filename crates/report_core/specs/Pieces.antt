@@ -1,6 +1,5 @@
--- The pieces that the text of a refusal is put together from. Serves the proof of `write_error`, whose
--- contract cites *refusal_line*; what each piece stands for is a rule of `docs/commands.md`, "Error
--- lines".
+-- The pieces of a refusal's text. Serves the proof of `write_error`, whose contract cites
+-- *refusal_line*; the meaning of each piece is a rule of `docs/commands.md`, "Error lines".
 use Rattle.std.specs.Prelude.{ℕ, List, [], ◌∷◌, ◌++◌, Option, Some, None}
 use Rattle.std.specs.Fmt.{decimal}
 use Rattle.hex.specs.Hex.{encode_lower}
@@ -20,7 +19,7 @@ piece_text (Digest digest) = encode_lower (digest_bytes digest)
 piece_text (Position folder file) = position_text folder file
 piece_text Nothing = []
 
--- the texts of pieces, one behind another
+-- the texts of pieces, one after another
 abbrev pub pieces_text : List Piece → List ℕ
 pieces_text [] = []
 pieces_text (piece ∷ pieces) = piece_text piece ++ pieces_text pieces
@@ -30,6 +29,6 @@ abbrev pub cause_part : Option Cause → List ℕ
 cause_part (Some cause) = cause_text cause
 cause_part None = []
 
--- the text of a sentence: its pieces, and its cause behind them
+-- the text of a sentence: its pieces, and then its cause
 abbrev pub sentence_text : Sentence → List ℕ
 sentence_text sentence = pieces_text sentence.pieces ++ cause_part sentence.cause

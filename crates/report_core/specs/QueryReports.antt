@@ -1,6 +1,5 @@
--- What the reports of queries say: `list`, `search` and `policy` (apk(8)). Each line ends with a
--- line end.
--- The rules are in `docs/commands.md`, "`list`", "`search`" and "`policy`".
+-- The texts of the reports of queries: `list`, `search` and `policy` (apk(8)). Each line ends with a
+-- line end. The rules are in `docs/commands.md`, "`list`", "`search`" and "`policy`".
 use Rattle.std.specs.Prelude.{ℕ, Bool, true, false, List, [], ◌∷◌, ◌++◌, Option, Some, None, codes}
 use Rattle.report_core.specs.Reports.{name_version, report_line}
 

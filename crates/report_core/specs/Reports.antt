@@ -1,6 +1,6 @@
--- What the reports of commands say (apk(8)). Each line ends with a line end.
--- The rules stand in `docs/commands.md`: of changes in "`add` and `del`" and "`upgrade` and `fix`", of
--- what is installed in "`info`".
+-- The texts of the reports of commands (apk(8)). Each line ends with a line end. The rules are in
+-- `docs/commands.md`: for changes in "`add` and `del`" and "`upgrade` and `fix`", for what is installed
+-- in "`info`".
 use Rattle.std.specs.Prelude.{ℕ, ◌+◌, List, [], ◌∷◌, ◌++◌, codes, length}
 use Rattle.std.specs.Fmt.{decimal}
 use Rattle.std.specs.List.{flat_map}
@@ -9,7 +9,7 @@ use Rattle.std.specs.List.{flat_map}
 abbrev pub report_line : List ℕ → List ℕ
 report_line text = text ++ codes "\n"
 
--- lines, one behind another
+-- lines, one after another
 abbrev pub report_lines : List (List ℕ) → List ℕ
 report_lines texts = flat_map report_line texts
 
@@ -19,8 +19,8 @@ name_version name version = name ++ codes "-" ++ version
 
 -- ---- changes
 
--- what becomes of a package: it gets a version, gets it again, or goes; or its version is replaced
--- by a greater one, a smaller one, or one that is equal in order
+-- what becomes of a package: it is installed, reinstalled or removed; or its version is replaced by a
+-- greater one, a smaller one, or one that is equal in order
 pub data Change : Type 0 where
   Install : List ℕ → List ℕ → Change
   Reinstall : List ℕ → List ℕ → Change
@@ -37,7 +37,7 @@ name_and_version name version = name ++ codes " (" ++ version ++ codes ")"
 abbrev pub from_version_to : List ℕ → List ℕ → List ℕ → List ℕ
 from_version_to name old new = name ++ codes " (" ++ old ++ codes " -> " ++ new ++ codes ")"
 
--- what a report says of a package that changes
+-- the report on a package that changes
 abbrev pub change_text : Change → List ℕ
 change_text (Install name version) = codes "Installing " ++ name_and_version name version
 change_text (Reinstall name version) = codes "Reinstalling " ++ name_and_version name version
@@ -51,7 +51,7 @@ abbrev pub numbered_change : ℕ → ℕ → Change → List ℕ
 numbered_change number count change =
     codes "(" ++ decimal number ++ codes "/" ++ decimal count ++ codes ") " ++ change_text change
 
--- the lines of changes, the first of which has this number, of so many in all
+-- the lines of changes, the first of which has this number, of this many in all
 abbrev pub change_lines_from : ℕ → ℕ → List Change → List ℕ
 change_lines_from number count [] = []
 change_lines_from number count (change ∷ changes) =
@@ -62,14 +62,14 @@ change_lines_from number count (change ∷ changes) =
 abbrev pub change_lines : List Change → List ℕ
 change_lines changes = change_lines_from 1 (length changes) changes
 
--- ---- what else is told of a change
+-- ---- further lines on a change
 
 -- each text with a space before it
 abbrev pub spaced_behind : List (List ℕ) → List ℕ
 spaced_behind [] = []
 spaced_behind (text ∷ texts) = codes " " ++ text ++ spaced_behind texts
 
--- what a report says of a package that was to go and stays, with the names of those that need it, if
+-- the report on a package that was to be removed and is kept, with the names of those that need it, if
 -- there are any
 abbrev pub stays_text : List ℕ → List (List ℕ) → List ℕ
 stays_text name [] = name ++ codes " stays"
@@ -81,7 +81,7 @@ abbrev pub folder_text : List ℕ → List ℕ
 folder_text [] = codes "/"
 folder_text (b ∷ bytes) = b ∷ bytes
 
--- what a report says of a trigger that is due for a folder
+-- the report on a trigger that is due for a folder
 abbrev pub trigger_text : List ℕ → List ℕ → List ℕ
 trigger_text name folder = name ++ codes ": trigger due for " ++ folder_text folder
 
@@ -90,7 +90,7 @@ abbrev pub sum_text : ℕ → ℕ → List ℕ
 sum_text bytes packages =
     codes "OK: " ++ decimal bytes ++ codes " bytes in " ++ decimal packages ++ codes " packages"
 
--- ---- `info`: a heading, what it heads, and an empty line
+-- ---- `info`: a heading, its text, and an empty line
 
 -- a section: a heading, a line for each text, and an empty line
 abbrev pub section : List ℕ → List (List ℕ) → List ℕ

@@ -1,6 +1,5 @@
--- The lines of refusals and faults.
--- The rules stand in `docs/commands.md`, "Error lines"; the lines of a failed tree and of want of
--- memory in "Answers and statuses".
+-- The lines of refusals and faults. The rules are in `docs/commands.md`, "Error lines"; the lines of a
+-- failed tree and of out of memory are in "Answers and statuses".
 use Rattle.std.specs.Prelude.{ℕ, List, ◌++◌, ◌==◌, if◌then◌else◌, codes}
 use Rattle.std.specs.Fmt.{decimal}
 use Rattle.std.specs.Int.{w32, to_be_bytes}
@@ -57,20 +56,20 @@ cause_text (TextLine line) = codes "bad line " ++ decimal line
 
 -- ---- refusals
 
--- the text of a refusal of a word: its place, counted from 1, and why
+-- the text of a refusal of a word: its place, counted from 1, and the reason
 abbrev pub word_text : ℕ → List ℕ → List ℕ
 word_text place text = codes "word " ++ decimal place ++ codes ": " ++ text
 
--- the text of a refusal of a repository: its number, counted from 1, and why
+-- the text of a refusal of a repository: its number, counted from 1, and the reason
 abbrev pub repository_text : ℕ → List ℕ → List ℕ
 repository_text number text = codes "repository " ++ decimal number ++ codes ": " ++ text
 
--- the text of a refusal of a package: name and version, and why
+-- the text of a refusal of a package: name and version, and the reason
 abbrev pub package_text : List ℕ → List ℕ → List ℕ → List ℕ
 package_text name version text = name ++ codes "-" ++ version ++ codes ": " ++ text
 
--- what a package says of itself in a field of its information, as it is printed: the id (`hashes`) in
--- hexadecimal digits, name and version as they are
+-- the value of a package's field, as it is printed: the id (`hashes`) in hexadecimal digits, name and
+-- version as they are
 abbrev pub field_text : ℕ → List ℕ → List ℕ
 field_text field bytes = if field == HASHES_FIELD then encode_lower bytes else bytes
 
@@ -136,6 +135,6 @@ refusal_line refusal = error_line (refusal_text refusal)
 abbrev pub tree_line : List ℕ
 tree_line = error_line (codes "the tree failed")
 
--- the error line of want of memory
+-- the error line of out of memory
 abbrev pub memory_line : List ℕ
 memory_line = error_line (codes "out of memory")

@@ -1,9 +1,8 @@
-//! What the package keeper tells a person: the refusals of commands, a line of text for each,
-//! written to a sink without memory, and the report of a command that was done.
+//! The texts for the user: the line of each refusal, which is written to a sink without memory, and
+//! the report of a command that was done.
 //!
-//! The contracts cite `Texts` (the lines of refusals and of faults) of `specs/`. `Reports` says
-//! what the reports of commands say.
-//! The rules stand in `docs/commands.md`, "Error lines".
+//! Of `specs/` the contracts cite `Texts` (the lines of refusals and of faults) and `Reports` (the
+//! texts of reports). The rules are in `docs/commands.md`, "Error lines".
 #![tactic(auto)]
 
 mod lines;

@@ -1,7 +1,7 @@
-//! What a command prints: its report, made whole in memory before the first byte is printed, and
-//! the line of a refusal, put together from pieces and written to a sink without memory.
-//! The rules stand in `docs/commands.md`, "Error lines"; that a report is whole before it is
-//! printed, in "Answers and statuses".
+//! What a command prints: its report, made whole in memory before the first byte is printed; and
+//! the line of a refusal, put together from pieces and written to a sink without memory. The rules
+//! are in `docs/commands.md`, "Error lines"; for a report, which is whole before it is printed, in
+//! "Answers and statuses".
 
 ghost use Rattle.std.specs.Prelude.{◌≡◌, [], ◌∷◌, decimal, ◌++◌, OnOk, OnErr};
 ghost use Rattle.base_core.specs.Sink.{sink_change};
@@ -17,7 +17,7 @@ use itoa::Buffer;
 use std::alloc::{AllocError, Global};
 use std::marker::Model;
 
-/// Writes the line of a refusal. After a fault a front of it was written.
+/// Writes the line of a refusal. If the sink fails, a prefix of it was written.
 pub fn write_error<E: Sink>(refusal: &Refusal, err: &mut E) -> Result<(), SinkFault>
     ensures { Writes (refusal_line refusal.now)
         (sink_change E.bytes E.counts err.old err.new) result }
@@ -28,7 +28,7 @@ pub fn write_error<E: Sink>(refusal: &Refusal, err: &mut E) -> Result<(), SinkFa
     write_all(err, b"\n")
 }
 
-/// Writes a sentence: its pieces, and its cause behind them.
+/// Writes a sentence: its pieces, and then its cause.
 fn write_sentence<E: Sink>(sentence: &Sentence<'_>, err: &mut E) -> Result<(), SinkFault>
     ensures { Writes (sentence_text sentence.now)
         (sink_change E.bytes E.counts err.old err.new) result }
@@ -37,7 +37,7 @@ fn write_sentence<E: Sink>(sentence: &Sentence<'_>, err: &mut E) -> Result<(), S
     write_cause(sentence.cause, err)
 }
 
-/// Writes a cause, where there is one.
+/// Writes a cause, if there is one.
 fn write_cause<E: Sink>(cause: Option<Cause>, err: &mut E) -> Result<(), SinkFault>
     ensures { Writes (cause_part cause) (sink_change E.bytes E.counts err.old err.new) result }
 {
@@ -50,7 +50,7 @@ fn write_cause<E: Sink>(cause: Option<Cause>, err: &mut E) -> Result<(), SinkFau
 /// A piece of a text.
 #[derive(Clone, Copy)]
 pub(crate) enum Piece<'a> {
-    /// Bytes as they stand.
+    /// Bytes as they are.
     Bytes(&'a [u8]),
     /// A number, in decimal digits.
     Number(u64),
@@ -66,7 +66,7 @@ pub(crate) enum Piece<'a> {
     Nothing,
 }
 
-/// The pieces of a text: seven, the most that a refusal has; those that are not needed say nothing.
+/// The pieces of a text: seven, the most that a refusal has; unused ones are empty.
 pub(crate) type Pieces<'a> = [Piece<'a>; 7];
 
 /// Writes all the pieces, in order. After a fault a front of their text was written.
@@ -130,7 +130,7 @@ fn hex_digits(byte: u8) -> [u8; 2]
     ensures { result ≡ encode_lower (byte ∷ []) }
 {
     let mut digits = [0; 2];
-    // A byte has two digits, for which there is room.
+    // A byte has two digits, which fit.
     let _ = hex::encode_to_slice([byte], &mut digits);
     digits
 }
@@ -170,7 +170,7 @@ impl Report {
         }
     }
 
-    /// Adds bytes at the end. Where there is no memory nothing changes.
+    /// Appends bytes. Without memory nothing changes.
     pub fn push(&mut self, piece: &[u8]) -> Result<(), AllocError>
         ensures ok { OnOk result (self.new ≡ self.old ++ piece.now) }
         ensures err { OnErr result (self.new ≡ self.old) }
@@ -179,7 +179,7 @@ impl Report {
         Ok(())
     }
 
-    /// Adds a number in decimal digits. Where there is no memory nothing changes.
+    /// Appends a number in decimal digits. Without memory nothing changes.
     pub fn number(&mut self, n: u128) -> Result<(), AllocError>
         ensures ok { OnOk result (self.new ≡ self.old ++ decimal n) }
         ensures err { OnErr result (self.new ≡ self.old) }

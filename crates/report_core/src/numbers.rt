@@ -1,7 +1,7 @@
 //! The numbers by which refusals name a field and a script: the positions in tables 3 and 6 of
 //! `docs/formats.md`, "Schemas", which count from 1. The contracts have the same list in `Numbers`.
 
-// Table 3: the information of a package, where a package has to agree with its index.
+// Table 3: the fields in which a package has to agree with its index.
 
 /// The number of `name` in a package info.
 pub const NAME_FIELD: u16 = 1;

@@ -1,5 +1,5 @@
-//! Why a command is refused. The rules stand in `docs/commands.md`, "Error lines", and in the
-//! section of `docs/commands.md` of each command, in the order in which refusals are tested.
+//! Why a command is refused. The rules are in `docs/commands.md`, "Error lines", and in the section
+//! of each command, in the order in which refusals are tested.
 use base_core::{Cause, Name, Text};
 
 /// Why a command is refused, in the order in which the kinds are tested; file operands are tested
@@ -7,8 +7,8 @@ use base_core::{Cause, Name, Text};
 /// `line` and `repository` count from 1 too.
 #[derive(Drop)]
 pub enum Refusal {
-    /// The words are outside the grammar (apk(8)): the first wrong word, or the place behind the
-    /// last where one is missing.
+    /// The arguments are outside the grammar (apk(8)): the place of the first wrong word, or the
+    /// place after the last word if one is missing.
     Usage {
         place: u32,
     },
@@ -25,8 +25,8 @@ pub enum Refusal {
         place: u32,
         cause: Cause,
     },
-    /// The file that this word names is no dump text (adb(5)): its first line that no dump text has
-    /// after the lines before it, or the line after the last one if another must follow.
+    /// The file that this word names is no dump text (adb(5)): its first line that cannot follow
+    /// the lines before it, or the line after the last one if another must follow.
     TextBad {
         place: u32,
         line: u64,
@@ -35,8 +35,8 @@ pub enum Refusal {
     VersionBad {
         place: u32,
     },
-    /// This word is no information of a package that may be given; or, at the place behind the last
-    /// word, a name or a version is lacking.
+    /// This word is no information that may be given of a package; or, at the place after the last
+    /// word, a name or a version is missing.
     InfoBad {
         place: u32,
     },
@@ -66,12 +66,12 @@ pub enum Refusal {
         repository: u64,
         cause: Cause,
     },
-    /// There are more packages to choose from than can be read: at least so many.
+    /// There are more candidates than can be read: at least this many.
     TooMany {
         count: u64,
     },
-    /// The package that this word names is not installed, nor in the world, or no package owns the
-    /// path that it names.
+    /// The package that this word names is not installed, nor in world; or no package owns the path
+    /// that it names.
     NotInstalled {
         place: u32,
     },
@@ -106,7 +106,7 @@ pub enum Refusal {
         name: Text,
         script: u16,
     },
-    /// A file would stand under a name that is the package keeper's own.
+    /// A file would have a name that is the package keeper's own.
     Reserved {
         path: Name,
     },
@@ -125,7 +125,7 @@ pub enum Refusal {
     TriggerNeeded {
         name: Text,
     },
-    /// What is to be written has more bytes or values than a container may have.
+    /// The data to be written has more bytes or values than a container may have.
     ResultTooLarge {
         bytes: u64,
         values: u64,

@@ -1,5 +1,5 @@
-//! The texts of refusals and causes, as pieces.
-//! The rules stand in `docs/commands.md`, "Error lines", the table of refusals and that of causes.
+//! The texts of refusals and causes, as pieces. The rules are in `docs/commands.md`, "Error lines",
+//! the table of refusals and that of causes.
 ghost use Rattle.std.specs.Prelude.{◌≡◌, ◌++◌};
 ghost use Rattle.report_core.specs.Pieces.{piece_text, pieces_text, sentence_text};
 ghost use Rattle.report_core.specs.Texts.{cause_text, field_text, word_text, refusal_text, script_name};
@@ -13,35 +13,35 @@ use crate::numbers::{
 use crate::refusal::Refusal;
 use base_core::Cause;
 
-/// The text of a refusal: some pieces, and the text of its cause behind them, if it has one.
+/// The text of a refusal: some pieces, and then the text of its cause, if it has one.
 #[derive(Clone, Copy)]
 pub(crate) struct Sentence<'a> {
     pub(crate) pieces: Pieces<'a>,
     pub(crate) cause: Option<Cause>,
 }
 
-// Pieces, of which one says something.
+// Pieces, only one of which is not empty.
 fn one<'a>(a: Piece<'a>) -> Pieces<'a>
     ensures { pieces_text result ≡ piece_text a.entry }
 {
     [a, Nothing, Nothing, Nothing, Nothing, Nothing, Nothing]
 }
 
-// Pieces, of which the first two say something.
+// Pieces, only the first two of which are not empty.
 fn two<'a>(a: Piece<'a>, b: Piece<'a>) -> Pieces<'a>
     ensures { pieces_text result ≡ piece_text a.entry ++ piece_text b.entry }
 {
     [a, b, Nothing, Nothing, Nothing, Nothing, Nothing]
 }
 
-// Pieces, of which the first three say something.
+// Pieces, only the first three of which are not empty.
 fn three<'a>(a: Piece<'a>, b: Piece<'a>, c: Piece<'a>) -> Pieces<'a>
     ensures { pieces_text result ≡ piece_text a.entry ++ piece_text b.entry ++ piece_text c.entry }
 {
     [a, b, c, Nothing, Nothing, Nothing, Nothing]
 }
 
-// Pieces, of which the first four say something.
+// Pieces, only the first four of which are not empty.
 fn four<'a>(a: Piece<'a>, b: Piece<'a>, c: Piece<'a>, d: Piece<'a>) -> Pieces<'a>
     ensures { pieces_text result ≡ piece_text a.entry ++ piece_text b.entry
         ++ piece_text c.entry ++ piece_text d.entry }
@@ -49,7 +49,7 @@ fn four<'a>(a: Piece<'a>, b: Piece<'a>, c: Piece<'a>, d: Piece<'a>) -> Pieces<'a
     [a, b, c, d, Nothing, Nothing, Nothing]
 }
 
-// Pieces, of which the first five say something.
+// Pieces, only the first five of which are not empty.
 fn five<'a>(a: Piece<'a>, b: Piece<'a>, c: Piece<'a>, d: Piece<'a>, e: Piece<'a>) -> Pieces<'a>
     ensures { pieces_text result ≡ piece_text a.entry ++ piece_text b.entry
         ++ piece_text c.entry ++ piece_text d.entry ++ piece_text e.entry }
@@ -57,7 +57,7 @@ fn five<'a>(a: Piece<'a>, b: Piece<'a>, c: Piece<'a>, d: Piece<'a>, e: Piece<'a>
     [a, b, c, d, e, Nothing, Nothing]
 }
 
-// Pieces, of which the first six say something.
+// Pieces, only the first six of which are not empty.
 fn six<'a>(
     a: Piece<'a>,
     b: Piece<'a>,
@@ -109,7 +109,7 @@ fn caused<'a>(pieces: Pieces<'a>, cause: Cause) -> Sentence<'a>
     }
 }
 
-// The refusal of the word at a place, with why.
+// The refusal of the word at a place, with the reason.
 fn at_word(place: u32, text: &'static [u8]) -> Sentence<'static>
     ensures { sentence_text result ≡ word_text place text.now }
 {
@@ -125,7 +125,7 @@ fn at_word(place: u32, text: &'static [u8]) -> Sentence<'static>
 pub(crate) fn sentence_of<'a>(refusal: &'a Refusal) -> Sentence<'a>
     ensures { sentence_text result ≡ refusal_text refusal.now }
 {
-    // Each text is a row of the table of refusals; `caused` has the text of a cause behind it.
+    // Each text is a row of the table of refusals; `caused` appends the text of a cause.
     match refusal {
         Refusal::Usage { place } => plain(two(
             Bytes(b"usage error at word "),
@@ -301,8 +301,8 @@ pub(crate) fn cause_pieces(cause: Cause) -> Pieces<'static>
     }
 }
 
-// What a package says of itself in a field: its id in hexadecimal digits, and its name or its
-// version as text.
+// The value of a package's field: its id in hexadecimal digits, and its name or its version as
+// text.
 fn field_piece(field: u16, bytes: &[u8]) -> Piece<'_>
     ensures { piece_text result ≡ field_text field bytes.now }
 {

@@ -1,3 +1,3 @@
--- what laws of runs say
+-- cited by laws of runs
 pub mod RootLeft
 pub mod NextInputs

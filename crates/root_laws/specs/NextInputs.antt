@@ -1,4 +1,4 @@
--- With what a command begins that reads the root which a change has left. The rules stand in
+-- The inputs of a command that reads the root which a change has left. The rules are in
 -- `docs/commands.md`, "`add` and `del`", what is read.
 use Rattle.std.specs.Prelude.{◌≡◌, ℕ, List, Option}
 use Rattle.change_inputs.specs.Inputs.{Inputs}
@@ -17,7 +17,7 @@ pub record AreInputsFrom {command : CommandLine} {read : Reads} {chosen : Option
   pub database : inputs.root.database ≡ database_of_members (members_found left.found) left.bytes
   pub world : inputs.root.world ≡ left.selected.inputs.root.new_world
 
--- a refusal tells of the repositories, or of an index of one
+-- a refusal reports a fault of the repositories, or of an index of one
 abbrev pub IsOfRepositories : Refusal → Type 0
 IsOfRepositories (RepositoriesBad line) = Unit {0}
 IsOfRepositories Untrusted = Unit {0}

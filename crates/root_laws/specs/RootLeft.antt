@@ -1,5 +1,5 @@
--- The root that a change leaves, as a later command reads it. The rules stand in `docs/formats.md`,
--- "The database after a change" and "World".
+-- The root that a change leaves, as a later command reads it. The rules are in `docs/formats.md`, "The
+-- database after a change" and "World".
 use Rattle.std.specs.Prelude.{◌≡◌, ℕ, ◌<◌, false, List, All, Option, Some, Ok}
 use Rattle.adb_fields.specs.Repeated.{list_of}
 use Rattle.base_core.specs.Files.{Files}
@@ -33,8 +33,8 @@ abbrev pub database_of_members : List Member → List ℕ → Database
 database_of_members members bytes =
     database_by (list_of (packages_after members (owned_of members))) (Some bytes) false
 
--- What a change leaves: each later command that reads it finds a database with the packages after
--- the change, and as world the one that the change was made for.
+-- A change leaves a root in which each later command finds a database with the packages after the
+-- change, and the world that the change was made for.
 pub record IsRootLeft (command : CommandLine) (read : Reads) (chosen : Option (List ℕ))
     (done : ChangeDone) : Type 0 where
   pub selected : Selected

@@ -1,6 +1,6 @@
 //! What follows from the definition of a command that changes the installed packages, for the
-//! command that reads the root after it. The rules stand in `docs/formats.md`,
-//! "The database after a change" and "World".
+//! command that reads the root after it. The rules are in `docs/formats.md`, "The database after a
+//! change" and "World".
 
 ghost use Rattle.std.specs.Prelude.{◌≡◌, ℕ, false, Err, List, Ok, Option};
 ghost use Rattle.base_core.specs.Files.{AreNamedFiles, Files};
@@ -26,9 +26,9 @@ use dep_core::worlds_are_read_back;
 use file_owners::no_path_is_owned_by_two_members;
 use pkg_core::a_package_is_tested_by_its_values_and_then_its_files;
 
-/// Where a change comes to an end, each command that reads the files that it leaves finds a
-/// database, whose packages are those after the change, each with the files that it owns; and the
-/// world that the change was made for.
+/// If a change is not refused, each command that reads the files that it leaves finds a database,
+/// whose packages are those after the change, each with the files that it owns; and the world that
+/// the change was made for.
 pub fn what_a_change_leaves_is_read_by_the_next_run()
     ensures { (command : CommandLine) (read : Reads) (files : Files) (chosen : Option (List ℕ))
         (clash : Option NamePair) (done : ChangeDone) → FindBytes read
@@ -50,11 +50,11 @@ pub fn what_a_change_leaves_is_read_by_the_next_run()
     worlds_are_read_back();
 }
 
-/// A later command that comes to its inputs has the packages and the world before it that the
-/// change has left; and one that does not is refused for its repositories or their indexes alone,
-/// neither for the database nor for the world.
+/// A later command whose inputs are read begins with the packages and the world that the change has
+/// left. Any other is refused for its repositories or their indexes alone, neither for the database
+/// nor for the world.
 pub fn a_command_begins_with_what_the_last_change_left()
-    // A command that comes to its inputs.
+    // A command whose inputs are read.
     ensures inputs { (command later : CommandLine) (read next : Reads) (chosen : Option (List ℕ))
         (done : ChangeDone) (inputs : Inputs) (left : IsRootLeft command read chosen done)
         → ReadsRoot done.files next → inputs_of later next ≡ Ok inputs → AreInputsFrom left inputs }

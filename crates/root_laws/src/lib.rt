@@ -1,6 +1,5 @@
-//! What a change leaves is a root that the next run reads: a database and a world, and they say
-//! what the change has made. The rules stand in `docs/formats.md`, "The database after a change"
-//! and "World".
+//! A change leaves a root that the next run can read: its database and world are those that the
+//! change has made. The rules are in `docs/formats.md`, "The database after a change" and "World".
 //!
 //! The functions are laws. They cite `RootLeft` and `NextInputs` of `specs/`, and the definitions
 //! of `engine_core` and of the crates below it.

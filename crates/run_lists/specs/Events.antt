@@ -1,6 +1,6 @@
--- What a root may see: runs, stops, crashes and changes by others, and lists of them. The rules
--- stand in `docs/crash-safety.md`, "Recovery", its last two paragraphs, and the words in
--- `docs/names.md`, under *event*.
+-- Events of a root: runs, stops, crashes and changes by others, and lists of them. The rules are in
+-- `docs/crash-safety.md`, "Recovery", its last two paragraphs, and the terms in `docs/names.md`, under
+-- *event*.
 use Rattle.std.specs.Prelude.{◌≡◌, ◌≢◌, ◌⊎◌, ◌++◌, ◌||◌, ℕ, Bool, true, false, List, [], ◌∷◌, Option, Some, None, Contains, IsSome, IsTrue, is_some}
 use Rattle.std.specs.Str.{bytes_eq}
 use Rattle.apk_front.specs.Answers.{IsAnswerTo, LeavesFiles}
@@ -27,10 +27,10 @@ use Rattle.words_core.specs.Grammar.{command_of}
 -- a call of `apk`, as its caller sees it
 pub record Run : Type 0 where
   pub words : List (List ℕ)
-  -- the tree's history before it and behind it
+  -- the tree's history before it and after it
   pub old : List TreeState
   pub now : List TreeState
-  -- the tree's counts before it and behind it
+  -- the tree's counts before it and after it
   pub before : Counts
   pub after : Counts
   -- what the two sinks got
@@ -38,7 +38,7 @@ pub record Run : Type 0 where
   pub err : SinkChange
   pub answer : Answer
 
--- what the words of a run come to over the files as read when it begins
+-- the outcome of a run's arguments over the files as read when it begins
 abbrev pub IsOutcomeFrom : TreeState → Run → Outcome → Type 0
 IsOutcomeFrom v run = IsOutcome run.words (files_of v)
 
@@ -84,11 +84,10 @@ IsMomentOf run m =
     HasNow run.old (λ v. m ≡ v)
     ⊎ ((added : List TreeState) × (run.now ≡ added ++ run.old) × Contains added m)
 
--- ---- what a root sees
+-- ---- events
 
--- what a root sees: a run that ends, a run that is stopped at one of its moments, and a crash;
--- where a crash cuts off a run, that is stopped and then the crash comes; and others change files
--- while nothing runs
+-- An event is a run that ends, a run that is stopped at one of its moments, a crash, or a change of
+-- files by others while nothing runs. A run that a crash cuts off is a stop, and then a crash.
 pub data Event : Type 0 where
   Ends : Run → Event
   Stops : Run → Event
@@ -105,7 +104,7 @@ abbrev pub LeadsOn : TreeState → Event → TreeState → Type 0
 LeadsOn v (Ends run) w = IsRunFrom v run × HasNow run.now (λ u. u ≡ w)
 LeadsOn v (Stops run) w = IsRunFrom v run × IsMomentOf run w
 LeadsOn v Crashes w = IsCrashOf v w
--- others lead on to whatever they made of the tree, once it is synced
+-- others may lead to any files of the tree, once these are synced
 LeadsOn v Edits w = IsAllSynced w
 
 -- a root that was in the state `first` has seen these events, the newest first, and is in state w
@@ -116,7 +115,7 @@ HasSeen first (event ∷ earlier) w =
 
 -- ---- what is committed
 
--- a run commits nothing: it is refused, finds no memory, or has an outcome that commits nothing; or
+-- a run commits nothing: it is refused, runs out of memory, or has an outcome that commits nothing; or
 -- it has no output, and no outcome that commits
 abbrev pub IsIdleRun : TreeState → Run → Type 0
 IsIdleRun v run =
@@ -136,9 +135,9 @@ HasSeenIdly first [] w = w ≡ first
 HasSeenIdly first (event ∷ earlier) w =
     (v : TreeState) × HasSeenIdly first earlier v × IsIdle v event × LeadsOn v event w
 
--- ---- where a crash leaves one state
+-- ---- when a crash leaves one state
 
--- Behind the event each crash leaves one state: it is no run; or a run that answers its outcome, and
+-- After the event each crash leaves one state: it is no run; or a run that answers its outcome, and
 -- this commits, or the run has no output and found an intent.
 abbrev pub MakesOneState : TreeState → Event → Type 0
 MakesOneState v (Ends run) =
@@ -149,16 +148,16 @@ MakesOneState v (Stops run) = ⊥
 MakesOneState v Crashes = Unit {0}
 MakesOneState v Edits = Unit {0}
 
--- behind the event each crash leaves one state where it did before: it is no run; or a run that
--- commits nothing, or that ends, and not by a fault of the tree
+-- after the event each crash leaves one state if it did before: it is no run; or a run that commits
+-- nothing, or that ends without an I/O error of the tree
 abbrev pub KeepsOneState : TreeState → Event → Type 0
 KeepsOneState v (Ends run) = (run.answer ≢ TreeFault) ⊎ IsIdleRun v run
 KeepsOneState v (Stops run) = IsIdleRun v run
 KeepsOneState v Crashes = Unit {0}
 KeepsOneState v Edits = Unit {0}
 
--- a root has seen events, and each crash leaves one state: an event made it so, or it was so at
--- first, and those behind it kept it
+-- a root has seen events, and each crash leaves one state: an event made it so, or it was so at first,
+-- and the events after that kept it
 abbrev pub HasSeenToOneState : TreeState → List Event → TreeState → Type 0
 HasSeenToOneState first [] w = w ≡ first
 HasSeenToOneState first (event ∷ earlier) w =
@@ -190,14 +189,14 @@ with_scratch (Some name) ignored q = bytes_eq q (scratch_of name) || ignored q
 abbrev pub ignored_in : Run → (List ℕ → Bool) → List ℕ → Bool
 ignored_in run ignored = with_scratch (output run.words) ignored
 
--- the names that are ignored behind a run that ends with this answer
+-- the names that are ignored after a run that ends with this answer
 abbrev pub ignored_by : Answer → Run → (List ℕ → Bool) → List ℕ → Bool
 ignored_by Ok run ignored = ignored_but (output run.words) ignored
 ignored_by TreeFault run ignored = ignored_in run ignored
 ignored_by other run ignored = ignored
 
--- Those that are ignored behind a list: a run with an output adds its scratch name where it is stopped
--- or the tree fails; the name counts again once the output is written, or all was synced.
+-- The names that are ignored after a list. A run with an output adds its scratch name if it is stopped
+-- or the tree fails. The name is no longer ignored once the output is written, or all was synced.
 abbrev pub ignored_behind : (List ℕ → Bool) → List Event → List ℕ → Bool
 ignored_behind ignored [] = ignored
 ignored_behind ignored (Ends run ∷ earlier) =

@@ -1,4 +1,4 @@
--- what the laws say, in the order in which it is best read
+-- cited by the laws, in the order in which it is best read
 pub mod Events
 pub mod Safety
 pub mod Reading

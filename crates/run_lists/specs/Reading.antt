@@ -1,5 +1,5 @@
--- What is read at each moment of a run, and what runs leave that follow each other without a crash.
--- The rules stand in `docs/crash-safety.md`, "Recovery", its last two paragraphs.
+-- What is read at each moment of a run, and the files after runs that follow each other without a
+-- crash. The rules are in `docs/crash-safety.md`, "Recovery", its last two paragraphs.
 use Rattle.std.specs.Prelude.{◌≡◌, ◌⊎◌, ℕ, Bool, true, false, List, [], ◌∷◌, Option}
 use Rattle.apk_front.specs.Moments.{is_draft_name, output_names}
 use Rattle.base_core.specs.Crash.{IsImage}
@@ -16,13 +16,13 @@ use Rattle.run_lists.specs.Events.{Crashes, Edits, Ends, Event, IsOutcomeFrom, L
 
 -- ---- at each moment of a run
 
--- a name is neither the intent's, nor that of a file that waits, nor one under which the run makes
--- a new file
+-- a name is neither the intent's, nor that of a staged file, nor one under which the run makes a new
+-- file
 pub record IsNoDraft (run : Run) (q : List ℕ) : Type 0 where
   pub waits : IsWaitingName q → ⊥
   pub drafts : is_draft_name (effect_by (command_of run.words)) (output run.words) q ≡ false
 
--- at a moment of a run a name has what an outcome of the run that commits gives it
+-- at a moment of a run a name has the bytes of an outcome of the run that commits
 abbrev pub HasOutcomeBytes : TreeState → Run → TreeState → List ℕ → Type 0
 HasOutcomeBytes v run m q =
     (outcome : Outcome)
@@ -30,8 +30,8 @@ HasOutcomeBytes v run m q =
     × (outcome.commits ≡ true)
     × (files_of m q ≡ outcome.files q)
 
--- at a moment of a run a name has what it had when the run began; what a recovery leaves, if the
--- command recovers; or what the outcome gives it
+-- at a moment of a run a name has the bytes that it had when the run began; the recovered ones, if the
+-- command recovers; or the outcome's
 abbrev pub HasBytesOfRun : TreeState → Run → TreeState → List ℕ → Type 0
 HasBytesOfRun v run m q =
     (files_of m q ≡ files_of v q)
@@ -41,14 +41,14 @@ HasBytesOfRun v run m q =
 
 -- ---- runs that follow each other without a crash
 
--- an event is a run, ended or stopped, of which this holds
+-- an event is a run, ended or stopped, with this property
 abbrev pub IsRunWith : (TreeState → Run → Type 0) → TreeState → Event → Type 0
 IsRunWith Holds v (Ends run) = Holds v run
 IsRunWith Holds v (Stops run) = Holds v run
 IsRunWith Holds v Crashes = ⊥
 IsRunWith Holds v Edits = ⊥
 
--- a root has seen just runs, ended or stopped, of each of which this holds
+-- a root has seen only runs, ended or stopped, each with this property
 abbrev pub HasSeenRuns :
     (TreeState → Run → Type 0) → TreeState → List Event → TreeState → Type 0
 HasSeenRuns Holds first [] w = w ≡ first
@@ -58,16 +58,17 @@ HasSeenRuns Holds first (event ∷ earlier) w =
     × IsRunWith Holds v event
     × LeadsOn v event w
 
--- nothing more is asked of a run
+-- no further property of a run is required
 abbrev pub IsAnyRun : TreeState → Run → Type 0
 IsAnyRun v run = Unit {0}
 
--- a test holds of what a name has in the files, as they are read and as a recovery leaves them
+-- a test holds of the file of a name, or its absence, in the files as they are read and as they are
+-- recovered
 pub record IsTrueAt (test : Option (List ℕ) → Bool) (q : List ℕ) (files : Files) : Type 0 where
   pub read : test (files q) ≡ true
   pub recovered : test (unstaged_files files q) ≡ true
 
--- a name is no draft of the run, and the test holds of what each outcome that commits gives it
+-- a name is no draft of the run, and the test holds of what each outcome that commits leaves there
 pub record LeavesTrueAt (test : Option (List ℕ) → Bool) (q : List ℕ) (v : TreeState)
     (run : Run) : Type 0 where
   pub no_draft : IsNoDraft run q
@@ -76,21 +77,21 @@ pub record LeavesTrueAt (test : Option (List ℕ) → Bool) (q : List ℕ) (v : 
 
 -- ---- a bad intent
 
--- what stands under the intent's name is no intent container
+-- the file under the intent's name is no intent container
 abbrev pub HasBadIntent : Files → Type 0
 HasBadIntent files = (cause : Cause) × IsIntentFault files cause
 
--- ---- what an intent said
+-- ---- an intent's change
 
--- a name is neither the intent's, nor that of a file that waits, nor one that the run may write as
--- or for its output, nor one of those ignored
+-- a name is neither the intent's, nor that of a staged file, nor one that the run may write as or for
+-- its output, nor one of those ignored
 pub record IsLastingName (ignored : List ℕ → Bool) (run : Run) (q : List ℕ) : Type 0 where
   pub waits : IsWaitingName q → ⊥
   pub other : IsNoneOf q (output_names (output run.words))
   pub counts : ignored q ≡ false
 
--- what the intent said is done under a name: it has what a recovery leaves, or what an outcome of
--- the run gives it, and each crash leaves just that
+-- the intent's change is durable under a name: the name has its recovered bytes, or those of an outcome
+-- of the run, and each crash leaves exactly these
 pub record IsDoneForGood (v : TreeState) (run : Run) (m : TreeState) (q : List ℕ) : Type 0 where
   pub done : (files_of m q ≡ unstaged_files (files_of v) q) ⊎ HasOutcomeBytes v run m q
   pub lasts : (image : Files) → IsImage m image → image q ≡ files_of m q

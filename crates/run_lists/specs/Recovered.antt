@@ -1,4 +1,4 @@
--- What keeps a root recoverable, and what a run that was stopped comes to. The rules stand in
+-- What keeps a root recoverable, and the state after a run that was stopped. The rules are in
 -- `docs/crash-safety.md`, "Recovery", its table of what is found and its last part.
 use Rattle.std.specs.Prelude.{◌≡◌, ◌≢◌, ◌⊎◌, ℕ, Bool, true, List, [], ◌∷◌, None}
 use Rattle.apk_front.specs.Moments.{AnswersOutcome, HasIdleOutcome}
@@ -24,7 +24,7 @@ use Rattle.run_lists.specs.Reading.{HasBadIntent}
 abbrev pub LeavesNoBadIntent : TreeState → Type 0
 LeavesNoBadIntent v = (image : Files) → IsImage v image → HasBadIntent image → ⊥
 
--- where others change files, they put no bad intent there
+-- when others change files, they put no bad intent there
 abbrev pub PutsNoBadIntent : Event → TreeState → Type 0
 PutsNoBadIntent (Ends run) w = Unit {0}
 PutsNoBadIntent (Stops run) w = Unit {0}
@@ -44,7 +44,7 @@ HasSeenNoBadIntent first (event ∷ earlier) w =
 abbrev pub IsUnrefused : Run → Type 0
 IsUnrefused run = (cause : Cause) → run.answer ≢ Refused (IntentBad cause)
 
--- ---- behind a run that was stopped
+-- ---- after a run that was stopped
 
 -- files have the state of others, apart from the ignored names
 abbrev pub HasStateOf : (List ℕ → Bool) → Files → Files → Type 0
@@ -69,9 +69,9 @@ pub record AreRecovered (HasState : Files → Type 0) (files : Files) : Type 0 w
   pub stage : IsEmptyStage files
   pub state : HasState files
 
--- The next run, which finds the root in the state w, is not refused for an intent: nothing keeps it
--- from working on the files that a recovery leaves, and these are recovered, with such a state. If
--- its outcome commits nothing, they are what is read once this is answered.
+-- The next run, which finds the root in the state w, is not refused for an intent. It works on the
+-- recovered files, and these are as *AreRecovered* says. If its outcome commits nothing, they are what
+-- is read once this is answered.
 pub record IsRecoveredBy (HasState : Files → Type 0) (w : TreeState) (next : Run) :
     Type 0 where
   pub unrefused : IsUnrefused next

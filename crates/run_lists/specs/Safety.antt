@@ -1,5 +1,5 @@
--- What holds of a run behind a list of runs, stops and crashes. The rules stand in
--- `docs/crash-safety.md`, "Recovery": the table of what a run may leave, and its last part.
+-- What holds of a run after a list of runs, stops and crashes. The rules are in `docs/crash-safety.md`,
+-- "Recovery": the table of what a run may leave, and its last part.
 use Rattle.std.specs.Prelude.{◌≡◌, ◌⊎◌, ℕ, Bool, true, false, List}
 use Rattle.apk_front.specs.Answers.{answer_of}
 use Rattle.apk_front.specs.Moments.{AnswersOutcome, IsAtRest, Settles, ignored_but}
@@ -15,10 +15,10 @@ use Rattle.outcome.specs.Outcome.{Outcome}
 use Rattle.words_core.specs.Grammar.{command_of}
 use Rattle.run_lists.specs.Events.{Event, HasSeen, HasSeenToOneState, IsIdleRun, IsMomentOf, IsOutcomeFrom, Run, ignored_behind, ignored_in}
 
--- ---- whichever states a crash might have left before the run
+-- ---- from any states that a crash might have left before the run
 
--- at a moment of a run a crash leaves a state from before; or the run has an outcome that commits,
--- and a crash leaves a state from before or that of its files
+-- at a moment of a run a crash leaves a state from before; or the run has an outcome that commits, and
+-- a crash leaves a state from before or that of its files
 abbrev pub IsOldOrOutcome : (List ℕ → Bool) → TreeState → Run → TreeState → Type 0
 IsOldOrOutcome ignored v run m =
     IsQuiet ignored v m
@@ -39,16 +39,16 @@ pub record LeavesOutcome (ignored : List ℕ → Bool) (v : TreeState) (run : Ru
   pub is_outcome : IsOutcomeFrom v run outcome
   pub answered : (run.answer ≡ answer_of outcome) ⊎ (run.answer ≡ OutFault)
   pub reads : files_of w ≡ outcome.files
-  -- each crash leaves them, if it commits, if each left the old ones before, or if an intent was
-  -- found and done
+  -- each crash leaves them, if it commits, if each left the old ones before, or if an intent was found
+  -- and completed
   pub settled : Settles (effect_by (command_of run.words)) (ignored_in run ignored) v outcome
       → IsSettled (ignored_in run ignored) outcome.files w
   -- if it commits, under its output and the scratch name too
   pub at_rest : outcome.commits ≡ true
       → IsAtRest (ignored_but (output run.words) ignored) outcome.files w
 
--- A run is safe: at each moment a crash leaves a state from before or that of the outcome; once the
--- outcome is answered its files are read, and last; and a run that commits nothing keeps the state.
+-- A run is safe: at each moment a crash leaves a state from before or that of the outcome. Once the
+-- outcome is answered its files are read, and are durable. A run that commits nothing keeps the state.
 pub record IsSafe (ignored : List ℕ → Bool) (v : TreeState) (run : Run) : Type 0 where
   pub moments : (m : TreeState) → IsMomentOf run m
       → IsOldOrOutcome (ignored_in run ignored) v run m
@@ -56,7 +56,7 @@ pub record IsSafe (ignored : List ℕ → Bool) (v : TreeState) (run : Run) : Ty
   pub left : IsIdleRun v run
       → (m : TreeState) → IsMomentOf run m → KeepsState ignored v m
 
--- ---- where it is one state
+-- ---- from one state
 
 -- what a crash leaves has the old state; or that of an outcome of the run, which commits
 abbrev pub HasOldOrOutcome : (List ℕ → Bool) → TreeState → Run → Files → Type 0
@@ -67,8 +67,8 @@ HasOldOrOutcome ignored v run image =
     × (outcome.commits ≡ true)
     × (state_of ignored image ≡ state_of ignored outcome.files))
 
--- All or nothing: at each moment a crash leaves the old state or that of the outcome, once it is
--- answered that of the outcome, and the old one where the run commits nothing.
+-- All or nothing: at each moment a crash leaves the old state or that of the outcome. Once it is
+-- answered a crash leaves that of the outcome, and the old one if the run commits nothing.
 pub record IsAtomic (ignored : List ℕ → Bool) (v : TreeState) (run : Run) : Type 0 where
   pub moments : (m : TreeState) → IsMomentOf run m → (image : Files) → IsImage m image
       → HasOldOrOutcome (ignored_in run ignored) v run image
@@ -77,7 +77,7 @@ pub record IsAtomic (ignored : List ℕ → Bool) (v : TreeState) (run : Run) : 
   pub left : IsIdleRun v run
       → (m : TreeState) → IsMomentOf run m → IsSettled ignored (files_of v) m
 
--- ---- behind every list
+-- ---- after every list
 
 -- whatever list a root has seen, from an orderly tree on, a run that begins in the state v is safe
 abbrev pub IsSafeBehindAll : TreeState → Run → Type 0
@@ -86,8 +86,8 @@ IsSafeBehindAll v run =
     → ignored intent_name ≡ false → IsOrderly (RestsOn ignored) first → HasSeen first events v
     → IsSafe (ignored_behind ignored events) v run
 
--- whatever list a root has seen behind which each crash leaves one state, a run that begins in the
--- state v is all or nothing
+-- a run that begins in the state v is all or nothing, whatever list a root has seen after which each
+-- crash leaves one state
 abbrev pub IsAtomicBehindAll : TreeState → Run → Type 0
 IsAtomicBehindAll v run =
     (ignored : List ℕ → Bool) (first : TreeState) (events : List Event)

@@ -1,6 +1,5 @@
-//! Laws on lists of runs, stops and crashes. The rules that they state stand in
-//! `docs/crash-safety.md`, "Recovery", its last two paragraphs; the sentence in the README of this
-//! crate.
+//! Laws on lists of runs, stops and crashes. The rules are in `docs/crash-safety.md`, "Recovery",
+//! its last two paragraphs; the sentence is in the README of this crate.
 ghost use Rattle.std.specs.Prelude.{◌≡◌, ℕ, Bool, false, true, List, None, Option, IsSome, IsTrue};
 ghost use Rattle.apk_front.specs.Moments.{AnswersOutcome, HasIdleOutcome, HidesScratchOf, IsAtRest};
 ghost use Rattle.base_core.specs.Calls.{HasNow};
@@ -33,13 +32,13 @@ use outcome::{
     an_outcome_is_unique, only_a_bad_intent_is_refused_as_one,
 };
 
-/// Whatever list of runs, stops, crashes and changes by others a root has seen from an orderly tree
-/// on: a run, ended or stopped at any moment, recovers to a state from before it or to that of its
-/// outcome's files, and to the latter once the outcome was answered. Where the root had one state,
-/// these are two.
+/// Safety, after whatever list of runs, stops, crashes and changes by others that a root has seen
+/// from an orderly tree on. A run, ended or stopped at any moment, recovers to a state from before
+/// it or to that of its outcome's files. Once the outcome was answered, it is the latter. If the
+/// root had one state, these are two.
 ///
-/// `ignored` are names that are left out of account from the start, as scratch names of outputs; on
-/// an ordinary root there are none.
+/// `ignored` are names that are ignored from the start, such as scratch names of outputs; on an
+/// ordinary root there are none.
 pub fn whatever_a_root_has_seen_a_run_is_safe()
     // Behind each list the tree is orderly, apart from the names that are ignored then.
     ensures orderly { (ignored : List ℕ → Bool) (first v : TreeState) (events : List Event)
@@ -47,26 +46,26 @@ pub fn whatever_a_root_has_seen_a_run_is_safe()
         → HasSeen first events v
         → IsOrderly (RestsOn (ignored_behind ignored events)) v }
 
-    // So each clause of `apk` on crashes holds of the next run, whatever its words: with the
-    // scratch name of its output these names are such as the clauses ask for.
+    // So each clause of `apk` on crashes holds of the next run, whatever its arguments: with the
+    // scratch name of its output these names meet the conditions of the clauses.
     ensures begins { (ignored : List ℕ → Bool) (first v : TreeState) (events : List Event)
         (words : List (List ℕ)) → ignored intent_name ≡ false → IsOrderly (RestsOn ignored) first
         → HasSeen first events v
         → let names = with_scratch (output words) (ignored_behind ignored events) in
         IsOrderly (RestsOn names) v × HidesScratchOf (output words) names }
 
-    // On an ordinary root nothing is ignored, and so it stays while no run with an output is
-    // stopped, or ends by a fault of the tree.
+    // On an ordinary root no name is ignored, and none is until a run with an output is stopped, or
+    // ends by an I/O error of the tree.
     ensures ordinary { (events : List Event) (q : List ℕ) → HasNoPendingOutput events
         → ignored_behind nothing_ignored events q ≡ false }
 
     // The next run is safe.
     ensures safe { (v : TreeState) (run : Run) → IsRunFrom v run → IsSafeBehindAll v run }
 
-    // Each crash leaves one state, that of the files as read, if it did so at the start, until a
-    // run that commits is stopped, or ends by a fault of the tree; and it does so again behind a
-    // crash, a change by others that is synced, a commit that was answered, or one of which the
-    // rest was found and done.
+    // Each crash leaves one state, that of the files as read, if it did so at the start. This lasts
+    // until a run that commits is stopped, or ends by an I/O error of the tree. It holds again
+    // after a crash, after a synced change by others, after a commit that was answered, and after a
+    // change that was found and completed.
     ensures one_state { (ignored : List ℕ → Bool) (first v : TreeState) (events : List Event)
         → ignored intent_name ≡ false → IsAtRest ignored (files_of first) first
         → HasSeenToOneState first events v
@@ -88,15 +87,15 @@ pub fn whatever_a_root_has_seen_a_run_is_safe()
     a_crash_leaves_the_old_files_or_those_of_the_outcome();
 }
 
-/// However often a root is recovered, stopped in its recovery and recovered again, it has one and
-/// the same state.
+/// A root keeps one and the same state, however often it is recovered, stopped in its recovery and
+/// recovered again.
 pub fn a_root_that_commits_nothing_keeps_its_state()
-    // Runs that commit nothing, ended or stopped, and crashes leave the state as it was.
+    // Crashes, and runs that commit nothing, ended or stopped, leave the state unchanged.
     ensures again { (ignored : List ℕ → Bool) (v w : TreeState) (events : List Event)
         → IsAtRest ignored (files_of v) v → HasSeenIdly v events w
         → IsAtRest ignored (files_of v) w }
 
-    // So two recoveries of a root agree, whatever came between.
+    // So two recoveries of a root agree, whatever happened between them.
     ensures agree { (ignored : List ℕ → Bool) (v w u : TreeState) (events others : List Event)
         → IsAtRest ignored (files_of v) v
         → HasSeenIdly v events w → HasSeenIdly v others u
@@ -106,12 +105,12 @@ pub fn a_root_that_commits_nothing_keeps_its_state()
     ensures readers { (v : TreeState) (run : Run) → IsTrue (reads_only (command_of run.words))
         → IsIdleRun v run }
 
-    // The state is what a recovery leaves under each name but those ignored.
+    // The state has the recovered files under each name except those ignored.
     ensures read { (ignored : List ℕ → Bool) (files : Files) (q : List ℕ)
         → ignored q ≡ false → state_of ignored files q ≡ unstaged_files files q }
 
-    // So a run that recovers, and has an outcome that commits nothing, leaves the files that have
-    // it, once the outcome is answered; unless a bad intent was refused.
+    // So a run that recovers, and has an outcome that commits nothing, leaves exactly those files
+    // once the outcome is answered, unless a bad intent was refused.
     ensures recovers { (v : TreeState) (run : Run) → IsRunFrom v run
         → does_recover (effect_by (command_of run.words)) ≡ true
         → recovery_fault (effect_by (command_of run.words)) (files_of v) ≡ None
@@ -125,22 +124,21 @@ pub fn a_root_that_commits_nothing_keeps_its_state()
     a_command_that_commits_nothing_leaves_the_files();
 }
 
-/// No file goes for a while: at each moment of a run a name has what it had before, what a recovery
-/// leaves or what an outcome gives it, and so it is along runs that follow each other without a
-/// crash. This is said of each name but the intent's and those of drafts, and asks for no file to
-/// be synced.
+/// No file is ever temporarily missing: at each moment of a run a name has its old bytes, its
+/// recovered ones or the outcome's. The same holds along runs that follow each other without a
+/// crash. This excludes the intent's name and those of drafts, and needs no file to be synced.
 pub fn each_name_keeps_old_recovered_or_new_bytes()
     // At each moment of a run.
     ensures moments { (v m : TreeState) (run : Run) (q : List ℕ) → IsRunFrom v run
         → IsMomentOf run m → IsNoDraft run q → HasBytesOfRun v run m q }
 
-    // An outcome that commits leaves nothing under the intent's name.
+    // An outcome that commits leaves no file under the intent's name.
     ensures commits { (words : List (List ℕ)) (files : Files) (o : Outcome)
         → IsOutcome words files o → o.commits ≡ true → o.files intent_name ≡ None }
 
-    // What holds of a name at first, as read and as a recovery leaves it, and in the files of each
-    // outcome that commits, holds of it behind each of the runs, and at each moment at which one is
-    // stopped: as that a file stands there.
+    // A property of a name holds after each of the runs, and at each moment at which one is
+    // stopped, if it holds at first, as read and as recovered, and in the files of each outcome
+    // that commits. An example is that there is a file.
     ensures along { (test : Option (List ℕ) → Bool) (q : List ℕ) (first w : TreeState)
         (events : List Event) → (IsWaitingName q → ⊥) → IsTrueAt test q (files_of first)
         → HasSeenRuns (LeavesTrueAt test q) first events w
@@ -152,7 +150,7 @@ pub fn each_name_keeps_old_recovered_or_new_bytes()
     an_intent_is_read_from_a_sound_container();
 }
 
-/// Where the intent is bad, no run writes anything, whatever its words and its answer.
+/// If the intent is bad, no run writes anything, whatever its arguments and its answer.
 pub fn a_bad_intent_and_all_files_stay()
     ensures run { (v : TreeState) (run : Run) → IsRunFrom v run → HasBadIntent (files_of v)
         → run.now ≡ run.old }
@@ -162,9 +160,9 @@ pub fn a_bad_intent_and_all_files_stay()
         → HasSeenRuns IsAnyRun first events w → w ≡ first }
 {}
 
-/// What an intent said is done for good at each moment of the next run at which none is read, also
-/// where the run is stopped: each name has what a recovery leaves, or what an outcome of the run
-/// gives it, and each crash leaves just that.
+/// An intent's change is durable at each moment of the next run at which no intent is read, also if
+/// the run is stopped. Each name has its recovered bytes, or those of an outcome of the run, and
+/// each crash leaves exactly these.
 pub fn what_an_intent_said_is_done_for_good()
     ensures { (ignored : List ℕ → Bool) (first v m : TreeState) (events : List Event) (run : Run)
         → ignored intent_name ≡ false → IsOrderly (RestsOn ignored) first
@@ -181,16 +179,16 @@ pub fn what_an_intent_said_is_done_for_good()
     a_crash_leaves_the_old_files_or_those_of_the_outcome();
 }
 
-/// A root that has no bad intent gets none: whatever list of runs, stops and crashes it has seen,
-/// and of changes by others that put none there, no crash leaves one. So nothing keeps the next run
-/// from recovering, and it is not refused for an intent.
+/// A crash never leaves a corrupt intent on a root that has none. This holds after whatever list of
+/// runs, stops and crashes, and of changes by others that put none there. So the next run can
+/// recover, and is not refused for an intent.
 pub fn no_list_leaves_a_bad_intent()
     // A run that is stopped at a moment is an event too.
     ensures along { (ignored : List ℕ → Bool) (first v : TreeState) (events : List Event)
         → ignored intent_name ≡ false → IsOrderly (RestsOn ignored) first
         → LeavesNoBadIntent first → HasSeenNoBadIntent first events v → LeavesNoBadIntent v }
 
-    // Then a run has nothing to refuse the recovery for.
+    // Then no run is refused the recovery.
     ensures recovers { (v : TreeState) (words : List (List ℕ)) → LeavesNoBadIntent v
         → recovery_fault (effect_by (command_of words)) (files_of v) ≡ None }
     // Nor does it answer that an intent is bad.
@@ -209,8 +207,8 @@ pub fn no_list_leaves_a_bad_intent()
     only_a_bad_intent_is_refused_as_one();
 }
 
-/// A run that is stopped at any moment is recovered: whatever list of runs, stops and crashes the
-/// root had seen, and however often crashes and stopped recoveries followed, the next run that
+/// A run that is stopped at any moment is recovered, whatever list of runs, stops and crashes the
+/// root had seen, and however often crashes and stopped recoveries followed. The next run that
 /// recovers is not refused for an intent. It works on files in which nothing is left to do, and
 /// which have a state from before the stopped run, or that of its outcome.
 pub fn a_stopped_run_is_recovered()

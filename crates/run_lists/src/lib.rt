@@ -1,10 +1,10 @@
-//! Lists of runs, stops and crashes: what the contract of `apk` comes to for a root that has seen
-//! any of them. The rules stand in `docs/crash-safety.md`, "Recovery", its last two paragraphs.
+//! Lists of runs, stops and crashes: what the contract of `apk` means for a root that has seen any
+//! of them. The rules are in `docs/crash-safety.md`, "Recovery", its last two paragraphs.
 //!
-//! It is a crate of definitions and laws above the top call. `Events` of `specs/` says what a run
-//! is, by the very clauses of `apk`, and what a list of runs, stops and crashes is; `Safety` what
-//! holds of the run behind such a list. The laws say that it does, and `run_on_a_root` that each
-//! call of `apk` is such a run.
+//! This is a crate of definitions and laws above the top call. `Events` of `specs/` defines a run,
+//! by the very clauses of `apk`, and a list of runs, stops and crashes. `Safety` says what holds of
+//! the run after such a list. The laws prove it, and `run_on_a_root` that each call of `apk` is
+//! such a run.
 #![tactic(auto)]
 
 mod laws;

@@ -10,8 +10,8 @@ use apk_front::{Answer, apk};
 use base_core::{Sink, Tree, Words};
 use std::alloc::Global;
 
-/// Runs a command line on a root, by `apk`. Of a root whose history is observable, and that has
-/// seen whatever list of runs, stops and crashes, the contract says what this very run leaves.
+/// Runs a command line on a root, by `apk`. The contract says what this very run leaves of a root
+/// whose history is observable, and that has seen whatever list of runs, stops and crashes.
 pub fn run_on_a_root<T: Tree, O: Sink, E: Sink>(
     alloc: Global,
     words: &Words,
@@ -19,8 +19,7 @@ pub fn run_on_a_root<T: Tree, O: Sink, E: Sink>(
     out: &mut O,
     err: &mut E,
 ) -> Answer
-    // What `apk` did is a run; so behind whatever list it is safe, and from one state all or
-    // nothing.
+    // The call of `apk` is a run; so after any list it is safe, and from one state all or nothing.
     ensures { IfObservable (T.history tree.old) (λ v. let run : Run = record {
       words = words.now;
       old = T.history tree.old;

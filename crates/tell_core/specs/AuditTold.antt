@@ -1,4 +1,4 @@
--- What `audit` and `manifest` come to, by what reads find. The rules are in `docs/commands.md`,
+-- The results of `audit` and `manifest`, by what reads find. The rules are in `docs/commands.md`,
 -- "`audit`" and "`manifest`"; the reports are defined in `audit_core`.
 use Rattle.std.specs.Prelude.{ℕ, None, Result, Ok}
 use Rattle.audit_core.specs.Audit.{audit_report}
@@ -12,7 +12,7 @@ use Rattle.installed_info.specs.declared.telling.InfoDone.{InfoDone}
 use Rattle.make_info.specs.Reads.{Reads}
 use Rattle.report_core.specs.declared.refusal.Refusal.{Refusal}
 
--- the number of the read of the first listed file: the reads of the two databases come before
+-- the number of the read of the first listed file: the reads of the two databases precede it
 abbrev pub first_audit_read : ℕ
 first_audit_read = 2
 
@@ -21,17 +21,17 @@ abbrev pub audit_of : Reads → Database → Result InfoDone Refusal
 audit_of read database =
     Ok (info_done (audit_report read first_audit_read database.packages) None)
 
--- what `audit` comes to: its report of the database, or the database's refusal
+-- the result of `audit`: its report on the database, or the database's refusal
 abbrev pub audit_told : CommandLine → Reads → Result InfoDone Refusal
 audit_told command read = and_then (database_for command read) (audit_of read)
 
--- what a `manifest` reports of the packages of a database that it names, or its refusal
+-- what a `manifest` reports on the packages of a database that it names, or its refusal
 abbrev pub manifest_report : CommandLine → Database → Result InfoDone Refusal
 manifest_report command database =
     and_then (manifest_of database.packages command.operands) (λ report.
     Ok (info_done report None))
 
--- what `manifest` comes to: its report of the database, or the database's refusal
+-- the result of `manifest`: its report on the database, or the database's refusal
 abbrev pub manifest_told : CommandLine → Reads → Result InfoDone Refusal
 manifest_told command read =
     and_then (database_for command read) (manifest_report command)

@@ -1,5 +1,5 @@
--- What `info` comes to, by what reads find. The rules stand in `docs/commands.md`, "`info`"; the
--- text is made by `installed_info`.
+-- The result of `info`, by what reads find. The rules are in `docs/commands.md`, "`info`"; the text is
+-- made by `installed_info`.
 use Rattle.std.specs.Prelude.{Result}
 use Rattle.change_inputs.specs.Chains.{and_then}
 use Rattle.change_inputs.specs.Inputs.{database_for}
@@ -9,7 +9,7 @@ use Rattle.installed_info.specs.declared.telling.InfoDone.{InfoDone}
 use Rattle.make_info.specs.Reads.{Reads}
 use Rattle.report_core.specs.declared.refusal.Refusal.{Refusal}
 
--- what `info` tells of the packages of the database, which alone is read, or its refusal
+-- what `info` reports on the packages of the database, which alone is read, or its refusal
 abbrev pub info_told : CommandLine → Reads → Result InfoDone Refusal
 info_told command read =
     and_then (database_for command read) (λ database. info_of command database.packages)

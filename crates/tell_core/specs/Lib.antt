@@ -1,4 +1,4 @@
--- what the contract of `apk` says
+-- cited by the contract of `apk`
 pub mod ToldBy
 pub mod InfoTold
 pub mod AuditTold

@@ -1,4 +1,4 @@
--- What `list`, `search` and `policy` come to, by what reads find. The rules are in
+-- The results of `list`, `search` and `policy`, by what reads find. The rules are in
 -- `docs/commands.md`, under each command's name; the reports are defined in `query_core`.
 use Rattle.std.specs.Prelude.{None, Result, Ok}
 use Rattle.candidate_core.specs.Rank.{no_names}
@@ -12,13 +12,13 @@ use Rattle.make_info.specs.Reads.{Reads}
 use Rattle.query_core.specs.Queries.{queried}
 use Rattle.report_core.specs.declared.refusal.Refusal.{Refusal}
 
--- what a query reports of the candidates and repositories of inputs; or they have too many
+-- what a query reports on the candidates and repositories of inputs; or the refusal of too many
 -- candidates. It upgrades no names.
 abbrev pub query_report : CommandLine → Inputs → Result InfoDone Refusal
 query_report command inputs =
     and_then (root_pool inputs no_names) (λ pool.
     Ok (info_done (queried command pool inputs.root.repositories) None))
 
--- what a query comes to: its report of the inputs, or their refusal
+-- the result of a query: its report on the inputs, or their refusal
 abbrev pub query_told : CommandLine → Reads → Result InfoDone Refusal
 query_told command read = and_then (inputs_of command read) (query_report command)

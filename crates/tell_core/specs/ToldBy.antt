@@ -1,5 +1,5 @@
--- What the commands that only report on an installed root come to: their reports, and their
--- refusals. Each command's rules are in `docs/commands.md`, under its name.
+-- The results of the commands that only report on an installed root: their reports, and their refusals.
+-- Each command's rules are in `docs/commands.md`, under its name.
 use Rattle.std.specs.Prelude.{[], None, Result, Ok}
 use Rattle.command_core.specs.Command.{CommandLine}
 use Rattle.command_core.specs.declared.command.Applet.{Applet}

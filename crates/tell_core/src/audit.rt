@@ -29,7 +29,7 @@ pub(crate) fn tell_audit<T: Tree>(
     ensures tree { OnlyReads Refused.Disk (T.history tree.old) (T.history tree.new)
         (T.counts tree.old) (T.counts tree.new) result }
 {
-    // Laws that the proof needs; they compute nothing.
+    // Laws that the proof needs; they have no effect at run time.
     readings_in_a_row_join::<Installed, InfoDone, Refused>();
     audits_rest_on_their_own_reads();
     let installed = Installed::read(alloc, command, tree)?;

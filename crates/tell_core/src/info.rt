@@ -1,4 +1,4 @@
-//! What `info` tells of a root. The rules stand in `docs/commands.md`, "`info`".
+//! The report of `info` on a root. The rules are in `docs/commands.md`, "`info`".
 ghost use Rattle.base_core.specs.Read.{OnlyReads};
 ghost use Rattle.change_inputs.specs.Answers.{Agrees, AgreesUnlessDisk};
 ghost use Rattle.change_inputs.specs.Seen.{installed_seen};
@@ -12,13 +12,13 @@ use command_core::Command;
 use installed_info::{InfoDone, tell};
 use std::alloc::Global;
 
-/// Tells of the packages that are installed, as `info` asks for it. Only the database of the root
-/// is read, and the tree stays as it is, whatever the answer.
+/// Reports on the installed packages, as `info` asks for it. Only the database of the root is read,
+/// and the tree is unchanged, whatever the answer.
 ///
 /// # Errors
 ///
 /// The refusals of the database; then `NotInstalled` at the first operand whose package is not
-/// installed, which `info -e` tells behind its report. `Disk` where the tree failed, and `Memory`.
+/// installed, which `info -e` reports after its report. `Disk` if the tree failed, and `Memory`.
 pub(crate) fn tell_info<T: Tree>(
     alloc: Global,
     command: &Command,
@@ -34,7 +34,7 @@ pub(crate) fn tell_info<T: Tree>(
     Ok(done)
 }
 
-// Tells of the packages of the database, or refuses it.
+// Reports on the packages of the database, or refuses it.
 fn tell_installed(
     alloc: Global,
     command: &Command,

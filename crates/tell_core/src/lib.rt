@@ -1,4 +1,4 @@
-//! What the commands that only report on an installed root come to: `info`, `audit`, `manifest`,
+//! The results of the commands that only report on an installed root: `info`, `audit`, `manifest`,
 //! `list`, `search` and `policy`.
 //!
 //! The contract of `tell` cites `ToldBy` of `specs/` (what each of these commands reports, or why

@@ -16,14 +16,14 @@ use command_core::{Applet, Command};
 use installed_info::InfoDone;
 use std::alloc::Global;
 
-/// Reports on a root as a command asks for it, which is one of those that only report: `info`,
-/// `audit`, `manifest`, `list`, `search` and `policy`. The
-/// tree stays as it is, whatever the answer. Another command reports nothing.
+/// Reports on a root as one of these commands asks for it: `info`, `audit`, `manifest`, `list`,
+/// `search` or `policy`. The tree is unchanged, whatever the answer. Another command reports
+/// nothing.
 ///
 /// # Errors
 ///
-/// The refusal of the command; a refusal may also stand beside the report, in `late`. `Disk` if the
-/// tree failed, and `Memory`.
+/// The refusal of the command; a refusal may also follow the report, in `late`. `Disk` if the tree
+/// failed, and `Memory`.
 pub fn tell<T: Tree>(alloc: Global, command: &Command, tree: &mut T) -> Result<InfoDone, Refused>
     ensures told { Explains (T.history tree.old) (λ read.
         AgreesUnlessDisk (λ done. done) result (told_by command.now read)) }

@@ -1,13 +1,13 @@
--- Words that ask for help or for the version, apart from how they are read.
--- The rules are in `docs/commands.md`, "Help"; the laws `read_words_are_a_command` and
--- `commands_are_read` say that *command_of* keeps them.
+-- Words that ask for help or for the version, apart from how they are read. The rules are in
+-- `docs/commands.md`, "Help"; the laws `read_words_are_a_command` and `commands_are_read` connect them
+-- with *command_of*.
 use Rattle.std.specs.Prelude.{◌≡◌, ℕ, ◌<◌, List, ◌∷◌, ◌++◌, length, Err, Some, IsTrue}
 use Rattle.command_core.specs.Command.{CommandLine}
 use Rattle.words_core.specs.Grammar.{asked_command, line_command, next_after, takes_option}
 use Rattle.words_core.specs.Options.{asked_by}
 
--- a word asks for a command: an option can be there, and no word before it offends. What follows the
--- word says nothing
+-- a word asks for a command: an option can be there, and no word before it is wrong. What follows the
+-- word does not matter
 pub record IsAskedBy (words : List (List ℕ)) (command : CommandLine) : Type 0 where
   pub before : List (List ℕ)
   pub word : List ℕ

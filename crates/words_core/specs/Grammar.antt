@@ -1,6 +1,5 @@
--- The command of the words of a command line, or the place of the first word that offends. Places
--- count from 1; where a word is missing, the place is the one behind the last word.
--- The rules stand in `docs/commands.md`, "Words".
+-- The command of the words of a command line, or the place of the first wrong word. Places count from
+-- 1; a missing word has the place after the last word. The rules are in `docs/commands.md`, "Words".
 use Rattle.std.specs.Prelude.{ℕ, ◌+◌, ◌-◌, ◌==◌, Bool, true, false, not, ◌&&◌, ◌||◌, nat_lt, List, [], ◌∷◌, ◌++◌, length, take, drop, codes, Option, Some, None, option_and_then, is_some, Result, Ok, Err, if◌then◌else◌}
 use Rattle.std.specs.List.{before_first, position, slice_get}
 use Rattle.std.specs.Option.{option_map, option_or}
@@ -34,19 +33,19 @@ use Rattle.words_core.specs.Options.{OptionSpec, applet_of, applet_word, asked_b
 abbrev pub is_option : List ℕ → Bool
 is_option word = nat_lt 1 (length word) && bytes_eq (take 1 word) (codes "-")
 
--- whether a word is `--`, behind which there are no options
+-- whether a word is `--`, after which there are no options
 abbrev pub is_end : List ℕ → Bool
 is_end word = bytes_eq word (codes "--")
 
--- the word of the option alone: of `--name=value` what stands before the first `=`, of `-xvalue` the
--- first two bytes
+-- the word of the option alone: of `--name=value` the part before the first `=`, of `-xvalue` the first
+-- two bytes
 unfoldable pub option_name : List ℕ → List ℕ
 option_name word =
     if bytes_eq (take 2 word) (codes "--") then before_first (λ b. b == EQUALS_SIGN) word else
     take 2 word
 
--- the value that an option's word holds, if it holds one: what is behind the first `=` of a long one,
--- and behind the first two bytes of a short one
+-- the value that an option's word holds, if it holds one: the part after the first `=` of a long one,
+-- and after the first two bytes of a short one
 unfoldable pub held_value : List ℕ → Option (List ℕ)
 held_value word =
     if bytes_eq (take 2 word) (codes "--") then
@@ -56,44 +55,44 @@ held_value word =
 
 -- ---- flags
 
--- flags with what an option means; None where it means no flag, or a second kind
+-- flags with the meaning of an option; None if it is no flag, or a second kind
 abbrev pub with_meaning : Flags → Meaning → Option Flags
 with_meaning flags (Plain flag) = Some (with_flag flag flags)
 with_meaning flags (Kind flag) =
     if has_kind flags && not (has_flag flag flags) then None else Some (with_flag flag flags)
 with_meaning flags (Value rule) = None
 
--- flags with an option; None where it is no flag, or a second kind
+-- flags with an option; None if it is no flag, or a second kind
 abbrev pub with_spec : Flags → OptionSpec → Option Flags
 with_spec flags option = with_meaning flags option.meaning
 
--- flags with the option that a word is; None where it is none, has a value, or is a second kind
+-- flags with the option that a word is; None if it is none, has a value, or is a second kind
 abbrev pub with_option : List OptionSpec → Flags → List ℕ → Option Flags
 with_option options flags word = option_and_then (with_spec flags) (option_spelled options word)
 
 -- ---- up to the applet
 
--- what comes next of what was read, or a refusal at this place where nothing was read
+-- the next result from what was read, or a refusal at this place if nothing was read
 abbrev pub or_at : {A B : Type 0} → ℕ → (A → Result B ℕ) → Option A → Result B ℕ
 or_at place next None = Err place
 or_at place next (Some x) = next x
 
 -- the site of an applet: the applet, whether the options have ended before it, and how many words are
--- read, its own among them
+-- read, including its own
 abbrev pub site_by : Bool → ℕ → Applet → AppletSite
 site_by ended place applet = record { applet = applet; ended = ended; read = place }
 
--- the site of the applet that the word at a place names, or this place where it names none
+-- the site of the applet that the word at a place names, or this place if it names none
 unfoldable pub site_at : Bool → ℕ → List ℕ → Result AppletSite ℕ
 site_at ended place word = or_at place (λ applet. Ok (site_by ended place applet)) (applet_of word)
 
--- the site of the applet behind `--`, which the next word names; this place counts the next word
+-- the site of the applet after `--`, which the next word names; this is the place of the next word
 unfoldable pub site_behind_end : ℕ → List (List ℕ) → Result AppletSite ℕ
 site_behind_end place [] = Err place
 site_behind_end place (word ∷ words) = site_at true place word
 
--- the site of the applet in the words from a place on, or the first place that offends: before the
--- applet only some options may stand, and `--`
+-- the site of the applet in the words from a place on, or the first wrong place: only some options and
+-- `--` may precede the applet
 abbrev pub applet_site : ℕ → List (List ℕ) → Result AppletSite ℕ
 applet_site place [] = Err place
 applet_site place (word ∷ words) =
@@ -101,8 +100,8 @@ applet_site place (word ∷ words) =
     if is_option word then (if is_early word then applet_site (place + 1) words else Err place) else
     site_at false place word
 
--- the flags of the words before the applet, from a place on, or the first place that offends: each word
--- is an option of the applet, up to `--`
+-- the flags of the words before the applet, from a place on, or the first wrong place: each word is an
+-- option of the applet, up to `--`
 abbrev pub early_flags : List OptionSpec → Flags → ℕ → List (List ℕ) → Result Flags ℕ
 early_flags options flags place [] = Ok flags
 early_flags options flags place (word ∷ words) =
@@ -110,7 +109,7 @@ early_flags options flags place (word ∷ words) =
     or_at place (λ more. early_flags options more (place + 1) words)
     (with_option options flags word)
 
--- the start of a command line: its applet, where that stands, and the flags before it
+-- the start of a command line: its applet, the applet's place, and the flags before it
 abbrev pub start_by : AppletSite → Flags → Start
 start_by site flags =
     record { applet = site.applet; flags = flags; ended = site.ended; read = site.read }
@@ -120,7 +119,7 @@ abbrev pub start_with : AppletSite → Result Flags ℕ → Result Start ℕ
 start_with site (Err place) = Err place
 start_with site (Ok flags) = Ok (start_by site flags)
 
--- the start behind an applet that was found, or the place that offends before it
+-- the start once an applet was found, or the wrong place before it
 abbrev pub start_from : List (List ℕ) → Result AppletSite ℕ → Result Start ℕ
 start_from words (Err place) = Err place
 start_from words (Ok site) =
@@ -132,16 +131,15 @@ line_start words = start_from words (applet_site 1 words)
 
 -- ---- options and their values
 
--- what options have said: flags, values, and the option whose value is the next word, if there is
--- one
+-- the effect of options: flags, values, and the option whose value is the next word, if there is one
 abbrev pub state_by : Flags → List OptionValue → Option ValueRule → OptionState
 state_by flags values awaiting = record { flags = flags; values = values; awaiting = awaiting }
 
--- the state behind the applet: the flags before it, no values, and none awaited
+-- the state after the applet: the flags before it, no values, and none awaited
 abbrev pub first_state : Flags → OptionState
 first_state flags = state_by flags [] None
 
--- a state with a value of an option; None where the option does not have that value
+-- a state with a value of an option; None if the option does not have that value
 abbrev pub with_value : OptionState → ℕ → List ℕ → ValueRule → Option OptionState
 with_value state place text rule =
     if is_value rule.kind text && not (is_excluded rule text state.values) then
@@ -154,7 +152,7 @@ abbrev pub with_held : OptionState → ℕ → ValueRule → Option (List ℕ) �
 with_held state place rule None = Some (state_by state.flags state.values (Some rule))
 with_held state place rule (Some text) = with_value state place text rule
 
--- a state with an option that has values; None where it can have none more
+-- a state with an option that has values; None if it can have no more
 abbrev pub with_rule : OptionState → ℕ → Option (List ℕ) → ValueRule → Option OptionState
 with_rule state place held rule =
     if is_spent rule state.values then None else with_held state place rule held
@@ -163,7 +161,7 @@ with_rule state place held rule =
 abbrev pub with_flags : OptionState → Option Flags → Option OptionState
 with_flags state flags = option_map (λ more. state_by more state.values state.awaiting) flags
 
--- a state with what an option means, whose word holds this value or none; None where it may not be
+-- a state with the meaning of an option, whose word holds this value or none; None if it may not be
 -- given so: a flag has no value
 abbrev pub with_meaning_at : OptionState → ℕ → Option (List ℕ) → Meaning → Option OptionState
 with_meaning_at state place held (Value rule) = with_rule state place held rule
@@ -174,36 +172,36 @@ with_meaning_at state place None (Plain flag) =
 with_meaning_at state place None (Kind flag) =
     with_flags state (with_meaning state.flags (Kind flag))
 
--- a state with the option that the word at a place spells; None where it cannot be read
+-- a state with the option that the word at a place spells; None if it cannot be read
 abbrev pub with_spelled : List OptionSpec → OptionState → ℕ → List ℕ → Option OptionState
 with_spelled options state place word =
     option_and_then (λ (o : OptionSpec). with_meaning_at state place (held_value word) o.meaning)
     (option_spelled options (option_name word))
 
--- whether a word is a value that is awaited, or an option
+-- whether a word is an awaited value, or an option
 abbrev pub is_option_or_value : OptionState → List ℕ → Bool
 is_option_or_value state word = is_some state.awaiting || (is_option word && not (is_end word))
 
 -- a state with the word at a place, by the option whose value is awaited, if one is: the word is its
--- value, or else an option; None where it cannot be read
+-- value, and otherwise an option; None if it cannot be read
 abbrev pub with_word_by : List OptionSpec → OptionState → ℕ → List ℕ → Option ValueRule
     → Option OptionState
 with_word_by options state place word None = with_spelled options state place word
 with_word_by options state place word (Some rule) = with_value state place word rule
 
--- a state with the word at a place, which is the value that the state awaits, or an option; None where
--- it cannot be read
+-- a state with the word at a place, which is the value that the state awaits, or an option; None if it
+-- cannot be read
 abbrev pub with_word : List OptionSpec → OptionState → ℕ → List ℕ → Option OptionState
 with_word options state place word = with_word_by options state place word state.awaiting
 
--- ---- behind the applet
+-- ---- after the applet
 
--- the reading of words: what options have said, the operands, and the place of the word that cannot be
+-- the reading of words: the effect of options, the operands, and the place of the word that cannot be
 -- read, if one ended the reading
 abbrev pub reading_by : OptionState → List Operand → Option ℕ → Reading
 reading_by state operands unread = record { state = state; operands = operands; unread = unread }
 
--- the operands that some words are, the first of which stands at a place
+-- some words as operands, the first of which is at a place
 abbrev pub operands_of : ℕ → List (List ℕ) → List Operand
 operands_of place [] = []
 operands_of place (word ∷ words) = operand_at place word ∷ operands_of (place + 1) words
@@ -212,18 +210,18 @@ operands_of place (word ∷ words) = operand_at place word ∷ operands_of (plac
 abbrev pub with_operand : Operand → Reading → Reading
 with_operand operand reading = record reading { operands = operand ∷ reading.operands }
 
--- what is read next, behind a word that was read; a word at this place that cannot be read ends the
+-- the next reading, after a word that was read; a word at this place that cannot be read ends the
 -- reading
 abbrev pub or_unread : OptionState → ℕ → (OptionState → Reading) → Option OptionState → Reading
 or_unread state place next None = reading_by state [] (Some place)
 or_unread state place next (Some more) = next more
 
--- the reading where the words end at a place; a value that is awaited is missing there
+-- the reading if the words end at a place; an awaited value is missing there
 abbrev pub reading_end : OptionState → ℕ → Reading
 reading_end state place =
     reading_by state [] (option_map (λ (rule : ValueRule). place) state.awaiting)
 
--- the reading of words behind a state: options, values and operands, from a place on, up to the first
+-- the reading of words from a state on: options, values and operands, from a place on, up to the first
 -- word that cannot be read
 abbrev pub option_reading : List OptionSpec → OptionState → ℕ → List (List ℕ) → Reading
 option_reading options state place [] = reading_end state place
@@ -234,7 +232,7 @@ option_reading options state place (word ∷ words) =
     if is_end word then reading_by state (operands_of (place + 1) words) None else
     with_operand (operand_at place word) (option_reading options state (place + 1) words)
 
--- the reading of the words behind the applet; where `--` stands before it they are operands alone
+-- the reading of the words after the applet; if `--` precedes it all of them are operands
 unfoldable pub reading_behind : Start → List (List ℕ) → Reading
 reading_behind start words =
     let left = drop start.read words in
@@ -242,38 +240,37 @@ reading_behind start words =
     reading_by (first_state start.flags) (operands_of (start.read + 1) left) None else
     option_reading (options_of start.applet) (first_state start.flags) (start.read + 1) left
 
--- ---- the command, or what offends
+-- ---- the command, or the first wrong place
 
--- the place of the first operand that the rule does not take. There is no rule where the flag is
--- lacking that says the kind of the command: then no operand offends, and the place behind the last
--- word does
+-- the place of the first operand that the rule does not take. There is no rule if the flag is missing
+-- that selects the kind of the command: then no operand is wrong, and the place after the last word is
 abbrev pub refused_operand : Option OperandRule → List Operand → Option ℕ
 refused_operand None operands = None
 refused_operand (Some rule) operands = first_refused rule 0 operands
 
--- whether too few operands were given, or the flag that says the kind of the command was not
+-- whether too few operands were given, or the flag is missing that selects the kind of the command
 abbrev pub lacks_operand : Option OperandRule → List Operand → Bool
 lacks_operand None operands = true
 lacks_operand (Some rule) operands = nat_lt (length operands) rule.least
 
--- whether a word is lacking: an operand, the flag that says the kind, or the option that the applet
+-- whether a word is missing: an operand, the flag that selects the kind, or the option that the applet
 -- needs
 abbrev pub lacks_word : Applet → Option OperandRule → Reading → Bool
 lacks_word applet rule reading =
     lacks_operand rule reading.operands || lacks_value (needed_option applet) reading.state.values
 
--- the command of a reading, with the place behind the last word
+-- the command of a reading, with the place after the last word
 abbrev pub command_read : ℕ → Applet → Reading → CommandLine
 command_read behind applet reading =
     command_by applet reading.state.flags reading.operands reading.state.values behind
 
--- a refusal at a place that offends, if there is one, and else what is given
+-- a refusal at a wrong place, if there is one, and otherwise this result
 abbrev pub unless_at : Option ℕ → Result CommandLine ℕ → Result CommandLine ℕ
 unless_at None otherwise = otherwise
 unless_at (Some place) otherwise = Err place
 
 -- the command that was read, or the first of: an operand that is not taken, the word that cannot be
--- read, the end of the words where a word is missing
+-- read, the end of the words if a word is missing
 unfoldable pub verdict : ℕ → Applet → Reading → Result CommandLine ℕ
 verdict behind applet reading =
     let rule = operand_rule applet reading.state.flags in
@@ -291,24 +288,24 @@ line_command words = command_from words (line_start words)
 
 -- ---- what the next word can be
 
--- the rule of the values that an option has; None where it is a flag
+-- the rule of the values that an option has; None if it is a flag
 abbrev pub rule_in : Meaning → Option ValueRule
 rule_in (Plain flag) = None
 rule_in (Kind flag) = None
 rule_in (Value rule) = Some rule
 
--- the rule of the option that a word spells; None where it has no values
+-- the rule of the option that a word spells; None if it has no values
 abbrev pub rule_at : List OptionSpec → List ℕ → Option ValueRule
 rule_at options word =
     option_and_then (λ (e : OptionSpec). rule_in e.meaning)
     (option_spelled options (option_name word))
 
--- this rule, where the option's word holds no value
+-- this rule, if the option's word holds no value
 abbrev pub rule_unless : Option (List ℕ) → Option ValueRule → Option ValueRule
 rule_unless None rule = rule
 rule_unless (Some text) rule = None
 
--- the rule of the option that a word spells, where its value is the next word
+-- the rule of the option that a word spells, if its value is the next word
 abbrev pub rule_behind : List OptionSpec → List ℕ → Option ValueRule
 rule_behind options word = rule_unless (held_value word) (rule_at options word)
 
@@ -376,12 +373,12 @@ abbrev pub asked_command : List (List ℕ) → Applet → CommandLine
 asked_command words applet =
     command_by applet no_flags (asked_operands words applet) [] (length words + 1)
 
--- the command that the word at a place asks for, or that it offends there
+-- the command that the word at a place asks for, or that the word is wrong there
 abbrev pub asked_or_err : List (List ℕ) → ℕ → Option Applet → Result CommandLine ℕ
 asked_or_err words place None = Err place
 asked_or_err words place (Some applet) = Ok (asked_command words applet)
 
--- the command that was spelled, or else the one that the first word that offends asks for, if it asks
+-- the command that was spelled, or otherwise the one that the first wrong word asks for, if it asks
 abbrev pub spelled_or_asked : List (List ℕ) → Result CommandLine ℕ → Result CommandLine ℕ
 spelled_or_asked words (Ok command) = Ok command
 spelled_or_asked words (Err place) = asked_or_err words place (asked_at words place)

@@ -1,6 +1,5 @@
--- What `--help` and `--version` print.
--- The texts are shown in `docs/commands.md`, "Help"; the synopsis of each command is in
--- `docs/apk.8.md` too.
+-- The texts of `--help` and `--version`. The texts are shown in `docs/commands.md`, "Help"; the
+-- synopsis of each command is in `docs/apk.8.md` too.
 use Rattle.std.specs.Prelude.{ℕ, ◌-◌, List, [], ◌∷◌, ◌++◌, length, map, take, codes, Option, Some, None}
 use Rattle.command_core.specs.declared.command.Applet.{Applet}
 use Rattle.command_core.specs.declared.command.Applet.TheVariants.{Add, Del, Upgrade, Fix, Info, Verify, Adbdump, Mkpkg, Mkndx, Version, Demo, Adbgen, Audit, Manifest, List as ListApplet, Search, Policy, Help, ProgramVersion}
@@ -32,7 +31,7 @@ help_line subject text = record { subject = subject; text = text }
 abbrev pub spaces : List ℕ
 spaces = codes "                          "
 
--- the spaces after a subject, up to a column; none where the subject is longer
+-- the spaces after a subject, up to a column; none if the subject is longer
 abbrev pub spaces_after : ℕ → List ℕ → List ℕ
 spaces_after column subject = take (column - length subject) spaces
 
@@ -46,7 +45,7 @@ abbrev pub lines_text : ℕ → List HelpLine → List ℕ
 lines_text column [] = []
 lines_text column (line ∷ lines) = line_text column line ++ lines_text column lines
 
--- lines of help under a heading; nothing where there are none
+-- lines of help under a heading; nothing if there are none
 abbrev pub section_text : List ℕ → ℕ → List HelpLine → List ℕ
 section_text heading column [] = []
 section_text heading column lines = heading ++ lines_text column lines
@@ -196,7 +195,7 @@ operand_help applet = []
 
 -- ---- the help of a command
 
--- a line that says how a command is called, after a front
+-- a line with the usage of a command, after a prefix
 abbrev pub usage_line : List ℕ → List ℕ → List ℕ
 usage_line front line = front ++ line ++ codes "\n"
 

@@ -1,6 +1,6 @@
--- Words of `info` whose kind can still follow: a kind takes other operands than `info` without one.
--- The rule stands in `docs/commands.md`, "Words", below the table of places (`info usr/x -W`). Serves
--- the laws `words_offend_whatever_follows` and `what_follows_a_command_offends_behind_it`.
+-- Words of `info` whose kind can still follow: a kind takes other operands than `info` without one. The
+-- rule is in `docs/commands.md`, "Words", below the table of places (`info usr/x -W`). Serves the laws
+-- `words_offend_whatever_follows` and `what_follows_a_command_offends_behind_it`.
 use Rattle.std.specs.Prelude.{ℕ, Bool, true, false, not, ◌&&◌, ◌||◌, List, drop, None, is_some, Result, Ok, Err}
 use Rattle.command_core.specs.declared.command.Applet.{Applet}
 use Rattle.command_core.specs.declared.command.Applet.TheVariants.{Info}
@@ -23,7 +23,7 @@ can_get_kind_from words start =
     is_info start.applet && not (has_kind reading.state.flags) && not (is_some reading.unread)
     && not (start.ended || have_ended (options_of start.applet) None (drop start.read words))
 
--- whether words can still get a kind, by their start; where none is found they are not `info`
+-- whether words can still get a kind, by their start; without a start they are not `info`
 abbrev pub can_get_kind_by : List (List ℕ) → Result Start ℕ → Bool
 can_get_kind_by words (Err place) = false
 can_get_kind_by words (Ok start) = can_get_kind_from words start

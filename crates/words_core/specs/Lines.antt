@@ -1,7 +1,6 @@
--- What the words of a command are, apart from how they are read: options with their values, an
--- applet, operands.
--- The rules stand in `docs/commands.md`, "Words"; the laws `read_words_are_a_command` and
--- `commands_are_read` say that *command_of* keeps them.
+-- The words of a command, apart from how they are read: options with their values, an applet, operands.
+-- The rules are in `docs/commands.md`, "Words"; the laws `read_words_are_a_command` and
+-- `commands_are_read` connect them with *command_of*.
 use Rattle.std.specs.Prelude.{◌≡◌, ℕ, ◌+◌, ◌-◌, Bool, ◌||◌, List, [], ◌∷◌, ◌++◌, length, take, Option, Some, None, option_and_then, IsTrue, if◌then◌else◌}
 use Rattle.std.specs.List.{list_all}
 use Rattle.std.specs.Option.{option_map}
@@ -19,7 +18,7 @@ use Rattle.words_core.specs.declared.options.Meaning.TheVariants.{Flag as Plain,
 use Rattle.words_core.specs.Grammar.{held_value, is_end, is_option, operands_of, option_name, rule_at, rule_behind}
 use Rattle.words_core.specs.Options.{OptionSpec, applet_of, is_early, option_spelled, options_of}
 
--- the words that are neither options nor values, each with its place: all behind `--`, and before it
+-- the words that are neither options nor values, each with its place: all after `--`, and before it
 -- those that are neither. With a rule the first word is the value of its option
 abbrev pub free_words : List OptionSpec → Option ValueRule → ℕ → List (List ℕ) → List Operand
 free_words options rule place [] = []
@@ -38,14 +37,14 @@ option_words options None (word ∷ words) =
     if is_option word then word ∷ option_words options (rule_behind options word) words else
     option_words options None words
 
--- the list of the value that an option's word at a place holds; empty where the option has no values,
--- or the next word is its value
+-- the list of the value that an option's word at a place holds; empty if the option has no values, or
+-- the next word is its value
 abbrev pub held_at : ℕ → Option ValueRule → Option (List ℕ) → List OptionValue
 held_at place None held = []
 held_at place (Some rule) None = []
 held_at place (Some rule) (Some text) = option_value place rule.letter text ∷ []
 
--- the values of the options, each with the place of the word that holds it; None where one is missing.
+-- the values of the options, each with the place of the word that holds it; None if one is missing.
 -- With a rule the first word is the value of its option
 abbrev pub values_of : List OptionSpec → Option ValueRule → ℕ → List (List ℕ)
     → Option (List OptionValue)
@@ -61,7 +60,7 @@ values_of options None place (word ∷ words) =
     (values_of options (rule_behind options word) (place + 1) words) else
     values_of options None (place + 1) words
 
--- flags with what an option means, whose word holds a value or none; None where the word of a flag
+-- flags with the meaning of an option, whose word holds a value or none; None if the word of a flag
 -- holds one
 abbrev pub flags_with : Flags → Option (List ℕ) → Meaning → Option Flags
 flags_with flags held (Value rule) = Some flags
@@ -70,21 +69,20 @@ flags_with flags None (Kind flag) = Some (with_flag flag flags)
 flags_with flags (Some text) (Plain flag) = None
 flags_with flags (Some text) (Kind flag) = None
 
--- flags with what some options say, one after another; None where a word spells no option, or a flag
--- has a value
+-- flags with the meanings of some options, one after another; None if a word spells no option, or a
+-- flag has a value
 abbrev pub flags_after : List OptionSpec → Flags → List (List ℕ) → Option Flags
 flags_after options flags [] = Some flags
 flags_after options flags (word ∷ words) =
     option_and_then (λ (e : OptionSpec). option_and_then (λ more. flags_after options more words)
     (flags_with flags (held_value word) e.meaning)) (option_spelled options (option_name word))
 
--- whether a word may stand before the applet: `--`, or one of the five options
+-- whether a word may precede the applet: `--`, or one of the five options
 abbrev pub stands_before : List ℕ → Bool
 stands_before word = is_end word || is_early word
 
--- words are a command: the first that is neither option nor value names the applet, the others are
--- the operands, and the options are ones of the applet, and where they stand before it ones that
--- may
+-- Words are a command: the first that is neither option nor value names the applet, the others are the
+-- operands, and the options are ones of the applet. Those before it are ones that may precede it.
 pub record IsLineOf (words : List (List ℕ)) (command : CommandLine) : Type 0 where
   pub applet : Operand
   pub names : applet_of applet.text ≡ Some command.applet

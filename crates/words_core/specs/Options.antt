@@ -1,6 +1,5 @@
--- The applets that exist, and the words that spell them and their options, after apk(8).
--- The rules stand in `docs/commands.md`, "Words", the table of options and the paragraph of those
--- before the applet.
+-- The applets that exist, and the words that spell them and their options, after apk(8). The rules are
+-- in `docs/commands.md`, "Words", the table of options and the paragraph on those before the applet.
 use Rattle.std.specs.Prelude.{ℕ, Bool, ◌||◌, List, [], ◌∷◌, ◌++◌, codes, Option, Some, None, if◌then◌else◌}
 use Rattle.std.specs.List.{find, list_any}
 use Rattle.std.specs.Str.{bytes_eq}
@@ -13,7 +12,7 @@ use Rattle.command_core.specs.Values.{compression_rule, description_rule, files_
 use Rattle.words_core.specs.declared.options.Meaning.{Meaning}
 use Rattle.words_core.specs.declared.options.Meaning.TheVariants.{Flag as Plain, Kind, Value}
 
--- an option: its long word, its short word or nothing, and what it says
+-- an option: its long word, its short word or nothing, and its meaning
 pub record OptionSpec : Type 0 where
   pub long : List ℕ
   pub short : List ℕ
@@ -23,7 +22,7 @@ pub record OptionSpec : Type 0 where
 abbrev pub flag_spec : List ℕ → List ℕ → Flag → OptionSpec
 flag_spec long short flag = record { long = long; short = short; meaning = Plain flag }
 
--- the option of these words whose flag says of which kind the command is
+-- the option of these words whose flag selects the kind of the command
 abbrev pub kind_spec : List ℕ → List ℕ → Flag → OptionSpec
 kind_spec long short flag = record { long = long; short = short; meaning = Kind flag }
 
@@ -37,7 +36,7 @@ common_options =
     flag_spec (codes "--allow-untrusted") [] AllowUntrusted ∷
     (flag_spec (codes "--no-scripts") [] NoScripts ∷ [])
 
--- `--initdb`: where there is no database one is begun
+-- `--initdb`: a database is begun if there is none
 abbrev pub initdb_option : OptionSpec
 initdb_option = flag_spec (codes "--initdb") [] Initdb
 
@@ -45,11 +44,11 @@ initdb_option = flag_spec (codes "--initdb") [] Initdb
 abbrev pub simulate_option : OptionSpec
 simulate_option = flag_spec (codes "--simulate") (codes "-s") Simulate
 
--- `--purge`: configuration that the user changed goes too
+-- `--purge`: protected configuration files are removed too
 abbrev pub purge_option : OptionSpec
 purge_option = flag_spec (codes "--purge") [] Purge
 
--- the options of `info`, each of which says the kind
+-- the options of `info`, each of which selects the kind
 abbrev pub info_options : List OptionSpec
 info_options =
     kind_spec (codes "--installed") (codes "-e") Installed ∷
@@ -61,13 +60,13 @@ info_options =
 abbrev pub list_options : List OptionSpec
 list_options = kind_spec (codes "--installed") (codes "-I") Installed ∷ []
 
--- the options of `version`, each of which says the kind
+-- the options of `version`, each of which selects the kind
 abbrev pub version_options : List OptionSpec
 version_options =
     kind_spec (codes "--test") (codes "-t") Test ∷
     (kind_spec (codes "--check") (codes "-c") Check ∷ [])
 
--- the options of `mkpkg` and `mkndx` that say where and how what they make is written
+-- the options of `mkpkg` and `mkndx` that say where and how their output is written
 abbrev pub output_options : List OptionSpec
 output_options =
     value_spec (codes "--output") (codes "-o") output_rule ∷
@@ -109,13 +108,13 @@ abbrev pub option_spelled : List OptionSpec → List ℕ → Option OptionSpec
 option_spelled options word =
     find (λ (o : OptionSpec). bytes_eq o.long word || bytes_eq o.short word) options
 
--- the words of the options that may stand before the applet
+-- the words of the options that may precede the applet
 unfoldable pub early_words : List (List ℕ)
 early_words =
     codes "--allow-untrusted" ∷ (codes "--no-scripts" ∷ (codes "--initdb" ∷ (codes "--simulate" ∷
     (codes "--purge" ∷ []))))
 
--- whether a word is an option that may stand before the applet
+-- whether a word is an option that may precede the applet
 abbrev pub is_early : List ℕ → Bool
 is_early word = list_any (λ early. bytes_eq early word) early_words
 

@@ -1,5 +1,5 @@
--- What the rows of the reader's tables stand for, and what they keep.
--- Serves the proofs of `options` and the law `letters_are_those_of_short_words`, as the README says.
+-- The meaning of the rows of the reader's tables, and their invariants. Serves the proofs of `options`
+-- and the law `letters_are_those_of_short_words`, as the README says.
 use Rattle.std.specs.Prelude.{ℕ, Bool, true, List, [], ◌∷◌}
 use Rattle.std.specs.Str.{bytes_eq}
 use Rattle.words_core.specs.declared.options.Meaning.{Meaning}
@@ -9,7 +9,7 @@ use Rattle.words_core.specs.declared.help_rows.HelpRow.{HelpRow}
 use Rattle.words_core.specs.HelpTexts.{HelpLine, help_line}
 use Rattle.words_core.specs.Options.{OptionSpec}
 
--- the option that a row stands for
+-- the option of a row
 abbrev pub option_spec : OptionRow → OptionSpec
 option_spec row = record { long = row.long.now; short = row.short.now; meaning = row.meaning }
 
@@ -27,6 +27,6 @@ has_letter short meaning = true
 abbrev pub has_its_letter : OptionSpec → Bool
 has_its_letter option = has_letter option.short option.meaning
 
--- the line of help that a row stands for
+-- the line of help of a row
 abbrev pub help_row_line : HelpRow → HelpLine
 help_row_line row = help_line row.subject.now row.text.now

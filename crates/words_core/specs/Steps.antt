@@ -1,5 +1,5 @@
--- What a step of the reader says.
--- Serves the proofs of `reading` and `read`: the contracts of their private functions.
+-- The result of a step of the reader. Serves the proofs of `reading` and `read`: the contracts of their
+-- private functions.
 use Rattle.std.specs.Prelude.{◌≡◌, ℕ, Bool, true, false, not, List, Option, Some, None, option_and_then, is_some, IsTrue, if◌then◌else◌}
 use Rattle.std.specs.List.{list_all}
 use Rattle.command_core.specs.declared.command.Applet.{Applet}
@@ -17,7 +17,7 @@ abbrev pub IsReadingStep : Bool → OptionState → OptionState → Option Optio
 IsReadingStep true old new more = more ≡ Some new
 IsReadingStep false old new more = (more ≡ None) × (new ≡ old)
 
--- what was read behind an applet is its own: at most one kind, and values that may stand together
+-- what was read after an applet is its own: at most one kind, and values that may be combined
 abbrev pub IsSoundReading : Applet → Reading → Type 0
 IsSoundReading applet reading =
     IsTrue (may_have applet reading.state.flags)
@@ -31,7 +31,7 @@ is_plain_option option = not (is_some (rule_in option.meaning))
 unfoldable pub has_no_values : Applet → Bool
 has_no_values applet = list_all is_plain_option (options_of applet)
 
--- flags with the option that a word spells; None where it spells none, holds a value, or is a second kind
+-- flags with the option that a word spells; None if it spells none, holds a value, or is a second kind
 abbrev pub flags_spelled : List OptionSpec → Flags → List ℕ → Option Flags
 flags_spelled options flags word =
     if is_some (held_value word) then None else

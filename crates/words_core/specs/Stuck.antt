@@ -1,7 +1,6 @@
 -- Words that cannot become a command, whatever follows: no option can follow, and those before the
--- applet are no applet's, or one is lacking; or a value is awaited that no text can be.
--- Serves the laws `words_before_a_usage_error_can_be_completed` and `stuck_words_are_no_command`, as
--- the README says.
+-- applet are no applet's, or one is missing; or no text can be the awaited value. Serves the laws
+-- `words_before_a_usage_error_can_be_completed` and `stuck_words_are_no_command`, as the README says.
 use Rattle.std.specs.Prelude.{ℕ, ◌==◌, Bool, true, false, not, ◌&&◌, ◌||◌, List, [], ◌∷◌, drop, Option, Some, None, is_some, Result, Ok, Err, if◌then◌else◌}
 use Rattle.std.specs.List.{list_all, list_any}
 use Rattle.std.specs.Result.{is_ok}
@@ -26,7 +25,7 @@ use Rattle.words_core.specs.Options.{OptionSpec, applets, options_of}
 abbrev pub suit : List (List ℕ) → Applet → Bool
 suit words applet = is_ok (early_flags (options_of applet) no_flags 1 words)
 
--- ---- behind the applet
+-- ---- after the applet
 
 -- whether the options have ended: `--` is among the words, and not as a value. The first word is
 -- the value of an option, if there is a rule of it
@@ -38,8 +37,7 @@ have_ended options None (word ∷ words) =
     if is_option word then have_ended options (rule_behind options word) words else
     have_ended options None words
 
--- whether an option is lacking: one that says of which kind the command is, or the one that has to
--- be given
+-- whether an option is missing: one that selects the kind of the command, or the one that must be given
 abbrev pub lacks_option : Applet → OptionState → Bool
 lacks_option applet state =
     not (is_some (operand_rule applet state.flags))
@@ -50,7 +48,7 @@ abbrev pub has_script : ℕ → List OptionValue → List ℕ → Bool
 has_script letter values t =
     list_any (λ (v : OptionValue). (v.letter == letter) && bytes_eq (script_type v.text) t) values
 
--- whether the option with a letter can have no value more: it was given a script of each type
+-- whether the option with a letter can have no further value: it was given a script of each type
 abbrev pub is_full : ValueKind → ℕ → List OptionValue → Bool
 is_full Script letter values = list_all (has_script letter values) script_types
 is_full kind letter values = false
@@ -60,8 +58,8 @@ abbrev pub awaits_none : Option ValueRule → List OptionValue → Bool
 awaits_none None values = false
 awaits_none (Some rule) values = is_full rule.kind rule.letter values
 
--- whether words whose start was found are stuck: options have ended and one is lacking, or a value is
--- awaited that no text can be
+-- whether words whose start was found are stuck: options have ended and one is missing, or no text can
+-- be the awaited value
 abbrev pub is_stuck : List (List ℕ) → Start → Bool
 is_stuck words start =
     let state = (reading_behind start words).state in
@@ -69,14 +67,14 @@ is_stuck words start =
     && lacks_option start.applet state)
     || awaits_none state.awaiting state.values
 
--- whether words whose applet was found are stuck, by their start; where the options before the applet
--- offend they are not
+-- whether words whose applet was found are stuck, by their start; if an option before the applet is
+-- wrong they are not
 abbrev pub is_stuck_by : List (List ℕ) → Result Start ℕ → Bool
 is_stuck_by words (Err place) = false
 is_stuck_by words (Ok start) = is_stuck words start
 
--- whether words are stuck, by the site of their applet; where none was found they are if `--` has ended
--- the options, and no applet has all of those before it
+-- whether words are stuck, by the site of their applet; if none was found they are stuck exactly if
+-- `--` has ended the options, and no applet has all of those before it
 abbrev pub are_stuck_by : List (List ℕ) → Result AppletSite ℕ → Bool
 are_stuck_by words (Err place) = list_any is_end words && not (list_any (suit words) applets)
 are_stuck_by words (Ok site) = is_stuck_by words (start_from words (Ok site))

@@ -1,5 +1,5 @@
--- Why words are a usage error, and the line that tells a person so.
--- The texts are listed in `docs/commands.md`, "Help".
+-- Why words are a usage error, and the line that explains it to the user. The texts are listed in
+-- `docs/commands.md`, "Help".
 use Rattle.std.specs.Prelude.{ℕ, ◌+◌, ◌-◌, ◌/◌, ◌%◌, ◌==◌, nat_lt, Bool, not, ◌&&◌, ◌||◌, List, [], ◌∷◌, ◌++◌, length, take, codes, Option, Some, None, Result, Ok, Err, if◌then◌else◌}
 use Rattle.std.specs.Char.{is_ascii_graphic}
 use Rattle.std.specs.Fmt.{decimal}
@@ -28,7 +28,7 @@ use Rattle.words_core.specs.Options.{OptionSpec, applet_word, option_spelled, op
 
 -- ---- the reason
 
--- why a text is no value of an option that is a value of its kind: one was given before
+-- why a text is no value of an option although it is a value of its kind: one was given before
 abbrev pub repeated_by : ValueRule → UsageReason
 repeated_by rule = if rule.single then OptionRepeated else ScriptRepeated
 
@@ -57,7 +57,7 @@ operand_reason word None = TooManyOperands
 operand_reason word (Some rule) =
     if is_of_kind rule.kind word then TooManyOperands else OperandBad rule.kind
 
--- why a word after the command offends, by what it could have been
+-- why a word after the command is wrong, by what it could have been
 abbrev pub word_reason : Option OperandRule → List ℕ → NextWord → UsageReason
 word_reason rule word OptionOrCommand = OptionUnknown
 word_reason rule word CommandAlone = CommandUnknown
@@ -69,8 +69,8 @@ word_reason rule word (NextValue applet value) = value_reason value word
 word_reason rule word (OperandAlone applet) = operand_reason word rule
 word_reason rule word Nothing = CommandUnknown
 
--- which word is missing after the last one, where no value is awaited: the option that the command
--- needs, the option that says its kind, or an operand
+-- which word is missing after the last one, if no value is awaited: the option that the command needs,
+-- the option that selects its kind, or an operand
 abbrev pub missing_reason : Option ℕ → Option OperandRule → UsageReason
 missing_reason (Some letter) rule = OptionMissing
 missing_reason None None = KindMissing
@@ -81,18 +81,18 @@ abbrev pub end_reason : Applet → Option OperandRule → NextWord → UsageReas
 end_reason applet rule (NextValue other value) = ValueMissing
 end_reason applet rule next = missing_reason (needed_option applet) rule
 
--- why the place after a command that was found offends, by the word there, if there is one
+-- why the place after a command that was found is wrong, by the word there, if there is one
 abbrev pub line_reason : Applet → Option OperandRule → NextWord → Option (List ℕ) → UsageReason
 line_reason applet rule next None = end_reason applet rule next
 line_reason applet rule next (Some word) = word_reason rule word next
 
--- why the place of the command offends, by the word there, if there is one
+-- why the place of the command is wrong, by the word there, if there is one
 abbrev pub command_reason : NextWord → Option (List ℕ) → UsageReason
 command_reason next None = CommandMissing
 command_reason OptionOrCommand (Some word) = if is_option word then OptionEarly else CommandUnknown
 command_reason next (Some word) = CommandUnknown
 
--- why a place before the command offends: no command is found, or the option there is none of it
+-- why a place before the command is wrong: no command is found, or the option there is none of it
 abbrev pub early_reason : Result AppletSite ℕ → NextWord → Option (List ℕ) → UsageReason
 early_reason (Err place) next word = command_reason next word
 early_reason (Ok site) next word = OptionUnknown
@@ -199,13 +199,13 @@ word_front place = texts_joined (codes "word " ∷ (decimal place ∷ (codes ", 
 abbrev pub word_end : List ℕ → List ℕ
 word_end word = if nat_lt longest_shown (length word) then codes "..\": " else codes "\": "
 
--- the word that offends, with its place; nothing where a word is missing
+-- the wrong word, with its place; nothing if a word is missing
 abbrev pub place_text : ℕ → Option (List ℕ) → List ℕ
 place_text place None = []
 place_text place (Some word) =
     word_front place ++ shown_bytes (take longest_shown word) ++ word_end word
 
--- the word of the command whose help is named, after a space; nothing where none was found
+-- the word of the command whose help is named, after a space; nothing if none was found
 abbrev pub asked_space : Result AppletSite ℕ → List ℕ
 asked_space (Err place) = []
 asked_space (Ok site) = codes " "
@@ -214,7 +214,7 @@ abbrev pub asked_word : Result AppletSite ℕ → List ℕ
 asked_word (Err place) = []
 asked_word (Ok site) = applet_word site.applet
 
--- how the program is called, where there are no words
+-- the usage of the program, if there are no words
 abbrev pub usage_after : List (List ℕ) → List ℕ
 usage_after [] = program_usage
 usage_after (word ∷ words) = []

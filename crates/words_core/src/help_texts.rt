@@ -1,5 +1,5 @@
-//! What `--help` and `--version` print, put together from the rows of `help_rows`.
-//! The texts are shown in `docs/commands.md`, "Help".
+//! The texts of `--help` and `--version`, put together from the rows of `help_rows`. The texts are
+//! shown in `docs/commands.md`, "Help".
 ghost use Rattle.std.specs.Prelude.{◌≡◌, ◌≤◌, ◌++◌, IfOk, OnOk, codes, map};
 ghost use Rattle.words_core.specs.HelpTexts.{command_help, command_line, commands_text, common_text, first_steps, help_text, line_text, lines_text, program_help, program_usage, section_text, spaces_after, topic_of, usage_line, usage_text, version_text};
 ghost use Rattle.words_core.specs.Rows.{help_row_line};
@@ -34,8 +34,8 @@ pub fn version_line(alloc: Global) -> Result<Text, AllocError>
     Ok(Text::from_vec(text))
 }
 
-/// What `--help` prints, by the operands of the command `Help`: the help of the command whose word
-/// is the operand, and that of the program where there is none.
+/// The text of `--help`, by the operands of the command `Help`: the help of the command whose word
+/// is the operand, and that of the program if there is none.
 pub fn help(alloc: Global, operands: &Operands) -> Result<Text, AllocError>
     ensures { IfOk result (λ text. text ≡ help_text operands.now) }
 {
@@ -152,7 +152,7 @@ fn push_usage(text: &mut Vec<u8>, lines: &[&[u8]]) -> Result<(), AllocError>
     Ok(())
 }
 
-// Adds a line that says how a command is called, after a front.
+// Adds a line with the usage of a command, after a prefix.
 fn push_usage_line(text: &mut Vec<u8>, front: &[u8], line: &[u8]) -> Result<(), AllocError>
     ensures { OnOk result (text.new.items ≡ text.old.items ++ usage_line front.now line.now) }
 {

@@ -1,6 +1,5 @@
-//! Laws of the grammar of command lines.
-//! Each is a row of the README of this crate; the rules of the grammar stand in `docs/commands.md`,
-//! "Words".
+//! Laws of the grammar of command lines. Each is a row of the README of this crate; the rules of
+//! the grammar are in `docs/commands.md`, "Words".
 ghost use Rattle.std.specs.Prelude.{◌≡◌, ◌≤◌, ◌<◌, ◌+◌, ◌-◌, ◌++◌, ◌⊎◌, ℕ, List, Ok, Err, IsTrue, length, not, take};
 ghost use Rattle.std.specs.List.{list_all};
 ghost use Rattle.command_core.specs.Command.{CommandLine};
@@ -13,38 +12,38 @@ ghost use Rattle.words_core.specs.Options.{own_options};
 ghost use Rattle.words_core.specs.Rows.{has_its_letter};
 ghost use Rattle.words_core.specs.Stuck.{are_stuck};
 
-/// Words of which a command is read are that command: its applet, its operands and its options, and
-/// nothing else; or a word of them asks for it.
+/// If a command is read from words, the words are that command: its applet, its operands and its
+/// options, and nothing else; or a word of them asks for it.
 pub fn read_words_are_a_command()
     ensures { (words : List (List ℕ)) (command : CommandLine) → command_of words ≡ Ok command →
         IsLineOf words command ⊎ IsAskedBy words command }
 {}
 
-/// Words that are a command are read as it, wherever its options are, and so are words that ask for
-/// one.
+/// If words are a command, it is read from them, wherever its options are; the same holds of words
+/// that ask for one.
 pub fn commands_are_read()
     ensures { (words : List (List ℕ)) (command : CommandLine) →
         IsLineOf words command ⊎ IsAskedBy words command → command_of words ≡ Ok command }
 {}
 
-/// A usage error is at a word, or behind the last one where a word is missing.
+/// A usage error is at a word, or after the last one if a word is missing.
 pub fn usage_errors_are_at_words()
     ensures { (words : List (List ℕ)) (place : ℕ) → command_of words ≡ Err place →
         (1 ≤ place) × (place ≤ length words + 1) }
 {}
 
-/// A word that offends does so whatever follows, unless the words are `info` without a kind and can
-/// still get one: `info usr/x` offends, and `info usr/x -W` does not.
+/// A wrong word is wrong whatever follows, unless the words are `info` without a kind that can
+/// still follow: `info usr/x` is refused at `usr/x`, and `info usr/x -W` is not.
 pub fn words_offend_whatever_follows()
     ensures { (words more : List (List ℕ)) (place : ℕ) →
         IsTrue (not (can_get_kind words)) → command_of words ≡ Err place →
         place ≤ length words → command_of (words ++ more) ≡ Err place }
 {}
 
-/// The words before a usage error do not offend: they can be completed to a command, unless they
-/// are stuck. They are in three cases: no applet is named yet, and none has all the options before
-/// it; `--`, other than as a value, has ended the options while `version` lacks its kind or `mkndx`
-/// its `-o`; `mkpkg` awaits one more script and has one of each of the seven types.
+/// The words before a usage error can be completed to a command, unless they are stuck. They are
+/// stuck in three cases. No applet is named yet, and none has all the options before it. Or `--`,
+/// other than as a value, has ended the options while `version` lacks its kind or `mkndx` its `-o`.
+/// Or `mkpkg` awaits one more script and has one of each of the seven types.
 pub fn words_before_a_usage_error_can_be_completed()
     ensures { (words : List (List ℕ)) (place : ℕ) →
         IsTrue (not (are_stuck (take (place - 1) words))) → command_of words ≡ Err place →
@@ -58,9 +57,9 @@ pub fn stuck_words_are_no_command()
         (place : ℕ) × (command_of (words ++ more) ≡ Err place) }
 {}
 
-/// What follows a command offends behind it: no word of a command becomes the one that offends,
-/// unless the words are `info` without a kind and can still get one: `info a b` is a command, and
-/// of `info a b -W` the `b` offends.
+/// If words follow a command, a usage error is after the command, not at one of its words. The
+/// exception is `info` without a kind that can still follow: `info a b` is a command, and `info a b
+/// -W` is refused at `b`.
 pub fn what_follows_a_command_offends_behind_it()
     ensures { (words more : List (List ℕ)) (command : CommandLine) (place : ℕ) →
         IsTrue (not (can_get_kind words)) → command_of words ≡ Ok command →

@@ -1,12 +1,10 @@
-//! The words of a command line, after apk(8): which are a command, and which word offends first
-//! where they are none.
+//! The words of a command line, after apk(8): the command that they are, or the first wrong word.
 //!
-//! Words come in, a `Command` of `command_core` goes out. The contract of `read_words` cites
-//! `Grammar` (the command of the words, or the first that offends) and `Options` (the applets that
-//! exist, and how their options are spelled) of `specs/`. `Lines` says which words are a command
-//! apart from how they are read, `Stuck` which words cannot become one, and the functions of `laws`
-//! join them.
-//! The rules stand in `docs/commands.md`, "Words".
+//! `read_words` parses words into a `Command` of `command_core`. Its contract cites `Grammar` (the
+//! command of the words, or the first wrong word) and `Options` (the applets that exist, and how
+//! their options are spelled) of `specs/`. `Lines` says which words are a command apart from how
+//! they are read, `Stuck` which words cannot become one, and the functions of `laws` join them. The
+//! rules are in `docs/commands.md`, "Words".
 #![tactic(auto)]
 
 mod help_rows;

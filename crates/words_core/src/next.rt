@@ -1,6 +1,5 @@
-//! What the next word of a command line can be, and what a word asks for where an option can be: help,
-//! or the version of the program.
-//! The rules are in `docs/commands.md`, "Words" and "Help".
+//! What the next word of a command line can be, and what a word asks for if an option can be there:
+//! help, or the version of the program. The rules are in `docs/commands.md`, "Words" and "Help".
 ghost use Rattle.std.specs.Prelude.{◌≡◌, ◌+◌, ◌≤◌, IsTrue, length, take};
 ghost use Rattle.words_core.specs.Grammar.{asked_at, is_option, next_after, next_word, rule_behind, takes_option};
 ghost use Rattle.words_core.specs.Options.{options_of};
@@ -57,7 +56,7 @@ impl NextWord {
     }
 }
 
-// What the word after a word can be that is an option before the command, `--`, or the command.
+// What the word after a word can be, if that is an option before the command, `--`, or the command.
 fn after_start(word: &[u8]) -> NextWord
     ensures { result ≡ next_word OptionOrCommand word.now }
 {
@@ -73,7 +72,7 @@ fn after_start(word: &[u8]) -> NextWord
     }
 }
 
-// What the word after a word can be that is an option of the command, `--`, or an operand.
+// What the word after a word can be, if that is an option of the command, `--`, or an operand.
 fn after_applet(applet: Applet, word: &[u8]) -> NextWord
     ensures { result ≡ next_word (OptionOrOperand applet) word.now }
 {
@@ -89,7 +88,7 @@ fn after_applet(applet: Applet, word: &[u8]) -> NextWord
     }
 }
 
-// The rule of the option that a word spells, where its value is the next word.
+// The rule of the option that a word spells, if its value is the next word.
 fn rule_behind(applet: Applet, word: &[u8]) -> Option<ValueRule>
     requires { IsTrue (is_option word.now) }
     ensures { result ≡ rule_behind (options_of applet) word.now }
@@ -103,7 +102,7 @@ fn rule_behind(applet: Applet, word: &[u8]) -> Option<ValueRule>
     }
 }
 
-/// What the word after the first words of a command line can be, so many of them.
+/// What the word after the first words of a command line can be, this many of them.
 pub(crate) fn next_after(words: &Words, count: usize) -> NextWord
     requires { count ≤ length words.now }
     ensures { result ≡ next_after (take count words.now) }

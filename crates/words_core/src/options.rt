@@ -1,6 +1,6 @@
-//! The applets that exist, and the words that spell them and their options (apk(8)).
-//! The rules stand in `docs/commands.md`, "Words", the table of options and the paragraph of those
-//! before the applet.
+//! The applets that exist, and the words that spell them and their options (apk(8)). The rules are
+//! in `docs/commands.md`, "Words", the table of options and the paragraph on those before the
+//! applet.
 ghost use Rattle.std.specs.Prelude.{◌≡◌, ◌||◌, ◌++◌, map};
 ghost use Rattle.std.specs.Option.{option_and_then, option_map};
 ghost use Rattle.std.specs.Str.{bytes_eq};
@@ -20,18 +20,18 @@ pub(crate) struct OptionRow {
     pub long: &'static [u8],
     /// The short word that spells it, or nothing.
     pub short: &'static [u8],
-    /// What it says.
+    /// Its meaning.
     pub meaning: Meaning,
 }
 
-/// What an option says.
+/// The meaning of an option.
 #[derive(Clone, Copy)]
 pub(crate) enum Meaning {
-    /// A flag, which may stand any number of times.
+    /// A flag, which may be given any number of times.
     Flag(Flag),
-    /// A flag that says of which kind the command is: no other kind may stand beside it.
+    /// A flag that selects the kind of the command: no other kind may be given with it.
     Kind(Flag),
-    /// A value, which stands in the option's word or is the next word.
+    /// A value, which is in the option's word or is the next word.
     Value(ValueRule),
 }
 
@@ -56,7 +56,7 @@ const APPLETS: [Applet; 17] = [
     Applet::Policy,
 ];
 
-// The words of the options that may stand before the applet.
+// The words of the options that may precede the applet.
 static EARLY_WORDS: [&[u8]; 5] = [
     b"--allow-untrusted",
     b"--no-scripts",
@@ -85,7 +85,7 @@ static COMMON: [OptionRow; 2] = [
     },
 ];
 
-// The option of `add` that begins a database where there is none.
+// The option of `add` that begins a database if there is none.
 const INITDB_ROW: OptionRow = OptionRow {
     long: b"--initdb",
     short: b"",
@@ -99,14 +99,14 @@ const SIMULATE_ROW: OptionRow = OptionRow {
     meaning: Meaning::Flag(Flag::Simulate),
 };
 
-// The option of `del` under which configuration that the user changed goes too.
+// The option of `del` that also removes protected configuration files.
 const PURGE_ROW: OptionRow = OptionRow {
     long: b"--purge",
     short: b"",
     meaning: Meaning::Flag(Flag::Purge),
 };
 
-// The option of `mkpkg` and `mkndx` that names what they write.
+// The option of `mkpkg` and `mkndx` that names their output.
 const OUTPUT_ROW: OptionRow = OptionRow {
     long: b"--output",
     short: b"-o",
@@ -117,7 +117,7 @@ const OUTPUT_ROW: OptionRow = OptionRow {
     }),
 };
 
-// The option of `mkpkg` and `mkndx` that says how what they write is compressed.
+// The option of `mkpkg` and `mkndx` that says how their output is compressed.
 const COMPRESSION_ROW: OptionRow = OptionRow {
     long: b"--compression",
     short: b"-c",
@@ -137,7 +137,7 @@ static DEL: [OptionRow; 2] = [SIMULATE_ROW, PURGE_ROW];
 // The option of `upgrade` and of `fix` that is their own.
 static SIMULATE: [OptionRow; 1] = [SIMULATE_ROW];
 
-// The options of `info`, each of which says the kind.
+// The options of `info`, each of which selects the kind.
 #[rattlefmt::skip]
 static INFO_KINDS: [OptionRow; 4] = [
     OptionRow { long: b"--installed", short: b"-e", meaning: Meaning::Kind(Flag::Installed) },
@@ -152,7 +152,7 @@ static LIST_KINDS: [OptionRow; 1] = [
     OptionRow { long: b"--installed", short: b"-I", meaning: Meaning::Kind(Flag::Installed) },
 ];
 
-// The options of `version`, each of which says the kind.
+// The options of `version`, each of which selects the kind.
 #[rattlefmt::skip]
 static VERSION_KINDS: [OptionRow; 2] = [
     OptionRow { long: b"--test", short: b"-t", meaning: Meaning::Kind(Flag::Test) },
@@ -216,7 +216,7 @@ static MKNDX: [OptionRow; 3] = [
     COMPRESSION_ROW,
 ];
 
-/// The word of an applet, or nothing where no word names it.
+/// The word of an applet, or nothing if no word names it.
 pub(crate) fn applet_word(applet: Applet) -> &'static [u8]
     ensures { result.now ≡ applet_word applet }
 {
@@ -270,7 +270,7 @@ pub(crate) fn applet_of(word: &[u8]) -> Option<Applet>
         .find(|applet| applet_word(*applet) == word)
 }
 
-/// Whether a word is an option that may stand before the applet.
+/// Whether a word is an option that may precede the applet.
 #[tactic(auto, unfolding(crate::specs::Options::early_words))]
 pub(crate) fn is_early(word: &[u8]) -> bool
     ensures { result ≡ is_early word.now }
@@ -289,7 +289,7 @@ pub(crate) fn option_spelled(applet: Applet, word: &[u8]) -> Option<OptionRow>
     }
 }
 
-// The option that a word spells, among those of every applet and those of one that a word names.
+// The option that a word spells, among those of every applet and those of this one.
 fn common_or_own(applet: Applet, word: &[u8]) -> Option<OptionRow>
     ensures { option_map option_spec result
         ≡ option_spelled (common_options ++ own_options applet) word.now }
@@ -332,8 +332,8 @@ fn find_option(options: &[OptionRow], word: &[u8]) -> Option<OptionRow>
         .find(|option| option.is_spelled(word))
 }
 
-/// Flags with an option, if there is one. None comes where there is none, and where it is no flag
-/// or a second kind.
+/// Flags with an option, if there is one. None if there is none, if it is no flag, or if it is a
+/// second kind.
 pub(crate) fn with_option(flags: Flags, option: Option<OptionRow>) -> Option<Flags>
     ensures { result ≡ option_and_then (with_spec flags) (option_map option_spec option) }
 {
@@ -361,7 +361,7 @@ impl Meaning {
         }
     }
 
-    /// These flags and what the option says. None comes where it says no flag, or a second kind.
+    /// These flags and the option's. None if it is no flag, or a second kind.
     pub(crate) fn with(self, flags: Flags) -> Option<Flags>
         ensures { result ≡ with_meaning flags self }
     {

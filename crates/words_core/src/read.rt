@@ -18,7 +18,7 @@ use std::alloc::{AllocError, Global};
 /// Why there is no command.
 #[derive(Clone, Copy, Debug, PartialEq, Eq)]
 pub enum WordsFault {
-    /// The first word that offends, counted from 1, or the place behind the last one where a word
+    /// The place of the first wrong word, counted from 1, or the place after the last one if a word
     /// is missing.
     Usage { place: u32 },
     /// There was no memory.
@@ -31,7 +31,7 @@ impl From<AllocError> for WordsFault {
 
     ghost from_gives = { λ _ fault. fault ≡ Memory };
 
-    /// Where no memory was given there is no command.
+    /// Without memory there is no command.
     fn from(_: AllocError) -> WordsFault {
         WordsFault::Memory
     }
@@ -41,8 +41,8 @@ impl From<AllocError> for WordsFault {
 ///
 /// # Errors
 ///
-/// `Usage` comes exactly outside the grammar, at the first word that offends once the whole line is
-/// known. `Memory` comes only where an applet was found, with its own options before it.
+/// `Usage` is returned exactly outside the grammar, at the first wrong word once the whole line is
+/// known. `Memory` is returned only if an applet was found, with its own options before it.
 #[tactic(auto, using(crate::proofs::AskedLaws::line_is))]
 pub fn read_words(alloc: Global, words: &Words) -> Result<Command, WordsFault>
     ensures ok { IfOk result (λ command. command_of words.now ≡ Ok command) }
@@ -56,7 +56,7 @@ pub fn read_words(alloc: Global, words: &Words) -> Result<Command, WordsFault>
     }
 }
 
-// The command that the word at a place asks for, where it is the first that offends.
+// The command that the word at a place asks for, if it is the first wrong one.
 #[tactic(auto, unfolding(crate::specs::Grammar::command_of))]
 fn read_asked(alloc: Global, words: &Words, place: u32) -> Result<Command, WordsFault>
     requires { line_command words.now ≡ Err place }
@@ -120,27 +120,27 @@ fn read_line(alloc: Global, words: &Words) -> Result<Command, WordsFault>
     judge(start.applet, reading, place_behind(words.len()))
 }
 
-// The command that was read, or the first place that offends: an operand that is not taken, the
-// word that cannot be read, or the place behind the last word where a word is missing.
+// The command that was read, or the first wrong place: an operand that is not taken, the word that
+// cannot be read, or the place after the last word if a word is missing.
 #[tactic(auto, unfolding(crate::specs::Grammar::verdict))]
 fn judge(applet: Applet, reading: Reading, behind: u32) -> Result<Command, WordsFault>
     requires { IsSoundReading applet reading }
     ensures ok { IfOk result (λ command. verdict behind applet reading ≡ Ok command) }
     ensures usage { IfErr result (λ fault. IsWordsFault fault (verdict behind applet reading)) }
 {
-    // Without the flag that says its kind a command has no rule for its operands.
+    // Without the flag that selects its kind a command has no rule for its operands.
     let Some(rule) = applet.operands(reading.state.flags) else {
         let place = reading.unread.unwrap_or(behind);
         return Err(WordsFault::Usage { place });
     };
-    // The operands that were read stand in front of the word that could not be read.
+    // The operands that were read precede the word that could not be read.
     if let Some(place) = rule.first_refused(&reading.operands) {
         return Err(WordsFault::Usage { place });
     }
     if let Some(place) = reading.unread {
         return Err(WordsFault::Usage { place });
     }
-    // A word that is missing is refused behind the last one, and so only where no other offends.
+    // A missing word is refused after the last one, and so only if no other word is wrong.
     if reading.operands.len() < rule.least {
         return Err(WordsFault::Usage { place: behind });
     }

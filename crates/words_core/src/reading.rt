@@ -1,7 +1,6 @@
 //! Reads the words from left to right: up to the applet, and then options, their values and
-//! operands.
-//! The rules stand in `docs/commands.md`, "Words". Each function is the definition of its name in
-//! `specs/Grammar.antt`, or that which its contract cites.
+//! operands. The rules are in `docs/commands.md`, "Words". Each function is the definition of its
+//! name in `specs/Grammar.antt`, or the one that its contract cites.
 ghost use Rattle.std.specs.Prelude.{◌≡◌, ◌+◌, ◌-◌, ◌++◌, ◌≤◌, ◌<◌, Some, None, IfOk, IsTrue, OnOk, length, drop, take, not};
 ghost use Rattle.std.specs.Option.{option_map};
 ghost use Rattle.command_core.specs.Applets.{needed_option};
@@ -19,30 +18,30 @@ use std::alloc::{AllocError, Global};
 
 // ---- up to the applet
 
-/// Where the applet stands.
+/// The place of the applet.
 #[derive(Clone, Copy)]
 pub(crate) struct AppletSite {
     /// The applet.
     pub applet: Applet,
-    /// Whether `--` stands before it, so that no options follow.
+    /// Whether `--` precedes it, so that no options follow.
     pub ended: bool,
     /// How many words are read, the applet's among them.
     pub read: usize,
 }
 
-/// The applet, where it stands, and the flags before it.
+/// The applet, its place, and the flags before it.
 #[derive(Clone, Copy)]
 pub(crate) struct Start {
     pub applet: Applet,
     /// The flags before it.
     pub flags: Flags,
-    /// Whether `--` stands before it, so that no options follow.
+    /// Whether `--` precedes it, so that no options follow.
     pub ended: bool,
     /// How many words are read, the applet's among them.
     pub read: usize,
 }
 
-/// Reads the words up to the applet. An error is the place of the first word that offends.
+/// Reads the words up to the applet. An error is the place of the first wrong word.
 pub(crate) fn read_start(words: &Words) -> Result<Start, u32>
     ensures { result ≡ line_start words.now }
 {
@@ -56,7 +55,7 @@ pub(crate) fn read_start(words: &Words) -> Result<Start, u32>
     })
 }
 
-/// Looks for the applet, which only some options may stand before.
+/// Looks for the applet, which only some options may precede.
 pub(crate) fn find_applet(words: &Words) -> Result<AppletSite, u32>
     ensures site { result ≡ applet_site 1 words.now }
     ensures few { length words.now < MOST_PLACES }
@@ -76,7 +75,7 @@ pub(crate) fn find_applet(words: &Words) -> Result<AppletSite, u32>
     Err(place_behind(words.len()))
 }
 
-// The applet that the first word behind `--` names, where so many words are read.
+// The applet that the first word after `--` names, if this many words are read.
 #[tactic(auto, unfolding(crate::specs::Grammar::site_behind_end), using(crate::proofs::OneMore::left_at))]
 fn applet_behind_end(words: &Words, before: usize) -> Result<AppletSite, u32>
     requires { before ≤ length words.now }
@@ -88,7 +87,7 @@ fn applet_behind_end(words: &Words, before: usize) -> Result<AppletSite, u32>
     applet_at(words.word(before), true, before)
 }
 
-// The applet that a word names, where so many words stand before it.
+// The applet that a word names, if this many words precede it.
 #[tactic(auto, unfolding(crate::specs::Grammar::site_at))]
 fn applet_at(word: &[u8], ended: bool, before: usize) -> Result<AppletSite, u32>
     requires { before < MOST_PLACES }
@@ -126,9 +125,9 @@ fn read_early(words: &Words, site: &AppletSite) -> Result<Flags, u32>
     Ok(flags)
 }
 
-// ---- behind the applet
+// ---- after the applet
 
-/// What the options that are read have said.
+/// The effect of the options that are read.
 #[derive(Drop)]
 pub(crate) struct OptionState {
     pub flags: Flags,
@@ -138,7 +137,7 @@ pub(crate) struct OptionState {
 }
 
 impl OptionState {
-    // The state behind the applet: the flags before it, and no values.
+    // The state after the applet: the flags before it, and no values.
     fn new(alloc: Global, flags: Flags) -> OptionState
         ensures { result ≡ first_state flags }
     {
@@ -149,15 +148,15 @@ impl OptionState {
         }
     }
 
-    // Whether a word is a value that is awaited, or an option.
+    // Whether a word is an awaited value, or an option.
     fn expects(&self, word: &[u8]) -> bool
         ensures { result ≡ is_option_or_value self.now word.now }
     {
         self.awaiting.is_some() || (is_option(word) && !is_end(word))
     }
 
-    // Reads the word at a place: the value that is awaited, or an option. False comes where the
-    // word cannot be read, and then nothing changes.
+    // Reads the word at a place: the awaited value, or an option. Returns false if the word cannot
+    // be read, and then nothing changes.
     fn read_word(&mut self, applet: Applet, place: u32, word: &[u8]) -> Result<bool, AllocError>
         requires { IsTrue (is_option_or_value self.old word.now) }
         ensures { IfOk result (λ good. IsReadingStep good self.old self.new (with_word
@@ -179,7 +178,7 @@ impl OptionState {
         }
     }
 
-    // Reads the option that the word at a place is. False comes where it cannot be read, and then
+    // Reads the option that the word at a place is. Returns false if it cannot be read, and then
     // nothing changes.
     fn read_option(&mut self, applet: Applet, place: u32, word: &[u8]) -> Result<bool, AllocError>
         requires { IsTrue (is_option word.now) }
@@ -192,8 +191,8 @@ impl OptionState {
         }
     }
 
-    // Reads what an option means, whose word holds a value or none. False comes where it may not be
-    // given so.
+    // Reads the meaning of an option, whose word holds a value or none. Returns false if it may not
+    // be given so.
     fn read_meaning(
         &mut self,
         place: u32,
@@ -210,7 +209,7 @@ impl OptionState {
         }
     }
 
-    // Reads an option without a value. False comes where its flag is a second kind.
+    // Reads an option without a value. Returns false if its flag is a second kind.
     fn read_flag(&mut self, meaning: Meaning) -> bool
         ensures { IsReadingStep result self.old self.new (with_flags self.old
             (with_meaning self.old.flags meaning)) }
@@ -224,8 +223,8 @@ impl OptionState {
         }
     }
 
-    // Reads an option that has values, whose word holds a value or none. False comes where it may
-    // not stand again, or does not have that value.
+    // Reads an option that has values, whose word holds a value or none. Returns false if it may
+    // not be given again, or does not have that value.
     fn read_rule(
         &mut self,
         place: u32,
@@ -247,7 +246,7 @@ impl OptionState {
         }
     }
 
-    // Reads a text as a value of an option. False comes where the option does not have that value.
+    // Reads a text as a value of an option. Returns false if the option does not have that value.
     fn read_value(&mut self, place: u32, text: &[u8], rule: ValueRule) -> Result<bool, AllocError>
         ensures { IfOk result (λ good. IsReadingStep good self.old self.new
             (with_value self.old place text.now rule)) }
@@ -264,18 +263,18 @@ impl OptionState {
     }
 }
 
-/// What was read of the words behind the applet.
+/// The result of reading the words after the applet.
 #[derive(Drop)]
 pub(crate) struct Reading {
-    /// What the options have said, those before the applet among them.
+    /// The effect of the options, including those before the applet.
     pub state: OptionState,
     pub operands: Operands,
-    /// The place of the word that cannot be read. Nothing was read behind it.
+    /// The place of the word that cannot be read. Nothing was read after it.
     pub unread: Option<u32>,
 }
 
 impl Reading {
-    // The reading where all words were read.
+    // The reading if all words were read.
     fn whole(state: OptionState, operands: Operands) -> Reading
         ensures { result ≡ reading_by state operands None }
     {
@@ -297,7 +296,7 @@ impl Reading {
         }
     }
 
-    // The reading where the words end at a place: a value that is awaited is missing there.
+    // The reading if the words end at a place: an awaited value is missing there.
     fn ended(place: u32, state: OptionState, operands: Operands) -> Reading
         ensures { result ≡ reading_by state operands (reading_end state place).unread }
     {
@@ -308,7 +307,7 @@ impl Reading {
     }
 }
 
-/// Reads the words behind the applet, up to the first that cannot be read.
+/// Reads the words after the applet, up to the first that cannot be read.
 #[tactic(auto, unfolding(crate::specs::Grammar::reading_behind))]
 pub(crate) fn read_behind(
     alloc: Global,
@@ -326,7 +325,7 @@ pub(crate) fn read_behind(
     Ok(Reading::whole(OptionState::new(alloc, start.flags), operands))
 }
 
-// Reads options, their values and operands, where no `--` stands before the applet.
+// Reads options, their values and operands, if no `--` precedes the applet.
 fn read_options(alloc: Global, words: &Words, start: &Start) -> Result<Reading, AllocError>
     requires { start.now.read ≤ length words.now }
     ensures { IfOk result (λ reading.
@@ -352,7 +351,7 @@ fn read_options(alloc: Global, words: &Words, start: &Start) -> Result<Reading, 
     Ok(Reading::ended(place_behind(words.len()), state, operands))
 }
 
-// Adds each word behind the first ones, so many of them, as an operand.
+// Adds each word after the first ones, this many of them, as an operand.
 fn add_operands(operands: &mut Operands, words: &Words, before: usize) -> Result<(), AllocError>
     requires { before ≤ length words.now }
     ensures { OnOk result (operands.new ≡ operands.old

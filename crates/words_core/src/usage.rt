@@ -1,4 +1,4 @@
-//! Why words are a usage error, and the line that tells a person so. It takes no memory.
+//! Why words are a usage error, and the line that explains it to the user. It allocates no memory.
 //! The texts are listed in `docs/commands.md`, "Help".
 ghost use Rattle.std.specs.Prelude.{◌≡◌, ◌-◌, ◌+◌, ◌<◌, ◌≤◌, Some, IsTrue, drop, length, map, slice_get, take};
 ghost use Rattle.std.specs.Option.{option_map};
@@ -142,7 +142,7 @@ fn end_reason(applet: Applet, rule: Option<OperandRule>, next: NextWord) -> Usag
     }
 }
 
-// Which word is missing after the last one, where no value is awaited.
+// Which word is missing after the last one, if no value is awaited.
 fn missing_reason(needed: Option<u8>, rule: Option<OperandRule>) -> UsageReason
     ensures { result ≡ missing_reason needed rule }
 {
@@ -155,7 +155,7 @@ fn missing_reason(needed: Option<u8>, rule: Option<OperandRule>) -> UsageReason
     }
 }
 
-// Why a word after the command offends.
+// Why a word after the command is wrong.
 fn word_reason(rule: Option<OperandRule>, word: &[u8], next: NextWord) -> UsageReason
     ensures { result ≡ word_reason rule word.now next }
 {
@@ -168,7 +168,7 @@ fn word_reason(rule: Option<OperandRule>, word: &[u8], next: NextWord) -> UsageR
     }
 }
 
-// Why a word after the command offends that is an option or an operand.
+// Why a word after the command is wrong that is an option or an operand.
 fn free_reason(applet: Applet, rule: Option<OperandRule>, word: &[u8]) -> UsageReason
     ensures { result ≡ word_reason rule word.now (OptionOrOperand applet) }
 {
@@ -251,7 +251,7 @@ fn asks_flags(applet: Applet) -> bool
     matches!(applet, Applet::Info | Applet::Version)
 }
 
-// The flags that are read, where no option of the command has values.
+// The flags that are read, if no option of the command has values.
 #[tactic(auto, unfolding(crate::specs::Grammar::reading_behind))]
 fn read_flags(words: &Words, start: &Start) -> Flags
     requires read { start.now.read ≤ length words.now }
@@ -264,7 +264,7 @@ fn read_flags(words: &Words, start: &Start) -> Flags
     flags_behind(words, start)
 }
 
-// The flags that are read, where options can follow the command.
+// The flags that are read, if options can follow the command.
 fn flags_behind(words: &Words, start: &Start) -> Flags
     requires read { start.now.read ≤ length words.now }
     requires plain { IsTrue (has_no_values start.now.applet) }
@@ -289,8 +289,8 @@ fn flags_behind(words: &Words, start: &Start) -> Flags
     flags
 }
 
-// Flags with the option that a word is. None: it is none of the command, has a value, or is a second
-// kind.
+// Flags with the option that a word is. None: it is none of the command, has a value, or is a
+// second kind.
 fn flags_with(applet: Applet, flags: Flags, word: &[u8]) -> Option<Flags>
     requires { IsTrue (is_option word.now) }
     ensures { result ≡ flags_spelled (options_of applet) flags word.now }
@@ -303,8 +303,9 @@ fn flags_with(applet: Applet, flags: Flags, word: &[u8]) -> Option<Flags>
 
 // ---- the line
 
-/// Writes the line that says to a person why words are a usage error at a place: which word it is, why
-/// it is none, and whose help to read. It takes no memory. After a fault a front of it was written.
+/// Writes the line that explains a usage error at a place to the user: which word it is, why it is
+/// wrong, and whose help to read. It allocates no memory. If the sink fails, a prefix of the line
+/// was written.
 pub fn explain_usage<S: Sink>(words: &Words, place: u32, sink: &mut S) -> Result<(), SinkFault>
     ensures { Writes (hint_text words.now place)
         (sink_change S.bytes S.counts sink.old sink.new) result }
@@ -325,7 +326,7 @@ fn write_place<S: Sink>(words: &Words, place: u32, sink: &mut S) -> Result<(), S
     }
 }
 
-// Writes a word that offends, and its place.
+// Writes a wrong word, and its place.
 fn write_word<S: Sink>(place: u32, word: &[u8], sink: &mut S) -> Result<(), SinkFault>
     ensures { Writes (place_text place (Some word.now))
         (sink_change S.bytes S.counts sink.old sink.new) result }
@@ -438,7 +439,7 @@ fn hint_end(words: &Words, reason: UsageReason) -> [&'static [u8]; 7]
     ]
 }
 
-// A space, where a command was found.
+// A space, if a command was found.
 fn asked_space(words: &Words) -> &'static [u8]
     ensures { result.now ≡ asked_space (applet_site 1 words.now) }
 {
@@ -448,7 +449,7 @@ fn asked_space(words: &Words) -> &'static [u8]
     }
 }
 
-// The word of the command whose help is named, or nothing where none was found.
+// The word of the command whose help is named, or nothing if none was found.
 fn asked_word(words: &Words) -> &'static [u8]
     ensures { result.now ≡ asked_word (applet_site 1 words.now) }
 {
@@ -458,7 +459,7 @@ fn asked_word(words: &Words) -> &'static [u8]
     }
 }
 
-// How the program is called, where there are no words.
+// The usage of the program, if there are no words.
 #[tactic(auto, unfolding(crate::specs::HelpTexts::program_usage))]
 fn usage_after(words: &Words) -> &'static [u8]
     ensures { result.now ≡ usage_after words.now }

@@ -1,16 +1,16 @@
-//! What a single word is: an option or not, and the parts of an option's word.
-//! The rules stand in `docs/commands.md`, "Words": the first paragraphs, that of values, and of
-//! places that of a usage error.
+//! The form of a single word: whether it is an option, and the parts of an option's word. The rules
+//! are in `docs/commands.md`, "Words": the first paragraphs, that on values, and for places that on
+//! a usage error.
 ghost use Rattle.std.specs.Prelude.{◌≡◌, ◌+◌, ◌==◌, ◌<◌, IsTrue, drop};
 ghost use Rattle.std.specs.List.{position};
 ghost use Rattle.std.specs.Option.{option_map};
 ghost use Rattle.words_core.specs.Grammar.{held_value, is_end, is_option, option_name};
 
-/// 2^32 - 1: places count from 1 in 32 bits, and the one behind the last word needs one too, so
-/// that this many words are too many (`docs/commands.md`, "Answers and statuses").
+/// 2^32 - 1: places count from 1 in 32 bits, and the one after the last word needs one too, so that
+/// this many words are too many (`docs/commands.md`, "Answers and statuses").
 pub(crate) const MOST_PLACES: usize = 4294967295;
 
-// What stands between a long option's name and its value in the same word.
+// The sign between a long option's name and its value in the same word.
 const EQUALS_SIGN: u8 = b'=';
 
 /// Whether a word is an option, or the end of the options: two or more bytes that begin with a
@@ -21,22 +21,22 @@ pub(crate) fn is_option(word: &[u8]) -> bool
     word.len() > 1 && word.starts_with(b"-".as_slice())
 }
 
-/// Whether a word is `--`, behind which there are no options.
+/// Whether a word is `--`, after which there are no options.
 pub(crate) fn is_end(word: &[u8]) -> bool
     ensures { result ≡ is_end word.now }
 {
     word == b"--".as_slice()
 }
 
-// Where the first `=` stands.
+// The index of the first `=`.
 fn equals_sign(word: &[u8]) -> Option<usize>
     ensures { result ≡ position (λ b. b == EQUALS_SIGN) word.now }
 {
     word.iter().position(|byte| *byte == EQUALS_SIGN)
 }
 
-/// The word of the option alone: of `--name=value` what stands before the first `=`, of `-xvalue`
-/// the first two bytes.
+/// The word of the option alone: of `--name=value` the part before the first `=`, of `-xvalue` the
+/// first two bytes.
 #[tactic(auto, unfolding(crate::specs::Grammar::option_name))]
 pub(crate) fn option_name(word: &[u8]) -> &[u8]
     requires { IsTrue (is_option word.now) }
@@ -51,8 +51,8 @@ pub(crate) fn option_name(word: &[u8]) -> &[u8]
     }
 }
 
-/// The value that an option's word holds: what is behind the first `=` of a long one, and behind
-/// the letter of a short one.
+/// The value that an option's word holds: the part after the first `=` of a long one, and after the
+/// letter of a short one.
 #[tactic(auto, unfolding(crate::specs::Grammar::held_value))]
 pub(crate) fn held_value(word: &[u8]) -> Option<&[u8]>
     ensures { option_map (λ text. text.now) result ≡ held_value word.now }
@@ -66,7 +66,7 @@ pub(crate) fn held_value(word: &[u8]) -> Option<&[u8]>
     None
 }
 
-// What is behind the first `=` of a word.
+// The part of a word after the first `=`.
 fn long_value(word: &[u8]) -> Option<&[u8]>
     ensures { option_map (λ text. text.now) result
         ≡ option_map (λ i. drop (i + 1) word.now) (position (λ b. b == EQUALS_SIGN) word.now) }
@@ -77,7 +77,7 @@ fn long_value(word: &[u8]) -> Option<&[u8]>
     }
 }
 
-/// The place of a word, counted from 1, where so many stand before it.
+/// The place of a word, counted from 1, if this many words precede it.
 pub(crate) fn place_behind(before: usize) -> u32
     requires { before < MOST_PLACES }
     ensures { result ≡ before + 1 }

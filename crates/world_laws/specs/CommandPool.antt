@@ -1,6 +1,6 @@
--- What a command chooses from, in a reader's words: which candidates there are, under which world,
--- and which names are upgraded. The rules stand in `docs/selection.md`, "What there is to choose
--- from", and in `docs/commands.md`, "`upgrade` and `fix`".
+-- What a command chooses from, in a reader's words: the candidates, the world, and the upgraded names.
+-- The rules are in `docs/selection.md`, "What there is to choose from", and in `docs/commands.md`,
+-- "`upgrade` and `fix`".
 use Rattle.std.specs.Prelude.{◌≡◌, ◌⊎◌, ◌↔◌, ◌≤◌, ◌+◌, ℕ, true, false, List, [], ◌∷◌, length, Some, Ok, slice_get}
 use Rattle.adb_fields.specs.FirstPair.{IsIn}
 use Rattle.adb_fields.specs.Repeated.{entries_at}
@@ -36,15 +36,15 @@ abbrev pub IsCandidateFor : ℕ → Repository → Plain → Candidate → Type 
 IsCandidateFor place repository info c =
     c ≡ candidate_of info (Some (1 + place)) repository.tag c.installed
 
--- some installed package is this candidate: name, text of the version and id are the same
+-- some installed package is this candidate: name, text of the version and id are equal
 abbrev pub IsSameAsInstalled : Inputs → Candidate → Type 0
 IsSameAsInstalled inputs c =
     (pkg : Plain)
     × IsIn pkg inputs.root.database.packages
     × (is_same_package (installed_candidate pkg) c ≡ true)
 
--- a candidate is a package of an index, and counts as installed just where an installed package is
--- the same
+-- a candidate is a package of an index, and counts as installed exactly if an installed package is the
+-- same
 pub record IsOfIndex (inputs : Inputs) (read : Reads) (c : Candidate) : Type 0 where
   pub place : ℕ
   pub repository : Repository
@@ -61,8 +61,8 @@ pub record IsInstalledAlone (inputs : Inputs) (candidates : List Candidate) (c :
   pub is : c ≡ installed_candidate pkg
   pub alone : (other : Candidate) → IsIn other candidates → is_same_package c other ≡ false
 
--- The candidates of a command are the packages of all indexes, and the installed packages that no
--- index has; none of either is left out.
+-- The candidates of a command are the packages of all indexes, and the installed packages that no index
+-- has; none of either is missing.
 pub record AreCandidates (inputs : Inputs) (read : Reads) (candidates : List Candidate) :
     Type 0 where
   pub each : (c : Candidate) → IsIn c candidates
@@ -76,7 +76,7 @@ pub record AreCandidates (inputs : Inputs) (read : Reads) (candidates : List Can
 
 -- ---- the names that are upgraded
 
--- a command upgrades this name: `upgrade` those of its operands, or each where it has none
+-- a command upgrades this name: `upgrade` those of its operands, or each if it has none
 abbrev pub IsToUpgrade : Applet → List Operand → List ℕ → Type 0
 IsToUpgrade Upgrade [] name = Unit {0}
 IsToUpgrade Upgrade (o ∷ operands) name =

@@ -1,4 +1,4 @@
--- what the laws say
+-- cited by the laws
 pub mod NewWorld
 pub mod CommandPool
 pub mod NextNeed

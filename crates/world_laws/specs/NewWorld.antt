@@ -1,5 +1,5 @@
--- Which entries stand in world after a command, in a reader's words. Both worlds are in byte order
--- of names with one entry a name, so the entries alone say what a world is. The rules stand in
+-- Which entries are in world after a command, in a reader's words. Both worlds are in byte order of
+-- names with one entry per name, so the entries alone determine a world. The rules are in
 -- `docs/commands.md`, "`add` and `del`", and in `docs/formats.md`, "World".
 use Rattle.std.specs.Prelude.{◌≡◌, ◌≢◌, ◌⊎◌, ◌↔◌, ℕ, List, [], ◌∷◌, ◌++◌, Some, Ok, unwrap_or}
 use Rattle.adb_fields.specs.FirstPair.{IsIn}
@@ -21,7 +21,7 @@ abbrev pub IsAddedByNone : List ℕ → List Operand → Type 0
 IsAddedByNone name operands = (o : Operand) (d : Dependency) → IsIn o operands
     → dependency_of o.text ≡ Some d → d.name ≢ name
 
--- an operand is this dependency, and none behind it is one of the same name
+-- an operand is this dependency, and none after it has the same name
 pub record IsAdded (operands : List Operand) (d : Dependency) : Type 0 where
   pub front : List Operand
   pub operand : Operand
@@ -30,7 +30,7 @@ pub record IsAdded (operands : List Operand) (d : Dependency) : Type 0 where
   pub says : dependency_of operand.text ≡ Some d
   pub last : IsAddedByNone d.name behind
 
--- world after `add`: an entry is one of the operands, or it stood before and no operand has its
+-- world after `add`: an entry is one of the operands, or it was there before and no operand has its
 -- name
 pub record HoldsAdded (operands : List Operand) (before after : List Dependency) : Type 0 where
   pub world : IsWorld after
@@ -43,14 +43,14 @@ pub record HoldsAdded (operands : List Operand) (before after : List Dependency)
 abbrev pub IsNoOperand : List ℕ → List Operand → Type 0
 IsNoOperand name operands = (o : Operand) → IsIn o operands → o.text ≢ name
 
--- world after `del`: an entry stood before, and no operand is its name
+-- world after `del`: an entry was there before, and no operand is its name
 pub record HoldsOthers (operands : List Operand) (before after : List Dependency) : Type 0 where
   pub world : IsWorld after
   pub entries : (d : Dependency) → IsIn d after ↔ (IsIn d before × IsNoOperand d.name operands)
 
 -- ---- each applet
 
--- world after a command, by its applet; all but `add` and `del` leave world as it is
+-- world after a command, by its applet; all except `add` and `del` leave world unchanged
 abbrev pub HoldsWhatWasAsked :
     Applet → List Operand → List Dependency → List Dependency → Type 0
 HoldsWhatWasAsked Add operands before after = HoldsAdded operands before after
@@ -59,8 +59,8 @@ HoldsWhatWasAsked applet operands before after = after ≡ before
 
 -- ---- among what a change reads of a root
 
--- among what a change reads of a root, world before is the one of its file, an absent one counting
--- as empty, and the new one holds what the command asks for
+-- among what a change reads of a root, world before is that of its file, with an absent file read as
+-- empty, and the new one holds what the command asks for
 pub record IsReadWorld (command : CommandLine) (read : Reads) (root : Root) : Type 0 where
   pub file : world_of (unwrap_or (read world_read world_name) []) ≡ Ok root.world
   pub asked : HoldsWhatWasAsked command.applet command.operands root.world root.new_world

@@ -1,5 +1,5 @@
--- Which need is met next, in a reader's words: of world, then of the choices, then by install-if.
--- The rules stand in `docs/selection.md`, "Which selection is taken".
+-- Which need (a dependency or name to be satisfied) is next, in a reader's words: of world, then of the
+-- choices, then by install-if. The rules are in `docs/selection.md`, "Which selection is taken".
 use Rattle.std.specs.Prelude.{◌≡◌, ◌⊎◌, ℕ, true, false, List, ◌∷◌, ◌++◌, Option, Some, None}
 use Rattle.dep_core.specs.Dependency.{Dependency}
 use Rattle.base_core.specs.ByteOrder.{precedes}
@@ -48,8 +48,8 @@ pub record IsFirstOfChoices (pool : SealedPool) (chosen choices : List ℕ)
 
 -- ---- by install-if
 
--- an install-if asks for a name: a candidate has the name, its install-if can apply and is met
--- entry by entry, and no choice meets the name
+-- an install-if asks for a name: a candidate has the name, its install-if can apply and is met entry by
+-- entry, and no choice meets the name
 pub record IsAskedByInstallIf (pool : SealedPool) (chosen name : List ℕ) : Type 0 where
   pub candidate : Candidate
   pub stands : IsIn candidate pool.candidates
@@ -67,15 +67,15 @@ pub record IsFirstByInstallIf (pool : SealedPool) (chosen name : List ℕ) : Typ
 
 -- ---- the next need
 
--- Which need is next: of world before all others; then of the choices in their order; a name that
--- an install-if asks for comes last.
+-- Which need is next: that of world before all others; then of the choices in their order; last a name
+-- that an install-if asks for.
 abbrev pub IsNext : SealedPool → List ℕ → Need → Type 0
 IsNext pool chosen (entry d) = IsFirstUnmet pool chosen pool.world d
     ⊎ (AreMetByChoices pool chosen pool.world × IsFirstOfChoices pool chosen chosen d)
 IsNext pool chosen (named name) = AreMetByChoices pool chosen pool.world
     × AreMetOfEach pool chosen chosen × IsFirstByInstallIf pool chosen name
 
--- the next need, if there is one; where there is none, all are met
+-- the next need, if there is one; if there is none, all are met
 abbrev pub IsNextOrNone : SealedPool → List ℕ → Option Need → Type 0
 IsNextOrNone pool chosen (Some need) = IsNext pool chosen need
 IsNextOrNone pool chosen None = AreMetByChoices pool chosen pool.world

@@ -1,6 +1,6 @@
--- What holds of the packages that a command selects, in a reader's words: they satisfy world, and
--- each is needed. The rules stand in `docs/selection.md`, "What satisfies world", 1 to 4, and
--- "Which selection is taken", the end of its second paragraph.
+-- What holds of the packages that a command selects, in a reader's words: they satisfy world, and each
+-- is needed. The rules are in `docs/selection.md`, "What satisfies world", 1 to 4, and "Which selection
+-- is taken", the end of its second paragraph.
 use Rattle.std.specs.Prelude.{◌≡◌, ◌⊎◌, ℕ, true, false, List}
 use Rattle.adb_fields.specs.FirstPair.{IsIn}
 use Rattle.candidate_core.specs.Candidates.{Candidate, has_usable_install_if, is_allowed, meets_dependency, occupies_name}
@@ -13,7 +13,7 @@ abbrev pub IsMetByOne : List Candidate → Dependency → Type 0
 IsMetByOne packages d =
     (c : Candidate) × IsIn c packages × (meets_dependency d c ≡ true)
 
--- an install-if applies: that of a candidate which may be selected, where the packages meet it
+-- an install-if applies: it is that of a candidate which may be selected, and the packages meet it
 -- entry by entry; it is not empty and has no conflict
 pub record HasInstallIf (candidates : List Candidate) (world : List Dependency)
     (packages : List Candidate) (c : Candidate) : Type 0 where
@@ -41,7 +41,7 @@ pub record SatisfyWorld (candidates : List Candidate) (world : List Dependency)
   pub names_alone : (c other : Candidate) (name : List ℕ) → IsIn c packages
       → IsIn other packages → occupies_name name c ≡ true → occupies_name name other ≡ true
       → other ≡ c
-  -- 4: where an install-if applies there is a package of its name
+  -- 4: if an install-if applies there is a package of its name
   pub installs : (c : Candidate) → HasInstallIf candidates world packages c
       → (other : Candidate) × IsIn other packages × (other.name ≡ c.name)
 
@@ -52,8 +52,8 @@ abbrev pub MeetsOne : List Dependency → Candidate → Type 0
 MeetsOne deps c =
     (d : Dependency) × IsIn d deps × (d.conflict ≡ false) × (meets_dependency d c ≡ true)
 
--- a package is needed: it meets an entry of world or what one of the packages depends on, or it has
--- the name of a candidate whose install-if applies
+-- a package is needed: it meets an entry of world or a dependency of one of the packages, or it has the
+-- name of a candidate whose install-if applies
 abbrev pub IsNeeded :
     List Candidate → List Dependency → List Candidate → Candidate → Type 0
 IsNeeded candidates world packages c =

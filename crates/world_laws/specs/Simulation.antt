@@ -1,4 +1,4 @@
--- What a simulation of a change tells of the change that is made. The rules stand in
+-- What a simulation of a change reports of the change that is made. The rules are in
 -- `docs/commands.md`, "`add` and `del`", what is reported: what `--simulate` leaves out.
 use Rattle.std.specs.Prelude.{◌≡◌, ℕ, List, ◌++◌}
 use Rattle.command_core.specs.Command.{CommandLine}
@@ -10,9 +10,8 @@ use Rattle.report_core.specs.Reports.{report_line, sum_text}
 abbrev pub with_simulation : CommandLine → CommandLine
 with_simulation command = record command { flags = with_flag Simulate command.flags }
 
--- A simulation foretells the report of a change: all that is told before the last line of its own
--- report, a sum, is told first by the change's report too, to the byte; and this one ends with a
--- sum of its own.
+-- A simulation foretells the report of a change: all that precedes the last line of its own report, a
+-- sum, is also the beginning of the change's report, to the byte; and this ends with a sum of its own.
 pub record IsForetold (simulation report : List ℕ) : Type 0 where
   pub told : List ℕ
   pub bytes : ℕ

@@ -1,6 +1,6 @@
-//! What a command asks of world, what it chooses from and which need it meets next, what holds of
-//! the packages that it selects, and what a simulation tells of a change, in a reader's words. The
-//! rules stand in `docs/formats.md`, "World", in `docs/selection.md`, and in `docs/commands.md`,
+//! What a command asks of world, what it chooses from, which dependency it satisfies next, what
+//! holds of the selected packages, and what a simulation reports of a change, in a reader's words.
+//! The rules are in `docs/formats.md`, "World", in `docs/selection.md`, and in `docs/commands.md`,
 //! "`add` and `del`".
 //!
 //! The functions are laws. They cite the definitions of `specs/`, and those of `change_inputs`,
@@ -40,22 +40,23 @@ ghost use Rattle.world_laws.specs.SatisfiedWorld.{IsNeeded, SatisfyWorld};
 use change_outcome::a_change_that_is_made_passes_each_test;
 use engine_core::a_choice_is_unique;
 
-/// Behind some choices the next need is the first entry of world that no choice meets; where all
-/// are met, the first such dependency of the first choice that has one; where these are met too,
-/// the first name in byte order that a candidate's install-if asks for and no choice meets. There
-/// is none where all this is met, and never more than one.
+/// After some choices, the next need (the dependency to be satisfied next) is the first of these
+/// that no choice meets: the entries of world; then the dependencies of each choice in turn; then
+/// the names, in byte order, that a candidate's install-if asks for. There is none if all are met,
+/// and never more than one.
 pub fn the_next_need_is_the_first_that_is_unmet()
-    // What the search takes as its next need is that.
+    // The search takes this as its next need.
     ensures next { (pool : SealedPool) (chosen : List ℕ)
         → IsNextOrNone pool chosen (next_need pool chosen) }
-    // There is one answer alone.
+    // There is only one.
     ensures one { (pool : SealedPool) (chosen : List ℕ) (need other : Option Need)
         → IsNextOrNone pool chosen need → IsNextOrNone pool chosen other → need ≡ other }
 {}
 
-/// A simulation tells what the change does, by the same candidates: which packages come and go,
-/// and which stay that were to go. The change tells this first, and in the same bytes. So it is
-/// with a command and the same command with `--simulate`, over the same reads and files.
+/// A simulation reports what the change does, by the same candidates: which packages are added and
+/// removed, and which are kept that were to be removed. The report of the change begins with the
+/// same bytes. The same holds of a command with and without `--simulate`, over the same reads and
+/// files.
 pub fn a_simulation_tells_what_the_change_does()
     // Of the two reports, by one replacement.
     ensures reports { (r : Replacement) (wishes : ChangeWishes) (change : FileChange)
@@ -75,7 +76,7 @@ pub fn a_simulation_tells_what_the_change_does()
     a_choice_is_unique();
 }
 
-/// Where a simulation is refused, the command without `--simulate` is refused alike.
+/// If a simulation is refused, the command without `--simulate` is refused in the same way.
 pub fn a_refused_simulation_refuses_the_change()
     ensures { (command : CommandLine) (read : Reads) (files : Files)
         (expected chosen : Option (List ℕ)) (other clash : Option NamePair) (refusal : Refusal)
@@ -87,9 +88,9 @@ pub fn a_refused_simulation_refuses_the_change()
     a_choice_is_unique();
 }
 
-/// World after `add` has the operands, of each name the last one, and the entries of all other
-/// names; after `del` it has the entries of all names but the operands. Any other command leaves
-/// it. Just one world holds what was asked. So it is with what a change reads of a root.
+/// World after `add` has the operands, for each name the last one, and the entries of all other
+/// names. After `del` it has the entries of all names except the operands. Any other command leaves
+/// it. Exactly one world holds what was asked. The same holds of what a change reads of a root.
 pub fn the_new_world_holds_what_was_asked()
     // Of any world.
     ensures world { (applet : Applet) (operands : List Operand) (world : List Dependency)
@@ -98,15 +99,15 @@ pub fn the_new_world_holds_what_was_asked()
     // Of what a change reads of a root.
     ensures read { (command : CommandLine) (read : Reads) (inputs : Inputs)
         → inputs_of command read ≡ Ok inputs → IsReadWorld command read inputs.root }
-    // Just one world holds it.
+    // Exactly one world holds it.
     ensures one { (applet : Applet) (operands : List Operand) (world after other : List Dependency)
         → HoldsWhatWasAsked applet operands world after
         → HoldsWhatWasAsked applet operands world other → after ≡ other }
 {}
 
-/// What a command chooses from: the packages of all indexes, of which those count as installed that
-/// an installed package is the same as, and the installed packages that no index has; under the
-/// world that was asked for, and with the names that the command upgrades.
+/// A command chooses from the packages of all indexes, and the installed packages that no index
+/// has. A package of an index counts as installed if an installed package is the same. It chooses
+/// under the world that was asked for, and with the names that the command upgrades.
 pub fn a_command_chooses_from_its_indexes_and_its_database()
     ensures { (command : CommandLine) (read : Reads) (pool : SealedPool)
         → pool_for command read ≡ Ok pool → IsCommandPool command read pool }
