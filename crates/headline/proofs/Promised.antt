@@ -11,7 +11,7 @@ use Rattle.outcome.specs.Effect.{Changes, does_recover, effect_by, effect_of, ou
 use Rattle.outcome.specs.Outcome.{Outcome}
 use Rattle.outcome.specs.Words.{IsOutcome}
 use Rattle.words_core.specs.Grammar.{command_of}
-use Rattle.run_lists.specs.Events.{Event, HasNoPendingRun, HasSeen, HasSeenIdly, HasSeenToOneState, IsIdleRun, IsMomentOf, IsOutcomeFrom, IsRunFrom, Run, ignored_behind, ignored_in, with_scratch}
+use Rattle.run_lists.specs.Events.{Event, HasNoPendingRun, HasSeen, HasSeenIdly, HasSeenToOneState, IsIdleRun, IsOutcomeFrom, IsRunFrom, IsStopOf, Run, ignored_behind, ignored_in, with_scratch}
 use Rattle.run_lists.specs.Recovered.{HasSeenNoBadIntent, HasStateBefore, HasStateBeforeOrOutcome, HasStateOf, IsRecoveredBy, LeavesNoBadIntent}
 use Rattle.run_lists.specs.Safety.{HasOldOrOutcome, IsAtomicBehindAll, IsSafe, IsSafeBehindAll, LeavesOutcome}
 use Rattle.run_lists.proofs.AtMoments.{History}
@@ -20,6 +20,7 @@ use Rattle.run_lists.proofs.Moments.{last_moment}
 use Rattle.run_lists.proofs.Names.{scratch_more}
 use Rattle.run_lists.proofs.OneRun.{idle_moment}
 use Rattle.run_lists.proofs.Recoverable.{left_state, recovered_as, seen_plainly, state_on}
+use Rattle.run_lists.proofs.Torn.{torn_image, torn_self}
 use Rattle.headline.specs.Sentence.{EndsAsStated, HasGoodPast, IsAsPromised, IsAsPromisedBehindAll, RecoversTo}
 
 -- ---- from one moment on
@@ -55,7 +56,7 @@ module _ (begins : (ignored : Ignored) (first v : TreeState) (events : List Even
     (one_state : (ignored : Ignored) (first v : TreeState) (events : List Event) → ignored intent_name ≡ false → IsAtRest ignored (files_of first) first → HasSeenToOneState first events v → IsAtRest (ignored_behind ignored events) (files_of v) v)
     (unbroken : (first v : TreeState) (events : List Event) → HasSeen first events v → HasNoPendingRun events → HasSeenToOneState first events v)
     (left : (ignored : Ignored) (first v m w : TreeState) (events later : List Event) (run next : Run) → ignored intent_name ≡ false → IsOrderly (RestsOn ignored) first → LeavesNoBadIntent first
-    → HasSeenNoBadIntent first events v → IsRunFrom v run → IsMomentOf run m → HasSeenIdly m later w → IsRunFrom w next → does_recover (effect_by (command_of next.words)) ≡ true
+    → HasSeenNoBadIntent first events v → IsRunFrom v run → IsStopOf run m → HasSeenIdly m later w → IsRunFrom w next → does_recover (effect_by (command_of next.words)) ≡ true
     → (image : Files) × IsImage m image × IsRecoveredBy (HasStateOf (ignored_in run (ignored_behind ignored events)) image) w next)
     (two : (ignored : Ignored) (v : TreeState) (run : Run) (files : Files) → IsSettled ignored (files_of v) v → HasStateBeforeOrOutcome ignored v run files → HasOldOrOutcome ignored v run files)
     (more_settled : (few many : Ignored) (files : Files) (v : TreeState) → AreMore few many → IsSettled few files v → IsSettled many files v)
@@ -74,20 +75,22 @@ module _ (begins : (ignored : Ignored) (first v : TreeState) (events : List Even
   durable : IsOrderly (RestsOn Names) v
   durable = (begins ignored first v events run.words past.counts past.durable seen).0
 
-  left_at : (m : TreeState) → IsMomentOf run m → IsLeftAt Names m
-  left_at m moment w later next idly is_next recovers = left ignored first v m w events later run next past.counts past.durable past.good past.seen is_run moment idly is_next recovers
+  left_at : (m : TreeState) → IsStopOf run m → IsLeftAt Names m
+  left_at m stop w later next idly is_next recovers = left ignored first v m w events later run next past.counts past.durable past.good past.seen is_run stop idly is_next recovers
 
-  either : (m : TreeState) → IsMomentOf run m → (image : Files) → IsImage m image → HasStateBeforeOrOutcome Names v run image
-  either m moment image is = left_state Names v run m (here.moments m moment) image is
+  either : (m : TreeState) → IsStopOf run m → (image : Files) → IsImage m image → HasStateBeforeOrOutcome Names v run image
+  either m (at, moment, torn) image is = left_state Names v run at (here.moments at moment) image (torn_image at m torn image is)
 
-  moments : (m : TreeState) → IsMomentOf run m → RecoversTo (HasStateBeforeOrOutcome Names v run) m
-  moments m moment = recovers_to Names m (left_at m moment) (HasStateBeforeOrOutcome Names v run) (state_on Names v run) (either m moment)
+  moments : (m : TreeState) → IsStopOf run m → RecoversTo (HasStateBeforeOrOutcome Names v run) m
+  moments m stop = recovers_to Names m (left_at m stop) (HasStateBeforeOrOutcome Names v run) (state_on Names v run) (either m stop)
 
-  one : IsSettled Names (files_of v) v → (m : TreeState) → IsMomentOf run m → RecoversTo (HasOldOrOutcome Names v run) m
-  one settled m moment = recovers_to Names m (left_at m moment) (HasOldOrOutcome Names v run) (old_on Names v run) (λ image is. two Names v run image settled (either m moment image is))
+  one : IsSettled Names (files_of v) v → (m : TreeState) → IsStopOf run m → RecoversTo (HasOldOrOutcome Names v run) m
+  one settled m stop = recovers_to Names m (left_at m stop) (HasOldOrOutcome Names v run) (old_on Names v run) (λ image is. two Names v run image settled (either m stop image is))
 
-  kept : IsIdleRun v run → (m : TreeState) → IsMomentOf run m → RecoversTo (HasStateBefore Names v) m
-  kept idle m moment = recovers_to Names m (left_at m moment) (HasStateBefore Names v) (before_on Names v) (idle_moment Names v run is_run durable idle m moment).quiet
+  kept : IsIdleRun v run → (m : TreeState) → IsStopOf run m → RecoversTo (HasStateBefore Names v) m
+  kept idle m (at, moment, torn) =
+      recovers_to Names m (left_at m (at, moment, torn)) (HasStateBefore Names v) (before_on Names v)
+      (λ image is. (idle_moment Names v run is_run durable idle at moment).quiet image (torn_image at m torn image is))
 
   ends_settled : (o : Outcome) → IsOutcomeFrom v run o → Settles (effect_by (command_of run.words)) Names v o → (w : TreeState) → LeavesOutcome (ignored_behind ignored events) v run w → IsSettled Names o.files w
   ends_settled o is settles w leaves =
@@ -96,7 +99,7 @@ module _ (begins : (ignored : Ignored) (first v : TreeState) (events : List Even
   answered : AnswersOutcome run.answer → (o : Outcome) → IsOutcomeFrom v run o → Settles (effect_by (command_of run.words)) Names v o → HasNow run.now (RecoversTo (HasStateOf Names o.files))
   answered answers o is settles =
       now_last run.now (LeavesOutcome (ignored_behind ignored events) v run) (RecoversTo (HasStateOf Names o.files))
-      (λ w ends leaves. recovers_to Names w (left_at w (last_moment run v w is_run ends)) (HasStateOf Names o.files) (λ a b same has. same ∙ has) (ends_settled o is settles w leaves))
+      (λ w ends leaves. recovers_to Names w (left_at w (w, last_moment run v w is_run ends, torn_self w)) (HasStateOf Names o.files) (λ a b same has. same ∙ has) (ends_settled o is settles w leaves))
       (here.answered answers)
 
   to_one : HasSeenToOneState first events v ⊎ HasNoPendingRun events → HasSeenToOneState first events v

@@ -18,7 +18,7 @@ use Rattle.outcome.specs.Outcome.{Outcome}
 use Rattle.refusal_laws.specs.RunFaults.{IsFaultOfRun}
 use Rattle.refusal_laws.specs.RunMade.{HasFirstSelection}
 use Rattle.report_core.specs.declared.refusal.Refusal.{Refusal}
-use Rattle.run_lists.specs.Events.{Event, HasNoPendingRun, HasSeenIdly, HasSeenToOneState, IsIdleRun, IsMomentOf, IsOutcomeFrom, IsRunFrom, Run, ignored_behind, ignored_in}
+use Rattle.run_lists.specs.Events.{Event, HasNoPendingRun, HasSeenIdly, HasSeenToOneState, IsIdleRun, IsOutcomeFrom, IsRunFrom, IsStopOf, Run, ignored_behind, ignored_in}
 use Rattle.run_lists.specs.Recovered.{HasSeenNoBadIntent, HasStateBefore, HasStateBeforeOrOutcome, HasStateOf, IsRecoveredBy, LeavesNoBadIntent}
 use Rattle.run_lists.specs.Safety.{HasOldOrOutcome}
 use Rattle.words_core.specs.Grammar.{command_of}
@@ -52,11 +52,12 @@ pub record EndsAsStated (command : CommandLine) (files : Files) (o : Outcome) : 
 
 -- what is promised of a run that begins in the state v, apart from the ignored names
 pub record IsAsPromised (ignored : List ℕ → Bool) (v : TreeState) (run : Run) : Type 0 where
-  -- ended, or stopped at any moment, it recovers to a state from before it, or to that of its outcome
-  pub moments : (m : TreeState) → IsMomentOf run m
+  -- ended, or stopped at any moment, also inside a call, it recovers to a state from before it, or to that
+  -- of its outcome, which commits
+  pub moments : (m : TreeState) → IsStopOf run m
       → RecoversTo (HasStateBeforeOrOutcome ignored v run) m
   -- the state from before is one, if each crash left the state of the files as read
-  pub one : IsSettled ignored (files_of v) v → (m : TreeState) → IsMomentOf run m
+  pub one : IsSettled ignored (files_of v) v → (m : TreeState) → IsStopOf run m
       → RecoversTo (HasOldOrOutcome ignored v run) m
   -- to its outcome's state, once that is answered (Ok, a refusal, or a fault of an output stream), if it
   -- settles: it commits, or each crash left the state as read before, or an intent was found
@@ -64,7 +65,7 @@ pub record IsAsPromised (ignored : List ℕ → Bool) (v : TreeState) (run : Run
       → Settles (effect_by (command_of run.words)) ignored v o
       → HasNow run.now (RecoversTo (HasStateOf ignored o.files))
   -- to a state from before it, if it is refused, is out of memory, or commits nothing
-  pub left : IsIdleRun v run → (m : TreeState) → IsMomentOf run m
+  pub left : IsIdleRun v run → (m : TreeState) → IsStopOf run m
       → RecoversTo (HasStateBefore ignored v) m
   -- the answer, the printed bytes and the files left are the outcome's; or it reports a fault of the
   -- tree or of an output stream, with its cause, or that it is out of memory

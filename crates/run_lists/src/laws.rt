@@ -13,7 +13,7 @@ ghost use Rattle.outcome.specs.Effect.{does_recover, effect_by, output, reads_on
 ghost use Rattle.outcome.specs.Outcome.{Outcome};
 ghost use Rattle.outcome.specs.Words.{IsOutcome};
 ghost use Rattle.outcome.specs.Work.{recovery_fault};
-ghost use Rattle.run_lists.specs.Events.{Event, HasNoPendingOutput, HasNoPendingRun, HasSeen, HasSeenIdly, HasSeenToOneState, IsIdleRun, IsMomentOf, IsOutcomeFrom, IsRunFrom, Run, ignored_behind, ignored_in, nothing_ignored, with_scratch};
+ghost use Rattle.run_lists.specs.Events.{Event, HasNoPendingOutput, HasNoPendingRun, HasSeen, HasSeenIdly, HasSeenToOneState, IsIdleRun, IsMomentOf, IsOutcomeFrom, IsRunFrom, IsStopOf, Run, ignored_behind, ignored_in, nothing_ignored, with_scratch};
 ghost use Rattle.run_lists.specs.Reading.{HasBadIntent, HasBytesOfRun, HasSeenRuns, IsAnyRun, IsDoneForGood, IsLastingName, IsNoDraft, IsTrueAt, LeavesTrueAt};
 ghost use Rattle.run_lists.specs.Recovered.{HasSeenNoBadIntent, HasStateBeforeOrOutcome, HasStateOf, IsRecoveredBy, IsUnrefused, LeavesNoBadIntent};
 ghost use Rattle.run_lists.specs.Safety.{HasOldOrOutcome, IsAtomicBehindAll, IsSafeBehindAll};
@@ -217,7 +217,7 @@ pub fn a_stopped_run_is_recovered()
         (events later : List Event) (run next : Run) → ignored intent_name ≡ false
         → IsOrderly (RestsOn ignored) first
         → LeavesNoBadIntent first → HasSeenNoBadIntent first events v
-        → IsRunFrom v run → IsMomentOf run m → HasSeenIdly m later w
+        → IsRunFrom v run → IsStopOf run m → HasSeenIdly m later w
         → IsRunFrom w next → does_recover (effect_by (command_of next.words)) ≡ true
         → IsRecoveredBy
         (HasStateBeforeOrOutcome (ignored_in run (ignored_behind ignored events)) v run) w next }
@@ -227,7 +227,7 @@ pub fn a_stopped_run_is_recovered()
         (events later : List Event) (run next : Run) → ignored intent_name ≡ false
         → IsOrderly (RestsOn ignored) first
         → LeavesNoBadIntent first → HasSeenNoBadIntent first events v
-        → IsRunFrom v run → IsMomentOf run m → HasSeenIdly m later w
+        → IsRunFrom v run → IsStopOf run m → HasSeenIdly m later w
         → IsRunFrom w next → does_recover (effect_by (command_of next.words)) ≡ true
         → (image : Files) × IsImage m image × IsRecoveredBy
         (HasStateOf (ignored_in run (ignored_behind ignored events)) image) w next }
