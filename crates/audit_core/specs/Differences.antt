@@ -23,7 +23,7 @@ pub record IsRecordOf (packages : List Plain) (r : FileRecord) : Type 0 where
   pub installed : IsIn pkg packages
   pub listed : IsIn r (package_records pkg)
 
--- what is found under a path differs so from the entry
+-- the file found under a path differs in this way from the entry
 abbrev pub IsDifferent : Difference → Plain → Option (List ℕ) → Type 0
 IsDifferent Missing entry found = found ≡ None
 IsDifferent Changed entry found = IsSomeAnd found (λ bytes. is_as_listed entry bytes ≡ false)

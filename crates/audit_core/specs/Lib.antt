@@ -1,9 +1,9 @@
--- what the contract of `apk` says
+-- cited by the contract of `apk`
 pub mod Records
 pub mod Audit
 pub mod Manifest
--- what only the laws say
+-- used by the laws only
 pub mod Differences
--- what only inner contracts and proofs use
+-- used by inner contracts and proofs only
 pub mod StoredRecords
 pub mod Seen

@@ -1,4 +1,4 @@
--- What `manifest` reports: the digest and path of each file of some packages. The rules are in
+-- The report of `manifest`: the digest and path of each file of some packages. The rules are in
 -- `docs/commands.md`, "`manifest`".
 use Rattle.std.specs.Prelude.{ℕ, List, [], ◌∷◌, ◌++◌, Option, Some, None, Result, Ok, Err}
 use Rattle.std.specs.List.{find, flat_map}
@@ -25,7 +25,7 @@ package_manifest pkg = flat_map manifest_line (package_records pkg)
 abbrev pub operand_package : List Plain → Operand → Option Plain
 operand_package packages o = find (is_package_named o.text) packages
 
--- a manifest of further packages, with lines in front of it; a refusal stays as it is
+-- a manifest of further packages, with lines before it; a refusal is unchanged
 abbrev pub with_lines : List ℕ → Result (List ℕ) Refusal → Result (List ℕ) Refusal
 with_lines lines further = and_then further (λ more. Ok (lines ++ more))
 

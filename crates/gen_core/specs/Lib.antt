@@ -1,10 +1,10 @@
--- The definitions of `gen_core`. The head of each file says where its rule is.
+-- The definitions of `gen_core`. The head of each file names the section with its rule.
 
--- what the contract of `gen_` says
+-- cited by the contract of `gen_`
 pub mod Generated
--- what a law says
+-- cited by a law
 pub mod FirstBadLine
--- what only inner contracts and proofs use
+-- used by inner contracts and proofs only
 pub mod Cursors
 pub mod Reads
 pub mod Quoted

@@ -1,6 +1,5 @@
 //! What follows from the definitions, for every text, each as the contract of a function that does
-//! nothing.
-//! The rule is in `docs/formats.md`, "Dump text".
+//! nothing. The rule is in `docs/formats.md`, "Dump text".
 ghost use Rattle.std.specs.Prelude.{◌≡◌, ℕ, List, IsSome, Ok, Err};
 ghost use Rattle.adb_view.specs.Plain.{Plain};
 ghost use Rattle.adb_view.specs.declared.tables.Which.{Which};

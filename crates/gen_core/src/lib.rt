@@ -1,5 +1,5 @@
-//! A dump text is read back: the text that `adbdump` prints goes in, and the container of its root
-//! comes out, in its canonical layout and without contents of files.
+//! Reads a dump text back: from the text that `adbdump` prints it makes the container of its root,
+//! in its canonical layout and without contents of files.
 //!
 //! A text is read from front to end in one pass, by the tables of fields (`adb_schema`), and its
 //! values are written as they are read (`adb_values`). The first line that no dump has after the

@@ -29,23 +29,23 @@ pub struct Root<'a, R: Host> {
     alloc: Global,
     // Which lock the first call takes: shared, or for this run alone.
     lock: Lock,
-    // The folder that is locked, open while this run holds the lock.
+    // The locked folder, open while this run holds the lock.
     held: Option<File>,
     // The file that was read last.
     reader: Option<Opened>,
     // The file that is being written.
     writer: Option<Opened>,
-    // The file that was looked at last, unless something was written since.
+    // The file that was found last, unless something was written since.
     seen: Option<(Vec<u8>, LookedAt)>,
-    // What is known of the folders below the root.
+    // The known folders below the root.
     folders: Folders,
-    // Where files can be renamed to, as far as this run has asked.
+    // The names to which files can be renamed, as far as this run has asked.
     targets: Targets,
     // Whether this run finishes what an earlier one committed.
     recovers: bool,
-    // Whether the host once failed to write something through, or to cut off the front of a piece.
-    // It may have dropped what it could not write, so that a second try would succeed for nothing:
-    // it is not believed again.
+    // Whether the host once failed to sync something, or to cut off the beginning of a piece. The
+    // host may have dropped what it could not write, and a second sync would then succeed without
+    // writing it: so no later sync is trusted.
     has_lost: bool,
     // The target of a rename that is not written through yet.
     unsynced_target: Option<Vec<u8>>,

@@ -1,14 +1,14 @@
--- The definitions of this crate. Each file names the place of its rule.
+-- The definitions of this crate. The head of each file names the section with its rule.
 
--- what the contract of `apk` says
+-- cited by the contract of `apk`
 pub mod Order
 pub mod List
 pub mod Search
 pub mod Policy
 pub mod Queries
--- what only the laws say
+-- used by the laws only
 pub mod Asked
--- what only inner contracts and proofs use
+-- used by inner contracts and proofs only
 pub mod Appends
 pub mod QueryRanking
 pub mod Lines
