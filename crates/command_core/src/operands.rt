@@ -153,7 +153,7 @@ pub struct Operand {
 #[derive(Drop)]
 struct OperandEntry {
     operand: Operand,
-    // Read at once, so that lending it wants no memory.
+    // Parsed when it is added, so that borrowing it allocates no memory.
     file: Option<Name>,
 }
 

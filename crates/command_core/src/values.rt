@@ -107,7 +107,7 @@ impl OptionValue {
 #[derive(Drop)]
 struct ValueEntry {
     value: OptionValue,
-    // Read at once, so that lending it wants no memory.
+    // Parsed when it is added, so that borrowing it allocates no memory.
     file: Option<Name>,
 }
 

@@ -216,8 +216,7 @@ pub fn a_stopped_run_is_recovered()
         → IsRunFrom w next → does_recover (effect_by (command_of next.words)) ≡ true
         → IsRecoveredBy (ignored_in run (ignored_behind ignored events)) v run w next }
 
-    // Where the root had one state when the run began, these are two: the old one and the
-    // outcome's.
+    // If the root had one state when the run began, these are two: the old one and the outcome's.
     ensures two { (ignored : List ℕ → Bool) (v : TreeState) (run : Run) (files : Files)
         → IsSettled ignored (files_of v) v → HasStateBeforeOrOutcome ignored v run files
         → HasOldOrOutcome ignored v run files }
