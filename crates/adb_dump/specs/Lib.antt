@@ -2,9 +2,9 @@
 
 -- cited by the contract of `apk`
 pub mod Dump
+pub mod ReadBack
 -- used by inner contracts and proofs only
 pub mod Values
-pub mod ReadBack
 pub mod Words
 pub mod Margin
 pub mod Out

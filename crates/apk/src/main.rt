@@ -7,13 +7,14 @@
 
 mod process;
 
-use apk_front::{Answer, RootAccess, access_for, apk, status};
+use apk_front::{Answer, Refusal, RootAccess, access_for, apk, status};
 use host_files::{Lock, write_path};
 use host_tree::HostTree;
 use process::{HostSink, WordsFault, words_of};
 use std::io;
 use std::io::Write;
 use std::process::ExitCode;
+use words_core::explain_usage;
 
 /// The status of a run that finds no memory for its words (`docs/commands.md`,
 /// "Answers and statuses").
@@ -45,8 +46,14 @@ fn main(rt: HostRuntime) -> ExitCode {
     let mut out = HostSink::new(rt.stdout());
     let mut err = HostSink::new(rt.stderr());
     let answer = apk(rt.alloc(), &words, &mut tree, &mut out, &mut err);
-    if matches!(answer, Answer::TreeFault) {
-        let _ = tell_why(&rt, &tree);
+    match &answer {
+        Answer::TreeFault => {
+            let _ = tell_why(&rt, &tree);
+        }
+        Answer::Refused(Refusal::Usage { place }) => {
+            let _ = explain_usage(&words, *place, &mut err);
+        }
+        _ => {}
     }
     tree.leave();
     ExitCode::from(status(&answer))

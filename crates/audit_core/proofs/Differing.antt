@@ -9,7 +9,7 @@ use Rattle.base_core.specs.Files.{Files}
 use Rattle.file_guard.specs.AsListed.{is_as_listed}
 use Rattle.make_info.specs.Reads.{Reads}
 use Rattle.audit_core.specs.Audit.{FileDifference, audit_report, difference_at, difference_from, difference_line, differences_from}
-use Rattle.audit_core.specs.Differences.{AreAsRecorded, IsDifferenceIn, IsDifferent, IsRecordOf, file_differences}
+use Rattle.audit_core.specs.Differences.{AreAsRecorded, IsDifferenceIn, IsDifferent, IsInstalledRecord, file_differences}
 use Rattle.audit_core.specs.Records.{FileRecord, database_records, package_records, record_cmp, records_by_path}
 use Rattle.audit_core.specs.declared.comparing.Difference.{Difference}
 use Rattle.audit_core.specs.declared.comparing.Difference.TheVariants.{Changed, Missing}
@@ -31,13 +31,13 @@ report_over files read first packages same = ap (flat_map difference_line) (over
 
 -- ---- records
 
-pub from_records : (packages : List Plain) (r : FileRecord) → IsIn r (records_by_path packages) → IsRecordOf packages r
+pub from_records : (packages : List Plain) (r : FileRecord) → IsIn r (records_by_path packages) → IsInstalledRecord packages r
 unfolding records_by_path
 from_records packages r here =
     let found = from-flat_map package_records r packages (from_sorted record_cmp r (database_records packages) here) in
     record { pkg = found.0; installed = found.1; listed = found.2 }
 
-pub in_records : (packages : List Plain) (r : FileRecord) → IsRecordOf packages r → IsIn r (records_by_path packages)
+pub in_records : (packages : List Plain) (r : FileRecord) → IsInstalledRecord packages r → IsIn r (records_by_path packages)
 unfolding records_by_path
 in_records packages r is = in_sorted record_cmp r (database_records packages) (in-flat_map package_records r is.pkg packages is.installed is.listed)
 
@@ -77,7 +77,7 @@ difference_is files packages d here =
     let at = at_path r.path (difference_from r.entry (files r.path)) d found.2 in
     record {
       entry = r.entry;
-      recorded = subst (λ (path : List ℕ). IsRecordOf packages (record { path = path; entry = r.entry })) at.0 (from_records packages r found.1);
+      recorded = subst (λ (path : List ℕ). IsInstalledRecord packages (record { path = path; entry = r.entry })) at.0 (from_records packages r found.1);
       differs = subst (λ (path : List ℕ). IsDifferent d.difference r.entry (files path)) at.0 (is_different r.entry (files r.path) d.difference at.1);
     }
 

@@ -2,10 +2,10 @@
 mod Reading
 mod RecordOrder
 mod RecordSteps
-mod Listings
+pub mod Listings
 mod AuditSteps
 mod SortedRecords
 mod Differing
-mod PathsOnce
+pub mod PathsOnce
 mod RisingPaths
 mod ManifestSteps

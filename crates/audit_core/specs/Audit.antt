@@ -1,5 +1,5 @@
--- The report of `audit`: the installed files that differ from their records. The rules are in
--- `docs/commands.md`, "`audit`"; bytes as listed are defined in "What a change does with files".
+-- What `audit` reports: the installed files that differ from their records. The rules are in
+-- `docs/commands.md`, "`audit`"; when bytes are as listed, in "What a change does with files".
 use Rattle.std.specs.Prelude.{ℕ, suc, List, [], ◌∷◌, ◌++◌, Option, Some, None, if◌then◌else◌}
 use Rattle.std.specs.List.{flat_map}
 use Rattle.adb_view.specs.Plain.{Plain}
@@ -35,7 +35,7 @@ differences_from read n (r ∷ rs) =
     difference_at r.path (difference_from r.entry (read n r.path))
     ++ differences_from read (suc n) rs
 
--- the line of a path with a difference
+-- what is reported of a path with a difference
 abbrev pub difference_text : Difference → List ℕ → List ℕ
 difference_text Missing path = missing_text path
 difference_text Changed path = changed_text path
@@ -44,8 +44,8 @@ difference_text Changed path = changed_text path
 abbrev pub difference_line : FileDifference → List ℕ
 difference_line d = report_line (difference_text d.difference d.path)
 
--- the report of an audit of some packages: a line for each file that differs from its record, in byte
--- order of the paths. This is the number of its first read
+-- the report of an audit of some packages: a line for each file that differs from its record, in
+-- byte order of the paths. The first of the reads that it rests on has this number
 unfoldable pub audit_report : Reads → ℕ → List Plain → List ℕ
 audit_report read first packages =
     flat_map difference_line (differences_from read first (records_by_path packages))

@@ -18,12 +18,12 @@ file_differences files packages =
     (records_by_path packages)
 
 -- one of the packages lists the file of a record
-pub record IsRecordOf (packages : List Plain) (r : FileRecord) : Type 0 where
+pub record IsInstalledRecord (packages : List Plain) (r : FileRecord) : Type 0 where
   pub pkg : Plain
   pub installed : IsIn pkg packages
   pub listed : IsIn r (package_records pkg)
 
--- the file found under a path differs in this way from the entry
+-- what is found under a path differs so from the entry
 abbrev pub IsDifferent : Difference → Plain → Option (List ℕ) → Type 0
 IsDifferent Missing entry found = found ≡ None
 IsDifferent Changed entry found = IsSomeAnd found (λ bytes. is_as_listed entry bytes ≡ false)
@@ -31,11 +31,11 @@ IsDifferent Changed entry found = IsSomeAnd found (λ bytes. is_as_listed entry 
 -- one of the packages lists a file under this path, and the file differs so from its entry
 pub record IsDifferenceIn (packages : List Plain) (files : Files) (d : FileDifference) : Type 0 where
   pub entry : Plain
-  pub recorded : IsRecordOf packages (record { path = d.path; entry = entry })
+  pub recorded : IsInstalledRecord packages (record { path = d.path; entry = entry })
   pub differs : IsDifferent d.difference entry (files d.path)
 
 -- each file that a package lists is there, with bytes as its entry lists them
 abbrev pub AreAsRecorded : List Plain → Files → Type 0
 AreAsRecorded packages files =
-    (r : FileRecord) → IsRecordOf packages r
+    (r : FileRecord) → IsInstalledRecord packages r
     → IsSomeAnd (files r.path) (λ bytes. is_as_listed r.entry bytes ≡ true)

@@ -1,9 +1,9 @@
--- cited by the contract of `apk`
+-- what the contract of `apk` says
 pub mod Records
 pub mod Audit
 pub mod Manifest
--- used by the laws only
+-- what only the laws say
 pub mod Differences
--- used by inner contracts and proofs only
+-- what only inner contracts and proofs use
 pub mod StoredRecords
 pub mod Seen

@@ -1,4 +1,4 @@
--- The report of `manifest`: the digest and path of each file of some packages. The rules are in
+-- What `manifest` reports: the digest and path of each file of some packages. The rules are in
 -- `docs/commands.md`, "`manifest`".
 use Rattle.std.specs.Prelude.{ℕ, List, [], ◌∷◌, ◌++◌, Option, Some, None, Result, Ok, Err}
 use Rattle.std.specs.List.{find, flat_map}
@@ -25,15 +25,15 @@ package_manifest pkg = flat_map manifest_line (package_records pkg)
 abbrev pub operand_package : List Plain → Operand → Option Plain
 operand_package packages o = find (is_package_named o.text) packages
 
--- a manifest of further packages, with lines before it; a refusal is unchanged
-abbrev pub with_lines : List ℕ → Result (List ℕ) Refusal → Result (List ℕ) Refusal
-with_lines lines further = and_then further (λ more. Ok (lines ++ more))
+-- a manifest of further packages, after these lines; a refusal is kept as it is
+abbrev pub manifest_after : List ℕ → Result (List ℕ) Refusal → Result (List ℕ) Refusal
+manifest_after lines further = and_then further (λ more. Ok (lines ++ more))
 
 -- the manifest with the package of an operand first, unless that is not installed
 abbrev pub manifest_with :
     Operand → Option Plain → Result (List ℕ) Refusal → Result (List ℕ) Refusal
 manifest_with o None further = Err (NotInstalled o.place)
-manifest_with o (Some pkg) further = with_lines (package_manifest pkg) further
+manifest_with o (Some pkg) further = manifest_after (package_manifest pkg) further
 
 -- the lines of the packages that operands name, in the order given; or the refusal of the first
 -- operand that names no installed package

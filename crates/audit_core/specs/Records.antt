@@ -10,7 +10,8 @@ use Rattle.adb_view.specs.Plain.{Plain}
 use Rattle.base_core.specs.ByteOrder.{bytes_cmp}
 use Rattle.base_core.specs.Sorted.{sorted_by}
 
--- the record of a file: the path that a package lists, and the entry, which lists the bytes of the file
+-- the record of a file: the path that a package lists, and the entry, which says what bytes the
+-- file has
 pub record FileRecord : Type 0 where
   pub path : List ℕ
   pub entry : Plain

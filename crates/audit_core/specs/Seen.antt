@@ -1,5 +1,5 @@
--- The meaning of values of the program. No rule of a document: serves the contracts of `src/records.rt`
--- and `src/comparing.rt`.
+-- What the values of the program mean. No rule of a document: serves the contracts of
+-- `src/records.rt` and `src/comparing.rt`.
 use Rattle.std.specs.Prelude.{Option, Some, None, if◌then◌else◌}
 use Rattle.adb_view.specs.Values.{value_at}
 use Rattle.adb_view.specs.declared.tables.Kind.TheVariants as Kinds

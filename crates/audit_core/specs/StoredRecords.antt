@@ -1,4 +1,4 @@
--- A record as the program stores it. No rule of a document: serves the model of `Record` in
+-- A record as the program keeps it. No rule of a document: serves the model of `Record` in
 -- `src/records.rt`.
 use Rattle.std.specs.Prelude.{ℕ, List}
 

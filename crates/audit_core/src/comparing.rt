@@ -31,23 +31,23 @@ pub enum Difference {
 }
 
 /// Compares each file that the packages of a database list with its record, and reports those that
-/// differ: `X PATH` for a missing file, `U PATH` for one with other bytes, in byte order of the
-/// paths. Each file is read once, in pieces of 65,536 bytes, and the tree is unchanged, whatever
-/// the answer. It allocates a few words for each listed file, and the report.
+/// differ: `X PATH` of a file that is missing, `U PATH` of one with other bytes, in byte order of
+/// the paths. Each file is read once, in pieces of 65,536 bytes, and the tree is left as it
+/// is, whatever the answer. It takes a few words for each file that is listed, and the report.
 ///
 /// # Errors
 ///
 /// `Disk` if the tree failed, and `Memory`.
 pub fn audit<T: Tree>(alloc: Global, db: &Db<'_>, tree: &mut T) -> Result<Text, TreeFault>
-    // It is the report of some contents at each read, from any number on; on an observable tree, of
-    // its files.
+    // It is the report of some contents at each read, from any number on; if the tree shows its
+    // files, of these.
     ensures report { (first : ℕ) → Explains (T.history tree.old) (λ read.
         IfOk result (λ report. report ≡ audit_report read first (packages_of db.now))) }
-    // The tree is only read; an I/O error has its cause there.
+    // The tree is only read; a fault of it has its cause.
     ensures tree { OnlyReads TreeFault.Disk (T.history tree.old) (T.history tree.new)
         (T.counts tree.old) (T.counts tree.new) result }
 {
-    // A law that the proof needs; it has no effect at run time.
+    // A law that the proof needs; it computes nothing.
     db.listed_paths_are_names();
     let records = records_by_path(alloc, db)?;
     let report = audit_records(alloc, &records, tree)?;
@@ -68,7 +68,7 @@ fn audit_records<T: Tree>(
         (T.counts tree.old) (T.counts tree.new) result }
 {
     let mut report = Vec::new(alloc);
-    // One piece for all files: clearing one for each small file would take longer than reading it.
+    // One piece for all files: to zero one for each small file would take longer than to read it.
     let mut piece = [0; PIECE_LEN];
     for record in records {
         audit_record(alloc, &mut report, record, tree, &mut piece)?;
@@ -76,8 +76,8 @@ fn audit_records<T: Tree>(
     Ok(report)
 }
 
-// Adds the line of a file, if it differs from its record. The file is read into the piece, whose
-// old bytes do not matter.
+// Adds the line of a file, if it differs from its record. The file is read into the piece; what
+// this has before does not matter.
 fn audit_record<T: Tree>(
     alloc: Global,
     report: &mut Vec<u8>,

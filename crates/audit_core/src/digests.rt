@@ -32,12 +32,12 @@ const SHA256_LEN: usize = 32;
 /// How many bytes a SHA-512 digest has (FIPS 180-4).
 const SHA512_LEN: usize = 64;
 
-/// Reports a line for each file of the named packages, in the order given: the digest in the
-/// database, and the path. The files of a package are in the order of the database.
+/// Reports a line for each file of the packages that are named, in the order given: the digest that
+/// the database has, and the path. The files of a package are in the order of the database.
 ///
 /// # Errors
 ///
-/// `NotInstalled` in the result at the first operand that names no installed package; otherwise out
+/// Within the answer `NotInstalled` at the first operand that names no installed package. Else out
 /// of memory.
 pub fn manifest(
     alloc: Global,
@@ -105,7 +105,7 @@ fn push_folder<'a>(
     ensures { OnOk result (report.new.items ≡ report.old.items
         ++ flat_map manifest_line (folder_records (entry_in (list_value folders.now) i))) }
 {
-    // Unreachable by the contract; `len` shows that a list has less than 2^32 entries.
+    // Excluded by the contract; `len` says that a list has fewer than 2^32 entries.
     if i >= folders.len() {
         unreachable!();
     }
@@ -141,7 +141,7 @@ fn push_file<'a>(
     ensures { OnOk result (report.new.items ≡ report.old.items
         ++ manifest_line (file_record folder.now (entry_in (list_value files.now) i))) }
 {
-    // Unreachable by the contract; `len` shows that a list has less than 2^32 entries.
+    // Excluded by the contract; `len` says that a list has fewer than 2^32 entries.
     if i >= files.len() {
         unreachable!();
     }

@@ -1,5 +1,4 @@
-//! What follows from the definition of the reports of `audit`. The rules are in `docs/commands.md`,
-//! "`audit`".
+//! What follows of the reports of `audit`. The rules are in `docs/commands.md`, "`audit`".
 
 ghost use Rattle.adb_fields.specs.FirstPair.{IsIn};
 ghost use Rattle.adb_fields.specs.Repeated.{entries_at};
@@ -15,25 +14,24 @@ ghost use Rattle.make_info.specs.Reads.{Reads};
 ghost use Rattle.std.specs.List.{flat_map};
 ghost use Rattle.std.specs.Prelude.{◌≡◌, ◌≤◌, ◌↔◌, [], ℕ, List, map};
 
-/// A report of an audit depends only on the reads from its first on, and not on those that a
-/// command makes before.
+/// A report of an audit rests on the reads from its first on alone. What a command reads before
+/// them is another matter.
 pub fn audits_rest_on_their_own_reads()
     ensures { (read other : Reads) (first : ℕ) (packages : List Plain)
         → ((n : ℕ) (name : List ℕ) → first ≤ n → read n name ≡ other n name)
         → audit_report read first packages ≡ audit_report other first packages }
 {}
 
-/// If the reads find files as they are, the report of an audit has a line for each file that
-/// differs from its record: an installed package lists it, and it is missing or has other bytes
-/// than its entry lists. No other file has a line. The paths are in strict byte order, so each has
-/// one line.
+/// If the reads find files as they are, the report of an audit has a line for each file that differs
+/// from its record: an installed package lists it, and it is missing or has other bytes than its
+/// entry lists. No other file has a line. The paths rise in byte order, so each has one line.
 pub fn an_audit_reports_just_the_files_that_differ()
     // The report is the lines of the differences.
     ensures report { (files : Files) (read : Reads) (first : ℕ) (packages : List Plain)
         → ((n : ℕ) (name : List ℕ) → read n name ≡ files name)
         → audit_report read first packages
         ≡ flat_map difference_line (file_differences files packages) }
-    // Each of these is one, and none is missing.
+    // Each of these is one, and none is left out.
     ensures each { (files : Files) (packages : List Plain) (d : FileDifference)
         → IsIn d (file_differences files packages) ↔ IsDifferenceIn packages files d }
     // Of a sound database each path is reported once, in byte order.

@@ -24,7 +24,7 @@ use std::marker::{Model, PhantomData};
 pub(crate) struct Record<'a> {
     /// The path of the file.
     pub(crate) path: FilePath<'a>,
-    /// The entry, which lists the bytes of the file.
+    /// The entry, which says what bytes the file has.
     pub(crate) file: FileInfo<'a>,
 }
 
@@ -50,7 +50,7 @@ impl<'a> Model for Record<'a> {
 }
 
 /// The records of all files that the packages of a database list, in byte order of their paths. It
-/// allocates a few words for each file, and compares paths as a sort does.
+/// takes a few words for each file, and compares paths as a sort does.
 ///
 /// # Errors
 ///
@@ -127,7 +127,7 @@ fn add_folder<'a>(
     ensures { OnOk result (map record_seen records.new.items ≡ map record_seen records.old.items
         ++ folder_records (entry_in (list_value folders.now) i)) }
 {
-    // Unreachable by the contract; `len` shows that a list has less than 2^32 entries.
+    // Excluded by the contract; `len` says that a list has fewer than 2^32 entries.
     if i >= folders.len() {
         unreachable!();
     }
@@ -161,7 +161,7 @@ fn add_file<'a>(
     ensures { OnOk result (map record_seen records.new.items ≡ map record_seen records.old.items
         ++ file_record folder.entry.now (entry_in (list_value files.now) i) ∷ []) }
 {
-    // Unreachable by the contract; `len` shows that a list has less than 2^32 entries.
+    // Excluded by the contract; `len` says that a list has fewer than 2^32 entries.
     if i >= files.len() {
         unreachable!();
     }

@@ -153,7 +153,7 @@ pub struct Operand {
 #[derive(Drop)]
 struct OperandEntry {
     operand: Operand,
-    // Parsed when it is added, so that borrowing it allocates no memory.
+    // Read at once, so that lending it wants no memory.
     file: Option<Name>,
 }
 

@@ -107,7 +107,7 @@ impl OptionValue {
 #[derive(Drop)]
 struct ValueEntry {
     value: OptionValue,
-    // Parsed when it is added, so that borrowing it allocates no memory.
+    // Read at once, so that lending it wants no memory.
     file: Option<Name>,
 }
 

@@ -6,4 +6,8 @@ pub mod Reading
 pub mod Entries
 pub mod KindShapes
 pub mod RootText
+pub mod Stable
+pub mod ReadBytes
+pub mod Completed
 pub mod Texts
+pub mod FirstBad

@@ -46,7 +46,7 @@ over_byte c le =
     let low : hex_value (slice_index lower_digits (c % 16)) ≡ c % 16 = hex_value-digit (c % 16) (omega arith) in
     ap (λ (d : ℕ). hex_value d * 16 + hex_value (slice_index lower_digits (c % 16))) high ∙ ap (λ (d : ℕ). 0 * 16 + d) low ∙ omega arith
 
-hash_bytes : (b : List ℕ) → unhex (encode_lower b) ≡ b → AreBytes b
+pub hash_bytes : (b : List ℕ) → unhex (encode_lower b) ≡ b → AreBytes b
 unfolding encode_with
 hash_bytes [] e = tt
 hash_bytes (c ∷ cs) e =
@@ -115,7 +115,7 @@ then_some : (o : Option (List ℕ)) (c : List ℕ) → option_and_then blob_read
 then_some None c e = absurd cc
 then_some (Some b) c e = ap Some (blob_some b c e)
 
-text_bytes : (b l : List ℕ) → text_read l ≡ Some (blob b) → text_form b ≡ l → AreBytes b
+pub text_bytes : (b l : List ℕ) → text_read l ≡ Some (blob b) → text_form b ≡ l → AreBytes b
 text_bytes b l r e = go (is_bare b) refl
   where
     go : (t : Bool) → is_bare b ≡ t → AreBytes b
@@ -136,11 +136,11 @@ no_blob form l (Some v) line k h other =
     let f : bytes_eq (line v) l ≡ false = differs (line v) l differ in
     rw f refl
 
-made_blob : (b : List ℕ) (v : Plain) → blob_read b ≡ Some v → (v ≡ blob b) × (b ≢ [])
+pub made_blob : (b : List ℕ) (v : Plain) → blob_read b ≡ Some v → (v ≡ blob b) × (b ≢ [])
 made_blob [] v e = absurd cc
 made_blob (c ∷ cs) v e = (cc, λ f. cc)
 
-some_text : (l : Line) (v : Plain) → text_read l ≡ Some v → (b : List ℕ) × (v ≡ blob b) × (b ≢ [])
+pub some_text : (l : Line) (v : Plain) → text_read l ≡ Some v → (b : List ℕ) × (v ≡ blob b) × (b ≢ [])
 some_text l v e =
     elim (chosen (begins_with_byte 0x22 l) _ _ _ e) [
       | inl x ↦ quoted (quoted_read (length l) (drop 1 l)) x.1

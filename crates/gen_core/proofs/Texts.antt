@@ -6,7 +6,7 @@ use Rattle.std.proofs.lemmas.Bool.{eqb-true}
 use Rattle.std.proofs.lemmas.List.{append-nil}
 use Rattle.std.proofs.lemmas.List.Concat.{flat_map-cons}
 use Rattle.hex.specs.Hex.{encode_with}
-use Rattle.adb_view.specs.Plain.{Plain}
+use Rattle.adb_view.specs.Plain.{Plain, null}
 use Rattle.adb_view.specs.declared.tables.Which.{Which}
 use Rattle.adb_view.specs.declared.tables.Which.TheVariants.{Dep, Acl, PkgInfo, File, Dir, Scripts, Package, Index, Idb, Intent}
 use Rattle.adb_schema.specs.Soundness.{schema_word}
@@ -16,6 +16,10 @@ use Rattle.adb_dump.specs.ReadBack.{LinesRead, add_char, split_lines, value_read
 use Rattle.adb_dump.specs.Values.{IsOfBytes, IsValueOf}
 use Rattle.adb_dump.proofs.Booleans.{bytes_eq-same, bytes_eq-true, chosen}
 use Rattle.adb_dump.proofs.ValueLaws.{only_values, read_back, text_split}
+use Rattle.adb_view.specs.Schema.{shape_of}
+use Rattle.adb_view.specs.declared.tables.Kind.TheVariants.{Obj}
+use Rattle.gen_core.specs.Dumps.{IsRootValue}
+use Rattle.gen_core.proofs.ReadBytes.{block_bytes}
 use Rattle.gen_core.specs.Generated.{DumpedRoot, TextLines, dumped_root, root_of_lines, root_of_table, root_read, root_tables, table_of_line, text_lines, unless_rest, lines_with_byte, with_first_byte}
 
 -- ---- lines and texts
@@ -114,51 +118,65 @@ unfolding dumped_root
 split_same t ls e = ap (λ (x : TextLines). and_then (root_of_lines x.0) (unless_rest x.1 (length x.0))) e
 
 -- each dump is read as the root that it is of
-pub dump_is_read : (w : Which) (v : Plain) → IsSome (schema_word w) → IsValueOf w v → IsOfBytes v → dumped_root (dump_text w v) ≡ Ok (record { which = w; value = v })
-dump_is_read w v some is bytes =
-    let lines : text_lines (dump_text w v) ≡ (dump_lines w v, []) = whole_lines (dump_text w v) (dump_lines w v) (text_split w v is.0) in
-    split_same (dump_text w v) (dump_lines w v) lines
-    ∙ ap (λ (o : Option Which). and_then (root_of_table o (value_lines w v)) (unless_rest [] (length (dump_lines w v)))) (line_of_root w some)
-    ∙ ap (λ (r : LinesRead Plain). and_then (root_read w r) (unless_rest [] (length (dump_lines w v)))) (read_back w v is bytes)
+pub lines_are_read : (w : Which) (v : Plain) → IsRootValue w v → root_of_lines (dump_lines w v) ≡ Ok (record { which = w; value = v })
+lines_are_read w v is =
+    ap (λ (o : Option Which). root_of_table o (value_lines w v)) (line_of_root w is.root) ∙ ap (root_read w) (read_back w v is.normal is.bytes)
 
--- a text that is read is the dump of its root
-pub record IsDumpOf (t : List ℕ) (r : DumpedRoot) : Type 0 where
-  pub root : IsSome (schema_word r.which)
-  pub normal : IsValueOf r.which r.value
-  pub lines : (text_lines t).0 ≡ dump_lines r.which r.value
-  pub rest : (text_lines t).1 ≡ []
+pub dump_is_read : (w : Which) (v : Plain) → IsRootValue w v → dumped_root (dump_text w v) ≡ Ok (record { which = w; value = v })
+dump_is_read w v is =
+    let lines : text_lines (dump_text w v) ≡ (dump_lines w v, []) = whole_lines (dump_text w v) (dump_lines w v) (text_split w v is.normal.0) in
+    split_same (dump_text w v) (dump_lines w v) lines
+    ∙ ap (λ (r : Result DumpedRoot ℕ). and_then r (unless_rest [] (length (dump_lines w v)))) (lines_are_read w v is)
+
+-- a value that is read is of bytes
+value_bytes : (w : Which) (ls : List Line) (v : Plain) → value_read w ls ≡ Ok v → IsOfBytes v
+unfolding IsOfBytes
+value_bytes w [] v e = let same : null ≡ v = cc in subst IsOfBytes same tt
+value_bytes w (l ∷ ls) v e = block_bytes (shape_of (Obj w)) (l ∷ ls) v e
+
+-- lines that are read are those of the dump of their root
+pub record AreLinesOf (ls : List Line) (root : DumpedRoot) : Type 0 where
+  pub is : IsRootValue root.which root.value
+  pub lines : dump_lines root.which root.value ≡ ls
 
 abbrev ok_root : DumpedRoot → Result DumpedRoot ℕ
 ok_root r = Ok r
 
-root_ok : (w : Which) (r : LinesRead Plain) (rest : List ℕ) (n : ℕ) (root : DumpedRoot) → and_then (root_read w r) (unless_rest rest n) ≡ Ok root → (rest ≡ []) × (w ≡ root.which) × (r ≡ Ok root.value)
-root_ok w (Err k) rest n root e = absurd cc
-root_ok w (Ok v) (c ∷ cs) n root e = absurd cc
-root_ok w (Ok v) [] n root e = let same : record { which = w; value = v } ≡ root = inner (record { which = w; value = v }) root e in (refl, ap (λ (r : DumpedRoot). r.which) same, ap (λ (r : DumpedRoot). let x : LinesRead Plain = Ok r.value in x) same)
-  where
-    inner : (p q : DumpedRoot) → ok_root p ≡ ok_root q → p ≡ q
-    inner p q e = cc
+same_root : (p q : DumpedRoot) → ok_root p ≡ ok_root q → p ≡ q
+same_root p q e = cc
 
-pub what_is_read : (t : List ℕ) (root : DumpedRoot) → dumped_root t ≡ Ok root → IsDumpOf t root
+value_lines_of : (l : Line) (ls : List Line) (w : Which) (r : LinesRead Plain) (root : DumpedRoot) → table_of_line l ≡ Some w → value_read w ls ≡ r → root_read w r ≡ Ok root → AreLinesOf (l ∷ ls) root
+value_lines_of l ls w (Err k) root t e ok = absurd cc
+value_lines_of l ls w (Ok v) root t e ok =
+    let names = root_of_line l w t in
+    let only = only_values w ls v e in
+    subst (AreLinesOf (l ∷ ls)) (same_root (record { which = w; value = v }) root ok) (record {
+      is = record { root = names.root; normal = only.1; bytes = value_bytes w ls v e };
+      lines = ap (λ (x : Line). x ∷ value_lines w v) names.line ∙ ap (λ (x : List Line). l ∷ x) only.0;
+    })
+
+table_lines_of : (l : Line) (ls : List Line) (o : Option Which) (root : DumpedRoot) → table_of_line l ≡ o → root_of_table o ls ≡ Ok root → AreLinesOf (l ∷ ls) root
+table_lines_of l ls None root t ok = absurd cc
+table_lines_of l ls (Some w) root t ok = value_lines_of l ls w (value_read w ls) root t refl ok
+
+pub lines_of_root : (ls : List Line) (root : DumpedRoot) → root_of_lines ls ≡ Ok root → AreLinesOf ls root
+lines_of_root [] root ok = absurd cc
+lines_of_root (l ∷ ls) root ok = table_lines_of l ls (table_of_line l) root refl ok
+
+-- a text that is read is the dump of its root
+no_rest : (r : Result DumpedRoot ℕ) (rest : List ℕ) (n : ℕ) (root : DumpedRoot) → and_then r (unless_rest rest n) ≡ Ok root → (r ≡ Ok root) × (rest ≡ [])
+no_rest (Err k) rest n root e = absurd cc
+no_rest (Ok x) [] n root e = (e, refl)
+no_rest (Ok x) (c ∷ cs) n root e = absurd cc
+
+parts_read : (t : List ℕ) (root : DumpedRoot) → dumped_root t ≡ Ok root → (root_of_lines (text_lines t).0 ≡ Ok root) × ((text_lines t).1 ≡ [])
 unfolding dumped_root
-what_is_read t root e = go (text_lines t).0 refl e
-  where
-    table : (l : Line) (ls : List Line) (o : Option Which) → table_of_line l ≡ o → (text_lines t).0 ≡ l ∷ ls → and_then (root_of_table o ls) (unless_rest (text_lines t).1 (length (l ∷ ls))) ≡ Ok root → IsDumpOf t root
-    table l ls None f is e = absurd cc
-    table l ls (Some w) f is e =
-        let (rest, which, value) = root_ok w (value_read w ls) (text_lines t).1 (length (l ∷ ls)) root e in
-        let names = root_of_line l w f in
-        let only = only_values w ls root.value value in
-        let lines : (text_lines t).0 ≡ dump_lines w root.value = is ∙ ap (λ (x : Line). x ∷ ls) (sym names.line) ∙ ap (λ (x : List Line). schema_line (schema_word w) ∷ x) (sym only.0) in
-        subst (λ (x : Which). IsSome (schema_word x) → IsValueOf x root.value → (text_lines t).0 ≡ dump_lines x root.value → IsDumpOf t root) (sym which)
-        (λ a b c. record { root = a; normal = b; lines = c; rest = rest })
-        names.root only.1 lines
+parts_read t root e = no_rest (root_of_lines (text_lines t).0) (text_lines t).1 (length (text_lines t).0) root e
 
-    go : (ls : List Line) → (text_lines t).0 ≡ ls → and_then (root_of_lines ls) (unless_rest (text_lines t).1 (length ls)) ≡ Ok root → IsDumpOf t root
-    go [] is e = absurd cc
-    go (l ∷ ls) is e = table l ls (table_of_line l) refl is e
-
-pub text_read_is : (t : List ℕ) (root : DumpedRoot) → dumped_root t ≡ Ok root → dump_text root.which root.value ≡ t
-text_read_is t root e =
-    let d = what_is_read t root e in
-    ap text_of (sym d.lines) ∙ sym (append-nil (text_of (text_lines t).0)) ∙ ap (λ (x : List ℕ). text_of (text_lines t).0 ++ x) (sym d.rest) ∙ text_of_lines t
+pub what_is_read : (t : List ℕ) (root : DumpedRoot) → dumped_root t ≡ Ok root → IsRootValue root.which root.value × (dump_text root.which root.value ≡ t)
+what_is_read t root e =
+    let (ok, rest) = parts_read t root e in
+    let r = lines_of_root (text_lines t).0 root ok in (
+      r.is,
+      ap text_of r.lines ∙ sym (append-nil (text_of (text_lines t).0)) ∙ ap (λ (x : List ℕ). text_of (text_lines t).0 ++ x) (sym rest) ∙ text_of_lines t,
+    )

@@ -1,6 +1,6 @@
--- A position in a text, at the beginning of a line, and the block of lines that begins there. The rule
--- is in `docs/formats.md`, "Dump text": a line is indented by two spaces for each level. Serves the
--- contracts of `src/cursor.rt` and `src/read.rt`.
+-- A place in a text, at the beginning of a line, and the block of lines that begins there.
+-- The rule is in `docs/formats.md`, "Dump text": a line is indented by two spaces for each level.
+-- Serves the contracts of `src/cursor.rt` and `src/read.rt`.
 use Rattle.std.specs.Prelude.{ℕ, ◌+◌, List, [], ◌∷◌, ◌++◌, length, Option, Some, None}
 use Rattle.adb_dump.specs.Dump.{Line}
 use Rattle.adb_dump.specs.Margin.{margin}
@@ -16,12 +16,12 @@ pub record CursorState : Type 0 where
   -- how many levels of two bytes in front of that line were read already
   pub levels : ℕ
 
--- a position by its parts
+-- a place by its parts
 abbrev pub cursor_by : List Line → ℕ → ℕ → CursorState
 cursor_by lines number levels = record { lines = lines; number = number; levels = levels }
 
--- the lines from the one that is read on, of which this many levels were read, to the last that has its
--- line end
+-- the lines from the one that is read on, of which the first so many levels were read, to the last
+-- that has its line end
 abbrev pub lines_from : ℕ → Option Line → List ℕ → List Line
 lines_from levels None rest = []
 lines_from levels (Some l) rest = (margin levels ++ l) ∷ (text_lines rest).0
@@ -36,8 +36,8 @@ abbrev pub line_of_block : List Line → Option Line
 line_of_block [] = None
 line_of_block (l ∷ ls) = Some l
 
--- the first lines that are indented by this many levels, without these spaces, which are a block; and
--- the lines after them
+-- the lines in front that are indented by so many levels, without these spaces, which are a block;
+-- and the lines after them
 abbrev pub block_at : ℕ → List Line → List Line × List Line
 block_at depth [] = ([], [])
 block_at depth (l ∷ ls) = stop_or_add l ls (strip_prefix (margin depth) l) (block_at depth ls)
@@ -52,13 +52,13 @@ abbrev pub after_block : List Line × List Line → CursorState → CursorState
 after_block block c =
     cursor_by block.1 (c.number + length block.0) (levels_after block.0 c.levels)
 
--- the position after the line that is read; the same position if there is none
+-- the place after the line that is read; the same place if there is none
 abbrev pub after_line : List Line → CursorState → CursorState
 after_line [] c = c
 after_line (l ∷ ls) c = cursor_by ls (c.number + 1) 0
 
--- the position at which the line that is read is such an entry, this many levels deep: its dash is in
--- the last of these levels
+-- the place at which the line that is read is such an entry, so many levels deep: its dash is in the
+-- last of these levels
 abbrev pub at_entry : ℕ → Line → List Line → CursorState → CursorState
 at_entry levels entry [] c = c
 at_entry levels entry (l ∷ ls) c = cursor_by ((margin levels ++ entry) ∷ ls) c.number levels

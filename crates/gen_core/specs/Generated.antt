@@ -1,6 +1,6 @@
--- The root of a dump text, and the container of that root. Which text a root has is defined in `Dump`
--- of `adb_dump`, and how lines are read back in its `ReadBack`. The rules are in `docs/formats.md`,
--- "Dump text" and "Canonical layout".
+-- The root that a dump text says, and the container of that root. Which text a root has is defined
+-- in `Dump` of `adb_dump`, and how lines are read back in its `ReadBack`.
+-- The rules are in `docs/formats.md`, "Dump text" and "Canonical layout".
 use Rattle.std.specs.Prelude.{◌≡◌, ℕ, ⊤, ◌+◌, List, [], ◌∷◌, length, bytes_eq, find, Option, Some, None, unwrap_or, Result, Ok, Err, ◌==◌, if◌then◌else◌}
 use Rattle.base_core.specs.Lists.{and_then}
 use Rattle.adb_view.specs.Plain.{Plain}
@@ -20,8 +20,8 @@ use Rattle.gen_core.specs.declared.generate.GenFault.TheVariants.{Bad, TooLarge,
 abbrev pub TextLines : Type 0
 TextLines = List Line × List ℕ
 
--- the lines of a text with one more byte before it, which is no line end: it belongs to the first line,
--- or to the bytes after the last line end
+-- the lines of a text with one byte more in front, which is no line end: it belongs to the first
+-- line, or to the bytes after the last line end
 abbrev pub with_first_byte : ℕ → List Line → List ℕ → TextLines
 with_first_byte c [] rest = ([], c ∷ rest)
 with_first_byte c (l ∷ ls) rest = ((c ∷ l) ∷ ls, rest)
@@ -36,7 +36,7 @@ abbrev pub text_lines : List ℕ → TextLines
 text_lines [] = ([], [])
 text_lines (c ∷ cs) = lines_with_byte c (text_lines cs)
 
--- ---- the root of a text
+-- ---- the root that a text says
 
 -- the root of a container: its table, and its plain value
 pub record DumpedRoot : Type 0 where
@@ -49,7 +49,7 @@ pub record DumpedRoot : Type 0 where
 abbrev pub root_tables : List Which
 root_tables = Package ∷ Index ∷ Idb ∷ Intent ∷ []
 
--- the table of the root whose schema a first line names; None if it names none of the four
+-- the table of the root whose schema a first line names; None where it names none of the four
 abbrev pub table_of_line : Line → Option Which
 table_of_line l = find (λ which. bytes_eq l (schema_line (schema_word which))) root_tables
 
@@ -64,19 +64,18 @@ abbrev pub root_of_table : Option Which → List Line → Result DumpedRoot ℕ
 root_of_table None ls = Err 1
 root_of_table (Some which) ls = root_read which (value_read which ls)
 
--- the root of these lines, or the number of the first bad line, from 1; an empty list lacks the first
--- line
+-- the root that lines say, or the number of the first bad line, from 1; no lines lack the first
 abbrev pub root_of_lines : List Line → Result DumpedRoot ℕ
 root_of_lines [] = Err 1
 root_of_lines (l ∷ ls) = root_of_table (table_of_line l) ls
 
--- the root, unless there are bytes after the last line end: they are the bad line after this many
+-- the root, unless there are bytes after the last line end: they are the bad line after so many
 abbrev pub unless_rest : List ℕ → ℕ → DumpedRoot → Result DumpedRoot ℕ
 unless_rest [] lines root = Ok root
 unless_rest (c ∷ cs) lines root = Err (lines + 1)
 
--- the root of a text, or the number, from 1, of the first line that no dump has after the lines before
--- it
+-- the root that a text says, or the number, from 1, of the first line that no dump has after the
+-- lines before it
 unfoldable pub dumped_root : List ℕ → Result DumpedRoot ℕ
 dumped_root text = let lines = text_lines text in
     and_then (root_of_lines lines.0) (unless_rest lines.1 (length lines.0))
@@ -98,7 +97,7 @@ abbrev pub file_of_root : Result DumpedRoot ℕ → Result (List ℕ) GenFault
 file_of_root (Ok root) = file_unless_too_large (word_of_root root.which) (written_of root.value)
 file_of_root (Err line) = Err (Bad line)
 
--- the container that is generated from a dump text; or the error: the first bad line, otherwise the
+-- the container that is generated from a dump text; or what is reported: the first bad line, else the
 -- counts of a payload that is too large
 unfoldable pub generated_file : List ℕ → Result (List ℕ) GenFault
 generated_file text = file_of_root (dumped_root text)

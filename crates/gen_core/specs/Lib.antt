@@ -1,10 +1,10 @@
--- The definitions of `gen_core`. The head of each file names the section with its rule.
+-- The definitions of `gen_core`. The head of each file says where its rule is.
 
--- cited by the contract of `gen_`
+-- cited by the contract of `apk`
 pub mod Generated
--- cited by a law
-pub mod FirstBadLine
--- used by inner contracts and proofs only
+-- what the laws say
+pub mod Dumps
+-- what only inner contracts and proofs use
 pub mod Cursors
 pub mod Reads
 pub mod Quoted

@@ -1,10 +1,10 @@
--- The bytes that characters of a line mean: two hexadecimal digits, and a character or an escape of a
--- text between quotes. The rule is in `docs/formats.md`, "Dump text". Serves the contracts of
+-- The bytes that characters of a line write: two hexadecimal digits, and a character or an escape of
+-- a text between quotes. The rule is in `docs/formats.md`, "Dump text". Serves the contracts of
 -- `src/value.rt`.
 use Rattle.std.specs.Prelude.{ℕ, ◌+◌, ◌-◌, ◌*◌, ◌&&◌, ◌||◌, List, [], ◌∷◌, Option, Some, None, option_map, option_and_then, nat_le, ◌==◌, if◌then◌else◌}
 use Rattle.adb_dump.specs.Dump.{is_printable}
 
--- the first byte, and the characters after those that mean it
+-- the byte that comes first, and the characters after those that write it
 abbrev pub FirstByte : Type 0
 FirstByte = ℕ × List ℕ
 
@@ -21,7 +21,7 @@ byte_of_digits None low cs = None
 byte_of_digits (Some high) None cs = None
 byte_of_digits (Some high) (Some low) cs = Some (high * 16 + low, cs)
 
--- the byte of the first two digits
+-- the byte of the two digits that come first
 abbrev pub hex_byte_at : List ℕ → Option FirstByte
 hex_byte_at [] = None
 hex_byte_at (h ∷ []) = None
@@ -32,7 +32,7 @@ abbrev pub unless_shorter : Option FirstByte → Option FirstByte
 unless_shorter None = None
 unless_shorter (Some b) = if b.0 == 0x0a || is_printable b.0 then None else Some b
 
--- the byte of the escape after its backslash
+-- the byte of the escape whose backslash came before
 abbrev pub escaped_at : List ℕ → Option FirstByte
 escaped_at [] = None
 escaped_at (d ∷ cs) =
@@ -42,7 +42,7 @@ escaped_at (d ∷ cs) =
     else if d == 0x78 then unless_shorter (hex_byte_at cs)
     else None
 
--- the first byte between quotes: a printable one as it is, or an escape
+-- the byte that comes first between quotes: a printable one as it is, or an escape
 abbrev pub unescaped_at : List ℕ → Option FirstByte
 unescaped_at [] = None
 unescaped_at (c ∷ cs) =

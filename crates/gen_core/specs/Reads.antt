@@ -1,5 +1,6 @@
--- The effect of reading on a draft and on the position in the text, by what lines are read as. The rule
--- is in `docs/formats.md`, "Dump text". Serves the contracts of `src/read.rt` and `src/value.rt`.
+-- What reading does to a draft and to the place in the text, by what lines are read as.
+-- The rule is in `docs/formats.md`, "Dump text". Serves the contracts of `src/read.rt` and
+-- `src/value.rt`.
 use Rattle.std.specs.Prelude.{◌≡◌, ◌≢◌, ℕ, ⊤, ◌+◌, ◌<◌, Bool, true, false, List, [], ◌∷◌, Option, Some, None, Result, Ok, Err, bytes_eq, codes}
 use Rattle.std.specs.List.{AllByRecursion}
 use Rattle.adb_view.specs.Plain.{Plain, Plains, Shape, number, text, hash, array, object}
@@ -37,7 +38,7 @@ IsLineRead false read old new = read ≡ Err 0
 
 -- ---- blocks
 
--- the result of reading: a draft, and the position from which more is read into it; or the number of
+-- what reading comes to: a draft, and the place from which more is read into it; or the number of
 -- the first bad line, from 1
 abbrev pub Read : Type 0
 Read = Result (DraftState × CursorState) ℕ
@@ -68,13 +69,13 @@ abbrev pub is_null_line : Option Line → Bool
 is_null_line None = false
 is_null_line (Some l) = bytes_eq l (codes "null")
 
--- a block is at its end; or its first line is bad
+-- nothing is left of a block; or its first line is bad
 abbrev pub end_read : List Line → ℕ → Result (Unit {0}) GenFault
 end_read [] n = Ok tt
 end_read (l ∷ ls) n = Err (Bad n)
 
--- a fault is the bad line of this result; out of memory may be reported at any position, and a payload
--- that is too large is reported at the end of the text alone
+-- a fault is the bad line that reading comes to; out of memory may be reported at any place, and a
+-- payload that is too large is reported at the end of the text alone
 abbrev pub IsTextFault : {A : Type 0} → GenFault → Result A ℕ → Type 0
 IsTextFault (Bad line) read = read ≡ Err line
 IsTextFault (TooLarge bytes values) read = ⊥

@@ -1,5 +1,6 @@
-//! A position in a text that is read line by line. The rule is in `docs/formats.md`, "Dump text": a
-//! line is indented by two spaces for each level, and each line has its line end.
+//! A place in a text that is read line by line.
+//! The rule is in `docs/formats.md`, "Dump text": a line is indented by two spaces for each level,
+//! and each line has its line end.
 
 ghost use Rattle.std.specs.Prelude.{◌≡◌, ◌+◌, ◌≤◌, ◌<◌, ◌^◌, [], ◌∷◌, length, MatchOption, option_copied};
 ghost use Rattle.adb_dump.specs.Margin.{margin};
@@ -46,7 +47,7 @@ impl<'a> Cursor<'a> {
         Cursor::at(text, 1)
     }
 
-    /// The position at the beginning of these bytes, at the line with this number.
+    /// The place at the beginning of these bytes, where the line has this number.
     fn at(text: &'a [u8], number: u64) -> Cursor<'a>
         requires { number + length text.now < 2 ^ 64 }
         ensures { result ≡ cursor_by (text_lines text.entry.now).0 number 0 }
@@ -89,8 +90,7 @@ impl<'a> Cursor<'a> {
         }
     }
 
-    /// Reads the dash of an entry, the rest of whose line is this: the line is then one of this
-    /// depth.
+    /// Reads the dash of an entry, of whose line this is left: the line is then one of this depth.
     pub(crate) fn read_dash(&mut self, entry: &'a [u8], depth: u32)
         ensures { self.new ≡ at_entry depth entry.entry.now self.old.lines self.old }
     {
@@ -100,7 +100,7 @@ impl<'a> Cursor<'a> {
         }
     }
 
-    /// The error that this line cannot be here.
+    /// That the line cannot stand there.
     pub(crate) fn bad_line(&self) -> GenFault
         ensures { result ≡ Bad self.now.number }
     {
@@ -122,7 +122,7 @@ fn first_line(text: &[u8]) -> Option<(&[u8], &[u8])>
     }
 }
 
-/// A line without this many levels of two spaces in front, if it has them.
+/// A line without so many levels of two spaces in front, if it has them.
 fn without_levels(line: &[u8], levels: u32) -> Option<&[u8]>
     ensures { option_copied result ≡ strip_prefix (margin levels) line.entry.now }
 {
@@ -136,7 +136,7 @@ fn without_levels(line: &[u8], levels: u32) -> Option<&[u8]>
     Some(inner)
 }
 
-/// The rest of a line after a prefix, if it begins with that.
+/// What a line has after a prefix, if it begins with that.
 pub(crate) fn without_prefix<'a>(line: &'a [u8], prefix: &[u8]) -> Option<&'a [u8]>
     ensures { option_copied result ≡ strip_prefix prefix.now line.entry.now }
 {

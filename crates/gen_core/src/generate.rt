@@ -1,5 +1,5 @@
-//! The container of a dump text, or why there is none. The rules are in `docs/formats.md`, "Dump
-//! text" and "Canonical layout".
+//! The container of a dump text, and why there is none.
+//! The rules are in `docs/formats.md`, "Dump text" and "Canonical layout".
 
 ghost use Rattle.std.specs.Prelude.{◌≡◌, IfErr, IfOk, OnOk, Ok, Err, Some, None};
 ghost use Rattle.gen_core.specs.declared.generate.GenFault.TheVariants.{Bad};
@@ -15,14 +15,14 @@ use adb_write::{WriteFault, file_of};
 use std::alloc::{AllocError, Global};
 use thiserror::Error;
 
-/// The container whose dump is `text`: `adbdump` prints exactly this text of it. It has the
+/// The container that a dump text is of: the text that `adbdump` prints of it is `text`. It has the
 /// canonical layout, and no contents of files. Rules of texts, such as that of versions, are not
 /// tested.
 ///
 /// # Errors
 ///
-/// `Bad` with the number of the first line that no dump has after the lines before it; otherwise
-/// `TooLarge`, if the payload exceeds a limit of the writer. Or `Memory`.
+/// `Bad` with the number of the first line that no dump text has after the lines before it; else
+/// `TooLarge`, if the payload passes a limit of the writer. Or `Memory`.
 pub fn gen_(alloc: Global, text: &[u8]) -> Result<Vec<u8>, GenFault>
     ensures ok { IfOk result (λ file. generated_file text.now ≡ Ok file.items) }
     ensures err { IfErr result (λ fault. IsGenFault fault (generated_file text.now)) }
@@ -45,7 +45,7 @@ fn fault_of_writer(fault: WriteFault) -> GenFault
     }
 }
 
-/// Reads a text: adds the value of its root to the draft, and returns its table.
+/// Reads a text: the value of its root is added to the draft, and its table is the answer.
 fn read_text(alloc: Global, draft: &mut Draft, text: &[u8]) -> Result<Which, GenFault>
     ensures ok { IfOk result (λ which. root_taken (dumped_root text.now) draft.old
         ≡ Ok (which, draft.new)) }
@@ -132,13 +132,13 @@ fn word_of_root(which: Which) -> u32
 /// Why no container is generated from a text.
 #[derive(Clone, Copy, Debug, PartialEq, Eq, Drop, Error)]
 pub enum GenFault {
-    /// The number, from 1, of the first line that no dump has after the lines before it. If another
-    /// line must follow, it is the number of lines plus 1. A last line without a line end is a bad
-    /// line.
+    /// The number, from 1, of the first line that no dump text has after the lines before it. If
+    /// another line must follow, it is the number of lines plus 1. A last line without a line end
+    /// is a bad line.
     #[error("bad line {line}")]
     Bad { line: u64 },
-    /// The payload would exceed a limit of the writer. The counts are those just after the value
-    /// that does: the payload's bytes, and its values with the root.
+    /// The payload would pass a limit of the writer. The counts are those just after the value that
+    /// does: the payload's bytes, and its values with the root.
     #[error("a payload of {bytes} bytes and {values} values is too large")]
     TooLarge { bytes: u64, values: u64 },
     /// Out of memory.

@@ -1,5 +1,5 @@
-//! Reads a dump text back: from the text that `adbdump` prints it makes the container of its root,
-//! in its canonical layout and without contents of files.
+//! A dump text is read back: the text that `adbdump` prints goes in, and the container of its root
+//! comes out, in its canonical layout and without contents of files.
 //!
 //! A text is read from front to end in one pass, by the tables of fields (`adb_schema`), and its
 //! values are written as they are read (`adb_values`). The first line that no dump has after the
@@ -17,4 +17,6 @@ mod read;
 mod value;
 
 pub use generate::{GenFault, gen_};
-pub use laws::a_text_is_accepted_exactly_if_a_root_has_it;
+pub use laws::{
+    a_text_is_accepted_exactly_if_a_root_has_it, the_reported_line_is_the_first_that_no_dump_has,
+};

@@ -21,8 +21,8 @@ use adb_schema::{Field, FieldName, Kind, Which, fields_of};
 use adb_values::Draft;
 use std::alloc::{AllocError, Global};
 
-/// Reads the root of a text, an object of this table, of all remaining lines; without any, the root
-/// is Null.
+/// Reads the root of a text, an object of this table, of all lines that are left; where none is,
+/// the root is Null.
 pub(crate) fn read_root(
     alloc: Global,
     draft: &mut Draft,
@@ -93,7 +93,7 @@ fn read_only_line(
     end_block(cursor, depth)
 }
 
-/// Reads the rest of the line as a value of the kind, and goes to the next line.
+/// Reads what is left of the line as a value of the kind, and goes to the next line.
 fn read_line(
     draft: &mut Draft,
     cursor: &mut Cursor<'_>,
@@ -113,7 +113,7 @@ fn read_line(
     Ok(())
 }
 
-/// Reads a line as a value of the kind; false if it is none.
+/// Reads a line as a value of the kind; false where it is that of none.
 fn read_value(
     draft: &mut Draft,
     scratch: &mut Vec<u8>,
@@ -190,7 +190,7 @@ fn read_array(
     Ok(())
 }
 
-/// Reads a block as values of the kind, each after a dash.
+/// Reads a block as values of the kind, each behind a dash.
 #[cycle(block)]
 fn read_entries(
     draft: &mut Draft,
@@ -315,7 +315,7 @@ fn read_fields(
     end_block(cursor, depth)
 }
 
-/// The rest of a line after the name of a field and a colon, if it begins with these.
+/// What a line has after the name of a field and a colon, if it begins with these.
 fn after_name(line: &[u8], name: FieldName) -> Option<&[u8]>
     ensures { option_copied result
         ≡ strip_prefix (field_name_text name ++ codes ":") line.entry.now }
@@ -326,8 +326,8 @@ fn after_name(line: &[u8], name: FieldName) -> Option<&[u8]>
     }
 }
 
-/// Reads the value of a field from the rest of its first line, after its name: on that line, or in
-/// the block below it.
+/// Reads the value of a field, of whose first line this is left after its name: on that line, or
+/// in the block below it.
 #[cycle(block)]
 fn read_named(
     draft: &mut Draft,

@@ -13,7 +13,7 @@ use adb_dump::is_bare;
 use itoa::Buffer;
 use std::alloc::AllocError;
 
-/// The integer with these decimal digits; None if there is no such integer below 2^64.
+/// The integer whose decimal digits are the line; None if there is no such integer below 2^64.
 pub(crate) fn number_in(line: &[u8]) -> Option<u64>
     ensures { MatchOption result ((n : ℕ) → n < 2 ^ 64 → decimal n ≢ line.now)
         (λ n. (n < 2 ^ 64) × (decimal n ≡ line.now)) }
@@ -54,7 +54,7 @@ pub(crate) fn read_hash(bytes: &mut Vec<u8>, line: &[u8]) -> Result<bool, AllocE
     Ok(rest.is_empty())
 }
 
-/// The byte of the first two hexadecimal digits, and what follows them.
+/// The byte of the two hexadecimal digits that come first, and what follows them.
 fn hex_byte(text: &[u8]) -> Option<(u8, &[u8])>
     ensures { option_map (λ first. (first.0, first.1.now)) result ≡ hex_byte_at text.entry.now }
 {
@@ -127,7 +127,7 @@ fn is_quote(text: &[u8]) -> bool
     text == b"\"".as_slice()
 }
 
-/// The first byte between quotes, and what follows it; None if no byte has such a form.
+/// The byte that comes first between quotes, and what follows it; None if no byte has such a form.
 fn unescaped(text: &[u8]) -> Option<(u8, &[u8])>
     ensures { option_map (λ first. (first.0, first.1.now)) result ≡ unescaped_at text.entry.now }
 {

@@ -5,8 +5,8 @@ pub mod Replacing
 pub mod Quiet
 pub mod Staged
 pub mod Kept
-pub mod Targets
 -- what only inner contracts and proofs use
+pub mod Targets
 pub mod Reading
 pub mod Filling
 pub mod Entering

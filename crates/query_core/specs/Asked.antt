@@ -45,7 +45,7 @@ pub record IsVersionOfName (candidates : List Candidate) (name : List ℕ) (vers
   pub name_is : candidate.name ≡ name
   pub version_is : candidate.version ≡ version
 
--- each element of a list precedes all that follow it
+-- each element of a list comes before all that follow it
 abbrev pub ComeInOrder : {X : Type 0} → (X → X → Ordering) → List X → Type 0
 ComeInOrder cmp [] = Unit {0}
 ComeInOrder {X} cmp (x ∷ xs) = ((y : X) → IsIn y xs → cmp x y ≡ Less) × ComeInOrder cmp xs

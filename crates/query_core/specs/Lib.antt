@@ -1,14 +1,14 @@
--- The definitions of this crate. The head of each file names the section with its rule.
+-- The definitions of this crate. Each file names the place of its rule.
 
--- cited by the contract of `apk`
+-- what the contract of `apk` says
 pub mod Order
 pub mod List
 pub mod Search
 pub mod Policy
 pub mod Queries
--- used by the laws only
+-- what only the laws say
 pub mod Asked
--- used by inner contracts and proofs only
+-- what only inner contracts and proofs use
 pub mod Appends
 pub mod QueryRanking
 pub mod Lines

@@ -1,4 +1,4 @@
--- The report of `list` (apk(8)). The rule is in `docs/commands.md`, "`list`".
+-- What `list` prints (apk(8)). The rule is in `docs/commands.md`, "`list`".
 use Rattle.std.specs.Prelude.{ℕ, ◌==◌, Bool, not, ◌&&◌, ◌||◌, List, length}
 use Rattle.std.specs.List.{flat_map, list_any}
 use Rattle.adb_view.specs.FieldIndexes.{INFO_ARCH, INFO_LICENSE, INFO_ORIGIN}
@@ -25,7 +25,8 @@ candidate_line c =
     list_line c.name (printed_version c.version) (text_in (entry_in c.info INFO_ARCH))
     (text_in (entry_in c.info INFO_ORIGIN)) (text_in (entry_in c.info INFO_LICENSE)) c.installed
 
--- the report of `list` on candidates, by its patterns and whether only installed packages are asked for
+-- what `list` prints of candidates, by its patterns and whether only installed packages are asked
+-- for
 abbrev pub list_report : List Candidate → List Operand → Bool → List ℕ
 list_report candidates patterns installed_only =
     flat_map candidate_line

@@ -9,8 +9,8 @@ use Rattle.candidate_core.specs.Options.{places_from}
 use Rattle.candidate_core.specs.Rank.{bytes_cmp, greater_version}
 use Rattle.base_core.specs.Sorted.{sorted_by}
 
--- the text of a version, as it is printed; empty if there is none: each candidate of a tested container
--- has one
+-- the text of a version, as it is printed; empty if there is none, and no candidate of a tested
+-- container lacks one
 abbrev pub printed_version : Option (List ℕ) → List ℕ
 printed_version version = unwrap_or version []
 
@@ -22,8 +22,8 @@ name_and_version_cmp =
     (then_cmp (on (λ (c : Candidate). c.version) greater_version)
     (on (λ (c : Candidate). c.version) (option_cmp bytes_cmp)))
 
--- the order of two places in a list of candidates: by the candidates there, and otherwise the earlier
--- place first
+-- the order of two places in a list of candidates: by the candidates there, and else the earlier
+-- place comes first
 abbrev pub query_cmp : List Candidate → ℕ → ℕ → Ordering
 query_cmp candidates =
     then_cmp (on (slice_get candidates) (option_cmp name_and_version_cmp)) nat_cmp

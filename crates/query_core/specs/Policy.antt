@@ -1,4 +1,4 @@
--- The report of `policy` (apk(8)). The rule is in `docs/commands.md`, "`policy`".
+-- What `policy` prints (apk(8)). The rule is in `docs/commands.md`, "`policy`".
 use Rattle.std.specs.Prelude.{ℕ, ◌+◌, ◌==◌, Bool, false, ◌&&◌, if◌then◌else◌, List, [], ◌∷◌, ◌++◌, map, Option}
 use Rattle.std.specs.List.{filter, flat_map, list_any}
 use Rattle.std.specs.Option.{option_map_or}
@@ -15,7 +15,7 @@ use Rattle.query_core.specs.Order.{printed_version, selected_candidates}
 abbrev pub has_own_name : List ℕ → Candidate → Bool
 has_own_name name c = bytes_eq name c.name
 
--- versions, with each text only once
+-- versions, of which those with one text are left once
 abbrev pub versions_once : List (Option (List ℕ)) → List (Option (List ℕ))
 versions_once [] = []
 versions_once (version ∷ versions) =
@@ -54,20 +54,20 @@ place_lines repositories candidates =
 
 -- ---- the report
 
--- the report on a version of a name
+-- what is printed of a version of a name
 abbrev pub version_policy :
     List Candidate → List Repository → List ℕ → Option (List ℕ) → List ℕ
 version_policy candidates repositories name version =
     version_heading (printed_version version)
     ++ place_lines repositories (filter (has_name_and_version name version) candidates)
 
--- the report on a name
+-- what is printed of a name
 abbrev pub name_policy : List Candidate → List Repository → List ℕ → List ℕ
 name_policy candidates repositories name =
     policy_heading name
     ++ flat_map (version_policy candidates repositories name) (versions_of_name candidates name)
 
--- the report of `policy` on candidates, by the names that are asked for, in the order given
+-- what `policy` prints of candidates, by the names that are asked for, in the order given
 abbrev pub policy_report : List Candidate → List Repository → List Operand → List ℕ
 policy_report candidates repositories names =
     flat_map (λ (o : Operand). name_policy candidates repositories o.text) names

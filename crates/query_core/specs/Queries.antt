@@ -1,4 +1,4 @@
--- The report of a query, by its command: `list`, `search` or `policy` (apk(8)). The rules are in
+-- What a query prints, by its command: `list`, `search` or `policy` (apk(8)). The rules are in
 -- `docs/commands.md`, in the section of each.
 use Rattle.std.specs.Prelude.{ℕ, List, []}
 use Rattle.candidate_core.specs.Rank.{SealedPool}
@@ -10,8 +10,8 @@ use Rattle.query_core.specs.List.{list_report}
 use Rattle.query_core.specs.Policy.{policy_report}
 use Rattle.query_core.specs.Search.{search_report}
 
--- the report of an applet on a pool and repositories, by its command; an applet that is no query prints
--- nothing
+-- what an applet prints of a pool and repositories, by its command; an applet that is no query
+-- prints nothing
 abbrev pub applet_query : Applet → CommandLine → SealedPool → List Repository → List ℕ
 applet_query ListApplet command pool repositories =
     list_report pool.candidates command.operands command.flags.installed
@@ -20,6 +20,6 @@ applet_query Policy command pool repositories =
     policy_report pool.candidates repositories command.operands
 applet_query applet command pool repositories = []
 
--- the report of a query on a pool and repositories
+-- what a query prints of a pool and repositories
 unfoldable pub queried : CommandLine → SealedPool → List Repository → List ℕ
 queried command pool repositories = applet_query command.applet command pool repositories

@@ -1,5 +1,5 @@
--- The sort keys of candidates in a query: the keys of options, all but three the same for all. No rule
--- of a document: serves the contracts of `src/order.rt`.
+-- What candidates are ordered by in a query: the keys of options, all but three the same for all.
+-- No rule of a document: serves the contracts of `src/order.rt`.
 use Rattle.std.specs.Prelude.{◌≡◌, ◌==◌, Bool, true, false, All, List, None, Some, slice_get}
 use Rattle.candidate_core.specs.Candidates.{Candidate, is_same_version}
 use Rattle.candidate_core.specs.Options.{IsIn}
@@ -7,23 +7,24 @@ use Rattle.option_ranks.specs.Ranking.{Ranking, ranking_by, with_version}
 use Rattle.option_ranks.specs.declared.rank.VersionKey.{VersionKey}
 use Rattle.option_ranks.specs.declared.rank.VersionKey.TheVariants.{ByRank, ByText}
 
--- the sort key of a candidate in a query, at the place and with the ranks of a ranking
+-- what is read of a candidate for its order in a query, at the place and with the ranks of a
+-- ranking
 abbrev pub query_ranking : Candidate → Ranking → Ranking
 query_ranking c r =
     ranking_by false false false false (with_version r.under None) 0 c.name
     (with_version r.version c.version) None r.place
 
--- there is a candidate at the place of the ranking, and the ranking is its sort key
+-- there is a candidate at the place of the ranking, and the ranking is what is read of it
 abbrev pub IsQueryRanking : List Candidate → Ranking → Type 0
 IsQueryRanking candidates r = (c : Candidate)
     × ((slice_get candidates r.place ≡ Some c) × (r ≡ query_ranking c r))
 
--- whether two rankings have one version, by the key of versions
+-- whether two rankings have one version, by what versions are compared by
 abbrev pub have_one_version : VersionKey → Ranking → Ranking → Bool
 have_one_version ByRank a b = a.version.rank == b.version.rank
 have_one_version ByText a b = is_same_version a.version.version b.version.version
 
--- these rankings are the sort keys of candidates, and the key of versions separates exactly the
+-- these rankings are read of candidates, and what their versions are compared by parts just the
 -- versions that have other texts
 pub record AreInQueryOrder (candidates : List Candidate) (key : VersionKey) (rs : List Ranking)
     : Type 0 where

@@ -1,4 +1,4 @@
--- The report of `search` (apk(8)). The rule is in `docs/commands.md`, "`search`".
+-- What `search` prints (apk(8)). The rule is in `docs/commands.md`, "`search`".
 use Rattle.std.specs.Prelude.{ℕ, Bool, not, ◌&&◌, List, ◌∷◌, map, is_some}
 use Rattle.std.specs.List.{filter, flat_map, list_any}
 use Rattle.candidate_core.specs.Candidates.{Candidate}
@@ -8,7 +8,7 @@ use Rattle.report_core.specs.QueryReports.{search_line}
 use Rattle.star_patterns.specs.Patterns.{is_matched_within}
 use Rattle.query_core.specs.Order.{printed_version, selected_candidates}
 
--- the names of a list of provides: those of its entries that are no conflicts
+-- the names that a list of provides provides: those of its entries that are no conflicts
 abbrev pub provided_names : List Dependency → List (List ℕ)
 provided_names provides =
     map (λ (p : Dependency). p.name) (filter (λ (p : Dependency). not p.conflict) provides)
@@ -26,7 +26,7 @@ abbrev pub is_search_candidate : List Operand → Candidate → Bool
 is_search_candidate patterns c =
     is_some c.repository && list_any (is_name_found patterns) (candidate_names c)
 
--- the report of `search` on candidates, by its patterns
+-- what `search` prints of candidates, by its patterns
 abbrev pub search_report : List Candidate → List Operand → List ℕ
 search_report candidates patterns =
     flat_map (λ (c : Candidate). search_line c.name (printed_version c.version))

@@ -10,8 +10,8 @@ use Rattle.report_core.specs.QueryReports.{database_line, repository_line, versi
 use Rattle.query_core.specs.Order.{printed_version}
 use Rattle.query_core.specs.Policy.{has_name_and_version, is_of_repository}
 
--- a version of a name, whether a candidate with it is installed, and the numbers of the repositories
--- that have one, in ascending order
+-- a version of a name, whether a candidate with it is installed, and the numbers of the
+-- repositories that have one, none less than those before it
 pub record VersionPlaces : Type 0 where
   pub version : Option (List ℕ)
   pub is_installed : Bool
@@ -33,22 +33,22 @@ numbered_line repositories number =
     option_map_or (λ (r : Repository). repository_line r.tag r.path)
     (slice_get repositories (number - 1)) []
 
--- the lines of the repositories with these numbers, without those whose number is not greater than one
--- before it
+-- the lines of the repositories with these numbers, without those whose number is not greater than
+-- one before it
 abbrev pub rising_lines : List Repository → ℕ → List ℕ → List ℕ
 rising_lines repositories last [] = []
 rising_lines repositories last (n ∷ numbers) =
     if nat_lt last n then numbered_line repositories n ++ rising_lines repositories n numbers
     else rising_lines repositories last numbers
 
--- the report on a version
+-- what is printed of a version
 abbrev pub version_lines : List Repository → VersionPlaces → List ℕ
 version_lines repositories places =
     version_heading (printed_version places.version)
     ++ (if places.is_installed then database_line else [])
     ++ rising_lines repositories 0 places.repositories
 
--- the collected places of a version are those of these candidates
+-- what is gathered of a version says where these candidates are
 pub record SaysPlacesOf (candidates : List Candidate) (places : VersionPlaces) : Type 0 where
   pub installed : list_any (λ (c : Candidate). c.installed) candidates ≡ places.is_installed
   pub order : NeverFall places.repositories
@@ -57,7 +57,7 @@ pub record SaysPlacesOf (candidates : List Candidate) (places : VersionPlaces) :
   pub all : (number : ℕ) → list_any (is_of_repository number) candidates ≡ true
       → IsIn number places.repositories
 
--- the collected places of a version are those of the candidates of a name with that version
+-- what is gathered of a version says where the candidates of a name with that version are
 abbrev pub IsVersionOf : List Candidate → List ℕ → VersionPlaces → Type 0
 IsVersionOf candidates name places =
     SaysPlacesOf (filter (has_name_and_version name places.version) candidates) places

@@ -27,7 +27,7 @@ pub(crate) enum LineForm {
     Short,
 }
 
-/// The place in the list of candidates with this number, counted from 0; out of memory if a place
+/// The place in the list of candidates that has a number, counted from 0; out of memory if a place
 /// cannot have it, which no list of candidates reaches.
 pub(crate) fn place_of(number: usize) -> Result<CandId, AllocError>
     ensures { IfOk result (λ place. place ≡ number) }
@@ -54,7 +54,7 @@ pub(crate) fn push_if(
 }
 
 /// The lines of the candidates at some places, in the order of queries. The length of the report is
-/// counted before its memory is allocated.
+/// counted before memory for it is asked for.
 pub(crate) fn report(
     alloc: Global,
     pool: &Sealed<'_>,
@@ -72,7 +72,7 @@ pub(crate) fn report(
     let mut report = Vec::with_capacity(alloc, length.bytes)?;
     put_lines(&mut report, pool, &ordered.rankings, form)?;
     let is_exact = report.len() == length.bytes;
-    // Exactly as many bytes were allocated as were put.
+    // Memory was taken for just so many bytes as were put.
     prove!(is_exact);
     Ok(Text::from_vec(report))
 }

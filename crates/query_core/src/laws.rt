@@ -1,4 +1,4 @@
-//! Properties of the definitions of queries, each as the contract of a function that does nothing.
+//! What the definitions of queries keep, each as the contract of a function that does nothing.
 //! The rules are in `docs/commands.md`, "`list`", "`search`" and "`policy`".
 ghost use Rattle.candidate_core.specs.Candidates.{Candidate};
 ghost use Rattle.candidate_core.specs.Options.{IsIn};
@@ -65,8 +65,8 @@ pub fn a_query_selects_what_passes_its_test()
     order_is_total();
 }
 
-/// `list` prints a candidate if no pattern is given, or if the stars of one can be replaced by
-/// bytes so that it reads as the candidate's name; with `--installed` only if it is installed.
+/// `list` prints a candidate if no pattern is given, or the stars of one can be replaced by bytes so
+/// that it reads as the candidate's name; and, with `--installed`, if it is installed too.
 pub fn list_prints_what_is_asked_for()
     ensures { (patterns : List Operand) (installed_only : Bool) (c : Candidate)
         → (is_list_candidate patterns installed_only c ≡ true)
@@ -87,8 +87,8 @@ pub fn search_prints_what_is_asked_for()
     a_pattern_matches_what_its_stars_are_filled_to();
 }
 
-/// `policy` prints exactly the versions of the candidates with this name of their own, each once
-/// and in order. For a name without such candidates it prints the first line alone.
+/// `policy` prints just the versions of the candidates that have the name for their own, each once
+/// and in order, and of a name that none has its first line alone.
 pub fn policy_prints_each_version_once()
     ensures those { (cs : List Candidate) (name : List ℕ) (version : Option (List ℕ))
         → IsIn version (versions_of_name cs name) → IsVersionOfName cs name version }
@@ -104,8 +104,8 @@ pub fn policy_prints_each_version_once()
     order_is_total();
 }
 
-/// The report of a query does not depend on world, nor on what is upgraded: it covers all
-/// candidates, also those that may not be selected.
+/// What a query prints does not depend on world, nor on what is upgraded: it speaks of all
+/// candidates, also of those that may not be selected.
 pub fn world_changes_no_query()
     ensures { (command : CommandLine) (cs : List Candidate) (repositories : List Repository)
         (one other : List Dependency) (upgraded others : UpgradedNames) →

@@ -1,8 +1,8 @@
-//! The reports of the commands that query packages: `list`, `search` and `policy` (apk(8)).
+//! What the commands that ask of packages print: `list`, `search` and `policy` (apk(8)).
 //!
-//! They cover all candidates of a pool, also those that may not be selected, and print in one order
-//! those that match. The contracts cite `Order`, `List`, `Search` and `Policy` of `specs/`. The
-//! rules are in `docs/commands.md`, "`list`", "`search`" and "`policy`".
+//! They speak of all candidates of a pool, also of those that may not be selected, and print those
+//! that they select in one order. The contracts cite `Order`, `List`, `Search` and `Policy` of
+//! `specs/`. The rules are in `docs/commands.md`, "`list`", "`search`" and "`policy`".
 #![tactic(auto)]
 
 mod candidates;

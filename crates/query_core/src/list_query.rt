@@ -1,4 +1,4 @@
-//! The report of `list` (apk(8)). The rule is in `docs/commands.md`, "`list`".
+//! What `list` prints (apk(8)). The rule is in `docs/commands.md`, "`list`".
 ghost use Rattle.candidate_core.specs.Options.{places_from};
 ghost use Rattle.query_core.specs.List.{is_list_candidate, is_name_matched, list_report};
 ghost use Rattle.std.specs.Prelude.{◌≡◌, IfOk};
@@ -10,8 +10,8 @@ use command_core::Operands;
 use pool_core::Sealed;
 use std::alloc::{AllocError, Global};
 
-/// The report of `list`: a line for each candidate whose name a pattern matches, of all candidates
-/// if no pattern is given, and of the installed ones alone if only these are asked for.
+/// What `list` prints: a line for each candidate whose name a pattern matches, of all candidates if
+/// no pattern is given, and of the installed ones alone if only these are asked for.
 ///
 /// # Errors
 ///

@@ -1,6 +1,6 @@
-//! The order in which a query prints candidates: by name, then the greater version, then the text
-//! of the version, then the place in the list of candidates. The rule is in `docs/commands.md`,
-//! "Queries".
+//! The order in which a query prints what it selects: by name, then the greater version, then the
+//! text of the version, then the place in the list of candidates.
+//! The rule is in `docs/commands.md`, "Queries".
 ghost use Rattle.candidate_core.specs.declared.versions.VersionKind.TheVariants as Kinds;
 ghost use Rattle.candidate_core.specs.Packages.{candidates_of_packages};
 ghost use Rattle.base_core.specs.Sorted.{sorted_by};
@@ -15,12 +15,12 @@ use pool_core::Sealed;
 use std::alloc::{AllocError, Global};
 use version_core::order_is_total;
 
-/// The sort keys of candidates, in the order of queries.
+/// What candidates are ordered by, in the order of queries.
 #[derive(Drop)]
 pub(crate) struct Ordered<'a> {
-    /// The sort key of each candidate.
+    /// What each candidate is ordered by.
     pub(crate) rankings: Vec<RankedOption<'a>>,
-    /// The key by which their versions are compared.
+    /// What their versions are compared by.
     pub(crate) key: VersionKey,
 }
 
@@ -45,7 +45,7 @@ pub(crate) fn in_order<'a>(
     Ok(Ordered { rankings, key })
 }
 
-// The sort keys of the candidates at some places.
+// What the candidates at some places are ordered by.
 fn rankings<'a>(
     alloc: Global,
     pool: &Sealed<'a>,
@@ -67,8 +67,8 @@ fn rankings<'a>(
     Ok(rankings)
 }
 
-// The sort key of the candidate at a place: of the keys of options its name and its version alone,
-// and its place.
+// What the candidate at a place is ordered by: of the keys of options its name and its version
+// alone, and its place.
 fn ranking<'a>(pool: &Sealed<'a>, packages: &Packages<'a>, id: CandId) -> RankedOption<'a>
     requires within { id < length pool.now.candidates }
     requires own { candidates_of_packages packages.now ≡ pool.now.candidates }
@@ -90,7 +90,7 @@ fn ranking<'a>(pool: &Sealed<'a>, packages: &Packages<'a>, id: CandId) -> Ranked
     }
 }
 
-// A missing version, for a key that is the same for all candidates.
+// A version that is none, for a key that is the same of all candidates.
 fn no_version<'a>() -> RankedVersion<'a>
     ensures { result.version ≡ None }
 {

@@ -1,4 +1,4 @@
-//! The report of `policy` (apk(8)). The rule is in `docs/commands.md`, "`policy`".
+//! What `policy` prints (apk(8)). The rule is in `docs/commands.md`, "`policy`".
 ghost use Rattle.query_core.specs.Appends.{Appends};
 ghost use Rattle.query_core.specs.Policy.{name_policy, policy_report};
 ghost use Rattle.query_core.specs.VersionPlaces.{numbered_line, rising_lines, version_lines};
@@ -15,8 +15,8 @@ use dep_core::Repos;
 use pool_core::Sealed;
 use std::alloc::{AllocError, Global};
 
-/// The report of `policy`: for each name the versions of its candidates, the greatest first. Under
-/// each version is whether one of them is installed, and which repositories have one.
+/// What `policy` prints: for each name the versions that candidates of that name have, the greater
+/// first, and under each whether one of them is installed, and which repositories have one.
 ///
 /// # Errors
 ///
@@ -38,7 +38,7 @@ pub fn policy(
     Ok(Text::from_vec(report))
 }
 
-// Adds the report on a name. Its length is counted before its memory is allocated.
+// Adds what is printed of a name. Its length is counted before memory for it is asked for.
 fn add_name(
     alloc: Global,
     report: &mut Vec<u8>,
@@ -56,7 +56,7 @@ fn add_name(
     put_name(report, repositories, name, &versions)
 }
 
-// Puts the report on a name with these versions.
+// Puts what is printed of a name with these versions.
 fn put_name<O: ReportOut>(
     out: &mut O,
     repositories: &Repos,
@@ -74,7 +74,7 @@ fn put_name<O: ReportOut>(
     Ok(())
 }
 
-// Puts the report on a version.
+// Puts what is printed of a version.
 fn put_version<O: ReportOut>(
     out: &mut O,
     repositories: &Repos,
@@ -108,8 +108,8 @@ fn put_version_heading<O: ReportOut>(out: &mut O, version: &[u8]) -> Result<(), 
     out.put(b":\n")
 }
 
-// Puts a line for each of some repositories, by their numbers, and none twice: equal numbers are
-// adjacent, and only the first has a line.
+// Puts a line for each of some repositories, by their numbers, and none twice: of equal numbers,
+// which are side by side, the first one alone.
 fn put_repositories<O: ReportOut>(
     out: &mut O,
     repositories: &Repos,
@@ -126,7 +126,7 @@ fn put_repositories<O: ReportOut>(
 }
 
 // Puts the line of the repository with a number if the number is greater than the last one, and
-// returns the greater of the two.
+// answers the greater of the two.
 fn put_greater<O: ReportOut>(
     out: &mut O,
     repositories: &Repos,

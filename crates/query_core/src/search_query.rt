@@ -1,4 +1,4 @@
-//! The report of `search` (apk(8)). The rule is in `docs/commands.md`, "`search`".
+//! What `search` prints (apk(8)). The rule is in `docs/commands.md`, "`search`".
 ghost use Rattle.candidate_core.specs.Options.{places_from};
 ghost use Rattle.dep_core.specs.Meets.{dependency};
 ghost use Rattle.query_core.specs.EntryFound.{is_entry_found};
@@ -14,8 +14,8 @@ use dep_core::Dep;
 use pool_core::Sealed;
 use std::alloc::{AllocError, Global};
 
-/// The report of `search`: a line for each candidate of a repository if a pattern matches some part
-/// of its name, or of a name that it provides.
+/// What `search` prints: a line for each candidate of a repository of which a pattern matches some
+/// part of its name, or of a name that it provides.
 ///
 /// # Errors
 ///

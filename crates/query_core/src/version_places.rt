@@ -1,5 +1,6 @@
-//! The versions of the candidates of a name, and the places of each: whether it is installed, and
-//! which repositories have it. The rule is in `docs/commands.md`, "`policy`".
+//! The versions of the candidates of a name, and where each of them is: whether it is installed,
+//! and which repositories have it.
+//! The rule is in `docs/commands.md`, "`policy`".
 ghost use Rattle.candidate_core.specs.Candidates.{Candidate, is_same_version};
 ghost use Rattle.candidate_core.specs.Options.{places_from};
 ghost use Rattle.candidate_core.specs.Rank.{is_at};
@@ -27,7 +28,8 @@ pub(crate) struct PlacedVersion<'a> {
     pub(crate) version: Option<Version<'a>>,
     /// Whether a candidate with this version is installed.
     pub(crate) is_installed: bool,
-    /// The numbers of the repositories that have one, counted from 1, in ascending order.
+    /// The numbers of the repositories that have one, counted from 1; none is less than those
+    /// before it.
     pub(crate) repositories: Vec<u64>,
 }
 
@@ -66,7 +68,7 @@ fn named_places(alloc: Global, pool: &Sealed<'_>, name: &[u8]) -> Result<Vec<Can
     Ok(places)
 }
 
-// Those of some places whose candidates have this name of their own.
+// Those of some places whose candidates have a name of their own.
 fn named_among(
     alloc: Global,
     pool: &Sealed<'_>,
@@ -84,7 +86,7 @@ fn named_among(
     Ok(places)
 }
 
-// Whether there is a candidate at a place that has this name of its own.
+// Whether there is a candidate at a place that has a name of its own.
 fn is_named_at(pool: &Sealed<'_>, place: CandId, name: &[u8]) -> bool
     ensures { result ≡ is_at pool.now (has_own_name name.now) place }
 {
@@ -95,7 +97,7 @@ fn is_named_at(pool: &Sealed<'_>, place: CandId, name: &[u8]) -> bool
 }
 
 // The versions of candidates in the order of queries, each once, and where each of them is. Those
-// with one version are adjacent.
+// with one version are side by side.
 fn grouped<'a>(
     alloc: Global,
     pool: &Sealed<'a>,
@@ -123,7 +125,7 @@ fn grouped<'a>(
     Ok(versions)
 }
 
-// The end of the adjacent candidates that have the version of the one at a place.
+// Where the candidates end that are side by side and have the version of the one at a place.
 fn end_of_version(rankings: &[RankedOption<'_>], key: VersionKey, start: usize) -> usize
     requires { start < length rankings.now }
     ensures after { start < result }
@@ -164,7 +166,7 @@ fn is_same_version(one: &Option<Version<'_>>, other: &Option<Version<'_>>) -> bo
     }
 }
 
-// A version with these candidates, and where they are.
+// A version, of which these are the candidates, and where they are.
 fn placed_version<'a>(
     alloc: Global,
     pool: &Sealed<'a>,

@@ -4,7 +4,7 @@ use Rattle.std.specs.Prelude.{is_some}
 use Rattle.adb_fields.specs.FirstPair.{IsIn}
 use Rattle.adb_fields.specs.Repeated.{package_name}
 use Rattle.adb_view.specs.Plain.{Plain}
-use Rattle.audit_core.specs.Manifest.{manifest_of, manifest_with, operand_package, package_manifest, with_lines}
+use Rattle.audit_core.specs.Manifest.{manifest_of, manifest_with, operand_package, package_manifest, manifest_after}
 use Rattle.candidate_core.specs.Rank.{SealedPool, no_names}
 use Rattle.change_inputs.specs.Candidates.{root_pool}
 use Rattle.change_inputs.specs.Database.{Database}
@@ -50,7 +50,7 @@ one_named : (packages : List Plain) (o : Operand) (operands : List Operand) → 
 one_named packages o operands is more p (inl same) = subst (λ (x : Operand). IsNamed packages x.text) (sym same) is
 one_named packages o operands is more p (inr inside) = more p inside
 
-further_err : (lines : List ℕ) (further : Result (List ℕ) Refusal) (refusal : Refusal) → with_lines lines further ≡ Err refusal → further ≡ Err refusal
+further_err : (lines : List ℕ) (further : Result (List ℕ) Refusal) (refusal : Refusal) → manifest_after lines further ≡ Err refusal → further ≡ Err refusal
 further_err lines further refusal e =
     elim (and_then_err further (λ (more : List ℕ). Ok (lines ++ more)) refusal e) [
       | inl first ↦ first

@@ -26,15 +26,20 @@ carried law h h1 stage removals names writes new same P make = go h (law removal
         make v contents (subst (λ (s : Staging). IsStaging s [] None v h h1) (sym new) (subst (λ (k : History). IsStaging (new_stage removals names) [] None v h k) (sym same) (starts unread empty))) stand
 
 -- the same, whatever the sources stand for
-pub carried_on : NewIsStaging → (h h1 : History) (stage : Staging) (removals names : List (List ℕ)) → stage ≡ new_stage removals names → h1 ≡ h → (P : TreeState → Type 0) → ((v : TreeState) → IsStaging stage [] None v h h1 → P v)
+pub carried_from : NewIsStaging → (h h1 : History) (stage : Staging) (removals names : List (List ℕ)) → stage ≡ new_stage removals names → h1 ≡ h → (P : TreeState → Type 0)
+    → ((v : TreeState) → v.names intent_name ≡ None → IsEmptyStage (files_of v) → IsStaging stage [] None v h h1 → P v)
     → IfObservable h (λ v. v.names intent_name ≡ None → IsEmptyStage (files_of v) → P v)
-carried_on law h h1 stage removals names new same P make = go h (law removals names h)
+carried_from law h h1 stage removals names new same P make = go h (law removals names h)
   where
     go : (k : History) → IfObservable k (λ v. v.names intent_name ≡ None → IsEmptyStage (files_of v) → IsStaging (new_stage removals names) [] None v h h)
         → IfObservable k (λ v. v.names intent_name ≡ None → IsEmptyStage (files_of v) → P v)
     go [] starts = tt
     go (v ∷ earlier) starts = λ unread empty.
-        make v (subst (λ (s : Staging). IsStaging s [] None v h h1) (sym new) (subst (λ (k : History). IsStaging (new_stage removals names) [] None v h k) (sym same) (starts unread empty)))
+        make v unread empty (subst (λ (s : Staging). IsStaging s [] None v h h1) (sym new) (subst (λ (k : History). IsStaging (new_stage removals names) [] None v h k) (sym same) (starts unread empty)))
+
+pub carried_on : NewIsStaging → (h h1 : History) (stage : Staging) (removals names : List (List ℕ)) → stage ≡ new_stage removals names → h1 ≡ h → (P : TreeState → Type 0) → ((v : TreeState) → IsStaging stage [] None v h h1 → P v)
+    → IfObservable h (λ v. v.names intent_name ≡ None → IsEmptyStage (files_of v) → P v)
+carried_on law h h1 stage removals names new same P make = carried_from law h h1 stage removals names new same P (λ v unread empty staging. make v staging)
 
 pub of_each : (h : History) (P : TreeState → Type 0) → ((v : TreeState) → P v) → IfObservable h P
 of_each [] P all = tt

@@ -12,6 +12,7 @@ ghost use Rattle.stage_files.specs.Carried.{IsCarriedTo};
 ghost use Rattle.stage_files.specs.Sources.{MayStandForEach, StandForEach};
 ghost use Rattle.stage_files.specs.Spoiled.{HasSpoiledFile};
 ghost use Rattle.stage_files.specs.declared.writes.StageFault.TheVariants.{Bad, Disk as DiskFault};
+ghost use Rattle.stage_run.specs.Asked.{IsAskedRun};
 ghost use Rattle.stage_run.specs.StageRun.{IsStageRun, IsStageRunDone, IsStaging, IsStagingRun};
 
 use crate::writes::{StageFault, StagedWrite, stage_write};
@@ -114,6 +115,8 @@ pub fn carry_out<T: Tree>(
     ensures asked { (T.history tree.new ≡ T.history tree.old)
         ⊎ AreAccepted T.accepts stage.old.intent }
     ensures accepted { OnOk result (AreAccepted T.accepts stage.old.intent) }
+    // So at each moment the tree accepts each name to which a recovery gives other bytes.
+    ensures promised { IsAskedRun T.accepts (T.history tree.old) (T.history tree.new) }
     // A package is reported bad only with the cause of some file that has the values of the tested
     // one, and other contents.
     ensures bad { (member : ℕ) (cause : Cause) → IsErrOf result (Bad member cause)
@@ -135,6 +138,7 @@ pub fn carry_out<T: Tree>(
     // Laws that the proof needs; they compute nothing.
     a_new_stage_is_staging();
     a_staging_run_is_a_stage_run();
+    stage.names_are_free();
     check_targets(stage, tree)?;
     stage_each(stage, tree, writes, piece)?;
     carry_through(stage, tree)?;

@@ -1,3 +1,4 @@
+pub mod Asked
 pub mod Empty
 pub mod Ends
 pub mod Joins

@@ -1,2 +1,3 @@
 -- what the contract of `apk` says
 pub mod StageRun
+pub mod Asked

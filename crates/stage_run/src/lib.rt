@@ -11,5 +11,5 @@ mod staging;
 pub use carrying::carry_through;
 pub use staging::{
     a_change_leaves_nothing_waiting, a_new_stage_is_staging, a_staging_run_is_a_stage_run,
-    append_piece, begin_file, end_file, stage_bytes, stage_pieces,
+    append_piece, asked_runs_begin_with_reads, begin_file, end_file, stage_bytes, stage_pieces,
 };

@@ -6,6 +6,7 @@ ghost use Rattle.std.specs.Prelude.{◌≡◌, ◌<◌, ◌+◌, ◌++◌, ◌�
 ghost use Rattle.base_core.specs.Faults.{GoesOn, HasCause, IsNoFault};
 ghost use Rattle.base_core.specs.Tree.{TreeState, files_of};
 ghost use Rattle.journal_core.specs.Staged.{HasRoomBeside, IsEmptyStage, new_stage, with_staged};
+ghost use Rattle.stage_run.specs.Asked.{IsAskedRun};
 ghost use Rattle.stage_run.specs.StageRun.{IsStaging, IsStagingRun, IsStageRun};
 ghost use Rattle.base_core.specs.Calls.{IfObservable};
 ghost use Rattle.base_core.specs.Files.{Files};
@@ -154,6 +155,14 @@ pub fn stage_pieces<T: Tree>(
     append_piece(stage, tree, last_piece)?;
     end_file(stage, tree)
 }
+
+/// A run that has done nothing to the tree promises nothing. A run that begins with reads alone is
+/// as the run after them.
+pub fn asked_runs_begin_with_reads<T: Tree>()
+    ensures same { (old now : List TreeState) → now ≡ old → IsAskedRun T.accepts old now }
+    ensures later { (old mid now : List TreeState) → mid ≡ old → IsAskedRun T.accepts mid now
+        → IsAskedRun T.accepts old now }
+{}
 
 /// A new stage begins a staging run, if no intent is read and nothing is staged.
 pub fn a_new_stage_is_staging()

@@ -3,8 +3,8 @@
 pub mod Options
 pub mod Grammar
 pub mod HelpTexts
-pub mod Usage
 -- used by inner contracts and proofs only
+pub mod Usage
 pub mod Rows
 pub mod Steps
 pub mod Faults

@@ -4,12 +4,14 @@ use base_core::Words;
 use command_core::{Applet, Command, Flag, OperandKind, OptionValue, ValueKind};
 use row_lines::{add_number, add_word, number_of, value_named, word_at};
 use std::alloc::{AllocError, Global};
-use words_core::{WordsFault, read_words};
+use tree_memory::MemorySink;
+use words_core::{WordsFault, explain_usage, help, read_words, version_line};
 
 /// The most words that a row's line may have.
 const MOST_WORDS: usize = 100_000;
 
-/// Adds the place of the first wrong word, or 0 if the words are a command.
+/// Adds 0 if the words are a command, and else the place of the first word that offends, and the line
+/// that says why.
 pub(crate) fn add_place(
     alloc: Global,
     line: &Words,
@@ -17,8 +19,41 @@ pub(crate) fn add_place(
 ) -> Result<(), AllocError> {
     match read_words(alloc, line) {
         Ok(_) => answer.extend_from_slice(b"0"),
-        Err(WordsFault::Usage { place }) => add_number(alloc, answer, u128::from(place)),
+        Err(WordsFault::Usage { place }) => {
+            add_number(alloc, answer, u128::from(place))?;
+            add_reason(alloc, line, place, answer)
+        }
         Err(WordsFault::Memory) => Err(AllocError),
+    }
+}
+
+/// Adds the line that says why the words are a usage error at a place.
+fn add_reason(
+    alloc: Global,
+    line: &Words,
+    place: u32,
+    answer: &mut Vec<u8>,
+) -> Result<(), AllocError> {
+    let mut page = MemorySink::new(alloc);
+    if explain_usage(line, place, &mut page).is_err() {
+        return Err(AllocError);
+    }
+    add_word(answer, page.bytes())
+}
+
+/// Adds what is printed where the words ask for help or for the version of the program.
+pub(crate) fn add_asked(
+    alloc: Global,
+    line: &Words,
+    answer: &mut Vec<u8>,
+) -> Result<(), AllocError> {
+    let Some(command) = command_of(alloc, line)? else {
+        return answer.extend_from_slice(b"none");
+    };
+    match command.applet() {
+        Applet::Help => answer.extend_from_slice(help(alloc, command.operands())?.as_bytes()),
+        Applet::ProgramVersion => answer.extend_from_slice(version_line(alloc)?.as_bytes()),
+        _ => answer.extend_from_slice(b"none"),
     }
 }
 
@@ -88,7 +123,7 @@ pub(crate) fn add_command(
 
 /// The applets, by their words.
 #[rattlefmt::skip]
-const APPLETS: [(Applet, &[u8]); 11] = [
+const APPLETS: [(Applet, &[u8]); 19] = [
     (Applet::Add, b"add"),
     (Applet::Del, b"del"),
     (Applet::Upgrade, b"upgrade"),
@@ -100,6 +135,14 @@ const APPLETS: [(Applet, &[u8]); 11] = [
     (Applet::Mkndx, b"mkndx"),
     (Applet::Version, b"version"),
     (Applet::Demo, b"demo"),
+    (Applet::Adbgen, b"adbgen"),
+    (Applet::Audit, b"audit"),
+    (Applet::Manifest, b"manifest"),
+    (Applet::List, b"list"),
+    (Applet::Search, b"search"),
+    (Applet::Policy, b"policy"),
+    (Applet::Help, b"--help"),
+    (Applet::ProgramVersion, b"--version"),
 ];
 
 /// Adds the applet's word.
@@ -221,7 +264,7 @@ pub(crate) fn is_value(words: &Words) -> bool {
 
 // The words for the kinds of operands.
 #[rattlefmt::skip]
-const OPERAND_KINDS: [(&[u8], OperandKind); 7] = [
+const OPERAND_KINDS: [(&[u8], OperandKind); 8] = [
     (b"file", OperandKind::File),
     (b"any", OperandKind::Any),
     (b"dependency", OperandKind::Dependency),
@@ -229,6 +272,7 @@ const OPERAND_KINDS: [(&[u8], OperandKind); 7] = [
     (b"package-name", OperandKind::PackageName),
     (b"path", OperandKind::Path),
     (b"number", OperandKind::Number),
+    (b"pattern", OperandKind::Pattern),
 ];
 
 /// Whether the text of `KIND TEXT` is an operand of this kind.

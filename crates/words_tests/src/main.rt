@@ -7,7 +7,9 @@ mod lines;
 mod texts;
 
 use base_core::Words;
-use lines::{add_command, add_letters, add_many, add_place, add_values, is_operand, is_value};
+use lines::{
+    add_asked, add_command, add_letters, add_many, add_place, add_values, is_operand, is_value,
+};
 use row_lines::{Subject, add_yes_or_no, run_program, value_named, word_at, words_behind};
 use std::alloc::{AllocError, Global};
 use std::io;
@@ -21,6 +23,8 @@ enum Question {
     Line,
     /// `many N WORD WORD ..`.
     Many,
+    /// `asked WORD ..`.
+    Asked,
     /// `command WORD ..`.
     Command,
     /// `values WORD ..`.
@@ -39,9 +43,10 @@ enum Question {
 
 // The words that questions begin with.
 #[rattlefmt::skip]
-const QUESTIONS: [(&[u8], Question); 9] = [
+const QUESTIONS: [(&[u8], Question); 10] = [
     (b"line", Question::Line),
     (b"many", Question::Many),
+    (b"asked", Question::Asked),
     (b"command", Question::Command),
     (b"values", Question::Values),
     (b"letters", Question::Letters),
@@ -70,6 +75,7 @@ impl Subject for CommandLines {
         match question {
             Question::Line => add_place(alloc, &rest, answer),
             Question::Many => add_many(alloc, &rest, answer),
+            Question::Asked => add_asked(alloc, &rest, answer),
             Question::Command => add_command(alloc, &rest, answer),
             Question::Values => add_values(alloc, &rest, answer),
             Question::Letters => add_letters(alloc, &rest, answer),

@@ -1,7 +1,7 @@
 use Rattle.std.proofs.Common.{Ok}
 use Rattle.apk_front.proofs.Carried.{by_command, found_by_command, proper_by_command, run_by_command, words_by_command, usage_reported, usage_run}
 use Rattle.apk_front.proofs.Judged.{usage_found, usage_verdict}
-use Rattle.apk_front.proofs.Named.{command_named, start_named}
+use Rattle.apk_front.proofs.Named.{command_named, memory_named_so}
 use Rattle.apk_front.proofs.judge.judge.Goals as goal
 
 pub returns-in-Ok-clause-found : goal.returns-in-Ok-clause-found
@@ -35,4 +35,4 @@ pub returns-in-Ok-clause-by_words : goal.returns-in-Ok-clause-by_words
 returns-in-Ok-clause-by_words g c = words_by_command c.args.words.now _ c.carry_out.result c.in-Ok.ensures.ok c.carry_out.ensures.by_words
 
 pub returns-in-Err-Memory-clause-named : goal.returns-in-Err-Memory-clause-named
-returns-in-Err-Memory-clause-named g c = λ memory. start_named c.args.words.now c.in-Err-Memory.ensures.memory
+returns-in-Err-Memory-clause-named g c = λ memory. memory_named_so c.args.words.now _ c.in-Err-Memory.field-0-is c.in-Err-Memory.ensures.memory

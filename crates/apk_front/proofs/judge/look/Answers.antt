@@ -6,13 +6,13 @@ pub returns-in_ok-verdict-in-Version-clause-by_reads : goal.returns-in_ok-verdic
 returns-in_ok-verdict-in-Version-clause-by_reads g c = ran_version c.args.command.now _ _ _ c.in_ok-verdict-in-Version.verdict c.applet.ensures.value c.in-Version.is c.flags.ensures.value c.operands-in-Version.ensures.value c.in_ok-verdict-in-Version.ensures
 
 pub returns-in_ok-text-in-Help-clause-found : goal.returns-in_ok-text-in-Help-clause-found
-returns-in_ok-text-in-Help-clause-found g c = ran_found _ c.args.command.now c.reported.result (help_ran c.args.command.now c.applet.result c.operands-in-Help.result.now c.in_ok-text.text c.reported.result c.applet.ensures.value c.in-Help.is c.operands-in-Help.ensures.value c.in_ok-text.ensures c.reported.ensures)
+returns-in_ok-text-in-Help-clause-found g c = ran_found _ c.args.command.now c.reported.result (help_ran c.args.command.now c.applet.result c.operands-in-Help.result.now c.in_ok-text-in-Help.text c.reported.result c.applet.ensures.value c.in-Help.is c.operands-in-Help.ensures.value c.in_ok-text-in-Help.ensures c.reported.ensures)
 
 pub returns-in_ok-text-in-Help-clause-by_reads : goal.returns-in_ok-text-in-Help-clause-by_reads
-returns-in_ok-text-in-Help-clause-by_reads g c = ran_read c.args.command.now c.reported.result (help_ran c.args.command.now c.applet.result c.operands-in-Help.result.now c.in_ok-text.text c.reported.result c.applet.ensures.value c.in-Help.is c.operands-in-Help.ensures.value c.in_ok-text.ensures c.reported.ensures)
+returns-in_ok-text-in-Help-clause-by_reads g c = ran_read c.args.command.now c.reported.result (help_ran c.args.command.now c.applet.result c.operands-in-Help.result.now c.in_ok-text-in-Help.text c.reported.result c.applet.ensures.value c.in-Help.is c.operands-in-Help.ensures.value c.in_ok-text-in-Help.ensures c.reported.ensures)
 
 pub returns-in_ok-text-in-Help-clause-by_words : goal.returns-in_ok-text-in-Help-clause-by_words
-returns-in_ok-text-in-Help-clause-by_words g c = λ rests. ran_by_words c.args.command.now c.reported.result (help_ran c.args.command.now c.applet.result c.operands-in-Help.result.now c.in_ok-text.text c.reported.result c.applet.ensures.value c.in-Help.is c.operands-in-Help.ensures.value c.in_ok-text.ensures c.reported.ensures)
+returns-in_ok-text-in-Help-clause-by_words g c = λ rests. ran_by_words c.args.command.now c.reported.result (help_ran c.args.command.now c.applet.result c.operands-in-Help.result.now c.in_ok-text-in-Help.text c.reported.result c.applet.ensures.value c.in-Help.is c.operands-in-Help.ensures.value c.in_ok-text-in-Help.ensures c.reported.ensures)
 
 pub returns-in_ok-text-in-ProgramVersion-clause-found : goal.returns-in_ok-text-in-ProgramVersion-clause-found
 returns-in_ok-text-in-ProgramVersion-clause-found g c = ran_found _ c.args.command.now c.reported-in-ProgramVersion.result (version_ran c.args.command.now c.applet.result c.in_ok-text-in-ProgramVersion.text c.reported-in-ProgramVersion.result c.applet.ensures.value c.in-ProgramVersion.is c.in_ok-text-in-ProgramVersion.ensures c.reported-in-ProgramVersion.ensures)

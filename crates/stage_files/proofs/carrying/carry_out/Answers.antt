@@ -1,5 +1,6 @@
 use Rattle.std.proofs.Common.{◌≡◌, ◌⊎◌, inl, inr, ℕ, List, Ok, Err, ap, refl, sym, subst, ◌∙◌}
 use Rattle.std.specs.Prelude.{IsErrOf, OnErr}
+use Rattle.base_core.specs.Crash.{Since}
 use Rattle.base_core.specs.Tree.{files_of}
 use Rattle.base_core.specs.declared.cause.Cause.{Cause}
 use Rattle.journal_core.specs.Recovery.{after_actions}
@@ -7,9 +8,11 @@ use Rattle.journal_core.specs.Staged.{HasRoomBeside, Staging, with_staged}
 use Rattle.stage_files.specs.Carried.{IsCarriedTo}
 use Rattle.stage_files.specs.Sources.{MayStandForEach}
 use Rattle.stage_files.specs.declared.writes.StageFault.TheVariants.{Bad, Disk}
-use Rattle.stage_files.proofs.Carried.{carried, carried_on, of_each, where_seen}
+use Rattle.stage_files.proofs.Carried.{carried, carried_from, carried_on, of_each, where_seen}
 use Rattle.stage_files.proofs.OneFile.{same_fault, if_disk, not_ok, on_err}
+use Rattle.stage_run.specs.Asked.{PromisesAccepted}
 use Rattle.stage_run.specs.StageRun.{IsStageRun, IsStageRunDone, IsStagingRun}
+use Rattle.stage_run.proofs.Asked.{change_promises, staging_promises}
 use Rattle.stage_files.proofs.carrying.carry_out.Goals as goal
 
 pub returns-in_err-stage_each-clause-run : goal.returns-in_err-stage_each-clause-run
@@ -140,3 +143,29 @@ returns-clause-unpublished g c = of_each (g.T.Tree.history c.args.tree.now) _ (�
 
 pub returns-clause-cut_off : goal.returns-clause-cut_off
 returns-clause-cut_off g c = of_each (g.T.Tree.history c.args.tree.now) _ (λ v unread empty. tt)
+
+pub returns-in_err-stage_each-clause-promised : goal.returns-in_err-stage_each-clause-promised
+returns-in_err-stage_each-clause-promised g c =
+    carried_from c.a_new_stage_is_staging.ensures (g.T.Tree.history c.args.tree.now) (g.T.Tree.history c.check_targets.new.tree) c.args.stage.now _ _ c.requires.new c.check_targets.ensures.tree.same
+    (λ v. Since (PromisesAccepted g.T.Tree.accepts (files_of v)) (g.T.Tree.history c.args.tree.now) (g.T.Tree.history c.stage_each.new.tree))
+    (λ v unread empty staging. staging_promises g.T.Tree.accepts v unread empty _ _ (c.in_err-stage_each.ensures.run v (g.T.Tree.history c.args.tree.now) staging))
+
+pub returns-in_err-carry_through-clause-promised : goal.returns-in_err-carry_through-clause-promised
+returns-in_err-carry_through-clause-promised g c =
+    carried_from c.a_new_stage_is_staging.ensures (g.T.Tree.history c.args.tree.now) (g.T.Tree.history c.check_targets.new.tree) c.args.stage.now _ _ c.requires.new c.check_targets.ensures.tree.same
+    (λ v. Since (PromisesAccepted g.T.Tree.accepts (files_of v)) (g.T.Tree.history c.args.tree.now) (g.T.Tree.history c.carry_through.new.tree))
+    (λ v unread empty staging.
+    let found = c.in_ok-stage_each.ensures.listed v (g.T.Tree.history c.args.tree.now) staging in
+    change_promises g.T.Tree.accepts v unread empty c.args.stage.now.intent found.0 c.names_are_free.ensures.free c.in_ok-check_targets.ensures.accepted _ _
+    (subst (λ (s : Staging). IsStageRun (after_actions s.intent (with_staged 1 found.0 (files_of v))) v (g.T.Tree.history c.args.tree.now) (g.T.Tree.history c.carry_through.new.tree)) c.in_ok-stage_each.ensures.view
+    (c.in_err-carry_through.ensures.run found.0 v (g.T.Tree.history c.args.tree.now) found.2)))
+
+pub returns-clause-promised : goal.returns-clause-promised
+returns-clause-promised g c =
+    carried_from c.a_new_stage_is_staging.ensures (g.T.Tree.history c.args.tree.now) (g.T.Tree.history c.check_targets.new.tree) c.args.stage.now _ _ c.requires.new c.check_targets.ensures.tree.same
+    (λ v. Since (PromisesAccepted g.T.Tree.accepts (files_of v)) (g.T.Tree.history c.args.tree.now) (g.T.Tree.history c.carry_through.new.tree))
+    (λ v unread empty staging.
+    let found = c.in_ok-stage_each.ensures.listed v (g.T.Tree.history c.args.tree.now) staging in
+    change_promises g.T.Tree.accepts v unread empty c.args.stage.now.intent found.0 c.names_are_free.ensures.free c.in_ok-check_targets.ensures.accepted _ _
+    (subst (λ (s : Staging). IsStageRun (after_actions s.intent (with_staged 1 found.0 (files_of v))) v (g.T.Tree.history c.args.tree.now) (g.T.Tree.history c.carry_through.new.tree)) c.in_ok-stage_each.ensures.view
+    (c.in_ok-carry_through.ensures.run found.0 v (g.T.Tree.history c.args.tree.now) found.2)))

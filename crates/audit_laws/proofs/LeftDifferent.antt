@@ -1,0 +1,218 @@
+-- What differs after a command is what its change left so.
+use Rattle.std.proofs.Common.{◌≡◌, inl, inr, ◌∙◌, ◌↔◌, ℕ, suc, Bool, true, false, List, [], ◌∷◌, Contains, Option, Some, None, Result, Ok, refl, ap, sym, subst, true≢false}
+use Rattle.std.specs.Prelude.{slice_get, if◌then◌else◌}
+use Rattle.adb_copy.specs.Zeros.{without_zeros}
+use Rattle.adb_fields.specs.FirstPair.{IsIn}
+use Rattle.adb_fields.specs.Repeated.{entries_at}
+use Rattle.adb_schema.specs.Reserved.{is_reserved}
+use Rattle.adb_schema.specs.SoundContainers.{IsSound, IsSoundValue}
+use Rattle.adb_schema.specs.Soundness.{first_fault, payload_in, root_value}
+use Rattle.adb_schema.specs.Texts.{is_with_contents}
+use Rattle.adb_view.specs.FieldIndexes.{IDB_PACKAGES}
+use Rattle.adb_view.specs.Plain.{Plain}
+use Rattle.adb_view.specs.declared.tables.Which.{Which}
+use Rattle.adb_view.specs.declared.tables.Which.TheVariants.{Idb}
+use Rattle.audit_core.specs.Audit.{FileDifference}
+use Rattle.audit_core.specs.Differences.{IsDifferenceIn, IsDifferent, file_differences}
+use Rattle.base_core.specs.Files.{Files}
+use Rattle.base_core.specs.declared.cause.Cause.{Cause}
+use Rattle.change_files.specs.FileChange.{FileChange, coming_owner, if_it_comes, owner_listing}
+use Rattle.change_files.specs.FilesAfter.{Records, changed_files, listing_bytes}
+use Rattle.change_files.specs.Touched.{is_record_name}
+use Rattle.change_files.proofs.Lists.{IsOneOf, contains_from_one}
+use Rattle.change_files.proofs.Owned.{coming_is}
+use Rattle.change_files.proofs.RecordNames.{database_after}
+use Rattle.change_inputs.specs.Chains.{and_then, unless_cause}
+use Rattle.change_inputs.specs.Database.{Database, container_database, database_by, root_database}
+use Rattle.change_outcome.specs.ChangeOutcome.{ChangeDone, ChangeWishes, change_or_refusal, file_change, new_records}
+use Rattle.change_outcome.specs.Made.{IsChangeMade}
+use Rattle.change_outcome.specs.MembersAfter.{MemberFound, contents_found, members_found}
+use Rattle.command_core.specs.Command.{CommandLine}
+use Rattle.db_core.specs.ListedAt.{IsListedAt}
+use Rattle.db_core.specs.Members.{Listing, Member, is_coming, member_listings}
+use Rattle.change_inputs.specs.Inputs.{Inputs}
+use Rattle.engine_core.specs.Changed.{Selected, change_of_command, change_of_selected, simulated_change}
+use Rattle.engine_core.specs.Wishes.{wishes_of}
+use Rattle.file_guard.specs.AsListed.{has_target, is_as_listed}
+use Rattle.make_info.specs.Reads.{Reads}
+use Rattle.package_changes.specs.Changes.{Replacement}
+use Rattle.path_clashes.specs.Clash.{NamePair}
+use Rattle.pkg_core.specs.Contents.{Contents, expected_contents}
+use Rattle.pkg_core.specs.GoodContents.{AreContentsOf, HaveDigests}
+use Rattle.pkg_core.proofs.Digests.{TellsFirst}
+use Rattle.report_core.specs.declared.refusal.Refusal.{Refusal}
+use Rattle.report_core.specs.declared.refusal.Refusal.TheVariants.{DatabaseBad}
+use Rattle.root_laws.specs.RootLeft.{IsRootLeft}
+use Rattle.root_names.specs.RootNames.{database_name, text_database_name}
+use Rattle.audit_laws.specs.AfterChange.{IsEmptyUnlike, IsLeftBy, IsLeftDifferent, change_left, contents_left, packages_left}
+use Rattle.audit_laws.proofs.AfterFiles.{by_left, left_by, stays_so}
+use Rattle.audit_laws.proofs.AfterRecords.{WrittenLaws, owner_free, owner_record, record_of_owner, zeros_alike}
+use Rattle.audit_laws.proofs.FoundContents.{contents_listed}
+
+-- what the laws of the crates below say
+pub record Laws : Type 0 where
+  pub values : (which : Which) (file : List ℕ) → IsSound which file → IsSoundValue which (root_value which (payload_in file))
+  pub reserved : (records : Records) (name : List ℕ) → is_record_name records name ≡ true → is_reserved name ≡ true
+  pub made : (inputs : Inputs) (r : Replacement) (wishes : ChangeWishes) (read : Reads) (clash : Option NamePair) (files : Files) (done : ChangeDone)
+      → change_or_refusal inputs r wishes read clash files ≡ Ok done → IsChangeMade inputs r wishes read clash files done
+  pub differences : (files : Files) (packages : List Plain) (d : FileDifference) → IsIn d (file_differences files packages) ↔ IsDifferenceIn packages files d
+  pub written : WrittenLaws
+
+-- ---- a database that is read
+
+abbrev kept : Database → Result Database Refusal
+kept d = Ok d
+
+container_ok : (file : List ℕ) (packages : List Plain) (bytes : List ℕ) → container_database file ≡ Ok (database_by packages (Some bytes) false)
+    → (first_fault Idb file ≡ None) × (entries_at IDB_PACKAGES (root_value Idb (payload_in file)) ≡ packages)
+container_ok file packages bytes e = by_fault (first_fault Idb file) refl e
+  where
+    there : Database
+    there = database_by (entries_at IDB_PACKAGES (root_value Idb (payload_in file))) (Some file) false
+
+    by_fault : (fault : Option Cause) → first_fault Idb file ≡ fault → unless_cause DatabaseBad fault there ≡ Ok (database_by packages (Some bytes) false)
+        → (first_fault Idb file ≡ None) × (entries_at IDB_PACKAGES (root_value Idb (payload_in file)) ≡ packages)
+    by_fault None t e = (let same : there ≡ database_by packages (Some bytes) false = (let both : kept there ≡ kept (database_by packages (Some bytes) false) = e in cc) in (t, ap (λ (d : Database). d.packages) same))
+    by_fault (Some cause) t e = absurd (cc (e))
+
+not_record : (records : Records) (name : List ℕ) → ((records : Records) (name : List ℕ) → is_record_name records name ≡ true → is_reserved name ≡ true) → is_reserved name ≡ false → is_record_name records name ≡ false
+not_record records name reserved free = by_test (is_record_name records name) refl
+  where
+    by_test : (b : Bool) → is_record_name records name ≡ b → is_record_name records name ≡ false
+    by_test true t = absurd (true≢false (sym (reserved records name t) ∙ free))
+    by_test false t = t
+
+comes_if : (change : FileChange) (path : List ℕ) (l : Listing) → owner_listing change path ≡ Some l → is_coming l.member ≡ true → coming_owner change path ≡ Some l
+comes_if change path l owner comes = ap if_it_comes owner ∙ ap (λ (b : Bool). if b then Some l else None) comes
+
+module _ (laws : Laws) (command : CommandLine) (read : Reads) (files : Files) (chosen : Option (List ℕ)) (clash : Option NamePair) (done : ChangeDone) (left : IsRootLeft command read chosen done)
+    (e : change_of_command command read files chosen clash ≡ Ok done) (off : command.flags.simulate ≡ false) where
+  abbrev s : Selected
+  s = left.selected
+
+  not_simulated : (b : Bool) → b ≡ false → (if b then Ok (simulated_change s.replacement (wishes_of command) files) else change_or_refusal s.inputs s.replacement (wishes_of command) read clash files) ≡ Ok done
+      → change_or_refusal s.inputs s.replacement (wishes_of command) read clash files ≡ Ok done
+  not_simulated true off e = absurd (true≢false off)
+  not_simulated false off e = e
+
+  made_so : IsChangeMade s.inputs s.replacement (wishes_of command) read clash files done
+  unfolding change_of_command
+  made_so =
+      laws.made s.inputs s.replacement (wishes_of command) read clash files done
+      (not_simulated command.flags.simulate off (ap (λ (r : Result Selected Refusal). and_then r (change_of_selected command read files clash)) (sym left.is_selected) ∙ e))
+
+  same_found : made_so.found ≡ left.found
+  same_found = let both : Ok made_so.found ≡ Ok left.found = sym made_so.members ∙ left.members in (cc)
+
+  abbrev records : Records
+  records = new_records s.inputs made_so.database
+
+  abbrev change : FileChange
+  change = change_left left
+
+  abbrev bytes_of : Listing → List ℕ
+  bytes_of = listing_bytes (contents_left left)
+
+  files_are : done.files ≡ changed_files change bytes_of records files
+  files_are =
+      ap (λ (d : ChangeDone). d.files) made_so.is
+      ∙ ap (λ (fs : List MemberFound). changed_files (file_change s.inputs (wishes_of command) fs) (listing_bytes (contents_found fs)) records files) same_found
+
+  database_there : done.files database_name ≡ Some made_so.database
+  database_there = ap (λ (fs : Files). fs database_name) files_are ∙ database_after change bytes_of records files
+
+  read_back : (first_fault Idb made_so.database ≡ None) × (entries_at IDB_PACKAGES (root_value Idb (payload_in made_so.database)) ≡ packages_left left)
+  read_back =
+      let next : Reads = λ n name. done.files name in
+      container_ok made_so.database (packages_left left) left.bytes
+      (sym (ap (λ (o : Option (List ℕ)). root_database command.flags.initdb o (done.files text_database_name)) database_there)
+      ∙ left.database command next (record { database = refl; world = refl }))
+
+  abbrev value : Plain
+  value = root_value Idb (payload_in made_so.database)
+
+  sound : IsSoundValue Idb value
+  sound = laws.values Idb made_so.database read_back.0
+
+  plain : (path : List ℕ) (l : Listing) → owner_listing change path ≡ Some l → is_record_name records path ≡ false
+  plain path l owner = not_record records path laws.reserved (owner_free laws.written change value sound read_back.1 path l owner)
+
+  -- ---- what differs was left so
+
+  left_so : (path : List ℕ) (l : Listing) (d : FileDifference) → d.path ≡ path → owner_listing change path ≡ Some l → IsDifferent d.difference l.entry (done.files path)
+      → IsLeftBy (contents_left left) change files d l (is_coming l.member)
+  left_so path l d at owner differs =
+      let here = subst (λ (fs : Files). IsDifferent d.difference l.entry (fs path)) files_are differs in
+      by_coming (is_coming l.member) refl here
+    where
+      by_coming : (b : Bool) → is_coming l.member ≡ b → IsDifferent d.difference l.entry (changed_files change bytes_of records files path) → IsLeftBy (contents_left left) change files d l b
+      by_coming false t here =
+          subst (λ (q : List ℕ). IsDifferent d.difference l.entry (files q)) (sym at) ((stays_so change bytes_of records files path (plain path l owner) l d.difference owner t).0 here)
+      by_coming true t here =
+          subst (λ (q : List ℕ). IsLeftBy (contents_left left) change files (record { path = q; difference = d.difference }) l true) (sym at)
+          (left_by change bytes_of records files path (plain path l owner) l (comes_if change path l owner t) d.difference here)
+
+  pub is_left : (d : FileDifference) → IsIn d (file_differences done.files (packages_left left)) → IsLeftDifferent (contents_left left) change files d
+  is_left d here =
+      let is = (laws.differences done.files (packages_left left) d).0 here in
+      let found = record_of_owner laws.written change value sound read_back.1 d.path is.entry is.recorded in
+      let l = found.0 in
+      record {
+        listing = l;
+        owner = found.1;
+        left = left_so d.path l d refl found.1 ((zeros_alike l.entry (done.files d.path) d.difference).0 (subst (λ (p : Plain). IsDifferent d.difference p (done.files d.path)) found.2 is.differs));
+      }
+
+  -- ---- what was left so differs
+
+  differs_so : (l : Listing) (d : FileDifference) → owner_listing change d.path ≡ Some l → (b : Bool) → is_coming l.member ≡ b → IsLeftBy (contents_left left) change files d l b
+      → IsDifferent d.difference l.entry (changed_files change bytes_of records files d.path)
+  differs_so l d owner false t why = (stays_so change bytes_of records files d.path (plain d.path l owner) l d.difference owner t).1 why
+  differs_so l d owner true t why = by_left change bytes_of records files d.path (plain d.path l owner) l (comes_if change d.path l owner t) d.difference why
+
+  pub left_is : (d : FileDifference) → IsLeftDifferent (contents_left left) change files d → IsIn d (file_differences done.files (packages_left left))
+  left_is d is =
+      let l = is.listing in
+      let here = subst (λ (fs : Files). IsDifferent d.difference l.entry (fs d.path)) (sym files_are) (differs_so l d is.owner (is_coming l.member) refl is.left) in
+      (laws.differences done.files (packages_left left) d).1
+      (record {
+        entry = without_zeros l.entry;
+        recorded = owner_record laws.written change value sound read_back.1 d.path l is.owner;
+        differs = (zeros_alike l.entry (done.files d.path) d.difference).1 here;
+      })
+
+-- ---- bytes unlike their entry
+
+some_place : (l : Listing) (ls : List Listing) → IsOneOf l ls → (i : ℕ) × (slice_get ls i ≡ Some l)
+some_place l [] here = absurd here
+some_place l (k ∷ ls) (inl is) = (0, ap Some (sym is))
+some_place l (k ∷ ls) (inr later) = let found = some_place l ls later in (suc found.0, found.1)
+
+empty_by : (entry : Plain) (bytes : List ℕ) → ((is_with_contents entry ≡ false → has_target entry ≡ false → is_as_listed entry [] ≡ true) → is_as_listed entry bytes ≡ true) → is_as_listed entry bytes ≡ false → IsEmptyUnlike entry
+empty_by entry bytes brought unlike = by_tests (is_with_contents entry) refl (has_target entry) refl (is_as_listed entry []) refl
+  where
+    never : (is_with_contents entry ≡ false → has_target entry ≡ false → is_as_listed entry [] ≡ true) → IsEmptyUnlike entry
+    never h = absurd (true≢false (sym (brought h) ∙ unlike))
+
+    by_tests : (a : Bool) → is_with_contents entry ≡ a → (b : Bool) → has_target entry ≡ b → (c : Bool) → is_as_listed entry [] ≡ c → IsEmptyUnlike entry
+    by_tests true with b target c same = never (λ h g. absurd (true≢false (sym with ∙ h)))
+    by_tests false with true target c same = never (λ h g. absurd (true≢false (sym target ∙ g)))
+    by_tests false with false target true same = never (λ h g. same)
+    by_tests false with false target false same = record { no_contents = with; no_link = target; unlike = same }
+
+pub empty_alone :
+    TellsFirst → ((members : List Member) (i : ℕ) (l : Listing) → slice_get (member_listings members) i ≡ Some l → IsListedAt members l)
+    → ((contents : ℕ → List Contents) (members : List Member) (l : Listing) → Contains (member_listings members) l → HaveDigests (expected_contents l.member.pkg)
+    → AreContentsOf (expected_contents l.member.pkg) (contents l.place) → (is_with_contents l.entry ≡ false → has_target l.entry ≡ false → is_as_listed l.entry [] ≡ true)
+    → is_as_listed l.entry (listing_bytes contents l) ≡ true)
+    → (command : CommandLine) (read : Reads) (chosen : Option (List ℕ)) (done : ChangeDone) (left : IsRootLeft command read chosen done) (path : List ℕ) (l : Listing)
+    → coming_owner (change_left left) path ≡ Some l → is_as_listed l.entry (listing_bytes (contents_left left) l) ≡ false → IsEmptyUnlike l.entry
+empty_alone told placed brought command read chosen done left path l comes unlike =
+    let members = members_found left.found in
+    let owner = coming_is (change_left left) path l comes in
+    let listed : IsOneOf l (member_listings members) = owner.0.listed in
+    let place = some_place l (member_listings members) listed in
+    let s = left.selected in
+    let are = contents_listed told read s.replacement s.inputs.root.repositories (wishes_of command).no_scripts left.found l.place l.member left.members (placed members place.0 l place.1).member owner.1 in
+    empty_by l.entry (listing_bytes (contents_left left) l)
+    (brought (contents_left left) members l (contains_from_one (member_listings members) l listed) are.0 are.1) unlike

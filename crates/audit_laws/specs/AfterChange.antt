@@ -1,0 +1,70 @@
+-- The files that differ from their records after a change. The rules are in `docs/commands.md`,
+-- "`audit`" and "What a change does with files". Serves the law of `src/laws.rt`.
+use Rattle.std.specs.Prelude.{◌≡◌, ◌⊎◌, ℕ, Bool, true, false, List, [], Option, Some}
+use Rattle.adb_schema.specs.Texts.{is_with_contents}
+use Rattle.adb_view.specs.Plain.{Plain}
+use Rattle.audit_core.specs.Audit.{FileDifference}
+use Rattle.audit_core.specs.Differences.{IsDifferent}
+use Rattle.audit_core.specs.declared.comparing.Difference.TheVariants.{Changed}
+use Rattle.base_core.specs.Files.{Files}
+use Rattle.change_files.specs.FileChange.{FileChange, owner_listing}
+use Rattle.change_files.specs.FilesAfter.{listing_bytes}
+use Rattle.change_files.specs.Touched.{IsUsersFile}
+use Rattle.change_outcome.specs.ChangeOutcome.{ChangeDone, file_change}
+use Rattle.change_outcome.specs.MembersAfter.{contents_found, members_found}
+use Rattle.command_core.specs.Command.{CommandLine}
+use Rattle.db_core.specs.Members.{Listing, is_coming}
+use Rattle.engine_core.specs.Wishes.{wishes_of}
+use Rattle.file_guard.specs.AsListed.{has_target, is_as_listed}
+use Rattle.make_info.specs.Reads.{Reads}
+use Rattle.pkg_core.specs.Contents.{Contents}
+use Rattle.root_laws.specs.RootLeft.{IsRootLeft, database_of_members}
+
+-- ---- a file that is left different
+
+-- an entry of an empty file with the digest of other bytes, which no test of a package compares
+pub record IsEmptyUnlike (entry : Plain) : Type 0 where
+  pub no_contents : is_with_contents entry ≡ false
+  pub no_link : has_target entry ≡ false
+  pub unlike : is_as_listed entry [] ≡ false
+
+-- the file under a path is configuration that the user changed
+abbrev pub IsKeptForUser : FileChange → Files → List ℕ → Type 0
+IsKeptForUser change files path = (bytes : List ℕ) × IsUsersFile change files path bytes
+
+-- Why a listed file differs after a change. The file of a kept package differs as it did before. The
+-- file of an added package has other bytes: those that the user gave it, or those that the package has
+-- for it, which are not as its own entry lists them.
+abbrev pub IsLeftBy :
+    (ℕ → List Contents) → FileChange → Files → FileDifference → Listing → Bool → Type 0
+IsLeftBy contents change files d l false = IsDifferent d.difference l.entry (files d.path)
+IsLeftBy contents change files d l true =
+    (d.difference ≡ Changed)
+    × (IsKeptForUser change files d.path ⊎ (is_as_listed l.entry (listing_bytes contents l) ≡ false))
+
+-- a file that differs after a change, of the package that owns its path
+pub record IsLeftDifferent (contents : ℕ → List Contents) (change : FileChange) (files : Files)
+    (d : FileDifference) : Type 0 where
+  pub listing : Listing
+  pub owner : owner_listing change d.path ≡ Some listing
+  pub left : IsLeftBy contents change files d listing (is_coming listing.member)
+
+-- ---- of the root that a command leaves
+
+-- the packages after a command, as the next one reads them
+abbrev pub packages_left :
+    {command : CommandLine} → {read : Reads} → {chosen : Option (List ℕ)} → {done : ChangeDone}
+    → IsRootLeft command read chosen done → List Plain
+packages_left left = (database_of_members (members_found left.found) left.bytes).packages
+
+-- the change of files that a command has made
+abbrev pub change_left :
+    {command : CommandLine} → {read : Reads} → {chosen : Option (List ℕ)} → {done : ChangeDone}
+    → IsRootLeft command read chosen done → FileChange
+change_left {command} left = file_change left.selected.inputs (wishes_of command) left.found
+
+-- the contents of the files of each package that a command has added
+abbrev pub contents_left :
+    {command : CommandLine} → {read : Reads} → {chosen : Option (List ℕ)} → {done : ChangeDone}
+    → IsRootLeft command read chosen done → ℕ → List Contents
+contents_left left = contents_found left.found

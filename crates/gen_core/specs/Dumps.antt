@@ -1,0 +1,48 @@
+-- Roots and the lines of their dumps, and the first line of a text that no dump has after the lines
+-- before it. By the definition of a dump text alone: no reader is needed.
+-- The rule is in `docs/formats.md`, "Dump text". Serves the laws of `src/laws.rt`.
+use Rattle.std.specs.Prelude.{◌≡◌, ◌≢◌, ℕ, ◌+◌, ◌-◌, ◌≤◌, ◌⊎◌, List, [], ◌++◌, length, take, IsSome}
+use Rattle.adb_view.specs.Plain.{Plain}
+use Rattle.adb_view.specs.declared.tables.Which.{Which}
+use Rattle.adb_schema.specs.Soundness.{schema_word}
+use Rattle.adb_dump.specs.Dump.{Line, dump_lines}
+use Rattle.adb_dump.specs.Values.{IsOfBytes, IsValueOf}
+use Rattle.gen_core.specs.Generated.{text_lines}
+
+-- a value of a root: a normal one of bytes, of one of the four tables that a root may have
+pub record IsRootValue (which : Which) (value : Plain) : Type 0 where
+  -- the table is that of a root
+  pub root : IsSome (schema_word which)
+  -- the value is a normal one of the table
+  pub normal : IsValueOf which value
+  -- the value is of bytes
+  pub bytes : IsOfBytes value
+
+-- these are all lines of the dump of a root
+pub record AreDumpLines (lines : List Line) : Type 0 where
+  -- the root
+  pub which : Which
+  pub value : Plain
+  pub is : IsRootValue which value
+  -- its dump has these lines
+  pub lines_are : dump_lines which value ≡ lines
+
+-- the dump of a root begins with these lines
+pub record BeginsADump (front : List Line) : Type 0 where
+  -- the other lines of the dump
+  pub others : List Line
+  pub whole : AreDumpLines (front ++ others)
+
+-- the line with this number, from 1, is the first that no dump has after the lines before it. Where
+-- another line must follow, or the last line has no end, it is the number of whole lines plus 1
+pub record IsFirstBadDumpLine (text : List ℕ) (number : ℕ) : Type 0 where
+  -- lines are numbered from 1, up to the number of whole lines plus 1
+  pub low : 1 ≤ number
+  pub high : number ≤ length (text_lines text).0 + 1
+  -- a dump begins with the lines before it, if there are any
+  pub before : number ≢ 1 → BeginsADump (take (number - 1) (text_lines text).0)
+  -- no dump begins with these and the line, if it is a whole line
+  pub bad : number ≤ length (text_lines text).0 → ¬ BeginsADump (take number (text_lines text).0)
+  -- if it is not, bytes follow the last line end, or the whole lines are not all lines of a dump
+  pub end : number ≡ length (text_lines text).0 + 1
+      → ((text_lines text).1 ≢ []) ⊎ (¬ AreDumpLines (text_lines text).0)
