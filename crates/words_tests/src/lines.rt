@@ -10,8 +10,8 @@ use words_core::{WordsFault, explain_usage, help, read_words, version_line};
 /// The most words that a row's line may have.
 const MOST_WORDS: usize = 100_000;
 
-/// Adds 0 if the words are a command, and else the place of the first word that offends, and the line
-/// that says why.
+/// Adds 0 if the words are a command, and otherwise the place of the first wrong word, and the line
+/// with the reason.
 pub(crate) fn add_place(
     alloc: Global,
     line: &Words,
@@ -27,7 +27,7 @@ pub(crate) fn add_place(
     }
 }
 
-/// Adds the line that says why the words are a usage error at a place.
+/// Adds the line with the reason of a usage error at a place.
 fn add_reason(
     alloc: Global,
     line: &Words,
@@ -41,7 +41,7 @@ fn add_reason(
     add_word(answer, page.bytes())
 }
 
-/// Adds what is printed where the words ask for help or for the version of the program.
+/// Adds what is printed if the words ask for help or for the version of the program.
 pub(crate) fn add_asked(
     alloc: Global,
     line: &Words,
