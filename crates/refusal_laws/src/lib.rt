@@ -10,10 +10,11 @@ mod laws;
 
 pub use laws::{
     a_change_that_is_made_has_no_fault, a_package_that_is_too_large_is_refused_with_its_counts,
-    a_refused_audit_has_its_fault, a_refused_change_has_its_fault, a_refused_change_has_passed_the_tests_before,
-    a_refused_command_has_its_fault, a_refused_info_has_its_fault, a_refused_input_has_its_fault,
-    a_refused_manifest_has_its_fault, a_refused_package_is_the_first_with_a_fault, a_refused_query_has_its_fault, a_refused_run_has_its_fault,
-    a_refused_selection_has_passed_the_tests_before,
+    a_refused_audit_has_its_fault, a_refused_change_has_its_fault,
+    a_refused_change_has_passed_the_tests_before, a_refused_command_has_its_fault,
+    a_refused_info_has_its_fault, a_refused_input_has_its_fault, a_refused_manifest_has_its_fault,
+    a_refused_package_is_the_first_with_a_fault, a_refused_query_has_its_fault,
+    a_refused_run_has_its_fault, a_refused_selection_has_passed_the_tests_before,
     the_packages_after_a_change_are_the_selected_ones,
     the_packages_after_a_run_are_those_of_the_first_selection,
 };

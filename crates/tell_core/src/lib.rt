@@ -2,8 +2,8 @@
 //! `list`, `search` and `policy`.
 //!
 //! The contract of `tell` cites `ToldBy` of `specs/` (what each of these commands reports, or why
-//! it is refused) and with it `InfoTold`, `AuditTold` and `QueryTold`. Each command's rules are in `docs/commands.md`, under its
-//! name.
+//! it is refused) and with it `InfoTold`, `AuditTold` and `QueryTold`. Each command's rules are in
+//! `docs/commands.md`, under its name.
 #![tactic(auto)]
 
 mod audit;
