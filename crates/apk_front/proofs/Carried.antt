@@ -31,7 +31,7 @@ use Rattle.report_core.specs.declared.refusal.Refusal.TheVariants.{Usage}
 use Rattle.command_core.specs.Command.{CommandLine}
 use Rattle.words_core.specs.Faults.{IsWordsFault}
 use Rattle.words_core.specs.Grammar.{command_of}
-use Rattle.words_core.specs.HelpTexts.{help_text, version_text}
+use Rattle.words_core.specs.HelpTexts.{help_text, version_line}
 use Rattle.words_core.specs.declared.read.WordsFault.{WordsFault}
 use Rattle.words_core.specs.declared.read.WordsFault.TheVariants.{Usage as WrongWord}
 use Rattle.command_core.specs.declared.command.Applet.{Applet}
@@ -419,7 +419,7 @@ pub help_ran : (command : CommandLine) (applet : Applet) (operands : List Operan
 help_ran command applet operands text verdict same is of told reported =
     ran_as command applet Help verdict same is (λ read files. reported files ∙ ap (just_report files) (told ∙ ap help_text of))
 
-pub version_ran : (command : CommandLine) (applet : Applet) (text : List ℕ) (verdict : Verdict) → applet ≡ command.applet → applet ≡ ProgramVersion → text ≡ version_text
+pub version_ran : (command : CommandLine) (applet : Applet) (text : List ℕ) (verdict : Verdict) → applet ≡ command.applet → applet ≡ ProgramVersion → text ≡ version_line
     → ((files : Files) → as_outcome files verdict ≡ just_report files text) → Ran command verdict
 version_ran command applet text verdict same is told reported = ran_as command applet ProgramVersion verdict same is (λ read files. reported files ∙ ap (just_report files) told)
 

@@ -14,7 +14,7 @@ use Rattle.command_core.specs.declared.command.Applet.TheVariants.{Adbdump, Adbg
 use Rattle.engine_core.specs.ChangeRun.{HasSpoiledPackage}
 use Rattle.engine_core.specs.Changed.{packages_found, selected_for}
 use Rattle.tell_core.specs.ToldBy.{told_by}
-use Rattle.words_core.specs.HelpTexts.{help_text, version_text}
+use Rattle.words_core.specs.HelpTexts.{help_text, version_line}
 use Rattle.outcome.specs.Changing.{change}
 use Rattle.outcome.specs.Dump.{adbdump}
 use Rattle.outcome.specs.Effect.{Effect, Computes, Reads as OnlyReads, Tells, Makes, Changes, does_recover, effect_of}
@@ -34,7 +34,7 @@ use Rattle.outcome.specs.Work.{recovery_fault, work_files}
 abbrev pub computing_outcome : Applet → CommandLine → Files → Outcome
 computing_outcome Version command files = version files command.flags command.operands
 computing_outcome Help command files = just_report files (help_text command.operands)
-computing_outcome ProgramVersion command files = just_report files version_text
+computing_outcome ProgramVersion command files = just_report files version_line
 computing_outcome other command files = just_report files []
 
 -- the outcome of an applet that reads files, by what its reads find

@@ -1,9 +1,10 @@
 -- Words that ask for help or for the version: where an option can be, none of them can be read.
-use Rattle.std.proofs.Common.{Bool, Err, List, None, Ok, Option, Some, [], ap, arith, codes, drop, false, inl, inr, length, refl, subst, suc, sym, true, zero, ℕ, ◌++◌, ◌+◌, ◌∙◌, ◌∷◌, ◌≡◌, ◌≤◌, if◌then◌else◌}
+use Rattle.std.proofs.Common.{Bool, Err, List, None, Ok, Option, Some, [], ap, arith, codes, drop, false, if◌then◌else◌, inl, inr, length, refl, subst, suc, sym, take, true, zero, ℕ, ◌++◌, ◌+◌, ◌∙◌, ◌∷◌, ◌≡◌, ◌≤◌}
 use Rattle.std.specs.List.{slice_get}
 use Rattle.std.specs.Prelude.{is_some, not, ◌&&◌, ◌||◌}
 use Rattle.std.specs.Str.{bytes_eq}
 use Rattle.std.proofs.lemmas.Bool.{and_parts, false≢true, or_cases, or_parts}
+use Rattle.std.proofs.lemmas.List.{take-append-drop}
 use Rattle.std.proofs.lemmas.Option.{none-some, option_and_then_some, same_Some}
 use Rattle.std.proofs.lemmas.Slice.Eq.{bytes_eq-Decides}
 use Rattle.command_core.specs.declared.command.Applet.{Applet}
@@ -160,9 +161,9 @@ next_at site = if site.ended then OperandAlone site.applet else OptionOrOperand 
 pub record IsNext (place : ℕ) (words : List (List ℕ)) (site : AppletSite) : Type 0 where
   pub count : ℕ
   pub read : site.read ≡ place + count
-  pub next : next_words OptionOrCommand words ≡ next_words (next_at site) (drop (suc count) words)
+  pub front : next_words OptionOrCommand (take (suc count) words) ≡ next_at site
 
-named_site : (ended : Bool) (place : ℕ) (word : List ℕ) (site : AppletSite) → site_at ended place word ≡ Ok site → (applet : Applet) × (applet_of word ≡ Some applet) × (site_by ended place applet ≡ site)
+pub named_site : (ended : Bool) (place : ℕ) (word : List ℕ) (site : AppletSite) → site_at ended place word ≡ Ok site → (applet : Applet) × (applet_of word ≡ Some applet) × (site_by ended place applet ≡ site)
 unfolding site_at
 named_site ended place word site h =
     elim (applet_of word) as (λ o. or_at place (λ applet. Ok (site_by ended place applet)) o ≡ Ok site → (applet : Applet) × (o ≡ Some applet) × (site_by ended place applet ≡ site)) [
@@ -178,9 +179,7 @@ end_next place word (v ∷ words) site e h =
     record {
       count = 1;
       read = sym (ap (λ (s : AppletSite). s.read) named.2);
-      next = ap (λ n. next_words (next_word n v) words) (next_end word e)
-          ∙ (ap (λ o. next_words (next_by_applet OperandAlone o) words) named.1
-          ∙ ap (λ s. next_words (next_at s) words) named.2);
+      front = ap (λ n. next_word n v) (next_end word e) ∙ (ap (λ o. next_by_applet OperandAlone o) named.1 ∙ ap (λ s. next_at s) named.2);
     }
 
 pub found_next : (place : ℕ) (words : List (List ℕ)) (site : AppletSite) → applet_site place words ≡ Ok site → IsNext place words site
@@ -195,7 +194,7 @@ found_next place (word ∷ words) site h =
               record {
                 count = suc rest.count;
                 read = omega (arith, rest.read);
-                next = ap (λ n. next_words n words) (next_early word e o) ∙ rest.next;
+                front = ap (λ n. next_words n (take (suc rest.count) words)) (next_early word e o) ∙ rest.front;
               }
           | false ↦ λ y. absurd (let both : Err place ≡ Ok site = sym (seek_late place word words e o y) ∙ h in cc)
         ] refl
@@ -204,12 +203,17 @@ found_next place (word ∷ words) site h =
             record {
               count = 0;
               read = (let same : place ≡ place + 0 = omega arith in sym (ap (λ (s : AppletSite). s.read) named.2) ∙ same);
-              next = ap (λ n. next_words n words) (next_named word e o)
-                  ∙ (ap (λ o. next_words (next_by_applet OptionOrOperand o) words) named.1
-                  ∙ ap (λ s. next_words (next_at s) words) named.2);
+              front = next_named word e o ∙ (ap (λ o. next_by_applet OptionOrOperand o) named.1 ∙ ap (λ s. next_at s) named.2);
             }
       ] refl
     ] refl
+
+-- .. and behind it
+pub next_behind : (place : ℕ) (words : List (List ℕ)) (site : AppletSite) (found : IsNext place words site) → next_words OptionOrCommand words ≡ next_words (next_at site) (drop (suc found.count) words)
+next_behind place words site found =
+    ap (next_words OptionOrCommand) (sym (take-append-drop (suc found.count) words))
+    ∙ (next_append OptionOrCommand (take (suc found.count) words) (drop (suc found.count) words)
+    ∙ ap (λ n. next_words n (drop (suc found.count) words)) found.front)
 
 -- where options have ended, only operands can follow
 pub ended_alone : (applet : Applet) (rule : Option ValueRule) (words : List (List ℕ)) → have_ended (options_of applet) rule words ≡ true → next_words (next_by_rule applet rule) words ≡ OperandAlone applet

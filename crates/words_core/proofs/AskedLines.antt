@@ -18,7 +18,7 @@ use Rattle.words_core.specs.declared.reading.Start.{Start}
 use Rattle.words_core.specs.Grammar.{asked_at, command_from, first_state, line_command, line_start, next_after, next_words, operands_of, option_reading, reading_behind, reading_by, refused_operand, start_from, takes_option}
 use Rattle.words_core.specs.Options.{OptionSpec, asked_by, options_of}
 use Rattle.words_core.specs.Stuck.{have_ended}
-use Rattle.words_core.proofs.Asked.{HasNoMeaning, asks_first, asks_now, awaited_next, ended_alone, found_next, next_at, operand_stays}
+use Rattle.words_core.proofs.Asked.{HasNoMeaning, asks_first, asks_now, awaited_next, ended_alone, found_next, next_at, next_behind, operand_stays}
 use Rattle.words_core.proofs.GoneOn.{from_going, IsGoing}
 use Rattle.words_core.proofs.KindsKept.{IsPlain, start_known, start_parts}
 use Rattle.words_core.proofs.OffendingWords.{AllBetween, IsJudgedAt, from_placed, judged_at, judged_bad, refused_between, usage_between}
@@ -32,7 +32,7 @@ next_of_start words start s =
     let parts = start_parts words start s in
     let found = found_next 1 words parts.site parts.found in
     let read : suc found.count ≡ parts.site.read = omega (arith, found.read) in
-    found.next
+    next_behind 1 words parts.site found
     ∙ (ap (λ n. next_words (next_at parts.site) (drop n words)) read
     ∙ ap (λ (x : Start). next_words (if x.ended then OperandAlone x.applet else OptionOrOperand x.applet) (drop x.read words)) parts.same)
 

@@ -25,3 +25,7 @@ pub mod WhatFollows
 pub mod StuckWords
 pub mod AskedStuck
 pub mod Letters
+pub mod Reasons
+pub mod ReasonsEarly
+pub mod ReasonsHold
+pub mod Explained

@@ -270,10 +270,10 @@ abbrev pub is_flag : Option OptionSpec → Bool
 is_flag None = true
 is_flag (Some o) = is_flag_meaning o.meaning
 
-abbrev says_flag : Applet → List ℕ → Bool
+abbrev pub says_flag : Applet → List ℕ → Bool
 says_flag applet word = is_flag (option_spelled (options_of applet) word)
 
-early_flag : (applet : Applet) → list_all (says_flag applet) early_words ≡ true
+pub early_flag : (applet : Applet) → list_all (says_flag applet) early_words ≡ true
 unfolding common_options options_of early_words
 early_flag Add = refl
 early_flag applet = refl

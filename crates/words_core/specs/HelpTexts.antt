@@ -13,8 +13,8 @@ abbrev pub program_version : List ℕ
 program_version = codes "0.4.0"
 
 -- the line that `--version` prints: the program, its version, and that of the formats
-abbrev pub version_text : List ℕ
-version_text = codes "apk " ++ program_version ++ codes ", apk-tools 3 formats\n"
+abbrev pub version_line : List ℕ
+version_line = codes "apk " ++ program_version ++ codes ", apk-tools 3 formats\n"
 
 -- ---- lines
 

@@ -12,3 +12,5 @@ pub mod Lines
 pub mod Asked
 pub mod Stuck
 pub mod Kinds
+pub mod Reasons
+pub mod Explained

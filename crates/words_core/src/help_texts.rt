@@ -1,7 +1,7 @@
 //! The texts of `--help` and `--version`, put together from the rows of `help_rows`. The texts are
 //! shown in `docs/commands.md`, "Help".
 ghost use Rattle.std.specs.Prelude.{◌≡◌, ◌≤◌, ◌++◌, IfOk, OnOk, codes, map};
-ghost use Rattle.words_core.specs.HelpTexts.{command_help, command_line, commands_text, common_text, first_steps, help_text, line_text, lines_text, program_help, program_usage, section_text, spaces_after, topic_of, usage_line, usage_text, version_text};
+ghost use Rattle.words_core.specs.HelpTexts.{command_help, command_line, commands_text, common_text, first_steps, help_text, line_text, lines_text, program_help, program_usage, section_text, spaces_after, topic_of, usage_line, usage_text, version_line};
 ghost use Rattle.words_core.specs.Rows.{help_row_line};
 
 use crate::help_rows::{
@@ -26,7 +26,7 @@ const OPTION_COLUMN: usize = 26;
 
 /// The line that `--version` prints.
 pub fn version_line(alloc: Global) -> Result<Text, AllocError>
-    ensures { IfOk result (λ text. text ≡ version_text) }
+    ensures { IfOk result (λ text. text ≡ version_line) }
 {
     let mut text = Vec::from_slice(alloc, b"apk ")?;
     text.extend_from_slice(PROGRAM_VERSION)?;

@@ -8,8 +8,12 @@ ghost use Rattle.words_core.specs.Asked.{IsAskedBy};
 ghost use Rattle.words_core.specs.Grammar.{command_of};
 ghost use Rattle.words_core.specs.Kinds.{can_get_kind};
 ghost use Rattle.words_core.specs.Lines.{IsLineOf};
-ghost use Rattle.words_core.specs.Options.{own_options};
+ghost use Rattle.words_core.specs.Options.{applets, common_options, own_options};
+ghost use Rattle.words_core.specs.Explained.{are_listed, asking_options, explain};
+ghost use Rattle.words_core.specs.HelpTexts.{common_help, option_help};
+ghost use Rattle.words_core.specs.Reasons.{IsUsageReason};
 ghost use Rattle.words_core.specs.Rows.{has_its_letter};
+ghost use Rattle.words_core.specs.Usage.{usage_reason};
 ghost use Rattle.words_core.specs.Stuck.{are_stuck};
 
 /// If a command is read from words, the words are that command: its applet, its operands and its
@@ -69,4 +73,19 @@ pub fn what_follows_a_command_offends_behind_it()
 /// The letter of each option with values is that of its short word.
 pub fn letters_are_those_of_short_words()
     ensures { (applet : Applet) → IsTrue (list_all has_its_letter (own_options applet)) }
+{}
+
+/// The reason that the line after a usage error gives is so, of the word at the place or of the words
+/// before it.
+pub fn a_reason_is_so()
+    ensures { (words : List (List ℕ)) (place : ℕ) → command_of words ≡ Err place →
+        IsUsageReason (usage_reason words place) words place }
+{}
+
+/// The help of a command explains each option of it, in the order of the table of options, and nothing
+/// else.
+pub fn help_explains_each_option()
+    ensures own { (applet : Applet) → IsTrue (explain (option_help applet) (own_options applet)) }
+    ensures common { IsTrue (explain common_help (common_options ++ asking_options)) }
+    ensures listed { IsTrue (are_listed applets) }
 {}

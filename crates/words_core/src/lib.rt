@@ -15,13 +15,14 @@ mod options;
 mod read;
 mod reading;
 mod usage;
+mod usage_texts;
 mod word;
 
 pub use command_core::{Applet, Command, Flags, Operand, Operands, OptionValue, Values};
 pub use help_texts::{help, version_line};
 pub use laws::{
-    commands_are_read, letters_are_those_of_short_words, read_words_are_a_command,
-    stuck_words_are_no_command, usage_errors_are_at_words,
+    a_reason_is_so, commands_are_read, help_explains_each_option, letters_are_those_of_short_words,
+    read_words_are_a_command, stuck_words_are_no_command, usage_errors_are_at_words,
     what_follows_a_command_offends_behind_it, words_before_a_usage_error_can_be_completed,
     words_offend_whatever_follows,
 };

@@ -9,12 +9,13 @@ ghost use Rattle.words_core.specs.Options.{options_of};
 ghost use Rattle.words_core.specs.Rows.{option_spec};
 ghost use Rattle.words_core.specs.Steps.{asks_flags, flags_spelled, has_no_values};
 ghost use Rattle.words_core.specs.declared.next.NextWord.TheVariants.{OptionOrOperand};
-ghost use Rattle.words_core.specs.Usage.{asked_space, asked_word, command_reason, early_reason, end_reason, hex_digit, hint_end, hint_text, is_plain_byte, line_reason, line_rule, longest_shown, meaning_reason, missing_reason, operand_kind_text, operand_reason, option_reason, place_text, reason_kind, reason_text, repeated_by, shown_byte, shown_bytes, texts_joined, usage_after, usage_reason, value_kind_text, value_reason, word_end, word_front, word_reason};
+ghost use Rattle.words_core.specs.Usage.{asked_space, asked_word, command_reason, early_reason, end_reason, hex_digit, hint_end, hint_text, is_plain_byte, line_reason, line_rule, longest_shown, meaning_reason, missing_reason, operand_reason, option_reason, place_text, repeated_by, shown_byte, shown_bytes, texts_joined, usage_after, usage_reason, value_reason, word_end, word_front, word_reason};
 
 use crate::help_rows::PROGRAM_USAGE;
 use crate::next::{NextWord, next_after};
 use crate::options::{Meaning, OptionRow, applet_word, option_spelled, with_option};
 use crate::reading::{Start, find_applet, read_start};
+use crate::usage_texts::{reason_kind, reason_text};
 use crate::word::{held_value, is_end, is_option, option_name};
 use base_core::{Sink, SinkFault, Words, write_all};
 use command_core::{Applet, Flags, OperandKind, OperandRule, ValueKind, ValueRule};
@@ -465,72 +466,4 @@ fn usage_after(words: &Words) -> &'static [u8]
     ensures { result.now ≡ usage_after words.now }
 {
     if words.is_empty() { PROGRAM_USAGE } else { b"" }
-}
-
-// ---- texts
-
-// The text of a reason.
-fn reason_text(reason: UsageReason) -> &'static [u8]
-    ensures { result.now ≡ reason_text reason }
-{
-    match reason {
-        UsageReason::CommandMissing => b"a command is missing",
-        UsageReason::CommandUnknown => b"unknown command",
-        UsageReason::OptionEarly => b"no option that can be before the command",
-        UsageReason::OptionUnknown => b"no option of this command",
-        UsageReason::OptionRepeated => b"this option was given before",
-        UsageReason::SecondKind => b"only one such option can be given",
-        UsageReason::ValueGiven => b"this option has no value",
-        UsageReason::ValueMissing => b"the value of the last option is missing",
-        UsageReason::ValueBad(_) => b"the value must be ",
-        UsageReason::ScriptRepeated => b"a script of this type was given before",
-        UsageReason::TooManyOperands => b"too many operands",
-        UsageReason::OperandBad(_) => b"an operand must be ",
-        UsageReason::OperandMissing(_) => b"an operand is missing: ",
-        UsageReason::KindMissing => b"an option is missing: --test or --check",
-        UsageReason::OptionMissing => b"an option is missing: --output",
-    }
-}
-
-// What ends the text of a reason: the kind of the value or operand, if it is about one.
-fn reason_kind(reason: UsageReason) -> &'static [u8]
-    ensures { result.now ≡ reason_kind reason }
-{
-    match reason {
-        UsageReason::ValueBad(kind) => value_kind_text(kind),
-        UsageReason::OperandBad(kind) | UsageReason::OperandMissing(kind) => {
-            operand_kind_text(kind)
-        }
-        _ => b"",
-    }
-}
-
-// What a value of an option is.
-fn value_kind_text(kind: ValueKind) -> &'static [u8]
-    ensures { result.now ≡ value_kind_text kind }
-{
-    match kind {
-        ValueKind::Any => b"a text",
-        ValueKind::Nonempty => b"a text that is not empty",
-        ValueKind::File => b"a path below this folder",
-        ValueKind::Output => b"a path of at most 1016 bytes below this folder",
-        ValueKind::Uncompressed => b"none",
-        ValueKind::Script => b"TYPE:FILE with the type of a script",
-    }
-}
-
-// What an operand is.
-fn operand_kind_text(kind: OperandKind) -> &'static [u8]
-    ensures { result.now ≡ operand_kind_text kind }
-{
-    match kind {
-        OperandKind::File => b"a path below this folder",
-        OperandKind::Any => b"a text",
-        OperandKind::Dependency => b"a dependency",
-        OperandKind::DependencyName => b"the name of a dependency",
-        OperandKind::PackageName => b"the name of a package",
-        OperandKind::Path => b"a path",
-        OperandKind::Number => b"a number from 1 to 20000",
-        OperandKind::Pattern => b"a pattern",
-    }
 }

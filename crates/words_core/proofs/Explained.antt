@@ -1,0 +1,18 @@
+-- Each option is explained by a line of help, and each command is listed.
+use Rattle.std.proofs.Common.{true, refl, ◌++◌, ◌≡◌}
+use Rattle.command_core.specs.declared.command.Applet.{Applet}
+use Rattle.command_core.specs.declared.command.Applet.TheVariants.{Add}
+use Rattle.words_core.specs.Explained.{are_listed, asking_options, explain}
+use Rattle.words_core.specs.HelpTexts.{common_help, option_help}
+use Rattle.words_core.specs.Options.{applets, common_options, own_options}
+
+pub own_explained : (applet : Applet) → explain (option_help applet) (own_options applet) ≡ true
+own_explained Add = refl
+own_explained applet = refl
+
+pub common_explained : explain common_help (common_options ++ asking_options) ≡ true
+unfolding common_options
+common_explained = refl
+
+pub all_listed : are_listed applets ≡ true
+all_listed = refl

@@ -1,0 +1,37 @@
+-- What the lines of help explain. Serves the law `help_explains_each_option`.
+-- The texts of help are in `docs/commands.md`, "Help".
+use Rattle.std.specs.Prelude.{ℕ, Bool, true, false, ◌&&◌, List, [], ◌∷◌, ◌++◌, length, take, codes, if◌then◌else◌}
+use Rattle.std.specs.List.{list_all, list_any}
+use Rattle.std.specs.Str.{bytes_eq}
+use Rattle.command_core.specs.declared.command.Applet.{Applet}
+use Rattle.command_core.specs.declared.command.Flag.TheVariants.{AllowUntrusted}
+use Rattle.words_core.specs.HelpTexts.{HelpLine, listed_commands}
+use Rattle.words_core.specs.Options.{OptionSpec, applet_word, flag_spec}
+
+-- an option as a line of help spells it: its short word or spaces, and its long word
+abbrev pub spelled_option : OptionSpec → List ℕ
+spelled_option option =
+    (if bytes_eq option.short [] then codes "    " else option.short ++ codes ", ") ++ option.long
+
+-- whether a line of help is about an option
+abbrev pub explains : HelpLine → OptionSpec → Bool
+explains line option =
+    bytes_eq (take (length (spelled_option option)) line.subject) (spelled_option option)
+
+-- whether lines of help are about options, one each in the same order
+abbrev pub explain : List HelpLine → List OptionSpec → Bool
+explain [] [] = true
+explain (line ∷ lines) (option ∷ options) = explains line option && explain lines options
+explain lines options = false
+
+-- the options that ask, as lines of help spell them; what they say is not looked at
+abbrev pub asking_options : List OptionSpec
+asking_options =
+    flag_spec (codes "--help") (codes "-h") AllowUntrusted
+    ∷ (flag_spec (codes "--version") (codes "-V") AllowUntrusted ∷ [])
+
+-- whether the word of each of some applets is that of a command that help lists
+abbrev pub are_listed : List Applet → Bool
+are_listed applets =
+    list_all (λ applet. list_any (λ one. bytes_eq (applet_word one) (applet_word applet)) listed_commands)
+    applets
