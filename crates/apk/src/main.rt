@@ -7,7 +7,8 @@
 
 mod process;
 
-use apk_front::{Answer, Refusal, RootAccess, access_for, apk, status};
+use apk_front::{Answer, Refusal, RootAccess, access_for, status};
+use headline::apk_as_promised;
 use host_files::{Lock, write_path};
 use host_tree::HostTree;
 use process::{HostSink, WordsFault, words_of};
@@ -45,7 +46,7 @@ fn main(rt: HostRuntime) -> ExitCode {
     let mut tree = HostTree::new(&rt, rt.alloc(), lock_for(access));
     let mut out = HostSink::new(rt.stdout());
     let mut err = HostSink::new(rt.stderr());
-    let answer = apk(rt.alloc(), &words, &mut tree, &mut out, &mut err);
+    let answer = apk_as_promised(rt.alloc(), &words, &mut tree, &mut out, &mut err);
     match &answer {
         Answer::TreeFault => {
             let _ = tell_why(&rt, &tree);

@@ -11,13 +11,14 @@ use Rattle.base_core.specs.Tree.{TreeState, files_of}
 use Rattle.journal_core.specs.Quiet.{IsQuiet}
 use Rattle.journal_core.specs.Recovery.{IsSettled, RestsOn, intent_name}
 use Rattle.outcome.specs.Effect.{output}
-use Rattle.run_lists.specs.Events.{Crashes, Edits, Ends, Event, HasSeen, HasSeenToOneState, IsAllSynced, IsIdleRun, IsMomentOf, IsRunFrom, KeepsOneState, LeadsOn, MakesOneState, Run, Stops, ignored_behind, ignored_by, ignored_in, nothing_ignored, with_scratch}
+use Rattle.run_lists.specs.Events.{Crashes, Edits, Ends, Event, HasNoPendingRun, HasSeen, HasSeenToOneState, IsAllSynced, IsIdleRun, IsMomentOf, IsRunFrom, IsTornFrom, KeepsOneState, LeadsOn, MakesOneState, Run, Stops, ignored_behind, ignored_by, ignored_in, nothing_ignored, with_scratch}
 use Rattle.run_lists.specs.Safety.{IsAtomic, IsSafe, LeavesOutcome}
 use Rattle.run_lists.proofs.AtMoments.{now_at}
 use Rattle.run_lists.proofs.Ending.{Resting, ends_at_rest, ends_so}
 use Rattle.run_lists.proofs.Facts.{Facts, Ignored}
 use Rattle.run_lists.proofs.Names.{behind_hides, hides, scratch_more}
 use Rattle.run_lists.proofs.OneRun.{answered, atomic, idle_end, idle_moment, more_orderly, now_hides, now_orderly, orderly_at, safe, settled_on}
+use Rattle.run_lists.proofs.Torn.{torn_orderly, torn_quiet}
 
 -- ---- the order
 
@@ -42,11 +43,12 @@ module _ (facts : Facts) (start : Ignored) (off : start intent_name ≡ false) w
       ends_so facts names v run is_run hidden orderly InOrder (order_rests facts) w ends (λ still. still.orderly)
       (λ fault. now_at run.now (IsOrderly (RestsOn (ignored_in run names))) w
       (is_run.orderly (ignored_in run names) (now_orderly facts names v run is_run hidden orderly) (now_hides facts names v run is_run hidden orderly)) ends)
-  led_orderly (Stops run) earlier v w orderly (is_run, moment) =
+  led_orderly (Stops run) earlier v w orderly (is_run, (m, moment, torn)) =
       let names = ignored_behind start earlier in
       let hidden = behind_hides start off earlier in
-      orderly_at facts names v run is_run hidden orderly
-      (is_run.crash (ignored_in run names) (now_orderly facts names v run is_run hidden orderly) (now_hides facts names v run is_run hidden orderly)) w moment
+      torn_orderly m w torn (ignored_in run names)
+      (orderly_at facts names v run is_run hidden orderly
+      (is_run.crash (ignored_in run names) (now_orderly facts names v run is_run hidden orderly) (now_hides facts names v run is_run hidden orderly)) m moment)
   led_orderly Crashes earlier v w orderly crash = facts.crash_orderly nothing_ignored v w crash
   led_orderly Edits earlier v w orderly synced = facts.crash_orderly nothing_ignored w w (as_crash facts w synced)
 
@@ -113,8 +115,8 @@ module _ (facts : Facts) (ignored : Ignored) (v : TreeState) (run : Run) (is_run
         (λ still. own_settled facts ignored (files_of v) w (settled_on ignored (files_of v) v w settled still.quiet))
         (λ fault. ⊎_elim (λ ended. absurd (ended fault)) (λ idle. idle_one (idle_end ignored v run is_run orderly idle w ends).quiet) keeps)
 
-    pub stopped_one : IsMomentOf run w → IsIdleRun v run → One (ignored_in run ignored)
-    stopped_one moment idle = idle_one (idle_moment ignored v run is_run orderly idle w moment).quiet
+    pub stopped_one : (m : TreeState) → IsMomentOf run m → IsTornFrom m w → IsIdleRun v run → One (ignored_in run ignored)
+    stopped_one m moment torn idle = idle_one (torn_quiet m w torn ignored v (idle_moment ignored v run is_run orderly idle m moment).quiet)
 
 module _ (facts : Facts) (start : Ignored) (off : start intent_name ≡ false) (first : TreeState) (rest : IsAtRest start (files_of first) first) where
   pub seen_of : (v : TreeState) (events : List Event) → HasSeenToOneState first events v → HasSeen first events v
@@ -133,8 +135,8 @@ module _ (facts : Facts) (start : Ignored) (off : start intent_name ≡ false) (
       → IsSettled (ignored_behind start (event ∷ earlier)) (files_of w) w
   led_kept (Ends run) earlier v w orderly one keeps (is_run, ends) =
       kept_one facts (ignored_behind start earlier) v run is_run (behind_hides start off earlier) orderly w one ends keeps
-  led_kept (Stops run) earlier v w orderly one keeps (is_run, moment) =
-      stopped_one facts (ignored_behind start earlier) v run is_run (behind_hides start off earlier) orderly w one moment keeps
+  led_kept (Stops run) earlier v w orderly one keeps (is_run, (m, moment, torn)) =
+      stopped_one facts (ignored_behind start earlier) v run is_run (behind_hides start off earlier) orderly w one m moment torn keeps
   led_kept Crashes earlier v w orderly one keeps crash = facts.crash_settled nothing_ignored v w crash
   led_kept Edits earlier v w orderly one keeps synced = facts.crash_settled nothing_ignored w w (as_crash facts w synced)
 
@@ -154,3 +156,11 @@ module _ (facts : Facts) (start : Ignored) (off : start intent_name ≡ false) (
   seen_atomic v events seen run is_run =
       let here = seen_one v events seen in
       atomic facts (ignored_behind start events) v run is_run (behind_hides start off events) here.orderly here.settled
+
+-- a list whose runs end, or are cut off by a crash, keeps one state
+pub unbroken : (first v : TreeState) (events : List Event) → HasSeen first events v → HasNoPendingRun events → HasSeenToOneState first events v
+unbroken first v [] is none = is
+unbroken first v (Ends run ∷ earlier) (u, seen, leads) (fault, before) = (u, leads, inr (unbroken first u earlier seen before, inl fault))
+unbroken first v (Stops run ∷ earlier) seen none = absurd none
+unbroken first v (Crashes ∷ earlier) (u, seen, leads) none = (u, leads, inl (seen, tt))
+unbroken first v (Edits ∷ earlier) (u, seen, leads) none = (u, leads, inl (seen, tt))

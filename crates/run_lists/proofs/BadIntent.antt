@@ -42,10 +42,10 @@ Is v w = w ≡ v
 none_made : (v : TreeState) (run : Run) → run.now ≡ run.old → Since (Is v) run.old run.now
 none_made v run same = record { added = []; is = same; each = All-nil (Is v) }
 
-led_same : (v w : TreeState) (event : Event) → HasBadIntent (files_of v) → IsRunWith IsAnyRun v event → LeadsOn v event w → w ≡ v
+led_same : (v w : TreeState) (event : Event) → HasBadIntent (files_of v) → IsRunWith IsAnyRun v event w → LeadsOn v event w → w ≡ v
 led_same v w (Ends run) bad any (is_run, ends) =
     now_at run.now (Is v) w (at_last (Is v) run.old run.now v is_run.begins refl (none_made v run (nothing_written v run is_run bad))) ends
-led_same v w (Stops run) bad any (is_run, moment) =
+led_same v w (Stops run) bad (any, moment) (is_run, stop) =
     at_moment (Is v) run v w is_run.begins refl (none_made v run (nothing_written v run is_run bad)) moment
 led_same v w Crashes bad any leads = absurd any
 led_same v w Edits bad any leads = absurd any

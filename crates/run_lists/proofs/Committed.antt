@@ -17,7 +17,7 @@ use Rattle.command_core.specs.declared.command.Applet.{Applet}
 use Rattle.command_core.specs.declared.command.Applet.TheVariants.{Demo, Mkndx, Mkpkg}
 use Rattle.engine_core.specs.Changed.{Selected, change_of_selected, change_of_command, selected_for, simulated_change}
 use Rattle.engine_core.specs.Wishes.{wishes_of}
-use Rattle.journal_core.specs.Recovery.{Intent, intent_at, intent_in, intent_name, intent_of, read_intent, recovered_files_by}
+use Rattle.journal_core.specs.Recovery.{Intent, intent_at, intent_in, intent_name, read_intent, recovered_files_by}
 use Rattle.journal_core.specs.Replacing.{replaced_files, scratch_of}
 use Rattle.journal_core.specs.Staged.{unstaged_files}
 use Rattle.make_index.specs.Index.{made_index}

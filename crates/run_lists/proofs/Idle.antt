@@ -18,6 +18,7 @@ use Rattle.run_lists.specs.Events.{Crashes, Edits, Ends, Event, HasSeenIdly, IsI
 use Rattle.run_lists.proofs.Facts.{Ignored}
 use Rattle.run_lists.proofs.Names.{reader_output}
 use Rattle.run_lists.proofs.OneRun.{idle_end, idle_moment, settled_on}
+use Rattle.run_lists.proofs.Torn.{torn_orderly, torn_quiet}
 
 still_rest : (ignored : Ignored) (files : Files) (v w : TreeState) → IsAtRest ignored files v → IsStill ignored v w → IsAtRest ignored files w
 still_rest ignored files v w rest still = record { orderly = still.orderly; settled = settled_on ignored files v w rest.settled still.quiet }
@@ -26,8 +27,9 @@ module _ (crash_orderly : (ignored : Ignored) (v w : TreeState) → IsCrashOf v 
   led_idle : (ignored : Ignored) (files : Files) (v : TreeState) (event : Event) (w : TreeState) → IsAtRest ignored files v → IsIdle v event → LeadsOn v event w → IsAtRest ignored files w
   led_idle ignored files v (Ends run) w rest idle (is_run, ends) =
       still_rest ignored files v w rest (idle_end ignored v run is_run rest.orderly idle w ends)
-  led_idle ignored files v (Stops run) w rest idle (is_run, moment) =
-      still_rest ignored files v w rest (idle_moment ignored v run is_run rest.orderly idle w moment)
+  led_idle ignored files v (Stops run) w rest idle (is_run, (m, moment, torn)) =
+      let still = idle_moment ignored v run is_run rest.orderly idle m moment in
+      record { orderly = torn_orderly m w torn ignored still.orderly; settled = settled_on ignored files v w rest.settled (torn_quiet m w torn ignored v still.quiet) }
   led_idle ignored files v Crashes w rest idle crash =
       record { orderly = crash_orderly ignored v w crash; settled = settled_on ignored files v w rest.settled (crash_quiet ignored v w crash) }
   led_idle ignored files v Edits w rest idle synced = absurd idle

@@ -11,4 +11,5 @@ pub mod Names
 pub mod OneRun
 pub mod Recoverable
 pub mod Recovered
+pub mod Torn
 pub mod Unstaged

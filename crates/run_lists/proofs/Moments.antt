@@ -172,9 +172,9 @@ last_moment run v w is_run ends = by is_run.reads
     by (inl since) = last_by run w since.added since.is ends
     by (inr (o, one, commits, since)) = last_by run w since.added since.is ends
 
-led_true : CommitsNoIntent → (test : Option (List ℕ) → Bool) (q : List ℕ) (stays : IsWaitingName q → ⊥) (v w : TreeState) (event : Event) → IsTrueAt test q (files_of v) → IsRunWith (LeavesTrueAt test q) v event → LeadsOn v event w → IsTrueAt test q (files_of w)
+led_true : CommitsNoIntent → (test : Option (List ℕ) → Bool) (q : List ℕ) (stays : IsWaitingName q → ⊥) (v w : TreeState) (event : Event) → IsTrueAt test q (files_of v) → IsRunWith (LeavesTrueAt test q) v event w → LeadsOn v event w → IsTrueAt test q (files_of w)
 led_true no_intent test q stays v w (Ends run) at leaves (is_run, ends) = stands_true no_intent test q stays v run w leaves at (stands v run w is_run (last_moment run v w is_run ends))
-led_true no_intent test q stays v w (Stops run) at leaves (is_run, moment) = stands_true no_intent test q stays v run w leaves at (stands v run w is_run moment)
+led_true no_intent test q stays v w (Stops run) at (leaves, moment) (is_run, stop) = stands_true no_intent test q stays v run w leaves at (stands v run w is_run moment)
 led_true no_intent test q stays v w Crashes at leaves leads = absurd leaves
 led_true no_intent test q stays v w Edits at leaves leads = absurd leaves
 

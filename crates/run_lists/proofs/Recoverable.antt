@@ -1,19 +1,19 @@
 -- No list leaves a bad intent, and a run that was stopped is recovered by the next one.
-use Rattle.std.proofs.Common.{◌≡◌, ◌≢◌, ◌⊎◌, inl, inr, ⊎_elim, ℕ, Bool, true, false, cond, ◌||◌, List, [], ◌∷◌, Option, Some, None, refl, sym, ap, subst, ◌∙◌}
+use Rattle.std.proofs.Common.{◌≡◌, inl, inr, ⊎_elim, ℕ, Bool, true, false, cond, ◌||◌, List, [], ◌∷◌, Option, Some, None, refl, sym, ap, subst, ◌∙◌}
 use Rattle.std.specs.Prelude.{if◌then◌else◌}
 use Rattle.adb_schema.specs.Soundness.{first_fault}
 use Rattle.adb_view.specs.declared.tables.Which.TheVariants.{Intent as IntentTable}
 use Rattle.apk_front.specs.Answers.{answer_by}
 use Rattle.apk_front.specs.Moments.{AnswersOutcome, HasIdleOutcome}
 use Rattle.apk_front.specs.declared.answer.Answer.{Answer}
-use Rattle.apk_front.specs.declared.answer.Answer.TheVariants.{Refused, OutFault}
+use Rattle.apk_front.specs.declared.answer.Answer.TheVariants.{Refused}
 use Rattle.base_core.specs.Calls.{HasNow}
 use Rattle.base_core.specs.Crash.{IsImage, IsOrderly}
 use Rattle.base_core.specs.Files.{Files}
 use Rattle.base_core.specs.Restart.{IsCrashOf}
 use Rattle.base_core.specs.Tree.{TreeState, files_of}
 use Rattle.base_core.specs.declared.cause.Cause.{Cause}
-use Rattle.journal_core.specs.Quiet.{IsQuiet, IsStill}
+use Rattle.journal_core.specs.Quiet.{IsQuiet}
 use Rattle.journal_core.specs.Recovery.{IsSettled, RestsOn, intent_name, is_staged, recovered_files, state_of}
 use Rattle.journal_core.specs.Staged.{IsIntentFault, unstaged_files}
 use Rattle.outcome.specs.Effect.{Effect, Computes, Reads, Tells, Makes, Changes, does_recover, effect_by, output}
@@ -23,9 +23,9 @@ use Rattle.outcome.specs.Work.{fault_of_intent, recovery_fault}
 use Rattle.report_core.specs.declared.refusal.Refusal.{Refusal}
 use Rattle.report_core.specs.declared.refusal.Refusal.TheVariants.{IntentBad}
 use Rattle.words_core.specs.Grammar.{command_of}
-use Rattle.run_lists.specs.Events.{Crashes, Edits, Ends, Event, HasSeen, HasSeenIdly, IsIdle, IsIdleRun, IsMomentOf, IsOutcomeFrom, IsRunFrom, LeadsOn, Run, Stops, ignored_behind, ignored_in, nothing_ignored}
+use Rattle.run_lists.specs.Events.{Crashes, Edits, Ends, Event, HasSeen, HasSeenIdly, IsIdle, IsMomentOf, IsOutcomeFrom, IsRunFrom, IsStopOf, LeadsOn, Run, Stops, ignored_behind, ignored_in, nothing_ignored}
 use Rattle.run_lists.specs.Reading.{HasBadIntent}
-use Rattle.run_lists.specs.Recovered.{HasSeenNoBadIntent, HasStateBeforeOrOutcome, IsRecoveredBy, IsUnrefused, LeavesNoBadIntent, PutsNoBadIntent}
+use Rattle.run_lists.specs.Recovered.{HasSeenNoBadIntent, HasStateBeforeOrOutcome, HasStateOf, IsRecoveredBy, IsUnrefused, LeavesNoBadIntent, PutsNoBadIntent}
 use Rattle.run_lists.specs.Safety.{HasOldOrOutcome, IsOldOrOutcome}
 use Rattle.run_lists.proofs.Along.{as_crash, seen_orderly}
 use Rattle.run_lists.proofs.Committed.{CommitsNoIntent, ReadSound, absent_now}
@@ -34,6 +34,7 @@ use Rattle.run_lists.proofs.Idle.{state_read}
 use Rattle.run_lists.proofs.Moments.{last_moment}
 use Rattle.run_lists.proofs.Names.{behind_hides, scratch_hides}
 use Rattle.run_lists.proofs.OneRun.{Told, idle_end, idle_moment, now_hides, now_orderly, orderly_at, quiet_self, safe, told}
+use Rattle.run_lists.proofs.Torn.{torn_good, torn_image, torn_orderly, torn_quiet}
 use Rattle.run_lists.proofs.Unstaged.{again_at}
 
 -- ---- laws of the crates below
@@ -68,6 +69,10 @@ no_fault Tells files good = good_fault files good
 no_fault Makes files good = good_fault files good
 no_fault Changes files good = good_fault files good
 
+pub seen_plainly : (first v : TreeState) (events : List Event) → HasSeenNoBadIntent first events v → HasSeen first events v
+seen_plainly first v [] is = is
+seen_plainly first v (event ∷ earlier) (u, seen, leads, puts) = (u, seen_plainly first u earlier seen, leads)
+
 module _ (same : HasSameBadIntent) where
   bad_both : (ignored : Ignored) (a b : Files) → ignored intent_name ≡ false → state_of ignored a ≡ state_of ignored b → HasBadIntent a → HasBadIntent b
   bad_both ignored a b shown is (cause, fault) = (cause, same ignored a b cause shown is fault)
@@ -93,15 +98,11 @@ module _ (same : HasSameBadIntent) where
 
       led_good : (names : Ignored) (event : Event) (v w : TreeState) → names intent_name ≡ false → IsOrderly (RestsOn names) v → LeavesNoBadIntent v → LeadsOn v event w → PutsNoBadIntent event w → LeavesNoBadIntent w
       led_good names (Ends run) v w shown orderly good (is_run, ends) puts = run_good names v run is_run shown orderly good w (last_moment run v w is_run ends)
-      led_good names (Stops run) v w shown orderly good (is_run, moment) puts = run_good names v run is_run shown orderly good w moment
+      led_good names (Stops run) v w shown orderly good (is_run, (m, moment, torn)) puts = torn_good m w torn (run_good names v run is_run shown orderly good m moment)
       led_good names Crashes v w shown orderly good crash puts = λ image is bad.
           good (files_of w) crash.left (bad_both nothing_ignored image (files_of w) refl (facts.crash_settled nothing_ignored v w crash image is) bad)
       led_good names Edits v w shown orderly good synced puts = λ image is bad.
           puts (bad_both nothing_ignored image (files_of w) refl (facts.crash_settled nothing_ignored w w (as_crash facts w synced) image is) bad)
-
-      pub seen_plainly : (first v : TreeState) (events : List Event) → HasSeenNoBadIntent first events v → HasSeen first events v
-      seen_plainly first v [] is = is
-      seen_plainly first v (event ∷ earlier) (u, seen, leads, puts) = (u, seen_plainly first u earlier seen, leads)
 
       module _ (start : Ignored) (off : start intent_name ≡ false) (first : TreeState) (orderly : IsOrderly (RestsOn start) first) (good : LeavesNoBadIntent first) where
         pub seen_good : (v : TreeState) (events : List Event) → HasSeenNoBadIntent first events v → LeavesNoBadIntent v
@@ -158,11 +159,11 @@ state_again ignored files i q = by (ignored q) refl i
     by false shown = state_read ignored (unstaged_files files) q shown ∙ (again (is_staged q) refl ∙ sym (state_read ignored files q shown))
 
 module _ (names : Ignored) (v : TreeState) (run : Run) where
-  state_on : (a b : Files) → state_of names a ≡ state_of names b → HasStateBeforeOrOutcome names v run b → HasStateBeforeOrOutcome names v run a
+  pub state_on : (a b : Files) → state_of names a ≡ state_of names b → HasStateBeforeOrOutcome names v run b → HasStateBeforeOrOutcome names v run a
   state_on a b is (inl (was, left, same)) = inl (was, left, is ∙ same)
   state_on a b is (inr (o, one, commits, same)) = inr (o, one, commits, is ∙ same)
 
-  left_state : (m : TreeState) → IsOldOrOutcome names v run m → (image : Files) → IsImage m image → HasStateBeforeOrOutcome names v run image
+  pub left_state : (m : TreeState) → IsOldOrOutcome names v run m → (image : Files) → IsImage m image → HasStateBeforeOrOutcome names v run image
   left_state m (inl quiet) image is = let was = quiet image is in inl (was.0, was.1, was.2)
   left_state m (inr (o, one, commits, old_or_new)) image is =
       ⊎_elim (λ was. inl (was.0, was.1, was.2)) (λ new. inr (o, one, commits, new)) (old_or_new image is)
@@ -186,9 +187,9 @@ module _ (facts : Facts) (crash_quiet : (ignored : Ignored) (v w : TreeState) �
   led_quiet m v (Ends run) w on idle (is_run, ends) =
       let still = idle_end names v run is_run on.orderly idle w ends in
       record { quiet = quiet_on names m v w on.quiet still.quiet; orderly = still.orderly }
-  led_quiet m v (Stops run) w on idle (is_run, moment) =
-      let still = idle_moment names v run is_run on.orderly idle w moment in
-      record { quiet = quiet_on names m v w on.quiet still.quiet; orderly = still.orderly }
+  led_quiet m v (Stops run) w on idle (is_run, (at, moment, torn)) =
+      let still = idle_moment names v run is_run on.orderly idle at moment in
+      record { quiet = quiet_on names m v w on.quiet (torn_quiet at w torn names v still.quiet); orderly = torn_orderly at w torn names still.orderly }
   led_quiet m v Crashes w on idle crash =
       record { quiet = quiet_on names m v w on.quiet (crash_quiet names v w crash); orderly = facts.crash_orderly names v w crash }
   led_quiet m v Edits w on idle synced = absurd idle
@@ -201,36 +202,56 @@ module _ (facts : Facts) (crash_quiet : (ignored : Ignored) (v w : TreeState) �
       (recovered : (v : TreeState) (run : Run) → IsRunFrom v run → does_recover (effect_by (command_of run.words)) ≡ true → recovery_fault (effect_by (command_of run.words)) (files_of v) ≡ None
       → AnswersOutcome run.answer → HasIdleOutcome (IsOutcomeFrom v run) → HasNow run.now (λ w. files_of w ≡ unstaged_files (files_of v))) where
     -- from a moment of a run on, over what crashes and idle runs leave
-    pub next_recovers : (v : TreeState) (run : Run) (m w : TreeState) (later : List Event) (next : Run) → IsOldOrOutcome names v run m → IsOrderly (RestsOn names) m → LeavesNoBadIntent m
-        → HasSeenIdly m later w → IsRunFrom w next → does_recover (effect_by (command_of next.words)) ≡ true → IsRecoveredBy names v run w next
-    next_recovers v run m w later next either orderly good seen is_next recovers =
+    pub next_recovers : (m w : TreeState) (later : List Event) (next : Run) → IsOrderly (RestsOn names) m → LeavesNoBadIntent m
+        → HasSeenIdly m later w → IsRunFrom w next → does_recover (effect_by (command_of next.words)) ≡ true → (image : Files) × IsImage m image × IsRecoveredBy (HasStateOf names image) w next
+    next_recovers m w later next orderly good seen is_next recovers =
         let on = seen_quiet m w later orderly seen in
         let here : LeavesNoBadIntent w = quiet_good same names m w shown on.quiet good in
         let fault = good_recovers facts w next.words here in
-        let was = on.quiet (files_of w) (facts.read_left w) in
-        record {
-          unrefused = good_unrefused facts only w next is_next recovers here;
-          works = fault;
-          files = record {
-            intent = absent_now sound (files_of w) (files_of w intent_name) refl (good_fault (files_of w) (here (files_of w) (facts.read_left w)));
-            stage = staged_none (files_of w);
-            state = state_on names v run (unstaged_files (files_of w)) was.0 (state_again names (files_of w) ∙ was.2) (left_state names v run m either was.0 was.1);
-          };
-          read = recovered w next is_next recovers fault;
-        }
+        let was = on.quiet (files_of w) (facts.read_left w) in (
+          was.0,
+          was.1,
+          record {
+            unrefused = good_unrefused facts only w next is_next recovers here;
+            works = fault;
+            files = record {
+              intent = absent_now sound (files_of w) (files_of w intent_name) refl (good_fault (files_of w) (here (files_of w) (facts.read_left w)));
+              stage = staged_none (files_of w);
+              state = state_again names (files_of w) ∙ was.2;
+            };
+            read = recovered w next is_next recovers fault;
+          },
+        )
+
+pub recovered_as : (A B : Files → Type 0) → ((files : Files) → A files → B files) → (w : TreeState) (next : Run) → IsRecoveredBy A w next → IsRecoveredBy B w next
+recovered_as A B leads w next is = record {
+  unrefused = is.unrefused;
+  works = is.works;
+  files = record { intent = is.files.intent; stage = is.files.stage; state = leads (unstaged_files (files_of w)) is.files.state };
+  read = is.read;
+}
 
 -- behind a list
-pub stopped_recovers : (facts : Facts) → HasSameBadIntent → CommitsNoIntent → OnlyBadRefused → ReadSound → ((ignored : Ignored) (v w : TreeState) → IsCrashOf v w → IsQuiet ignored v w)
-    → ((v : TreeState) (run : Run) → IsRunFrom v run → does_recover (effect_by (command_of run.words)) ≡ true → recovery_fault (effect_by (command_of run.words)) (files_of v) ≡ None
+module _ (facts : Facts) (same : HasSameBadIntent) (committed : CommitsNoIntent) (only : OnlyBadRefused) (sound : ReadSound) (crash_quiet : (ignored : Ignored) (v w : TreeState) → IsCrashOf v w → IsQuiet ignored v w)
+    (recovered : (v : TreeState) (run : Run) → IsRunFrom v run → does_recover (effect_by (command_of run.words)) ≡ true → recovery_fault (effect_by (command_of run.words)) (files_of v) ≡ None
     → AnswersOutcome run.answer → HasIdleOutcome (IsOutcomeFrom v run) → HasNow run.now (λ w. files_of w ≡ unstaged_files (files_of v)))
-    → (start : Ignored) → start intent_name ≡ false → (first : TreeState) → IsOrderly (RestsOn start) first → LeavesNoBadIntent first
-    → (v m w : TreeState) (events later : List Event) (run next : Run) → HasSeenNoBadIntent first events v → IsRunFrom v run → IsMomentOf run m → HasSeenIdly m later w
-    → IsRunFrom w next → does_recover (effect_by (command_of next.words)) ≡ true → IsRecoveredBy (ignored_in run (ignored_behind start events)) v run w next
-stopped_recovers facts same committed only sound crash_quiet recovered start off first orderly good v m w events later run next seen is_run moment idly is_next recovers =
-    let names = ignored_behind start events in
-    let shown = behind_hides start off events in
-    let here = seen_orderly facts start off first v events orderly (seen_plainly same committed facts first v events seen) in
-    let all_safe = safe facts names v run is_run shown here in
-    let moment_order = orderly_at facts names v run is_run shown here (is_run.crash (ignored_in run names) (now_orderly facts names v run is_run shown here) (now_hides facts names v run is_run shown here)) m moment in
-    let moment_good = run_good same committed facts names v run is_run shown here (seen_good same committed facts start off first orderly good v events seen) m moment in
-    next_recovers facts crash_quiet (ignored_in run names) same (scratch_hides (output run.words) names shown) only sound recovered v run m w later next (all_safe.moments m moment) moment_order moment_good idly is_next recovers
+    (start : Ignored) (off : start intent_name ≡ false) (first : TreeState) (orderly : IsOrderly (RestsOn start) first) (good : LeavesNoBadIntent first) where
+  pub stopped_left : (v m w : TreeState) (events later : List Event) (run next : Run) → HasSeenNoBadIntent first events v → IsRunFrom v run → IsStopOf run m → HasSeenIdly m later w
+      → IsRunFrom w next → does_recover (effect_by (command_of next.words)) ≡ true → (image : Files) × IsImage m image × IsRecoveredBy (HasStateOf (ignored_in run (ignored_behind start events)) image) w next
+  stopped_left v m w events later run next seen is_run (at, moment, torn) idly is_next recovers =
+      let names = ignored_behind start events in
+      let shown = behind_hides start off events in
+      let here = seen_orderly facts start off first v events orderly (seen_plainly first v events seen) in
+      let order = orderly_at facts names v run is_run shown here (is_run.crash (ignored_in run names) (now_orderly facts names v run is_run shown here) (now_hides facts names v run is_run shown here)) at moment in
+      let is_good = run_good same committed facts names v run is_run shown here (seen_good same committed facts start off first orderly good v events seen) at moment in
+      next_recovers facts crash_quiet (ignored_in run names) same (scratch_hides (output run.words) names shown) only sound recovered m w later next
+      (torn_orderly at m torn (ignored_in run names) order) (torn_good at m torn is_good) idly is_next recovers
+
+  pub stopped_recovers : (v m w : TreeState) (events later : List Event) (run next : Run) → HasSeenNoBadIntent first events v → IsRunFrom v run → IsStopOf run m → HasSeenIdly m later w
+      → IsRunFrom w next → does_recover (effect_by (command_of next.words)) ≡ true → IsRecoveredBy (HasStateBeforeOrOutcome (ignored_in run (ignored_behind start events)) v run) w next
+  stopped_recovers v m w events later run next seen is_run (at, moment, torn) idly is_next recovers =
+      let names = ignored_in run (ignored_behind start events) in
+      let left = stopped_left v m w events later run next seen is_run (at, moment, torn) idly is_next recovers in
+      let either = (safe facts (ignored_behind start events) v run is_run (behind_hides start off events) (seen_orderly facts start off first v events orderly (seen_plainly first v events seen))).moments at moment in
+      recovered_as (HasStateOf names left.0) (HasStateBeforeOrOutcome names v run)
+      (λ files same. state_on names v run files left.0 same (left_state names v run at either left.0 (torn_image at m torn left.0 left.1))) w next left.2

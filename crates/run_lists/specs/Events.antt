@@ -86,8 +86,8 @@ IsMomentOf run m =
 
 -- ---- events
 
--- An event is a run that ends, a run that is stopped at one of its moments, a crash, or a change of
--- files by others while nothing runs. A run that a crash cuts off is a stop, and then a crash.
+-- An event is a run that ends, a run that is stopped, a crash, or a change of files by others while
+-- nothing runs. A run that a crash cuts off is a stop, and then a crash.
 pub data Event : Type 0 where
   Ends : Run → Event
   Stops : Run → Event
@@ -99,10 +99,23 @@ pub record IsAllSynced (v : TreeState) : Type 0 where
   pub one_map : v.older ≡ []
   pub files : (q : List ℕ) (n : ℕ) → v.names q ≡ Some n → (v.files n).synced ≡ true
 
+-- w differs from v only in the bytes of files that are not synced, as inside a call that appends to one
+pub record IsTornFrom (v w : TreeState) : Type 0 where
+  pub names : w.names ≡ v.names
+  pub older : w.older ≡ v.older
+  pub made : w.made ≡ v.made
+  pub synced : (n : ℕ) → (w.files n).synced ≡ (v.files n).synced
+  pub bytes : (n : ℕ) → (v.files n).synced ≡ true → (w.files n).bytes ≡ (v.files n).bytes
+
+-- a run may be stopped at one of its moments; or inside a call, and then each file that is not synced
+-- may have any bytes
+abbrev pub IsStopOf : Run → TreeState → Type 0
+IsStopOf run w = (m : TreeState) × IsMomentOf run m × IsTornFrom m w
+
 -- an event finds a tree in the state v, and leaves it in the state w
 abbrev pub LeadsOn : TreeState → Event → TreeState → Type 0
 LeadsOn v (Ends run) w = IsRunFrom v run × HasNow run.now (λ u. u ≡ w)
-LeadsOn v (Stops run) w = IsRunFrom v run × IsMomentOf run w
+LeadsOn v (Stops run) w = IsRunFrom v run × IsStopOf run w
 LeadsOn v Crashes w = IsCrashOf v w
 -- others may lead to any files of the tree, once these are synced
 LeadsOn v Edits w = IsAllSynced w
@@ -165,6 +178,14 @@ HasSeenToOneState first (event ∷ earlier) w =
     × LeadsOn v event w
     × ((HasSeen first earlier v × MakesOneState v event)
     ⊎ (HasSeenToOneState first earlier v × KeepsOneState v event))
+
+-- since the last crash, or change by others, no run was stopped, and none ended by a fault of the tree
+abbrev pub HasNoPendingRun : List Event → Type 0
+HasNoPendingRun [] = Unit {0}
+HasNoPendingRun (Ends run ∷ earlier) = (run.answer ≢ TreeFault) × HasNoPendingRun earlier
+HasNoPendingRun (Stops run ∷ earlier) = ⊥
+HasNoPendingRun (Crashes ∷ earlier) = Unit {0}
+HasNoPendingRun (Edits ∷ earlier) = Unit {0}
 
 -- ---- the names that are ignored
 

@@ -12,7 +12,7 @@ use Rattle.journal_intent.specs.FreeNames.{IsNoneOf}
 use Rattle.outcome.specs.Effect.{does_recover, effect_by, output}
 use Rattle.outcome.specs.Outcome.{Outcome}
 use Rattle.words_core.specs.Grammar.{command_of}
-use Rattle.run_lists.specs.Events.{Crashes, Edits, Ends, Event, IsOutcomeFrom, LeadsOn, Run, Stops}
+use Rattle.run_lists.specs.Events.{Crashes, Edits, Ends, Event, IsMomentOf, IsOutcomeFrom, LeadsOn, Run, Stops}
 
 -- ---- at each moment of a run
 
@@ -41,12 +41,12 @@ HasBytesOfRun v run m q =
 
 -- ---- runs that follow each other without a crash
 
--- an event is a run, ended or stopped, with this property
-abbrev pub IsRunWith : (TreeState → Run → Type 0) → TreeState → Event → Type 0
-IsRunWith Holds v (Ends run) = Holds v run
-IsRunWith Holds v (Stops run) = Holds v run
-IsRunWith Holds v Crashes = ⊥
-IsRunWith Holds v Edits = ⊥
+-- an event is a run with this property that ends, or that is stopped between two calls, in the state w
+abbrev pub IsRunWith : (TreeState → Run → Type 0) → TreeState → Event → TreeState → Type 0
+IsRunWith Holds v (Ends run) w = Holds v run
+IsRunWith Holds v (Stops run) w = Holds v run × IsMomentOf run w
+IsRunWith Holds v Crashes w = ⊥
+IsRunWith Holds v Edits w = ⊥
 
 -- a root has seen only runs, ended or stopped, each with this property
 abbrev pub HasSeenRuns :
@@ -55,7 +55,7 @@ HasSeenRuns Holds first [] w = w ≡ first
 HasSeenRuns Holds first (event ∷ earlier) w =
     (v : TreeState)
     × HasSeenRuns Holds first earlier v
-    × IsRunWith Holds v event
+    × IsRunWith Holds v event w
     × LeadsOn v event w
 
 -- no further property of a run is required

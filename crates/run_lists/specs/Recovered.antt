@@ -46,30 +46,36 @@ IsUnrefused run = (cause : Cause) → run.answer ≢ Refused (IntentBad cause)
 
 -- ---- after a run that was stopped
 
--- files have a state that a crash might have left when the run began, or that of an outcome of the run,
--- which commits
+-- files have the state of others, apart from the ignored names
+abbrev pub HasStateOf : (List ℕ → Bool) → Files → Files → Type 0
+HasStateOf ignored others files = state_of ignored files ≡ state_of ignored others
+
+-- files have a state that a crash might have left when the run began
+abbrev pub HasStateBefore : (List ℕ → Bool) → TreeState → Files → Type 0
+HasStateBefore ignored v files = (was : Files) × IsImage v was × HasStateOf ignored was files
+
+-- files have a state from before the run, or that of an outcome of the run, which commits
 abbrev pub HasStateBeforeOrOutcome : (List ℕ → Bool) → TreeState → Run → Files → Type 0
 HasStateBeforeOrOutcome ignored v run files =
-    ((was : Files) × IsImage v was × (state_of ignored files ≡ state_of ignored was))
+    HasStateBefore ignored v files
     ⊎ ((outcome : Outcome)
     × IsOutcomeFrom v run outcome
     × (outcome.commits ≡ true)
-    × (state_of ignored files ≡ state_of ignored outcome.files))
+    × HasStateOf ignored outcome.files files)
 
--- nothing is left to do in files, and they have a state from before the run, or that of its outcome
-pub record AreRecovered (ignored : List ℕ → Bool) (v : TreeState) (run : Run)
-    (files : Files) : Type 0 where
+-- nothing is left to do in files, and they have such a state
+pub record AreRecovered (HasState : Files → Type 0) (files : Files) : Type 0 where
   pub intent : files intent_name ≡ None
   pub stage : IsEmptyStage files
-  pub state : HasStateBeforeOrOutcome ignored v run files
+  pub state : HasState files
 
 -- The next run, which finds the root in the state w, is not refused for an intent. It works on the
 -- recovered files, and these are as *AreRecovered* says. If its outcome commits nothing, they are what
 -- is read once this is answered.
-pub record IsRecoveredBy (ignored : List ℕ → Bool) (v : TreeState) (run : Run)
-    (w : TreeState) (next : Run) : Type 0 where
+pub record IsRecoveredBy (HasState : Files → Type 0) (w : TreeState) (next : Run) :
+    Type 0 where
   pub unrefused : IsUnrefused next
   pub works : recovery_fault (effect_by (command_of next.words)) (files_of w) ≡ None
-  pub files : AreRecovered ignored v run (unstaged_files (files_of w))
+  pub files : AreRecovered HasState (unstaged_files (files_of w))
   pub read : AnswersOutcome next.answer → HasIdleOutcome (IsOutcomeFrom w next)
       → HasNow next.now (λ u. files_of u ≡ unstaged_files (files_of w))

@@ -3,7 +3,7 @@
 ghost use Rattle.std.specs.Prelude.{◌≡◌, ℕ, Bool, false, true, List, None, Option, IsSome, IsTrue};
 ghost use Rattle.apk_front.specs.Moments.{AnswersOutcome, HasIdleOutcome, HidesScratchOf, IsAtRest};
 ghost use Rattle.base_core.specs.Calls.{HasNow};
-ghost use Rattle.base_core.specs.Crash.{IsOrderly};
+ghost use Rattle.base_core.specs.Crash.{IsImage, IsOrderly};
 ghost use Rattle.base_core.specs.Files.{Files};
 ghost use Rattle.base_core.specs.Tree.{TreeState, files_of};
 ghost use Rattle.journal_core.specs.Kept.{IsWaitingName};
@@ -13,9 +13,9 @@ ghost use Rattle.outcome.specs.Effect.{does_recover, effect_by, output, reads_on
 ghost use Rattle.outcome.specs.Outcome.{Outcome};
 ghost use Rattle.outcome.specs.Words.{IsOutcome};
 ghost use Rattle.outcome.specs.Work.{recovery_fault};
-ghost use Rattle.run_lists.specs.Events.{Event, HasNoPendingOutput, HasSeen, HasSeenIdly, HasSeenToOneState, IsIdleRun, IsMomentOf, IsOutcomeFrom, IsRunFrom, Run, ignored_behind, ignored_in, nothing_ignored, with_scratch};
+ghost use Rattle.run_lists.specs.Events.{Event, HasNoPendingOutput, HasNoPendingRun, HasSeen, HasSeenIdly, HasSeenToOneState, IsIdleRun, IsMomentOf, IsOutcomeFrom, IsRunFrom, IsStopOf, Run, ignored_behind, ignored_in, nothing_ignored, with_scratch};
 ghost use Rattle.run_lists.specs.Reading.{HasBadIntent, HasBytesOfRun, HasSeenRuns, IsAnyRun, IsDoneForGood, IsLastingName, IsNoDraft, IsTrueAt, LeavesTrueAt};
-ghost use Rattle.run_lists.specs.Recovered.{HasSeenNoBadIntent, HasStateBeforeOrOutcome, IsRecoveredBy, IsUnrefused, LeavesNoBadIntent};
+ghost use Rattle.run_lists.specs.Recovered.{HasSeenNoBadIntent, HasStateBeforeOrOutcome, HasStateOf, IsRecoveredBy, IsUnrefused, LeavesNoBadIntent};
 ghost use Rattle.run_lists.specs.Safety.{HasOldOrOutcome, IsAtomicBehindAll, IsSafeBehindAll};
 ghost use Rattle.words_core.specs.Grammar.{command_of};
 
@@ -70,6 +70,11 @@ pub fn whatever_a_root_has_seen_a_run_is_safe()
         → ignored intent_name ≡ false → IsAtRest ignored (files_of first) first
         → HasSeenToOneState first events v
         → IsAtRest (ignored_behind ignored events) (files_of v) v }
+
+    // A list keeps it so if no run was stopped, or failed by the tree, since the last crash or
+    // change by others: a power cut during a run is a crash.
+    ensures without_pending_run { (first v : TreeState) (events : List Event)
+        → HasSeen first events v → HasNoPendingRun events → HasSeenToOneState first events v }
 
     // Then the next run is all or nothing.
     ensures atomic { (v : TreeState) (run : Run) → IsRunFrom v run → IsAtomicBehindAll v run }
@@ -212,9 +217,20 @@ pub fn a_stopped_run_is_recovered()
         (events later : List Event) (run next : Run) → ignored intent_name ≡ false
         → IsOrderly (RestsOn ignored) first
         → LeavesNoBadIntent first → HasSeenNoBadIntent first events v
-        → IsRunFrom v run → IsMomentOf run m → HasSeenIdly m later w
+        → IsRunFrom v run → IsStopOf run m → HasSeenIdly m later w
         → IsRunFrom w next → does_recover (effect_by (command_of next.words)) ≡ true
-        → IsRecoveredBy (ignored_in run (ignored_behind ignored events)) v run w next }
+        → IsRecoveredBy
+        (HasStateBeforeOrOutcome (ignored_in run (ignored_behind ignored events)) v run) w next }
+
+    // These have the state of files that a crash might have left at that moment.
+    ensures left { (ignored : List ℕ → Bool) (first v m w : TreeState)
+        (events later : List Event) (run next : Run) → ignored intent_name ≡ false
+        → IsOrderly (RestsOn ignored) first
+        → LeavesNoBadIntent first → HasSeenNoBadIntent first events v
+        → IsRunFrom v run → IsStopOf run m → HasSeenIdly m later w
+        → IsRunFrom w next → does_recover (effect_by (command_of next.words)) ≡ true
+        → (image : Files) × IsImage m image × IsRecoveredBy
+        (HasStateOf (ignored_in run (ignored_behind ignored events)) image) w next }
 
     // If the root had one state when the run began, these are two: the old one and the outcome's.
     ensures two { (ignored : List ℕ → Bool) (v : TreeState) (run : Run) (files : Files)

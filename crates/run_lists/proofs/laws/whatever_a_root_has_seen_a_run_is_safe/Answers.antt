@@ -1,4 +1,4 @@
-use Rattle.run_lists.proofs.Along.{seen_atomic, seen_begins, seen_one, seen_orderly, seen_safe}
+use Rattle.run_lists.proofs.Along.{seen_atomic, seen_begins, seen_one, seen_orderly, seen_safe, unbroken}
 use Rattle.run_lists.proofs.Facts.{Facts}
 use Rattle.run_lists.proofs.Names.{none_ignored}
 use Rattle.run_lists.proofs.laws.whatever_a_root_has_seen_a_run_is_safe.Goals as goal
@@ -61,6 +61,9 @@ returns-clause-one_state c =
       safe = c.a_crash_leaves_the_old_files_or_those_of_the_outcome.ensures;
     } in
     λ ignored first v events off rest seen. seen_one facts ignored off first rest v events seen
+
+pub returns-clause-without_pending_run : goal.returns-clause-without_pending_run
+returns-clause-without_pending_run c = unbroken
 
 pub returns-clause-atomic : goal.returns-clause-atomic
 returns-clause-atomic c =

@@ -1,0 +1,89 @@
+-- The sentence with which the README of the repository begins, as one statement. What it cites is
+-- defined in `run_lists` (runs, and what a root has seen), `apk_front` (answers), `journal_core` (states),
+-- `outcome` (what a command comes to) and `refusal_laws` (what a refusal says).
+use Rattle.std.specs.Prelude.{◌≡◌, ◌⊎◌, ℕ, Bool, true, false, List, Some, None, Ok}
+use Rattle.apk_front.specs.Answers.{IsAnswerTo, LeavesFiles}
+use Rattle.apk_front.specs.Moments.{AnswersOutcome, IsAtRest, Settles}
+use Rattle.base_core.specs.Calls.{HasNow}
+use Rattle.base_core.specs.Crash.{IsImage, IsOrderly}
+use Rattle.base_core.specs.Faults.{HasCause}
+use Rattle.base_core.specs.Files.{Files}
+use Rattle.base_core.specs.Tree.{TreeState, files_of}
+use Rattle.command_core.specs.Command.{CommandLine}
+use Rattle.journal_core.specs.Recovery.{IsSettled, RestsOn, intent_name}
+use Rattle.journal_core.specs.Staged.{unstaged_files}
+use Rattle.outcome.specs.ChangeEnd.{IsRunEnd, TakesFirstSelection}
+use Rattle.outcome.specs.Effect.{Changes, does_recover, effect_by, effect_of}
+use Rattle.outcome.specs.Outcome.{Outcome}
+use Rattle.refusal_laws.specs.RunFaults.{IsFaultOfRun}
+use Rattle.refusal_laws.specs.RunMade.{HasFirstSelection}
+use Rattle.report_core.specs.declared.refusal.Refusal.{Refusal}
+use Rattle.run_lists.specs.Events.{Event, HasNoPendingRun, HasSeenIdly, HasSeenToOneState, IsIdleRun, IsOutcomeFrom, IsRunFrom, IsStopOf, Run, ignored_behind, ignored_in}
+use Rattle.run_lists.specs.Recovered.{HasSeenNoBadIntent, HasStateBefore, HasStateBeforeOrOutcome, HasStateOf, IsRecoveredBy, LeavesNoBadIntent}
+use Rattle.run_lists.specs.Safety.{HasOldOrOutcome}
+use Rattle.words_core.specs.Grammar.{command_of}
+
+-- A root has seen any list of runs, stops, crashes and changes by others. Its files were durable at
+-- first, apart from the ignored names, and neither then nor later did others leave a bad intent.
+pub record HasGoodPast (ignored : List ℕ → Bool) (first : TreeState) (events : List Event)
+    (v : TreeState) : Type 0 where
+  pub counts : ignored intent_name ≡ false
+  pub durable : IsOrderly (RestsOn ignored) first
+  pub good : LeavesNoBadIntent first
+  pub seen : HasSeenNoBadIntent first events v
+
+-- From a moment on a root recovers to such files. Each crash then leaves such files. The next run that
+-- recovers works on such files, after any crashes and any runs, ended or stopped, that commit nothing.
+pub record RootRecoversTo (HasState : Files → Type 0) (m : TreeState) : Type 0 where
+  pub crash : (image : Files) → IsImage m image → HasState image
+  pub next : (later : List Event) (w : TreeState) (next : Run) → HasSeenIdly m later w
+      → IsRunFrom w next → does_recover (effect_by (command_of next.words)) ≡ true
+      → IsRecoveredBy HasState w next
+
+-- A change is refused only for what is so, or because no selection satisfies the new world. Else the
+-- first preferred selection is carried out and reported. The packages are then just the selected ones,
+-- unless the change is only simulated.
+pub record EndsAsStated (command : CommandLine) (files : Files) (o : Outcome) : Type 0 where
+  pub end : IsRunEnd command files o
+  pub fault : (refusal : Refusal) → o.refusal ≡ Some refusal → IsFaultOfRun command files refusal
+  pub first : o.refusal ≡ None → TakesFirstSelection command (unstaged_files files) o
+  pub packages : o.refusal ≡ None → command.flags.simulate ≡ false
+      → HasFirstSelection command (unstaged_files files)
+
+-- what is promised of a run that begins in the state v, apart from the ignored names
+pub record IsAsPromised (ignored : List ℕ → Bool) (v : TreeState) (run : Run) : Type 0 where
+  -- ended, or stopped at any moment, also inside a call, it recovers to a state from before it, or to that
+  -- of its outcome, which commits
+  pub moments : (m : TreeState) → IsStopOf run m
+      → RootRecoversTo (HasStateBeforeOrOutcome ignored v run) m
+  -- the state from before is one, if each crash left the state of the files as read
+  pub one : IsSettled ignored (files_of v) v → (m : TreeState) → IsStopOf run m
+      → RootRecoversTo (HasOldOrOutcome ignored v run) m
+  -- to its outcome's state, once that is answered (Ok, a refusal, or a fault of an output stream), if it
+  -- settles: it commits, or each crash left the state as read before, or an intent was found
+  pub answered : AnswersOutcome run.answer → (o : Outcome) → IsOutcomeFrom v run o
+      → Settles (effect_by (command_of run.words)) ignored v o
+      → HasNow run.now (RootRecoversTo (HasStateOf ignored o.files))
+  -- to a state from before it, if it is refused, is out of memory, or commits nothing
+  pub left : IsIdleRun v run → (m : TreeState) → IsStopOf run m
+      → RootRecoversTo (HasStateBefore ignored v) m
+  -- the answer, the printed bytes and the files left are the outcome's; or it reports a fault of the
+  -- tree or of an output stream, with its cause, or that it is out of memory
+  pub answer : IsAnswerTo run.words (files_of v) (LeavesFiles run.now)
+      (HasCause run.before run.after) run.answer run.out run.err
+  -- a run that changes the installed packages ends in one of the stated ways
+  pub change : (command : CommandLine) (o : Outcome) → command_of run.words ≡ Ok command
+      → effect_of command.applet ≡ Changes → IsOutcomeFrom v run o
+      → EndsAsStated command (files_of v) o
+
+-- The sentence: whatever list a root has seen, the run is as promised. If a root had one state at first,
+-- it has one when the run begins, unless a run that might commit was stopped, or failed by the tree.
+-- Even then it has one again after a crash, or after an event that *HasSeenToOneState* names.
+abbrev pub IsAsPromisedBehindAll : TreeState → Run → Type 0
+IsAsPromisedBehindAll v run =
+    (ignored : List ℕ → Bool) (first : TreeState) (events : List Event)
+    → HasGoodPast ignored first events v
+    → IsAsPromised (ignored_in run (ignored_behind ignored events)) v run
+    × (IsAtRest ignored (files_of first) first
+    → HasSeenToOneState first events v ⊎ HasNoPendingRun events
+    → IsSettled (ignored_in run (ignored_behind ignored events)) (files_of v) v)

@@ -1,0 +1,12 @@
+//! The sentence with which the README of the repository begins, as one theorem.
+//!
+//! `Sentence` of `specs/` states it. `the_sentence_holds` proves it of every run that meets the
+//! contract of `apk`, and `apk_as_promised` proves it of each call of `apk`. The crate computes
+//! nothing.
+#![tactic(auto)]
+
+mod root;
+mod sentence;
+
+pub use root::apk_as_promised;
+pub use sentence::the_sentence_holds;
