@@ -6,7 +6,7 @@
 
 use apk_front::{apk, status};
 use base_core::Words;
-use row_dump::{DumpFault, container_of};
+use gen_core::{GenFault, gen_};
 use row_run::{Program, run_text};
 use std::alloc::{AllocError, Global};
 use std::io;
@@ -48,10 +48,10 @@ impl Program for Apk {
 
     /// The container of a dump text; none if the text is no dump.
     fn container_of(&self, alloc: Global, text: &[u8]) -> Result<Option<Vec<u8>>, AllocError> {
-        match container_of(alloc, text) {
+        match gen_(alloc, text) {
             Ok(bytes) => Ok(Some(bytes)),
-            Err(DumpFault::NoDump) => Ok(None),
-            Err(DumpFault::Memory) => Err(AllocError),
+            Err(GenFault::Memory) => Err(AllocError),
+            Err(_) => Ok(None),
         }
     }
 }
