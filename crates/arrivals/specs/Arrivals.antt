@@ -19,8 +19,8 @@ use Rattle.arrivals.specs.declared.arrivals.Arrivals.{Arrivals}
 use Rattle.arrivals.specs.declared.arrivals.MemberRead.{MemberRead}
 use Rattle.arrivals.specs.declared.arrivals.MemberRead.TheVariants.{Comes, Stays}
 
--- a package that was read is that of a file that comes: the file was tested, and where the tree
--- shows its files it is the one under the package's name
+-- a package that was read is that of an added file: the file was tested, and if the tree's files are
+-- observable it is the one under the package's name
 pub record IsPackageRead (history : List TreeState) (pkg : TestedPackage)
     (coming : ComingPackage) : Type 0 where
   pub file : List ℕ
@@ -45,14 +45,14 @@ AreMembersRead history before (r ∷ reads) [] = ⊥
 AreMembersRead history before (r ∷ reads) (m ∷ found) =
     IsMemberRead history before r m × AreMembersRead history before reads found
 
--- the packages after the change as contracts see them: of each that it stays, at a place of the
+-- the packages after the change as contracts see them: for each that it is kept, at a place of the
 -- database, or what was read of it
 abbrev pub arrivals_seen : Arrivals → List MemberRead
 arrivals_seen arrivals = arrivals.members.items
 
 -- ---- without their files
 
--- a package that was read, as a member; none where its place leads to no package of the database
+-- a package that was read, as a member; none if its place leads to no package of the database
 abbrev pub member_read : List Plain → MemberRead → Option Member
 member_read before (Stays place) = option_map staying_member (slice_get before place)
 member_read before (Comes pkg) = Some (coming_member (tested_value pkg) (tested_id pkg))
@@ -63,7 +63,7 @@ members_read before reads = filter_map (member_read before) reads
 
 -- ---- as members
 
--- a package that was read is placed: where it stays, its place is one of the database
+-- a package that was read is placed: if it is kept, its place is one of the database
 abbrev pub IsPlaced : List Plain → MemberRead → Type 0
 IsPlaced before (Stays place) = place < length before
 IsPlaced before (Comes pkg) = Unit {0}
@@ -73,20 +73,20 @@ abbrev pub ArePlaced : List Plain → List MemberRead → Type 0
 ArePlaced before [] = Unit {0}
 ArePlaced before (r ∷ reads) = IsPlaced before r × ArePlaced before reads
 
--- packages that were read can be members: each that stays has a place in the database, they stand
--- in byte order of names, and are few enough
+-- packages that were read can be members: each kept one has a place in the database, they are in byte
+-- order of names, and are few enough
 pub record CanBeMembers (before : List Plain) (reads : List MemberRead) : Type 0 where
   pub placed : ArePlaced before reads
   pub in_order : AreInOrder (members_read before reads)
   pub few : length reads ≤ MOST_MEMBERS
 
--- what was read of a package that comes; none of one that stays
+-- what was read of an added package; none for a kept one
 abbrev pub package_in : MemberRead → Option TestedPackage
 package_in (Stays place) = None
 package_in (Comes pkg) = Some pkg
 
--- a package that comes is that of a file that was tested, and its contents are those that were
--- found for the member at a place
+-- an added package is that of a file that was tested, and its contents are those that were found for
+-- the member at a place
 pub record IsFileOfMember (history : List TreeState) (found : List MemberFound) (place : ℕ)
     (pkg : TestedPackage) : Type 0 where
   pub file : List ℕ

@@ -1,4 +1,4 @@
--- What a call answers of one name, by the file that a read finds.
+-- The result of a call for one name, given the file that a read finds.
 -- The rules are in `docs/commands.md`, "`add` and `del`", **What is read** and **What is
 -- refused**, and are said by *name_by_change* of `change_outcome`. Serves the contracts of
 -- `src/package.rt` and `src/arrivals.rt`.
@@ -20,21 +20,21 @@ use Rattle.report_core.specs.declared.refusal.Refusal as Refusals
 use Rattle.arrivals.specs.Arrivals.{IsMemberRead}
 use Rattle.arrivals.specs.declared.arrivals.MemberRead.{MemberRead}
 
--- the read with this number finds under each name what stands there, where the tree shows its
--- files, and else `found`
+-- the read with this number finds under each name the tree's file, if the tree's files are observable,
+-- and otherwise `found`
 abbrev pub FindsAt : List TreeState → Reads → ℕ → Option (List ℕ) → Type 0
 FindsAt [] read n found = (name : List ℕ) → read n name ≡ found
 FindsAt (v ∷ earlier) read n found = (name : List ℕ) → read n name ≡ files_of v name
 
--- a definition gives `wanted` by a read that finds some contents, which are the tree's where it
--- shows its files
+-- the value of a definition is `wanted`, by a read that finds some contents: the tree's, if its files
+-- are observable
 pub record IsByRead {B : Type 0} (history : List TreeState) (by : Reads → ℕ → B) (wanted : B) :
     Type 0 where
   pub found : Option (List ℕ)
   pub is : (read : Reads) (n : ℕ) → FindsAt history read n found → by read n ≡ wanted
 
--- an answer stands for what a definition gives by a read, or is the refusal that it gives; a tree
--- that failed and lack of memory say nothing
+-- a result denotes the value of a definition by a read, or is its refusal; an I/O error of the tree and
+-- out of memory say nothing
 abbrev pub IsAnswerByRead :
     {A B : Type 0} → (A → B → Type 0) → List TreeState
     → (Reads → ℕ → Result B Refusals.Refusal) → Result A Refused → Type 0
@@ -63,7 +63,7 @@ coming_read repositories no_scripts name change c read n =
     and_then (candidate_read repositories c read n) (λ pkg.
     unless_script no_scripts name pkg.value (scripts_of_change change) pkg)
 
--- what a name comes to, by the read of its package's file: a package after the change, none, or the
+-- the result for a name, by the read of its package's file: a package after the change, none, or the
 -- refusal
 abbrev pub name_read :
     List Plain → SealedPool → List Repository → Bool → PlacedName → Reads → ℕ
@@ -72,7 +72,7 @@ name_read before pool repositories no_scripts name read n =
     name_by_change read repositories no_scripts n name.name name.change
     (old_package before name) (new_candidate pool name)
 
--- a package after the change as it was read, or none, is what the name comes to
+-- a package after the change as it was read, or none, is the result for the name
 abbrev pub IsNameRead :
     List TreeState → List Plain → Option MemberRead → Option MemberFound → Type 0
 IsNameRead history before None None = Unit {0}
@@ -80,7 +80,7 @@ IsNameRead history before None (Some m) = ⊥
 IsNameRead history before (Some r) None = ⊥
 IsNameRead history before (Some r) (Some m) = IsMemberRead history before r m
 
--- a package that stays as it is read, or none if there is none before (`old`)
+-- a kept package as it is read, or none if there is none before (`old`)
 abbrev pub IsStaying : List Plain → Option Plain → Option MemberRead → Type 0
 IsStaying before old r =
     (history : List TreeState) → IsNameRead history before r (option_map staying_found old)

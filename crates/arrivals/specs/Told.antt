@@ -1,13 +1,13 @@
--- How a refusal is told whose texts take memory.
--- No rule of a document: serves the contracts of `src/package.rt`; the lines of refusals stand in
--- `docs/commands.md`, "Error lines".
+-- Refusals whose texts take memory.
+-- No document has a rule for this: it serves the contracts of `src/package.rt`; the lines of refusals
+-- are defined in `docs/commands.md`, "Error lines".
 use Rattle.std.specs.Prelude.{◌≡◌, ℕ, List, Result, Ok, Err}
 use Rattle.std.specs.declared.alloc.AllocError.{AllocError}
 use Rattle.change_inputs.specs.declared.root.Refused.{Refused}
 use Rattle.change_inputs.specs.declared.root.Refused.TheVariants as Commands
 use Rattle.report_core.specs.declared.refusal.Refusal.{Refusal}
 
--- what is told is this refusal, or lack of memory
+-- the result is this refusal, or out of memory
 abbrev pub IsRefusalTold : Refusal → Refused → Type 0
 IsRefusalTold wanted (Commands.Refusal refusal) = refusal ≡ wanted
 IsRefusalTold wanted Commands.Disk = ⊥

@@ -40,14 +40,14 @@ use std::marker::PhantomData;
 /// A package after the change.
 #[derive(Drop)]
 pub(crate) enum MemberRead {
-    /// The package stays; this is its place in the database, counted from 0.
+    /// The package is kept; this is its place in the database, counted from 0.
     Stays(usize),
-    /// The package comes; this is what was read of its file.
+    /// The package is added; this is what was read of its file.
     Comes(TestedPackage),
 }
 
 /// The packages after a change as they were read, in byte order of names. Contracts see, by
-/// `Arrivals` of `specs/`, the place in the database of each that stays, and each that comes.
+/// `Arrivals` of `specs/`, the place in the database of each kept one, and each added one.
 #[derive(Drop)]
 pub struct Arrivals {
     /// The packages, in byte order of their names.
@@ -71,7 +71,7 @@ impl Arrivals {
         self.members.is_empty()
     }
 
-    /// The package of the member at a place, counted from 0, if it comes.
+    /// The package of the member at a place, counted from 0, if it is added.
     pub fn package(&self, place: usize) -> Option<&TestedPackage>
         ensures { option_copied result
             ≡ option_and_then package_in (slice_get (arrivals_seen self.now) place) }
@@ -86,9 +86,9 @@ impl Arrivals {
     }
 }
 
-/// Reads the packages that come where the candidates of a selection take the place of the packages
-/// of a database, as `names` says. Each file is read and tested once, in byte order of names. The
-/// tree stays as it is, whatever the answer.
+/// Reads the added packages if the candidates of a selection replace the packages of a database, as
+/// `names` says. Each file is read and tested once, in byte order of names. The tree is unchanged,
+/// whatever is returned.
 ///
 /// # Errors
 ///
@@ -103,7 +103,7 @@ pub fn read_arrivals<T: Tree>(
     repositories: &Repos,
     no_scripts: bool,
 ) -> Result<Arrivals, Refused>
-    // Of each selection, and names to be installed again, that these names are of.
+    // For each selection, and names to be installed again, that these names are of.
     ensures found { (trace : List ℕ) (again : List (List ℕ))
         → placed_names_seen names.now
         ≡ placed_names_of (replacement_by db.now pool.now trace again)
@@ -112,14 +112,14 @@ pub fn read_arrivals<T: Tree>(
         result
         (members_after (replacement_of (replacement_by db.now pool.now trace again)) read
         repositories.now no_scripts)) }
-    // The packages can be made members: they stand in byte order of names, and are no more than the
+    // The packages can be made members: they are in byte order of names, and no more than the
     // candidates.
     ensures members { (trace : List ℕ) (again : List (List ℕ))
         → placed_names_seen names.now
         ≡ placed_names_of (replacement_by db.now pool.now trace again)
         → length pool.now.candidates ≤ MOST_MEMBERS
         → IfOk result (λ arrivals. CanBeMembers (packages_of db.now) (arrivals_seen arrivals)) }
-    // The tree is only read, and `Disk` has a fault of it for its cause.
+    // The tree is only read, and `Disk` has a fault of the tree as its cause.
     ensures tree { OnlyReads Refused.Disk (T.history tree.old) (T.history tree.new)
         (T.counts tree.old) (T.counts tree.new) result }
 {
@@ -136,7 +136,7 @@ pub fn read_arrivals<T: Tree>(
     Ok(Arrivals { members })
 }
 
-/// Puts a package behind the others, if there is one.
+/// Adds a package to the others, if there is one.
 fn push_member(members: &mut Vec<MemberRead>, member: Option<MemberRead>) -> Result<(), AllocError>
     ensures { OnOk result (members.new.items ≡ members.old.items ++ option_to_list member) }
 {
@@ -149,7 +149,7 @@ fn push_member(members: &mut Vec<MemberRead>, member: Option<MemberRead>) -> Res
     }
 }
 
-/// Reads what a name comes to: a package after the change, or none where the package goes.
+/// Reads the package of a name after the change; none if the package is removed.
 fn read_name<T: Tree>(
     alloc: Global,
     tree: &mut T,
@@ -168,7 +168,7 @@ fn read_name<T: Tree>(
     // A law that the proof needs; it computes nothing.
     readings_in_a_row_join::<TestedPackage, Option<MemberRead>, Refused>();
     let Some(change) = name.change else {
-        // Nothing becomes of the package: it stays, and no file is read.
+        // The package does not change: it is kept, and no file is read.
         return Ok(staying(db, name.old));
     };
     match name.candidate(pool) {
@@ -191,7 +191,7 @@ fn read_name<T: Tree>(
     }
 }
 
-/// The package at a place of the database, counted from 0, which stays, if there is one.
+/// The kept package at a place of the database, counted from 0, if there is one.
 fn staying(db: &Db<'_>, place: Option<usize>) -> Option<MemberRead>
     ensures { IsStaying (packages_of db.now)
         (option_and_then (slice_get (packages_of db.now)) place) result }
@@ -202,7 +202,7 @@ fn staying(db: &Db<'_>, place: Option<usize>) -> Option<MemberRead>
     }
 }
 
-/// Refuses the package of the database that goes, if it has a script which would have to run.
+/// Refuses a removed package of the database, if it has a script that would have to run.
 fn test_leaving(
     alloc: Global,
     no_scripts: bool,
@@ -222,8 +222,8 @@ fn test_leaving(
     }
 }
 
-/// The packages after a change as members, in byte order of names: each that stays is lent from the
-/// database, and each that comes from what was read of its file.
+/// The packages after a change as members, in byte order of names: each kept one is lent from the
+/// database, and each added one from what was read of its file.
 pub fn members_of_change<'a>(
     alloc: Global,
     db: &'a Db<'a>,
@@ -240,7 +240,7 @@ pub fn members_of_change<'a>(
     Ok(members)
 }
 
-/// Adds a package that was read to the members, behind the others.
+/// Adds a package that was read to the members, at the end.
 fn push_read<'a>(members: &mut Members<'a>, read: &'a MemberRead) -> Result<(), AllocError>
     requires behind { (m : Member) → member_read (packages_before members.old) read.now ≡ Some m
         → comes_behind (member_name m) (members_of members.old) ≡ true }
@@ -264,7 +264,7 @@ pub fn packages_that_were_read_are_those_found()
 {}
 
 /// The package that was read for the member at a place is that of the file whose contents the
-/// definition finds for it, and each member that comes has one.
+/// definition finds for it, and each added member has one.
 pub fn a_package_that_was_read_is_that_of_its_file()
     ensures file { (history : List TreeState) (before : List Plain) (reads : List MemberRead)
         (found : List MemberFound) → AreMembersRead history before reads found
@@ -278,8 +278,8 @@ pub fn a_package_that_was_read_is_that_of_its_file()
         → is_some (option_and_then package_in (slice_get reads place)) ≡ true }
 {}
 
-/// The packages after a change rest on the reads behind those of the indexes alone: what a command
-/// reads before them is another matter.
+/// The packages after a change depend only on the reads after those of the indexes: earlier reads
+/// of a command do not matter.
 pub fn packages_after_a_change_rest_on_later_reads()
     ensures { (r : Replacement) (read other : Reads) (repositories : List Repository)
         (no_scripts : Bool) → ((n : ℕ) (name : List ℕ)

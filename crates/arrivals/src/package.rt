@@ -1,7 +1,8 @@
-//! The package of a candidate: its file is read and tested once, and has what its index says of it.
-//! The rules are in `docs/commands.md`, "`add` and `del`", **What is refused**: the file of a
-//! package that comes is absent, fails a test, or has another id, name or version than its index
-//! says; the tests in `docs/formats.md`, "Tests of a container".
+//! The package of a candidate: its file is read and tested once, and compared with its index's
+//! entry.
+//! The rules are in `docs/commands.md`, "`add` and `del`", **What is refused**: the file of an
+//! added package is absent, fails a test, or has another id, name or version than its index says;
+//! the tests in `docs/formats.md`, "Tests of a container".
 
 ghost use Rattle.arrivals.specs.Arrivals.{IsPackageRead};
 ghost use Rattle.arrivals.specs.NameReads.{IsAnswerByRead, candidate_read, coming_read, file_read};
@@ -116,9 +117,9 @@ fn read_beside<T: Tree>(
     }
 }
 
-/// Tests that a tested package is as its index says. The mark serves the borrow checker alone,
-/// which does not know the parts of a view that is made and lent here unless the signature names
-/// the view.
+/// Tests that a tested package is as its index says. The mark serves only the borrow checker: it
+/// does not know the parts of a view that is made and lent here unless the signature names the
+/// view.
 fn test_as_indexed<'a>(
     alloc: Global,
     c: &Candidate<'_>,
@@ -178,7 +179,7 @@ fn package_bad(alloc: Global, c: &Candidate<'_>, cause: Cause) -> Result<Refusal
 ///
 /// # Errors
 ///
-/// `PackageDiffers` with the first of these that it has not, or `Memory`.
+/// `PackageDiffers` with the first of these that differs, or `Memory`.
 pub(crate) fn test_same(
     alloc: Global,
     c: &Candidate<'_>,
@@ -201,7 +202,7 @@ pub(crate) fn test_same(
     Ok(())
 }
 
-/// The refusal of a candidate whose package has something else in a field than its index says.
+/// The refusal of a candidate whose package differs in a field from its index's entry.
 fn differs(alloc: Global, c: &Candidate<'_>, field: u16, wanted: &[u8], found: &[u8]) -> Refused
     ensures { IsRefusalTold (PackageDiffers (candidate_value c.now).name
         (selected_version (candidate_value c.now)) field wanted.now found.now) result }
@@ -229,7 +230,7 @@ fn package_differs(
     })
 }
 
-/// A refusal, or that there was no memory for its texts.
+/// A refusal, or out of memory for its texts.
 pub(crate) fn told(made: Result<Refusal, AllocError>) -> Refused
     ensures { (wanted : RefusalValue) → IfOk made (λ refusal. refusal ≡ wanted)
         → IsRefusalTold wanted result }

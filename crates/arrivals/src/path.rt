@@ -1,4 +1,4 @@
-//! Where the file of a package lies.
+//! The path of a package's file.
 //! The rule is in `docs/commands.md`, "`add` and `del`", **What is read**: `NAME-VERSION.apk`
 //! beside the index that has the package; which bytes are a name, in "Words" there.
 ghost use Rattle.change_outcome.specs.PackageFiles.{folder_prefix, if_name, package_file_of, package_path};

@@ -1,6 +1,6 @@
 //! The scripts that a change would run.
-//! The rule is in `docs/commands.md`, "`add` and `del`", the paragraph behind **What is
-//! refused**: which scripts a package has to run that comes, goes, or gets another version.
+//! The rule is in `docs/commands.md`, "`add` and `del`", the paragraph after **What is refused**:
+//! which scripts a package has to run that is installed, removed, or gets another version.
 ghost use Rattle.adb_schema.specs.Views.{package_value, scripts_value};
 ghost use Rattle.adb_view.specs.FieldIndexes.{PACKAGE_SCRIPTS};
 ghost use Rattle.adb_view.specs.Values.{entry_in};
@@ -23,8 +23,8 @@ use std::alloc::{AllocError, Global};
 use std::marker::PhantomData;
 
 /// Refuses a package that has a script which its change would run, unless scripts are left out. The
-/// mark serves the borrow checker alone, which does not know the parts of a view that is made and
-/// lent here unless the signature names the view.
+/// mark serves only the borrow checker: it does not know the parts of a view that is made and lent
+/// here unless the signature names the view.
 ///
 /// # Errors
 ///
@@ -49,7 +49,7 @@ pub(crate) fn test_scripts<'a>(
     }
 }
 
-/// The refusal of a package that has a script which would have to run; the script is told by its
+/// The refusal of a package that has a script which would have to run; the refusal has the script's
 /// number.
 fn script_needed(alloc: Global, name: &[u8], number: u16) -> Result<Refusal, AllocError>
     ensures { IfOk result (λ refusal. refusal ≡ ScriptNeeded name.now number) }

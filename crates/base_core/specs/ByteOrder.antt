@@ -10,7 +10,7 @@ use Rattle.std.specs.Cmp.Lexicographic.{slice_cmp}
 abbrev pub bytes_cmp : List ℕ → List ℕ → Ordering
 bytes_cmp = slice_cmp nat_cmp
 
--- whether a text comes before another one
+-- whether a text is before another one
 abbrev pub precedes : List ℕ → List ℕ → Bool
 precedes a b = is_lt (bytes_cmp a b)
 

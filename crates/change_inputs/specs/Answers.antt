@@ -1,6 +1,5 @@
--- What calls answer, and that what a call found stands in the tree. Serves the contracts of
--- `Loaded`, `Installed` and of the crates above; which failures there are stands in
--- `docs/commands.md`, "Answers and statuses".
+-- The results of calls, and that the tree has what a call found. It serves the contracts of `Loaded`,
+-- `Installed` and of the crates above; `docs/commands.md`, "Answers and statuses", lists the failures.
 use Rattle.std.specs.Prelude.{◌≡◌, ℕ, List, [], ◌∷◌, Option, Result, Ok, Err}
 use Rattle.base_core.specs.Calls.{IfObservable}
 use Rattle.base_core.specs.Tree.{TreeState, files_of}
@@ -9,7 +8,7 @@ use Rattle.report_core.specs.declared.refusal.Refusal as Refusals
 use Rattle.change_inputs.specs.declared.root.Refused.{Refused}
 use Rattle.change_inputs.specs.declared.root.Refused.TheVariants.{Disk, Memory, Refusal}
 
--- an answer, seen by a view, is what a definition gives; lack of memory says nothing of it
+-- a result, seen by a view, is the value of a definition; out of memory says nothing about it
 abbrev pub Agrees :
     {A B : Type 0} → (A → B) → Result A Refused → Result B Refusals.Refusal → Type 0
 Agrees view (Ok x) wanted = wanted ≡ Ok (view x)
@@ -25,17 +24,17 @@ AgreesUnlessDisk view (Err (Refusal refusal)) wanted = wanted ≡ Err refusal
 AgreesUnlessDisk view (Err Disk) wanted = Unit {0}
 AgreesUnlessDisk view (Err Memory) wanted = Unit {0}
 
--- why a call ends without a refusal: a failed tree or lack of memory
+-- why a call ends without a refusal: an I/O error of the tree, or out of memory
 abbrev pub IsFailure : Refused → Type 0
 IsFailure (Refusal refusal) = ⊥
 IsFailure Disk = Unit {0}
 IsFailure Memory = Unit {0}
 
--- what was found under a name stands there, where the tree tells its files
+-- if the tree's files are observable, what was found is the file under the name
 abbrev pub StandsAt : List TreeState → List ℕ → Option (List ℕ) → Type 0
 StandsAt history name found = IfObservable history (λ v. found ≡ files_of v name)
 
--- what was found under the path of each repository stands there, where the tree tells its files
+-- if the tree's files are observable, what was found are the files under the paths of the repositories
 abbrev pub StandAt : List TreeState → List Repository → List (Option (List ℕ)) → Type 0
 StandAt history [] [] = Unit {0}
 StandAt history [] (f ∷ found) = ⊥

@@ -1,5 +1,5 @@
--- The packages that a change chooses from: those of the indexes, and those that are installed. The
--- rules are in `docs/selection.md`, "What there is to choose from".
+-- The candidates of a change: the packages of the indexes, and the installed ones. The rules are in
+-- `docs/selection.md`, "What there is to choose from".
 use Rattle.std.specs.Prelude.{ℕ, ◌+◌, nat_lt, true, if◌then◌else◌, List, [], ◌∷◌, ◌++◌, length, None, Result, Ok, Err}
 use Rattle.adb_view.specs.FieldIndexes.{INDEX_PACKAGES, PACKAGE_INFO}
 use Rattle.adb_view.specs.Values.{entries_in, entry_in}
@@ -20,7 +20,7 @@ candidates_from n (repository ∷ repositories) (index ∷ indexes) =
     candidates_of_index n repository.tag (entries_in (entry_in index INDEX_PACKAGES))
     ++ candidates_from (n + 1) repositories indexes
 
--- an installed package as a candidate, by its entry in the database
+-- an installed package as a candidate, given its entry in the database
 abbrev pub installed_candidate : Plain → Candidate
 installed_candidate pkg = candidate_of (entry_in pkg PACKAGE_INFO) None None true
 

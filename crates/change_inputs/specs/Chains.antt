@@ -1,12 +1,11 @@
--- What comes of a value that may be refused. Serves the definitions of this crate and of those
--- above, which put one test behind another; the order of the refusals stands in `docs/commands.md`,
--- "`add` and `del`".
+-- What follows a value that may be refused. It serves the definitions of this crate and of those above,
+-- which chain tests; the order of the refusals is in `docs/commands.md`, "`add` and `del`".
 use Rattle.std.specs.Prelude.{Option, Some, None, Result, Ok, Err}
 pub use Rattle.base_core.specs.Lists.{and_then}
 use Rattle.base_core.specs.declared.cause.Cause.{Cause}
 use Rattle.report_core.specs.declared.refusal.Refusal.{Refusal}
 
--- a value, or the refusal that an error is told as
+-- a value, or the refusal for an error
 abbrev pub refused_as : {A E : Type 0} → (E → Refusal) → Result A E → Result A Refusal
 refused_as refusal (Ok a) = Ok a
 refused_as refusal (Err e) = Err (refusal e)

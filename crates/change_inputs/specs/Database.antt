@@ -14,14 +14,14 @@ use Rattle.v2_core.specs.declared.read.V2Fault.{V2Fault}
 use Rattle.v2_core.specs.declared.read.V2Fault.TheVariants.{Bad, Memory, TooLarge}
 use Rattle.change_inputs.specs.Chains.{unless_cause}
 
--- what is installed: the packages, the bytes of the container that has them, if there is one,
--- and whether a text database says them
+-- what is installed: the packages, the bytes of their container, if there is one, and whether they are
+-- from a text database
 pub record Database : Type 0 where
   pub packages : List Plain
   pub file : Option (List ℕ)
   pub from_text : Bool
 
--- a database by its packages, by the bytes of the container, and by whether a text says them
+-- a database by its packages, by the bytes of the container, and by whether they are from a text
 abbrev pub database_by : List Plain → Option (List ℕ) → Bool → Database
 database_by packages file from_text =
     record { packages = packages; file = file; from_text = from_text }
@@ -32,7 +32,7 @@ container_database file =
     unless_cause DatabaseBad (first_fault Idb file)
     (database_by (entries_at IDB_PACKAGES (root_value Idb (payload_in file))) (Some file) false)
 
--- the database in the payload that a text database says, or why the text says none
+-- the database in the payload of a text database, or why there is none
 abbrev pub payload_database : Result (List ℕ) V2Fault → Result Database Refusal
 payload_database (Ok payload) =
     Ok (database_by (entries_at IDB_PACKAGES (root_value Idb payload)) None true)
@@ -41,17 +41,17 @@ payload_database (Err (TooLarge bytes values)) = Err (ResultTooLarge bytes value
 -- no text gives this: *payload_of_text* knows no memory
 payload_database (Err Memory) = Err NoDatabase
 
--- the database that a text says, or its first fault
+-- the database of a text, or its first fault
 abbrev pub text_database : List ℕ → Result Database Refusal
 text_database text = payload_database (payload_of_text text)
 
--- the database if none is there: one without packages, if it may be begun
+-- the database if there is none: one without packages, if it may be begun
 abbrev pub new_database : Bool → Result Database Refusal
 new_database true = Ok (database_by [] None false)
 new_database false = Err NoDatabase
 
--- the database of a root, by what is found under its two names, of which the text is looked at
--- last, and by whether one may be begun
+-- the database of a root, given what is found under its two names, of which the text is used last, and
+-- whether one may be begun
 abbrev pub root_database : Bool → Option (List ℕ) → Option (List ℕ) → Result Database Refusal
 root_database may_begin (Some file) text = container_database file
 root_database may_begin None (Some text) = text_database text

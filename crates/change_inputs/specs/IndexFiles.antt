@@ -1,5 +1,5 @@
--- Index files that pass all tests. Serves the contracts of `IndexFiles` in `src/index.rt`; the
--- tests stand in `docs/formats.md`, "Tests of a container".
+-- Index files that pass all tests. It serves the contracts of `IndexFiles` in `src/index.rt`; the tests
+-- are defined in `docs/formats.md`, "Tests of a container".
 use Rattle.std.specs.Prelude.{ℕ, Bool, List, Vec, map, is_none}
 use Rattle.std.specs.List.{list_all}
 use Rattle.std.specs.declared.alloc.Global.{Global}

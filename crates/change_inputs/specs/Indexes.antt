@@ -35,7 +35,7 @@ indexes_in_files n (file ∷ files) =
     and_then (index_in_file n file) (λ index.
     and_then (indexes_in_files (n + 1) files) (λ indexes. Ok (index ∷ indexes)))
 
--- the values of all indexes, by what is found under the path of each repository; an absent file is
+-- the values of all indexes, given what is found under the path of each repository; an absent file is
 -- refused before a bad one
 abbrev pub root_indexes : List (Option (List ℕ)) → Result (List Plain) Refusal
 root_indexes found = and_then (index_files_from 1 found) (indexes_in_files 1)

@@ -15,7 +15,7 @@ use Rattle.change_inputs.specs.Indexes.{root_indexes}
 use Rattle.change_inputs.specs.Repositories.{root_repositories}
 use Rattle.change_inputs.specs.World.{new_world, root_world, text_found}
 
--- what the files of a root say for a command
+-- the contents of a root's files for a command
 pub record Root : Type 0 where
   pub database : Database
   -- the text of world's file, world before the command, and the one that it asks for
@@ -24,7 +24,7 @@ pub record Root : Type 0 where
   pub new_world : List Dependency
   pub repositories : List Repository
 
--- a root by what each of its files says; the new world is what the command makes of the world
+-- a root by the contents of its files; the new world is what the command makes of the world
 abbrev pub root_by :
     CommandLine → Database → List ℕ → List Dependency → List Repository → Root
 root_by command database text world repositories = record {
@@ -35,7 +35,7 @@ root_by command database text world repositories = record {
   repositories = repositories;
 }
 
--- a root by what is found under the names of the database, the text database, world and the
+-- a root, given what is found under the names of the database, the text database, world and the
 -- repositories, or its first refusal; `--initdb`, which `add` alone has, lets a command begin a
 -- database
 abbrev pub root_found :
@@ -49,7 +49,7 @@ root_found command file text world_file repositories_file =
     (λ repositories.
     Ok (root_by command database (text_found world_file) world repositories))))
 
--- all that a change reads: what the files of a root say, and the value of each repository's index
+-- all that a change reads: the contents of a root's files, and the value of each repository's index
 pub record Inputs : Type 0 where
   pub root : Root
   pub indexes : List Plain
@@ -60,16 +60,16 @@ inputs_by root indexes = record { root = root; indexes = indexes }
 
 -- ---- the numbers of the reads
 
--- each read of a root has a number, counted from 0: first comes the database
+-- each read of a root has a number, counted from 0: the database is first
 abbrev pub database_read : ℕ
 database_read = 0
 
--- the number of the read of the text database, which has one also where a database stands, and does
+-- the number of the read of the text database; it has one even if there is another database, and does
 -- not count then
 abbrev pub text_database_read : ℕ
 text_database_read = 1
 
--- the number of the read of world, behind both databases
+-- the number of the read of world, after both databases
 abbrev pub world_read : ℕ
 world_read = 2
 
@@ -89,20 +89,20 @@ index_reads_from read n (repository ∷ repositories) =
 
 -- ---- the inputs
 
--- the database of a root alone, by what reads find, for a command
+-- the database of a root alone, given what reads find, for a command
 abbrev pub database_for : CommandLine → Reads → Result Database Refusal
 database_for command read =
     root_database command.flags.initdb (read database_read database_name)
     (read text_database_read text_database_name)
 
--- what reads find of a root, for a command
+-- a root, given what reads find, for a command
 abbrev pub root_for : CommandLine → Reads → Result Root Refusal
 root_for command read =
     root_found command (read database_read database_name)
     (read text_database_read text_database_name) (read world_read world_name)
     (read repositories_read repositories_name)
 
--- what reads find of the indexes
+-- the indexes, given what reads find
 abbrev pub indexes_of : Reads → List Repository → Result (List Plain) Refusal
 indexes_of read repositories =
     root_indexes (index_reads_from read first_index_read repositories)

@@ -1,13 +1,12 @@
 -- The repositories of a root, whose indexes are read. The rules are in `docs/formats.md`,
--- "Repositories", and of leave in `docs/commands.md`, "Words", `--allow-untrusted`.
+-- "Repositories", and for leave in `docs/commands.md`, "Words", `--allow-untrusted`.
 use Rattle.std.specs.Prelude.{ℕ, Bool, true, false, List, [], ◌∷◌, Result, Ok, Err}
 use Rattle.dep_core.specs.Repositories.{Repository, repositories_of}
 use Rattle.report_core.specs.declared.refusal.Refusal.{Refusal}
 use Rattle.report_core.specs.declared.refusal.Refusal.TheVariants.{RepositoriesBad, Untrusted}
 use Rattle.change_inputs.specs.Chains.{and_then, refused_as}
 
--- the repositories that may be read: since nobody checks who signed them, any are read only with
--- leave
+-- the repositories that may be read: since signatures are not checked, any are read only with leave
 abbrev pub if_trusted : Bool → List Repository → Result (List Repository) Refusal
 if_trusted is_allowed [] = Ok []
 if_trusted true (repository ∷ repositories) = Ok (repository ∷ repositories)

@@ -6,8 +6,7 @@ use Rattle.root_names.specs.RootNames.{database_name, repositories_name, text_da
 use Rattle.change_inputs.specs.Answers.{StandsAt}
 use Rattle.change_inputs.specs.declared.root.RootFiles.{RootFiles}
 
--- the files of a root stand each under its name; the text database is looked for where there is no
--- other
+-- the files of a root are those under their names; the text database is read only if there is no other
 pub record StandInRoot (history : List TreeState) (files : RootFiles) : Type 0 where
   pub database : StandsAt history database_name (bytes_in files.database)
   pub text_database : bytes_in files.database ≡ None

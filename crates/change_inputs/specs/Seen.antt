@@ -1,4 +1,4 @@
--- What the values of the program stand for. Serves the contracts of `Loaded` and `Installed`.
+-- What the values of the program denote. It serves the contracts of `Loaded` and `Installed`.
 use Rattle.std.specs.Prelude.{true, false, List, [], Some, None, map}
 use Rattle.adb_fields.specs.Repeated.{entries_at}
 use Rattle.adb_schema.specs.Soundness.{payload_in, root_value}
@@ -15,8 +15,8 @@ use Rattle.change_inputs.specs.declared.installed.Installed.{Installed}
 use Rattle.change_inputs.specs.declared.loaded.Loaded.{Loaded}
 use Rattle.change_inputs.specs.declared.root.TestedRoot.{TestedRoot}
 
--- what contracts see in a database of the program: its packages, its container's bytes, and whether
--- a text says them
+-- a database of the program, as contracts see it: its packages, its container's bytes, and whether they
+-- are from a text
 abbrev pub database_seen : DatabaseFile → Database
 database_seen (Container own) =
     database_by (entries_at IDB_PACKAGES (root_value Idb (payload_in own.file.items)))
@@ -25,15 +25,15 @@ database_seen (Payload own) =
     database_by (entries_at IDB_PACKAGES (root_value Idb own.payload.items)) None true
 database_seen New = database_by [] None false
 
--- what contracts see in what was read of the database alone
+-- the database that was read alone, as contracts see it
 abbrev pub installed_seen : Installed → Database
 installed_seen installed = database_seen installed.database
 
--- what contracts see in index files: their values in the order of the repositories
+-- index files, as contracts see them: their values in the order of the repositories
 abbrev pub indexes_seen : IndexFiles → List Plain
 indexes_seen indexes = map index_of_file (bytes_of_each indexes.files.items)
 
--- what contracts see in a root whose files passed all tests
+-- a root whose files passed all tests, as contracts see it
 abbrev pub root_seen : TestedRoot → Root
 root_seen root = record {
   database = database_seen root.database;
@@ -43,6 +43,6 @@ root_seen root = record {
   repositories = root.repositories;
 }
 
--- what contracts see in all that was loaded for a change
+-- all that was loaded for a change, as contracts see it
 abbrev pub inputs_seen : Loaded → Inputs
 inputs_seen loaded = inputs_by (root_seen loaded.root) (indexes_seen loaded.indexes)

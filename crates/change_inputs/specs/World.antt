@@ -1,5 +1,5 @@
--- World before a command (apk-world(5)), and the one that the command asks for. The rules are in
--- `docs/formats.md`, "World", and of the operands in `docs/commands.md`, "`add` and `del`".
+-- World before a command (apk-world(5)) and after it. The rules are in `docs/formats.md`, "World", and
+-- of the operands in `docs/commands.md`, "`add` and `del`".
 use Rattle.std.specs.Prelude.{ℕ, List, [], ◌∷◌, Option, unwrap_or, Result}
 use Rattle.std.specs.Option.{option_map_or}
 use Rattle.command_core.specs.declared.command.Applet.{Applet}
@@ -12,7 +12,7 @@ use Rattle.report_core.specs.declared.refusal.Refusal.{Refusal}
 use Rattle.report_core.specs.declared.refusal.Refusal.TheVariants.{WorldBad}
 use Rattle.change_inputs.specs.Chains.{refused_as}
 
--- the text of world or of the repositories, by what is found: a file that is absent counts as empty
+-- the text of world or of the repositories, given what is found: an absent file counts as empty
 abbrev pub text_found : Option (List ℕ) → List ℕ
 text_found found = unwrap_or found []
 
@@ -22,23 +22,23 @@ root_world text = refused_as WorldBad (world_of text)
 
 -- ---- after the operands
 
--- world with the dependency that an operand is, in place of the one of its name
+-- world with the dependency of an operand, which replaces the one of its name
 abbrev pub world_with_operand : Operand → List Dependency → List Dependency
 world_with_operand o world = option_map_or (λ d. with_entry d world) (dependency_of o.text) world
 
--- world once each operand of `add` is put in; of two with one name the later one stays
+-- world after each operand of `add` is inserted; of two with one name the later one is kept
 abbrev pub world_with_operands : List Operand → List Dependency → List Dependency
 world_with_operands [] world = world
 world_with_operands (o ∷ operands) world = world_with_operands operands (world_with_operand o world)
 
--- world once the name of each operand of `del` is taken out
+-- world after the name of each operand of `del` is removed
 abbrev pub world_without_operands : List Operand → List Dependency → List Dependency
 world_without_operands [] world = world
 world_without_operands (o ∷ operands) world =
     world_without_operands operands (without_name o.text world)
 
--- world as a command asks for it: `add` puts its operands in, `del` takes theirs out, and the
--- others leave world as it is
+-- world after a command: `add` inserts its operands, `del` removes theirs, and the others leave world
+-- as it is
 abbrev pub new_world : Applet → List Operand → List Dependency → List Dependency
 new_world Add operands world = world_with_operands operands world
 new_world Del operands world = world_without_operands operands world

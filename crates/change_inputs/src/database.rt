@@ -1,4 +1,4 @@
-//! The database of a root: its file, or the text database that is taken over. The rules are in
+//! The database of a root: its file, or a text database that is converted. The rules are in
 //! `docs/commands.md`, "`add` and `del`" (what is read) and "A root of version 2"; the tests in
 //! `docs/formats.md`, "Tests of a container".
 ghost use Rattle.adb_fields.specs.ListValue.{list_value};
@@ -36,10 +36,10 @@ pub(crate) struct DatabaseContainer {
     ghost sound: { is_none (payload_fault Tables.Idb (payload_in file.items)) ≡ true },
 }
 
-/// The payload that a text database says, which passed all tests.
+/// The payload of a text database, which passed all tests.
 #[derive(Drop)]
 pub(crate) struct DatabasePayload {
-    /// The bytes of the payload, which stands in no file.
+    /// The bytes of the payload, which is in no file.
     pub(crate) payload: Vec<u8>,
     // No test of the payload as that of a database fails.
     ghost sound: { is_none (payload_fault Tables.Idb payload.items) ≡ true },
@@ -48,9 +48,9 @@ pub(crate) struct DatabasePayload {
 /// The database of a root.
 #[derive(Drop)]
 pub(crate) enum DatabaseFile {
-    /// The database's file is there.
+    /// The database's file exists.
     Container(DatabaseContainer),
-    /// There is no such file, and a text database is taken over.
+    /// There is no such file, and a text database is converted.
     Payload(DatabasePayload),
     /// There is neither, and a database without packages is begun.
     New,
@@ -59,13 +59,13 @@ pub(crate) enum DatabaseFile {
 impl DatabaseFile {
     ghost use Rattle.change_inputs.specs.Seen.{database_seen};
 
-    /// The database of a root, by the files under its two names, of which the text is looked at
-    /// last. If there is none, `may_begin` says whether one without packages is begun.
+    /// The database of a root, given the files under its two names; the text is used last. If there
+    /// is none, `may_begin` says whether one without packages is begun.
     ///
     /// # Errors
     ///
-    /// `NoDatabase`; `DatabaseBad` with the cause of the first test that fails; of a text
-    /// `DatabaseBad` with its first bad line, `ResultTooLarge` where its payload passes a limit of
+    /// `NoDatabase`; `DatabaseBad` with the cause of the first test that fails; for a text
+    /// `DatabaseBad` with its first bad line, `ResultTooLarge` if its payload exceeds a limit of
     /// the writer, or `DatabaseBad` with the first test of a database that it fails. Or `Memory`.
     pub(crate) fn of(
         alloc: Global,
@@ -93,7 +93,7 @@ impl DatabaseFile {
         }
     }
 
-    // The database where it has no file: the one that a text says, or one that is begun.
+    // The database if it has no file: that of a text, or one that is begun.
     fn taken_over(
         alloc: Global,
         may_begin: bool,
@@ -107,7 +107,7 @@ impl DatabaseFile {
         }
     }
 
-    // The database that a text says, which is tested as any other.
+    // The database of a text, which is tested as any other.
     fn in_text(alloc: Global, text: &[u8]) -> Result<DatabaseFile, Refused>
         ensures { Agrees database_seen result (text_database text.now) }
     {
@@ -121,7 +121,7 @@ impl DatabaseFile {
         }
     }
 
-    // A database without packages, where one may be begun.
+    // A database without packages, if one may be begun.
     fn begun(may_begin: bool) -> Result<DatabaseFile, Refused>
         ensures { Agrees database_seen result (new_database may_begin) }
     {
@@ -142,19 +142,19 @@ impl DatabaseFile {
         }
     }
 
-    /// Adds each installed package to a pool, behind the packages of the indexes.
+    /// Adds each installed package to a pool, after the packages of the indexes.
     ///
     /// # Errors
     ///
-    /// `TooMany` where the candidates are more than a pool holds, or `Memory`.
+    /// `TooMany` if there are more candidates than a pool can have, or `Memory`.
     pub(crate) fn add_to<'a>(&'a self, pool: &mut Pool<'a>) -> Result<(), PoolFault>
         requires { length pool.old ≤ MOST_CANDIDATES }
-        // The pool still holds no more than it may.
+        // The pool still has no more than it may.
         ensures fits { OnOk result (length pool.new ≤ MOST_CANDIDATES) }
         // It has the installed packages then, each once.
         ensures ok { OnOk result (pool.new
             ≡ with_all_installed pool.old (database_seen self.entry.now).packages) }
-        // It is refused only for its count, or for lack of memory.
+        // It is refused only for its count, or if out of memory.
         ensures fault { IfErr result (λ fault. IsPoolFault fault (length
             (with_all_installed pool.old (database_seen self.entry.now).packages))) }
     {
@@ -165,8 +165,8 @@ impl DatabaseFile {
         }
     }
 
-    /// The bytes of the container, if there is one: by them a change tells whether the database
-    /// differs.
+    /// The bytes of the container, if there is one: with them a change finds out whether the
+    /// database differs.
     pub(crate) fn file(&self) -> Option<&[u8]>
         ensures { option_copied result ≡ (database_seen self.now).file }
     {
@@ -176,7 +176,7 @@ impl DatabaseFile {
         }
     }
 
-    /// Whether a text database says the packages, so that a change removes the text.
+    /// Whether the packages are from a text database, so that a change removes the text.
     pub(crate) fn is_from_text(&self) -> bool
         ensures { result ≡ (database_seen self.now).from_text }
     {
@@ -218,12 +218,12 @@ fn add_packages<'a>(
     packages: &List<'a, PackageView<'a>>,
 ) -> Result<(), PoolFault>
     requires { length pool.old ≤ MOST_CANDIDATES }
-    // The pool still holds no more than it may.
+    // The pool still has no more than it may.
     ensures fits { OnOk result (length pool.new ≤ MOST_CANDIDATES) }
     // It has these packages then, each once.
     ensures ok { OnOk result (pool.new
         ≡ with_all_installed pool.old (list_of (entries_in (list_value packages.now)))) }
-    // It is refused only for its count, or for lack of memory.
+    // It is refused only for its count, or if out of memory.
     ensures fault { IfErr result (λ fault. IsPoolFault fault (length
         (with_all_installed pool.old (list_of (entries_in (list_value packages.now)))))) }
 {
@@ -234,7 +234,7 @@ fn add_packages<'a>(
     Ok(())
 }
 
-// The payload that a text says, which passed its tests, or the text's first fault.
+// The payload of a text, which passed its tests, or the text's first fault.
 fn payload_of_text(alloc: Global, text: &[u8]) -> Result<DatabasePayload, V2Fault>
     ensures ok { IfOk result (λ own. payload_of_text text.now ≡ Ok own.payload.items) }
     ensures err { IfErr result (λ fault. IsV2Fault fault (payload_of_text text.now)) }

@@ -1,6 +1,6 @@
-//! The repositories of a root, and their indexes: the files of these are all read before one of
-//! them is tested. The rules are in `docs/commands.md`, "`add` and `del`" (what is read and
-//! refused), and in `docs/formats.md`, "Repositories".
+//! The repositories of a root, and their indexes: all index files are read before one of them is
+//! tested. The rules are in `docs/commands.md`, "`add` and `del`" (what is read and refused), and
+//! in `docs/formats.md`, "Repositories".
 
 ghost use Rattle.adb_schema.specs.Texts.{text_fault};
 ghost use Rattle.adb_schema.specs.Soundness.{root_value};
@@ -92,7 +92,7 @@ pub(crate) fn read_index_files<T: Tree>(
     repositories: &Repos,
     tree: &mut T,
 ) -> Result<Vec<Vec<u8>>, Refused>
-    // What is found stands there, where the tree shows its files; the files are all of it, or the
+    // If the tree's files are observable, they are what is found; all files are returned, or the
     // first absent one is refused.
     ensures found { (found : List (Option (List ℕ)))
         × StandAt (T.history tree.old) repositories.now found
@@ -111,7 +111,7 @@ pub(crate) fn read_index_files<T: Tree>(
     Ok(files)
 }
 
-// Adds a file's bytes behind those of the earlier repositories.
+// Adds a file's bytes after those of the earlier repositories.
 fn push_file(files: &mut Vec<Vec<u8>>, file: Vec<u8>) -> Result<(), AllocError>
     ensures { OnOk result (bytes_of_each files.new.items
         ≡ bytes_of_each files.old.items ++ file.items ∷ []) }
@@ -153,8 +153,8 @@ fn test_index_file(alloc: Global, number: u64, file: &[u8]) -> Result<(), Refuse
     }
 }
 
-/// The repositories of a root, by what was found under the name of their list. They are read only
-/// with leave, since nobody checks who signed them.
+/// The repositories of a root, given what was found under the name of their list. They are read
+/// only with leave, since signatures are not checked.
 ///
 /// # Errors
 ///
@@ -176,7 +176,7 @@ pub(crate) fn repositories_of(
     }
 }
 
-// Refuses repositories that may not be read, where there are any.
+// Refuses repositories that may not be read, if there are any.
 fn if_trusted(is_allowed: bool, repositories: Repos) -> Result<Repos, Refused>
     ensures { Agrees (λ repositories. repositories) result (if_trusted is_allowed repositories) }
 {

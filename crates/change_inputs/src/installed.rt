@@ -23,21 +23,21 @@ pub struct Installed {
 }
 
 impl Installed {
-    /// Reads what is installed, as a command that changes nothing needs it. The tree stays as it
-    /// is, whatever the answer.
+    /// Reads what is installed, for a command that changes nothing. The tree is unchanged, whatever
+    /// is returned.
     ///
     /// # Errors
     ///
     /// `NoDatabase`, if there is none and `--initdb` is not given; `DatabaseBad`, or
-    /// `ResultTooLarge` of a text database that passes a limit of the writer. `Disk` if the tree
+    /// `ResultTooLarge` for a text database that exceeds a limit of the writer. `Disk` if the tree
     /// failed, and `Memory`.
     pub fn read<T: Tree>(
         alloc: Global,
         command: &Command,
         tree: &mut T,
     ) -> Result<Installed, Refused>
-        // It is the database of some contents at each read; where the tree shows its files, of
-        // these.
+        // It is the database of some contents at each read: of the tree's, if its files are
+        // observable.
         ensures found { Explains (T.history tree.old) (λ read.
             AgreesUnlessDisk installed_seen result (database_for command.now read)) }
         // The tree is only read; a fault of it has its cause.

@@ -1,11 +1,11 @@
 //! What a change reads of a root: the database, world, the list of repositories and their indexes,
-//! tested in this order, and the packages to choose from. The rules are in `docs/commands.md`,
+//! tested in this order, and the candidates for the solver. The rules are in `docs/commands.md`,
 //! "`add` and `del`", what is read.
 //!
 //! `Loaded::read` reads and tests them, and a `Loaded` keeps them: `db` lends the database, `pool`
 //! makes the candidates of the indexes and of the database. `Installed::read` reads the database
-//! alone. The contracts cite `Inputs` and `Candidates` of `specs/`, which say them by what is found
-//! under each name.
+//! alone. The contracts cite `Inputs` and `Candidates` of `specs/`, which define them by what is
+//! found under each name.
 #![tactic(auto)]
 
 mod database;

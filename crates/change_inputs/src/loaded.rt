@@ -1,4 +1,4 @@
-//! What a change reads of a root, and the packages that it chooses from. The rules are in
+//! What a change reads of a root, and the candidates for the solver. The rules are in
 //! `docs/commands.md`, "`add` and `del`": what is read, and the refusals in their order; of the
 //! candidates in `docs/selection.md`, "What there is to choose from".
 ghost use Rattle.base_core.specs.Read.{OnlyReads};
@@ -27,7 +27,7 @@ use std::alloc::{AllocError, Global};
 /// passed their tests, and the bytes are kept.
 #[derive(Drop)]
 pub struct Loaded {
-    /// What the files of the root say.
+    /// The contents of the root's files.
     root: TestedRoot,
     /// The files of the indexes, one for each repository.
     indexes: IndexFiles,
@@ -38,18 +38,18 @@ pub struct Loaded {
 impl Loaded {
     ghost use Rattle.change_inputs.specs.Seen.{indexes_seen, inputs_seen};
 
-    /// Reads what a command works on: the database, world, the list of repositories and their
-    /// indexes, and tests them in this order. The tree stays as it is, whatever the answer.
+    /// Reads the inputs of a command: the database, world, the list of repositories and their
+    /// indexes, and tests them in this order. The tree is unchanged, whatever is returned.
     ///
     /// # Errors
     ///
     /// `NoDatabase`, if there is none and `--initdb` is not given; `DatabaseBad`, or
-    /// `ResultTooLarge` of a text database that passes a limit of the writer; `WorldBad`;
-    /// `RepositoriesBad`; `Untrusted`; `IndexMissing` of the first index that is absent; `IndexBad`
-    /// of the first one that fails a test. `Disk` if the tree failed, and `Memory`.
+    /// `ResultTooLarge` for a text database that exceeds a limit of the writer; `WorldBad`;
+    /// `RepositoriesBad`; `Untrusted`; `IndexMissing` for the first index that is absent;
+    /// `IndexBad` for the first one that fails a test. `Disk` if the tree failed, and `Memory`.
     pub fn read<T: Tree>(alloc: Global, command: &Command, tree: &mut T) -> Result<Loaded, Refused>
-        // It is what some contents at each read say; where the tree shows its files, what these
-        // say.
+        // The inputs are those of some contents at each read: of the tree's, if its files are
+        // observable.
         ensures found { Explains (T.history tree.old) (λ read.
             AgreesUnlessDisk inputs_seen result (inputs_of command.now read)) }
         // The tree is only read; a fault of it has its cause.
@@ -62,7 +62,7 @@ impl Loaded {
         Loaded::of_files(alloc, command, files, tree)
     }
 
-    // Goes on with the files of a root, once they are read: they say where the indexes lie.
+    // Reads the indexes, given the files of a root, which say where the indexes are.
     fn of_files<T: Tree>(
         alloc: Global,
         command: &Command,
@@ -96,7 +96,7 @@ impl Loaded {
         self.root.database.file()
     }
 
-    /// Whether a text database says what is installed, which a change takes over.
+    /// Whether the installed packages are from a text database, which a change converts.
     pub fn is_from_text(&self) -> bool
         ensures { result ≡ (inputs_seen self.now).root.database.from_text }
     {
@@ -136,7 +136,7 @@ impl Loaded {
     ///
     /// # Errors
     ///
-    /// `TooMany` where there are more than a pool holds, or `Memory`.
+    /// `TooMany` if there are more than a pool can have, or `Memory`.
     pub fn pool<'a>(&'a self, alloc: Global, upgrade: Upgrade<'a>) -> Result<Sealed<'a>, Refused>
         ensures { Agrees (λ pool. pool) result
             (root_pool (inputs_seen self.entry.now) (names_upgraded_by upgrade.entry)) }
@@ -150,13 +150,13 @@ impl Loaded {
         }
     }
 
-    // The candidates of the indexes, and then those of the database, up to the most that a pool
-    // holds.
+    // The candidates of the indexes, then those of the database, up to the most that a pool can
+    // have.
     fn candidates(&self, alloc: Global) -> Result<Pool<'_>, PoolFault>
         // They are all candidates, if they are not too many.
         ensures ok { IfOk result (λ pool. pool ≡ candidates_of (inputs_seen self.now)) }
         ensures fits { IfOk result (λ pool. length pool ≤ MOST_CANDIDATES) }
-        // They are refused only for their count, or for lack of memory.
+        // They are refused only for their count, or if out of memory.
         ensures fault { IfErr result (λ fault.
             IsPoolFault fault (length (candidates_of (inputs_seen self.now)))) }
     {

@@ -1,6 +1,6 @@
-//! The files of a root, and what they say for a command: how they are read, tested and opened
-//! again, and why a command does not come to its end. The rules are in `docs/commands.md`,
-//! "`add` and `del`", what is read and refused.
+//! The files of a root, and their contents for a command: how they are read, tested and opened
+//! again, and why a command is not completed. The rules are in `docs/commands.md`, "`add` and
+//! `del`", what is read and refused.
 
 ghost use Rattle.base_core.specs.Read.{OnlyReads, bytes_in};
 ghost use Rattle.change_inputs.specs.Answers.{Agrees, IsFailure, StandsAt};
@@ -27,8 +27,8 @@ use report_core::Refusal;
 use root_names::{database_name, repositories_name, text_database_name, world_name};
 use std::alloc::{AllocError, Global};
 
-/// The files of a root, each None if it is absent. The text database is looked for where there
-/// is no other.
+/// The files of a root, each None if it is absent. The text database is read only if there is no
+/// other.
 #[derive(Drop)]
 pub(crate) struct RootFiles {
     /// `lib/apk/db/installed.adb`.
@@ -41,7 +41,7 @@ pub(crate) struct RootFiles {
     pub(crate) repositories: Option<Vec<u8>>,
 }
 
-/// What the files of a root say for a command. All of them passed their tests.
+/// The contents of a root's files for a command. All of them passed their tests.
 #[derive(Drop)]
 pub(crate) struct TestedRoot {
     /// What is installed before the command.
@@ -54,7 +54,7 @@ pub(crate) struct TestedRoot {
 
 /// Reads the files of a root: first the databases, then world and the repositories.
 pub(crate) fn read_root<T: Tree>(alloc: Global, tree: &mut T) -> Result<RootFiles, Refused>
-    // Each file is under its name, where the tree shows its files.
+    // If the tree's files are observable, each is the one under its name.
     ensures found { IfOk result (λ files. StandInRoot (T.history tree.old) files) }
     // Nothing is refused here.
     ensures failed { IfErr result IsFailure }
@@ -77,12 +77,12 @@ pub(crate) fn read_root<T: Tree>(alloc: Global, tree: &mut T) -> Result<RootFile
     })
 }
 
-/// Reads the database of a root, and the text database where there is no other.
+/// Reads the database of a root, and the text database if there is no other.
 pub(crate) fn read_databases<T: Tree>(
     alloc: Global,
     tree: &mut T,
 ) -> Result<(Option<Vec<u8>>, Option<Vec<u8>>), Refused>
-    // The database stands there, where the tree shows its files.
+    // If the tree's files are observable, the database is there.
     ensures database { IfOk result (λ found.
         StandsAt (T.history tree.old) database_name (bytes_in found.0)) }
     // So does the text database, which counts only if there is no other.
@@ -105,11 +105,11 @@ pub(crate) fn read_databases<T: Tree>(
     Ok((None, text_database))
 }
 
-/// What the files of a root say for a command.
+/// The contents of a root's files for a command.
 ///
 /// # Errors
 ///
-/// Those of the database, then `WorldBad`, `RepositoriesBad`, and `Untrusted` where there is a
+/// Those of the database, then `WorldBad`, `RepositoriesBad`, and `Untrusted` if there is a
 /// repository and `--allow-untrusted` is not given. Or `Memory`.
 pub(crate) fn test_root(
     alloc: Global,
@@ -142,7 +142,7 @@ pub(crate) fn read_file<T: Tree>(
     tree: &mut T,
     name: &Name,
 ) -> Result<Option<Vec<u8>>, Refused>
-    // It stands there, where the tree shows its files.
+    // If the tree's files are observable, it is the one there.
     ensures found { IfOk result (λ found.
         StandsAt (T.history tree.old) name.now (bytes_in found)) }
     // Nothing is refused here.
@@ -153,9 +153,9 @@ pub(crate) fn read_file<T: Tree>(
     Ok(read_all(alloc, tree, name)?)
 }
 
-/// Makes all tests of a file as a container with this table at its root.
+/// Tests a file completely, as a container with this table at its root.
 pub(crate) fn test_file(alloc: Global, file: &[u8], which: Which) -> Result<(), ReadFault>
-    // What is refused is the first test that the file fails.
+    // A refusal has the first test that the file fails.
     ensures bad { IfErr result (λ fault. IsReadFault fault (first_fault which file.now)) }
     ensures passed { OnOk result (first_fault which file.now ≡ None) }
     // Then its payload passes the tests of a payload too.
@@ -180,14 +180,14 @@ pub(crate) fn payload_in(file: &[u8]) -> &[u8]
     }
 }
 
-/// Why a command does not come to its end.
+/// Why a command is not completed.
 #[derive(Drop)]
 pub enum Refused {
     /// The command is refused.
     Refusal(Refusal),
-    /// The tree failed.
+    /// An I/O error of the tree.
     Disk,
-    /// There was no memory.
+    /// Out of memory.
     Memory,
 }
 
@@ -195,10 +195,10 @@ impl From<AllocError> for Refused {
     ghost use Rattle.std.specs.Prelude.{◌≡◌};
     ghost use Rattle.change_inputs.specs.declared.root.Refused.TheVariants.{Memory};
 
-    // What becomes of it, as a caller that uses `?` sees it.
+    // The fault that a caller gets by `?`.
     ghost from_gives = { λ _ refused. refused ≡ Memory };
 
-    // Lack of memory, as a command tells it.
+    // Out of memory as the end of a command.
     fn from(_: AllocError) -> Refused {
         Refused::Memory
     }
@@ -207,10 +207,10 @@ impl From<AllocError> for Refused {
 impl From<TreeFault> for Refused {
     ghost use Rattle.change_inputs.specs.Faults.{IsRefusedOf};
 
-    // What becomes of it, as a caller that uses `?` sees it.
+    // The fault that a caller gets by `?`.
     ghost from_gives = { λ fault refused. IsRefusedOf fault refused };
 
-    // A fault of the tree, as a command tells it.
+    // A fault of the tree as the end of a command.
     fn from(fault: TreeFault) -> Refused {
         match fault {
             TreeFault::Disk => Refused::Disk,
@@ -219,8 +219,8 @@ impl From<TreeFault> for Refused {
     }
 }
 
-/// Inputs rest on the reads of their own files alone: those of a root, and one for each index. What
-/// a command reads behind them is another matter.
+/// Inputs depend only on the reads of their own files: those of a root, and one for each index.
+/// Later reads of a command do not matter.
 pub fn inputs_rest_on_their_own_reads()
     ensures { (command : CommandLine) (read other : Reads) (inputs : Inputs)
         → inputs_of command read ≡ Ok inputs

@@ -1,5 +1,5 @@
-//! World before a command, and the one that the command asks for. The rules are in
-//! `docs/formats.md`, "World", and in `docs/commands.md`, "`add` and `del`".
+//! World before a command and after it. The rules are in `docs/formats.md`, "World", and in
+//! `docs/commands.md`, "`add` and `del`".
 ghost use Rattle.base_core.specs.Read.{bytes_in};
 ghost use Rattle.change_inputs.specs.Answers.{Agrees};
 ghost use Rattle.change_inputs.specs.World.{new_world, root_world, text_found, world_with_operand, world_with_operands, world_without_operands};
@@ -16,13 +16,13 @@ use std::alloc::{AllocError, Global};
 pub(crate) struct Worlds {
     /// The text of world's file, and nothing if it is absent.
     pub(crate) text: Vec<u8>,
-    /// World as the text says it.
+    /// World by the text.
     pub(crate) before: World,
-    /// World as the command asks for it.
+    /// World as the command changes it.
     pub(crate) after: World,
 }
 
-/// The worlds of a command, by what was found under world's name.
+/// The worlds of a command, given what was found under world's name.
 ///
 /// # Errors
 ///
@@ -35,7 +35,7 @@ pub(crate) fn worlds_of(
     // World before the command is that of the file, or its first bad line is refused.
     ensures read { Agrees (λ worlds. worlds.before) result
         (root_world (text_found (bytes_in found))) }
-    // The file's text is kept, by which a change tells whether world differs.
+    // The file's text is kept: with it a change finds out whether world differs.
     ensures text { IfOk result (λ worlds. worlds.text.items ≡ text_found (bytes_in found)) }
     // World after is what the command makes of it.
     ensures after { IfOk result (λ worlds.
@@ -73,7 +73,7 @@ fn read_world(alloc: Global, text: &[u8]) -> Result<World, Refused>
     }
 }
 
-// Makes of world what a command asks for: `add` puts its operands in, `del` takes theirs out.
+// Changes world as a command says: `add` inserts its operands, `del` removes theirs.
 fn change_world(command: &Command, world: &mut World) -> Result<(), AllocError>
     ensures { OnOk result
         (world.new ≡ new_world command.now.applet command.now.operands world.old) }
@@ -88,7 +88,7 @@ fn change_world(command: &Command, world: &mut World) -> Result<(), AllocError>
     }
 }
 
-// Puts each operand of `add` in, in their order.
+// Inserts each operand of `add`, in their order.
 fn add_operands(operands: &Operands, world: &mut World) -> Result<(), AllocError>
     ensures { OnOk result (world.new ≡ world_with_operands operands.now world.old) }
 {
@@ -98,8 +98,8 @@ fn add_operands(operands: &Operands, world: &mut World) -> Result<(), AllocError
     Ok(())
 }
 
-// Puts an operand in, in place of the entry of its name. Each operand of `add` is a dependency, as
-// the grammar of words has it.
+// Inserts an operand, replacing the entry of its name. Each operand of `add` is a dependency, by
+// the grammar of words.
 fn add_operand(operand: &Operand, world: &mut World) -> Result<(), AllocError>
     ensures { OnOk result (world.new ≡ world_with_operand operand.now world.old) }
 {
@@ -109,7 +109,7 @@ fn add_operand(operand: &Operand, world: &mut World) -> Result<(), AllocError>
     }
 }
 
-// Takes the name of each operand of `del` out.
+// Removes the name of each operand of `del`.
 fn take_operands(operands: &Operands, world: &mut World)
     ensures { world.new ≡ world_without_operands operands.now world.old }
 {

@@ -1,6 +1,5 @@
--- What a command that changes the installed packages comes to. The rules are in
--- `docs/commands.md`, "`add` and `del`": what is refused, in this order, what is written, and what
--- is reported.
+-- The outcome of a command that changes the installed packages. The rules are in `docs/commands.md`,
+-- "`add` and `del`": what is refused, in this order, what is written, and what is reported.
 use Rattle.std.specs.Prelude.{◌≡◌, ℕ, ◌==◌, Bool, true, false, not, ◌||◌, List, [], ◌∷◌, ◌++◌, length, map, sum_by, Option, Some, None, Result, Ok, Err, bytes_eq, slice_get, unwrap_or}
 use Rattle.std.specs.Option.{option_map_or}
 use Rattle.adb_view.specs.FieldIndexes.{INFO_INSTALLED_SIZE, PACKAGE_INFO}
@@ -32,8 +31,8 @@ use Rattle.change_outcome.specs.ConfigurationLines.{configuration_lines}
 use Rattle.change_outcome.specs.MembersAfter.{MemberFound, contents_found, members_after, members_found}
 use Rattle.change_outcome.specs.Triggers.{trigger_lines, unless_trigger}
 
--- what a command says of a change beside its world: whether changed configuration goes too
--- (`--purge`), whether scripts are left out (`--no-scripts`), and the names that were to go
+-- the wishes of a command beside its world: whether changed configuration is removed too (`--purge`),
+-- whether scripts are left out (`--no-scripts`), and the names to be removed
 pub record ChangeWishes : Type 0 where
   pub purge : Bool
   pub no_scripts : Bool
@@ -41,7 +40,7 @@ pub record ChangeWishes : Type 0 where
 
 -- ---- the files
 
--- the change of files, by the packages that were found
+-- the change of files, given the packages that were found
 abbrev pub file_change : Inputs → ChangeWishes → List MemberFound → FileChange
 file_change inputs wishes found = record {
   old = inputs.root.database.packages;
@@ -49,12 +48,12 @@ file_change inputs wishes found = record {
   purge = wishes.purge;
 }
 
--- what comes next, unless a package that comes lists a reserved path, which refuses the change
+-- the result that follows, unless an added package lists a reserved path, which refuses the change
 abbrev pub unless_reserved_path : {A : Type 0} → Option (List ℕ) → Result A Refusal → Result A Refusal
 unless_reserved_path None next = next
 unless_reserved_path (Some path) next = Err (Reserved path)
 
--- what comes next, unless a name after the change is a folder of another
+-- the result that follows, unless a name after the change is a folder of another
 abbrev pub unless_clash : {A : Type 0} → Option NamePair → Result A Refusal → Result A Refusal
 unless_clash None next = next
 unless_clash (Some pair) next = Err (PathClash pair.path pair.other)
@@ -63,7 +62,7 @@ unless_clash (Some pair) next = Err (PathClash pair.path pair.other)
 abbrev pub name_at_place : List Member → ℕ → List ℕ
 name_at_place members place = option_map_or member_name (slice_get members place) []
 
--- what comes next, unless a path has no owner; the refusal names two packages that list it
+-- the result that follows, unless a path has no owner; the refusal names two packages that list it
 abbrev pub unless_contested :
     {A : Type 0} → List Member → Option ContestedPath → Result A Refusal → Result A Refusal
 unless_contested members None next = next
@@ -73,12 +72,12 @@ unless_contested members (Some c) next =
 
 -- ---- the database and world
 
--- a value, unless a payload has no room for it, which is refused with its two counts
+-- a value, unless it does not fit into a payload, which is refused with its two counts
 abbrev pub unless_large : {A : Type 0} → Result A PayloadCounts → Result A Refusal
 unless_large (Ok a) = Ok a
 unless_large (Err counts) = Err (ResultTooLarge counts.0 counts.1)
 
--- *unless_large* of a value, by the counts alone
+-- *unless_large* of a value, given only the counts
 abbrev pub unless_overflow : {A : Type 0} → Option PayloadCounts → A → Result A Refusal
 unless_overflow None a = Ok a
 unless_overflow (Some counts) a = Err (ResultTooLarge counts.0 counts.1)
@@ -96,13 +95,13 @@ new_records inputs database = record {
   takes_text_over = inputs.root.database.from_text;
 }
 
--- the name of a file of the root, in a list, where it has to be written or removed
+-- the name of a file of the root, in a list, if it has to be written or removed
 abbrev pub name_if_needed : Bool → List ℕ → List (List ℕ)
 name_if_needed true name = name ∷ []
 name_if_needed false name = []
 
--- the names of the database and of world, each if it is written: world where its text differs,
--- and an absent file counts as empty
+-- the names of the database and of world, each if it is written: world if its text differs; an absent
+-- file counts as empty
 abbrev pub written_records : Inputs → Records → List (List ℕ)
 written_records inputs records =
     name_if_needed (is_other_file inputs.root.database.file records.database) database_name
@@ -115,8 +114,8 @@ pub record Actions : Type 0 where
   pub removals : List (List ℕ)
   pub writes : List (List ℕ)
 
--- What the intent says. A text database that was taken over is removed with the files; the database
--- and world are written with them, where they differ.
+-- The actions of the intent (journal entry). A converted text database is removed with the files; the
+-- database and world are written with them, if they differ.
 abbrev pub actions_of : Inputs → FileChange → Files → Records → Actions
 actions_of inputs change files records = record {
   removals = names_in_order (removals_of change files
@@ -125,8 +124,8 @@ actions_of inputs change files records = record {
       ++ written_records inputs records);
 }
 
--- The bytes of a file, or none. What is staged for each write are those that the files afterwards
--- have under its name.
+-- The bytes of a file, or none. For each write, the bytes are staged that the files afterwards have
+-- under its name.
 abbrev pub bytes_under : Files → List ℕ → List ℕ
 bytes_under files name = unwrap_or (files name) []
 
@@ -136,7 +135,7 @@ does_something actions = not (length actions.removals == 0) || not (length actio
 
 -- ---- the report
 
--- the bytes that a package takes when it is installed, as its information says
+-- the bytes that a package takes when it is installed, by its information
 abbrev pub member_size : Member → ℕ
 member_size m = int_in (entry_in (entry_in m.pkg PACKAGE_INFO) INFO_INSTALLED_SIZE)
 
@@ -144,8 +143,7 @@ member_size m = int_in (entry_in (entry_in m.pkg PACKAGE_INFO) INFO_INSTALLED_SI
 abbrev pub member_sum_line : List Member → List ℕ
 member_sum_line members = report_line (sum_text (sum_by member_size members) (length members))
 
--- the files whose folders may have a trigger: those of packages that a change has written and
--- removed
+-- the files whose folders may have a trigger: those of packages that a change has written and removed
 abbrev pub touched_paths : FileChange → Files → List (List ℕ)
 touched_paths change files = map (λ w. w.name) (file_writes_of change files) ++ removals_of change files
 
@@ -158,13 +156,13 @@ change_report r wishes change files =
 
 -- ---- the change
 
--- what a change leaves and prints, and whether it writes or removes anything
+-- the result of a change: its files and its report, and whether it writes or removes anything
 pub record ChangeDone : Type 0 where
   pub report : List ℕ
   pub files : Files
   pub commits : Bool
 
--- what a change comes to that is made: the report, and the files that it leaves
+-- the result of a change that is made: the report, and the files that it leaves
 abbrev pub change_done :
     Inputs → Replacement → ChangeWishes → List MemberFound → Files → Records → ChangeDone
 change_done inputs r wishes found files records =
@@ -175,7 +173,7 @@ change_done inputs r wishes found files records =
       commits = does_something (actions_of inputs change files records);
     }
 
--- a change that is made, unless a limit of the writer is passed, first by the database and then by
+-- a change that is made, unless a limit of the writer is exceeded, first by the database and then by
 -- the intent
 abbrev pub unless_too_large :
     Inputs → Replacement → ChangeWishes → List MemberFound → Files → Result ChangeDone Refusal
@@ -188,8 +186,8 @@ unless_too_large inputs r wishes found files =
     (overflow_of (value_of_intent (intent_of_lists actions.removals actions.writes)))
     (change_done inputs r wishes found files records))
 
--- a change by the packages after it, and by the first clash of its names, if there is one: each
--- test in its order
+-- a change, given the packages after it and the first clash of its names, if there is one: each test in
+-- its order
 abbrev pub change_with_members :
     Inputs → Replacement → ChangeWishes → Option NamePair → Files → List MemberFound
     → Result ChangeDone Refusal
@@ -207,8 +205,7 @@ abbrev pub change_members :
 change_members inputs r wishes read =
     members_after r read inputs.root.repositories wishes.no_scripts
 
--- A selection takes the place of the packages before: what the change comes to, or its first
--- refusal.
+-- A selection replaces the packages before: the result of the change, or its first refusal.
 unfoldable pub change_or_refusal :
     Inputs → Replacement → ChangeWishes → Reads → Option NamePair → Files
     → Result ChangeDone Refusal
@@ -218,9 +215,9 @@ change_or_refusal inputs r wishes read clash files =
 
 -- ---- the first clash
 
--- The first clash of the names after a change, where the packages after it are found; else nothing
--- is asked, and there is none. By `files` configuration is kept or a file is laid beside it, and
--- among the `standing` ones names clash.
+-- The first clash of the names after a change, if the packages after it are found; otherwise there is
+-- none. `files` decide whether configuration is kept or a file is laid beside it; names clash among the
+-- `standing` ones.
 abbrev pub IsClashFoundOver :
     Inputs → ChangeWishes → Files → Files → Result (List MemberFound) Refusal → Option NamePair
     → Type 0
@@ -228,19 +225,19 @@ IsClashFoundOver inputs wishes files standing (Ok found) clash =
     IsClashOf (name_change (file_change inputs wishes found) files) standing clash
 IsClashFoundOver inputs wishes files standing (Err refusal) clash = clash ≡ None
 
--- *IsClashFoundOver* by the packages that the reads find
+-- *IsClashFoundOver* for the packages that the reads find
 abbrev pub IsClashOfChangeOver :
     Inputs → Replacement → ChangeWishes → Reads → Files → Files → Option NamePair → Type 0
 IsClashOfChangeOver inputs r wishes read files standing clash =
     IsClashFoundOver inputs wishes files standing (change_members inputs r wishes read) clash
 
--- *IsClashFoundOver* where both are the same files, as on a tree that shows its files
+-- *IsClashFoundOver* for one set of files, as on a tree whose files are observable
 abbrev pub IsClashFound :
     Inputs → ChangeWishes → Files → Result (List MemberFound) Refusal → Option NamePair → Type 0
 IsClashFound inputs wishes files members clash =
     IsClashFoundOver inputs wishes files files members clash
 
--- *IsClashOfChangeOver* where both are the same files
+-- *IsClashOfChangeOver* for one set of files
 abbrev pub IsClashOfChange :
     Inputs → Replacement → ChangeWishes → Reads → Files → Option NamePair → Type 0
 IsClashOfChange inputs r wishes read files clash =

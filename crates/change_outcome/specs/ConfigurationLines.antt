@@ -1,4 +1,4 @@
--- What is told of configuration that the user changed. The lines stand in `docs/commands.md`,
+-- The report on configuration that the user changed. The lines are defined in `docs/commands.md`,
 -- "`add` and `del`", what is reported.
 use Rattle.std.specs.Prelude.{ℕ, List, ◌++◌, map, codes}
 use Rattle.std.specs.List.{flat_map}
@@ -9,21 +9,21 @@ use Rattle.base_core.specs.ByteOrder.{bytes_cmp}
 use Rattle.base_core.specs.Sorted.{sorted_by}
 use Rattle.report_core.specs.Reports.{report_line}
 
--- the line that tells that a new file is laid beside the user's
+-- the line that says that a new file is laid beside the user's
 abbrev pub aside_line : List ℕ → List ℕ
 aside_line path =
     report_line (aside_name path ++ codes " installed; " ++ path ++ codes " was changed")
 
--- the line that tells that the user's file stays though its package is gone
+-- the line that says that the user's file is kept although its package is removed
 abbrev pub kept_line : List ℕ → List ℕ
 kept_line path = report_line (path ++ codes " kept; it was changed")
 
--- a path, and the line that is told of it
+-- a path, and the line about it
 pub record PathLine : Type 0 where
   pub path : List ℕ
   pub line : List ℕ
 
--- a line with the path by which it is put in order
+-- a line with the path by which it is sorted
 abbrev pub path_line : (List ℕ → List ℕ) → List ℕ → PathLine
 path_line line_of path = record { path = path; line = line_of path }
 
@@ -32,7 +32,7 @@ abbrev pub path_line_cmp : PathLine → PathLine → Ordering
 path_line_cmp = on (λ l. l.path) bytes_cmp
 
 -- the lines on configuration, in byte order of the paths: one for each path beside which a file is
--- laid, and one for each at which the user's file stays
+-- laid, and one for each at which the user's file is kept
 unfoldable pub configuration_lines : List (List ℕ) → List (List ℕ) → List ℕ
 configuration_lines aside kept = flat_map (λ l. l.line)
     (sorted_by path_line_cmp (map (path_line aside_line) aside ++ map (path_line kept_line) kept))

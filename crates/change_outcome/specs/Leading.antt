@@ -1,18 +1,17 @@
--- What is staged for a change, and where its actions lead. Serves the law
--- `actions_lead_to_given_files`; the rules are in `docs/crash-safety.md`,
--- "A change of several files".
+-- What is staged for a change, and where its actions lead. It serves the law
+-- `actions_lead_to_given_files`; the rules are in `docs/crash-safety.md`, "A change of several files".
 use Rattle.std.specs.Prelude.{◌≡◌, ℕ, ◌<◌, ◌^◌, List, length, None, IsSome}
 use Rattle.base_core.specs.Files.{Files}
 use Rattle.journal_core.specs.Staged.{IsEmptyStage}
 use Rattle.journal_intent.specs.FreeNames.{HasFreeNames, IsNoneOf, IsOneOf}
 use Rattle.journal_intent.specs.IntentValue.{intent_of_lists}
 
--- a change has fewer writes than this, so that their count and the number behind it have 64 bits
+-- a change has fewer writes than this, so that their number and the next one have 64 bits
 abbrev pub write_limit : ℕ
 write_limit = 2 ^ 63
 
--- where these names are removed and written, and the others stay, the files are `after`; the names
--- are free, nothing waits before, and the writes are below their limit
+-- if these names are removed and written, and the others are unchanged, the files are `after`; the
+-- names are free, nothing is staged before, and the writes are below their limit
 pub record LeadsTo (removals writes : List (List ℕ)) (files after : Files) : Type 0 where
   pub free : HasFreeNames (intent_of_lists removals writes)
   pub few : length writes < write_limit

@@ -1,5 +1,5 @@
--- A change that nothing refuses. Serves the law `a_change_that_is_made_passes_each_test`; the tests
--- stand in `docs/commands.md`, "What a change does with files".
+-- A change that is not refused. It serves the law `a_change_that_is_made_passes_each_test`; the tests
+-- are defined in `docs/commands.md`, "What a change does with files".
 use Rattle.std.specs.Prelude.{◌≡◌, ℕ, List, Option, None, Ok}
 use Rattle.adb_write.specs.Canonical.{overflow_of}
 use Rattle.base_core.specs.Files.{Files}
@@ -14,7 +14,7 @@ use Rattle.make_info.specs.Reads.{Reads}
 use Rattle.package_changes.specs.Changes.{Replacement}
 use Rattle.path_clashes.specs.Clash.{NamePair}
 
--- the packages after a change are found, it passes each test, and this comes of it
+-- the packages after a change are found, it passes each test, and this is its result
 pub record IsChangeMade (inputs : Inputs) (r : Replacement) (wishes : ChangeWishes) (read : Reads)
     (clash : Option NamePair) (files : Files) (done : ChangeDone) : Type 0 where
   pub found : List MemberFound

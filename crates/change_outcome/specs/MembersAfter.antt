@@ -1,6 +1,5 @@
--- The packages after a change, name by name. The rules are in `docs/commands.md`,
--- "`add` and `del`": what is read of the packages that come, and how they are refused, package by
--- package.
+-- The packages after a change, name by name. The rules are in `docs/commands.md`, "`add` and `del`":
+-- what is read of the added packages, and how they are refused, package by package.
 use Rattle.std.specs.Prelude.{ℕ, suc, ◌+◌, Bool, List, [], ◌∷◌, length, map, Option, Some, None, Result, Ok, option_map, slice_get}
 use Rattle.std.specs.Option.{option_map_or}
 use Rattle.std.specs.List.{cons_option, find}
@@ -18,17 +17,17 @@ use Rattle.report_core.specs.Reports.{Change}
 use Rattle.report_core.specs.declared.refusal.Refusal.{Refusal}
 use Rattle.change_outcome.specs.PackageFiles.{ComingPackage, package_file_of, package_found, scripts_of_change, unless_script}
 
--- a package after the change; and of one that comes its file, and the contents of its files
+-- a package after the change; and for an added one its file, and the contents of its files
 pub record MemberFound : Type 0 where
   pub member : Member
   pub file : Option (List ℕ)
   pub contents : List Contents
 
--- a package that stays, whose files nobody reads
+-- a kept package, whose files are not read
 abbrev pub staying_found : Plain → MemberFound
 staying_found pkg = record { member = staying_member pkg; file = None; contents = [] }
 
--- a package that comes, with its file and the contents of its files
+-- an added package, with its file and the contents of its files
 abbrev pub coming_found : ComingPackage → MemberFound
 coming_found pkg = record {
   member = coming_member pkg.value pkg.id;
@@ -36,14 +35,13 @@ coming_found pkg = record {
   contents = pkg.contents;
 }
 
--- the package of a candidate that comes, by what a read finds under the name of its file, if it has
--- one
+-- the package of an added candidate, given what a read finds under the name of its file, if it has one
 abbrev pub coming_by_path :
     Reads → ℕ → Candidate → Option (List ℕ) → Result ComingPackage Refusal
 coming_by_path read n c None = package_found c None
 coming_by_path read n c (Some path) = package_found c (read n path)
 
--- the member of a candidate that comes, whose file is the read with this number, or its refusal
+-- the member of an added candidate, whose file is the read with this number, or its refusal
 abbrev pub name_that_comes :
     Reads → List Repository → Bool → ℕ → List ℕ → Change → Candidate
     → Result (Option MemberFound) Refusal
@@ -51,16 +49,15 @@ name_that_comes read repositories no_scripts n name change c =
     and_then (coming_by_path read n c (package_file_of repositories c)) (λ pkg.
     unless_script no_scripts name pkg.value (scripts_of_change change) (Some (coming_found pkg)))
 
--- what becomes of a package that goes: it is no member any more, unless one of its scripts would
--- have to run, which refuses that
+-- a removed package: it is no member any more, unless one of its scripts would have to run, which
+-- refuses the change
 abbrev pub name_that_goes :
     Bool → List ℕ → Change → Option Plain → Result (Option MemberFound) Refusal
 name_that_goes no_scripts name change None = Ok None
 name_that_goes no_scripts name change (Some pkg) =
     unless_script no_scripts name pkg (scripts_of_change change) None
 
--- what a name that changes comes to: one with a selected candidate is that of a package that comes,
--- each other one that of one that goes
+-- the result for a name that changes: with a selected candidate its package is added, otherwise removed
 abbrev pub name_by_selected :
     Reads → List Repository → Bool → ℕ → List ℕ → Change → Option Plain → Option Candidate
     → Result (Option MemberFound) Refusal
@@ -69,8 +66,8 @@ name_by_selected read repositories no_scripts n name change before None =
 name_by_selected read repositories no_scripts n name change before (Some c) =
     name_that_comes read repositories no_scripts n name change c
 
--- what a name comes to, a member or none, by what becomes of its package; a package of which nothing
--- becomes stays. `n` is the number of the read of its file
+-- the result for a name, a member or none, given the change of its package; without a change it is
+-- kept. `n` is the number of the read of its file
 abbrev pub name_by_change :
     Reads → List Repository → Bool → ℕ → List ℕ → Option Change → Option Plain
     → Option Candidate → Result (Option MemberFound) Refusal
@@ -79,8 +76,8 @@ name_by_change read repositories no_scripts n name None before selected =
 name_by_change read repositories no_scripts n name (Some change) before selected =
     name_by_selected read repositories no_scripts n name change before selected
 
--- what a name comes to after a change: a package that changes is as its file has it, one that does
--- not is as before
+-- the result for a name after a change: a package that changes is as its file has it, another is as
+-- before
 abbrev pub name_after :
     Replacement → Reads → List Repository → Bool → ℕ → List ℕ
     → Result (Option MemberFound) Refusal
@@ -88,8 +85,8 @@ name_after r read repositories no_scripts n name =
     name_by_change read repositories no_scripts n name (change_of_name r name)
     (find (is_package_named name) r.before) (find (is_selected_named name) r.selected)
 
--- what names in byte order come to, or the first refusal; each name has a number for a read, and
--- that of the first of these names is this one
+-- the results for names in byte order, or the first refusal; each name has a number for a read, and
+-- that of the first of these names is given
 abbrev pub names_after :
     Replacement → Reads → List Repository → Bool → ℕ → List (List ℕ)
     → Result (List MemberFound) Refusal

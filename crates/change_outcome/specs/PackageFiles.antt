@@ -1,6 +1,6 @@
--- The files of the packages that come with a change, and why one of them is refused. The rules
--- stand in `docs/commands.md`, "`add` and `del`", what is read and refused; of scripts in
--- "`mkpkg`", TYPE of `-s`, and their numbers in `docs/formats.md`, "Schemas", table 6.
+-- The files of the packages that a change adds, and why one of them is refused. The rules are in
+-- `docs/commands.md`, "`add` and `del`", what is read and refused; of scripts in "`mkpkg`", TYPE of
+-- `-s`, and their numbers in `docs/formats.md`, "Schemas", table 6.
 use Rattle.std.specs.Prelude.{ℕ, ◌==◌, ◌-◌, Bool, true, false, not, if◌then◌else◌, List, [], ◌∷◌, ◌++◌, length, codes, Option, Some, None, Result, Ok, Err, bytes_eq, slice_get}
 use Rattle.std.specs.List.{list_any}
 use Rattle.adb_schema.specs.Soundness.{payload_in, root_value}
@@ -23,7 +23,7 @@ use Rattle.report_core.specs.Reports.{Change, Downgrade, Install, Purge, Reinsta
 use Rattle.report_core.specs.declared.refusal.Refusal.{Refusal}
 use Rattle.report_core.specs.declared.refusal.Refusal.TheVariants.{PackageBad, PackageDiffers, PackageMissing, ScriptNeeded}
 
--- ---- where it lies
+-- ---- its path
 
 -- whether a path has a folder above it: a `/`
 abbrev pub has_slash : List ℕ → Bool
@@ -39,7 +39,7 @@ abbrev pub package_path : List ℕ → List ℕ → List ℕ → List ℕ
 package_path index name version =
     folder_prefix index ++ name_version name version ++ codes ".apk"
 
--- a path, if it is a name: one of more than 1,024 bytes, for one, is none, and no file stands there
+-- a path, if it is a name: one of more than 1,024 bytes, for example, is none, and has no file
 abbrev pub if_name : List ℕ → Option (List ℕ)
 if_name path = if is_name path then Some path else None
 
@@ -59,17 +59,17 @@ package_file_of repositories c = by_number c.repository
     by_number (Some n) =
         path_beside_index c.name (selected_version c) (slice_get repositories (n - 1))
 
--- ---- what it has to be
+-- ---- its tests
 
--- a package that comes, as its file has it: the file's bytes, its value, its identity, and the
--- contents of its files
+-- an added package, as its file has it: the file's bytes, its value, its identity, and the contents of
+-- its files
 pub record ComingPackage : Type 0 where
   pub file : List ℕ
   pub value : Plain
   pub id : List ℕ
   pub contents : List Contents
 
--- what a container says of its package
+-- the package in a container
 abbrev pub package_in_file : List ℕ → ComingPackage
 package_in_file file = record {
   file = file;
@@ -97,7 +97,7 @@ abbrev pub unless_package_bad :
 unless_package_bad c None pkg = unless_different c pkg
 unless_package_bad c (Some cause) pkg = Err (PackageBad c.name (selected_version c) cause)
 
--- the package of a candidate, by what is found under the name of its file, or why it is refused
+-- the package of a candidate, given what is found under the name of its file, or why it is refused
 abbrev pub package_found : Candidate → Option (List ℕ) → Result ComingPackage Refusal
 package_found c None = Err (PackageMissing c.name (selected_version c))
 package_found c (Some file) = unless_package_bad c (package_fault file) (package_in_file file)
@@ -144,8 +144,7 @@ abbrev pub unless_number : {A : Type 0} → List ℕ → Option ℕ → A → Re
 unless_number name None a = Ok a
 unless_number name (Some number) a = Err (ScriptNeeded name number)
 
--- a value, unless one of these scripts of a package would have to run, and scripts may not be left
--- out
+-- a value, unless one of these scripts of a package would have to run, and scripts may not be left out
 abbrev pub unless_script :
     {A : Type 0} → Bool → List ℕ → Plain → List ℕ → A → Result A Refusal
 unless_script true name pkg numbers a = Ok a

@@ -1,6 +1,6 @@
--- What laws ask of a change and of what it reads. The premises are listed in the README of this
--- crate; that a database has no reserved name stands in `docs/formats.md`, "Tests of a container",
--- "The texts", field 401.
+-- What laws require of a change and of its inputs. The premises are listed in the README of this crate;
+-- that a database has no reserved name is a rule of `docs/formats.md`, "Tests of a container", "The
+-- texts", field 401.
 use Rattle.std.specs.Prelude.{◌≡◌, All, false, None}
 use Rattle.adb_schema.specs.Reserved.{is_reserved}
 use Rattle.base_core.specs.Files.{Files}
@@ -10,7 +10,7 @@ use Rattle.change_inputs.specs.Inputs.{Root}
 use Rattle.change_inputs.specs.World.{text_found}
 use Rattle.root_names.specs.RootNames.{database_name, world_name}
 
--- no path that a package before lists is reserved, and none that a package which comes lists
+-- no path is reserved that a package before or an added package lists
 pub record HasNoReservedPath (change : FileChange) : Type 0 where
   pub before : All (λ l. is_reserved l.path ≡ false) (old_listings change)
   pub coming : first_reserved change.members ≡ None

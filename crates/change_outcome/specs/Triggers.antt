@@ -20,7 +20,7 @@ use Rattle.report_core.specs.Numbers.{TRIGGER_SCRIPT}
 
 -- ---- patterns
 
--- whether the parts of a pattern match those of a folder, part by part, and of as many parts
+-- whether the parts of a pattern match those of a folder, part by part, and there are equally many
 abbrev pub are_parts_matched : List (List ℕ) → List (List ℕ) → Bool
 are_parts_matched [] [] = true
 are_parts_matched [] (part ∷ parts) = false
@@ -28,8 +28,8 @@ are_parts_matched (p ∷ patterns) [] = false
 are_parts_matched (p ∷ patterns) (part ∷ parts) =
     is_matched p part && are_parts_matched patterns parts
 
--- Whether a pattern matches a folder. One leading `/` of a pattern is dropped. The root folder,
--- which has the empty name, is matched by the pattern `/` alone.
+-- Whether a pattern matches a folder. One leading `/` of a pattern is dropped. Only the pattern `/`
+-- matches the root folder, which has the empty name.
 unfoldable pub is_folder_matched : List ℕ → List ℕ → Bool
 is_folder_matched folder pattern =
     if length folder == 0 then bytes_eq pattern (codes "/")
@@ -54,7 +54,7 @@ is_due pkg folder = has_script_of pkg TRIGGER_SCRIPT && is_watched pkg folder
 abbrev pub folders_of_paths : List (List ℕ) → List (List ℕ)
 folders_of_paths paths = names_in_order (map folder_of paths)
 
--- the line that tells that the package's trigger is due for the folder
+-- the line that says that the package's trigger is due for the folder
 abbrev pub due_line : Plain → List ℕ → List ℕ
 due_line pkg folder = report_line (trigger_text (package_name pkg) folder)
 
@@ -71,8 +71,7 @@ trigger_lines paths members = flat_map (λ m. due_lines (folders_of_paths paths)
 abbrev pub has_due_trigger : List (List ℕ) → Plain → Bool
 has_due_trigger folders pkg = list_any (is_due pkg) folders
 
--- the answer true, unless a trigger is due and there is no leave to leave it out, which refuses the
--- change
+-- true, unless a trigger is due and may not be left out, which refuses the change
 abbrev pub unless_trigger : Bool → List (List ℕ) → List Member → Result Bool Refusal
 unless_trigger true paths members = Ok true
 unless_trigger false paths [] = Ok true

@@ -23,7 +23,7 @@ ghost use Rattle.change_outcome.specs.Premises.{HasNoReservedPath, IsRootOfFiles
 
 // ---- what is read
 
-/// The database's file and world's text, among what a change reads, are those of the root.
+/// The database's file and world's text, among the inputs of a change, are those of the root.
 pub fn what_is_read_of_a_root_stands_there()
     ensures { (command : CommandLine) (read : Reads) (inputs : Inputs) (files : Files)
         → ((n : ℕ) (name : List ℕ) → read n name ≡ files name)
@@ -33,8 +33,8 @@ pub fn what_is_read_of_a_root_stands_there()
 // ---- what is done
 
 /// The actions of two lists lead to given files, if these have a file under each name that is
-/// written, none under one that is removed, and else the files before; and for each write just
-/// those bytes are staged that the files have there.
+/// written, none under one that is removed, and otherwise the files before; and if exactly the
+/// bytes that the files have there are staged for each write.
 pub fn actions_lead_to_given_files()
     ensures { (removals writes : List (List ℕ)) (files after : Files)
         → LeadsTo removals writes files after
@@ -42,8 +42,8 @@ pub fn actions_lead_to_given_files()
         (with_staged 1 (map (bytes_under after) writes) files) ≡ after }
 {}
 
-/// So the actions of a change lead to the files that its definition says. `bytes_of` says which
-/// bytes a file of a package has.
+/// So the actions of a change lead to the files of its definition. `bytes_of` gives the bytes of a
+/// package's file.
 pub fn the_actions_of_a_change_lead_to_its_files()
     ensures { (inputs : Inputs) (change : FileChange) (bytes_of : Listing → List ℕ)
         (database : List ℕ) (files : Files)
@@ -56,7 +56,8 @@ pub fn the_actions_of_a_change_lead_to_its_files()
         (with_staged 1 (map (bytes_under after) actions.writes) files) ≡ after }
 {}
 
-/// The names that a change removes and writes are such as a change may have, and each stands once.
+/// The names that a change removes and writes are names that a change may have, and none is
+/// repeated.
 pub fn the_names_of_a_change_may_be_changed()
     ensures { (inputs : Inputs) (change : FileChange) (files : Files) (records : Records)
         → HasNoReservedPath change
@@ -72,7 +73,7 @@ pub fn a_change_that_writes_nothing_leaves_the_files()
         (database : List ℕ) (files : Files) → IsRootOfFiles files inputs.root
         → does_something (actions_of inputs change files (new_records inputs database)) ≡ false
         → changed_files change bytes_of (new_records inputs database) files ≡ files }
-    // Of what the change comes to.
+    // Of the change's result.
     ensures done { (inputs : Inputs) (r : Replacement) (wishes : ChangeWishes) (read : Reads)
         (clash : Option NamePair) (files : Files) (done : ChangeDone)
         → change_or_refusal inputs r wishes read clash files ≡ Ok done
@@ -81,8 +82,8 @@ pub fn a_change_that_writes_nothing_leaves_the_files()
 
 // ---- tests
 
-/// A change that nothing refuses passes each test: no package that comes lists a reserved path, no
-/// name is a folder of another, no path is contested, and no limit of the writer is passed.
+/// A change that is not refused passes each test: no added package lists a reserved path, no name
+/// is a folder of another, no path is contested, and no limit of the writer is exceeded.
 pub fn a_change_that_is_made_passes_each_test()
     ensures { (inputs : Inputs) (r : Replacement) (wishes : ChangeWishes) (read : Reads)
         (clash : Option NamePair) (files : Files) (done : ChangeDone)
@@ -90,8 +91,8 @@ pub fn a_change_that_is_made_passes_each_test()
         → IsChangeMade inputs r wishes read clash files done }
 {}
 
-/// Where files leave room for a stage, those after a change leave it too: so each later change has
-/// room. And a change brings no intent.
+/// If the paths of a stage are free before a change, they are free after it, for each later change.
+/// And a change adds no intent (journal entry).
 pub fn a_change_keeps_room()
     ensures room { (inputs : Inputs) (r : Replacement) (wishes : ChangeWishes) (read : Reads)
         (clash : Option NamePair) (files : Files) (done : ChangeDone)
@@ -111,7 +112,7 @@ pub fn a_change_has_a_first_clash_or_none()
         (files : Files) (a b : Option NamePair)
         → IsClashOfChange inputs r wishes read files a
         → IsClashOfChange inputs r wishes read files b → a ≡ b }
-    // There is one, where something can be asked of all names.
+    // There is one, if a property of all names can be decided.
     ensures exists { (inputs : Inputs) (r : Replacement) (wishes : ChangeWishes) (read : Reads)
         (within : List (List ℕ)) (files : Files) → IsWithin within files
         → (clash : Option NamePair) × IsClashOfChange inputs r wishes read files clash }

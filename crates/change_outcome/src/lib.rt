@@ -1,16 +1,17 @@
-//! What a command that changes the installed packages answers, prints and leaves. The rules are
-//! in `docs/commands.md`, "`add` and `del`" and "What a change does with files".
+//! The outcome of a command that changes the installed packages: what it returns, prints and
+//! leaves. The rules are in `docs/commands.md`, "`add` and `del`" and "What a change does with
+//! files".
 //!
-//! It is a crate of definitions, and of laws about them. `ChangeOutcome` of `specs/` says what a
-//! selection comes to that takes the place of the packages before: its refusals in their order, the
-//! files afterwards, and the report. `MembersAfter` says which packages there are then,
-//! `PackageFiles` how the file of one that comes is found and tested, `ConfigurationLines` what is
-//! told of configuration that the user changed, and `Triggers` which triggers are due.
+//! This crate consists of definitions, and of laws about them. `ChangeOutcome` of `specs/` defines
+//! the outcome of a selection that replaces the packages before: its refusals in their order, the
+//! files afterwards, and the report. `MembersAfter` defines the packages after the change,
+//! `PackageFiles` how the file of an added one is found and tested, `ConfigurationLines` what is
+//! reported of configuration that the user changed, and `Triggers` which triggers are due.
 //!
-//! The laws hold for all changes and files: the actions of a change lead to the files that its
-//! definition says, its names are those that a change may have, it leaves room for the next one,
-//! and it has one first clash of names. They cite `Premises` (what they ask of a change) and `Made`
-//! (what is known of one that nothing refuses).
+//! The laws hold for all changes and files: the actions of a change lead to the files of its
+//! definition, its names are those that a change may have, it keeps the paths of the next one free,
+//! and it has at most one first clash of names. They cite `Premises` (what they require of a
+//! change) and `Made` (what is known of one that is not refused).
 #![tactic(auto)]
 
 mod laws;

@@ -12,8 +12,7 @@ use Rattle.report_core.specs.declared.refusal.Refusal.TheVariants.{TriggerNeeded
 abbrev pub planned_paths : FilePlan → List (List ℕ)
 planned_paths plan = written_names plan ++ plan.removals
 
--- the answer where the trigger of the package at a place is due, which refuses the change, or where
--- none is
+-- the result if the trigger of the package at a place is due, which refuses the change, or if none is
 abbrev pub trigger_needed : List Member → Option ℕ → Result Bool Refusal
 trigger_needed members None = Ok true
 trigger_needed members (Some place) = Err (TriggerNeeded (name_at_place members place))

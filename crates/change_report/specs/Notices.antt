@@ -1,5 +1,5 @@
--- What a notice of the program says: a line on configuration. Serves the contracts of
--- `src/configuration.rt`; the lines stand in `docs/commands.md`, "`add` and `del`", what is
+-- A notice of the program as a line on configuration. It serves the contracts of
+-- `src/configuration.rt`; the lines are defined in `docs/commands.md`, "`add` and `del`", what is
 -- reported.
 use Rattle.std.specs.Prelude.{if◌then◌else◌}
 use Rattle.change_outcome.specs.ConfigurationLines.{PathLine, aside_line, kept_line}

@@ -1,5 +1,5 @@
--- The change that a report speaks of. The contract is that of `change_report`, as the README of
--- this crate says.
+-- The change that a report describes. The contract is that of `change_report`, as the README of this
+-- crate says.
 use Rattle.std.specs.Prelude.{◌≡◌, ℕ, List, map}
 use Rattle.base_core.specs.Files.{Files}
 use Rattle.change_files.specs.FileChange.{FileChange}
@@ -11,14 +11,14 @@ use Rattle.package_changes.specs.Placed.{PlacedChange, replacement_of}
 use Rattle.package_changes.specs.Seen.{changes_seen, replacement_by}
 use Rattle.change_report.specs.declared.reporting.ReportedChange.{ReportedChange}
 
--- the replacement that a report speaks of: the selection takes the place of the packages before,
--- and these names are to be installed again
+-- the replacement that a report describes: the selection replaces the packages before, and these names
+-- are to be installed again
 abbrev pub replacement_reported : ReportedChange → List (List ℕ) → Replacement
 replacement_reported c again =
     replacement_of (replacement_by c.db.now c.pool.now c.trace.now again)
 
--- a report speaks of this change: its changes are those of the replacement, and its plan is that of
--- the change over these files
+-- a report describes this change: its changes are those of the replacement, and its plan is that of the
+-- change over these files
 pub record IsReportedOf (c : ReportedChange) (again : List (List ℕ)) (wishes : ChangeWishes)
     (change : FileChange) (files : Files) : Type 0 where
   pub changes : map (λ (p : PlacedChange). p.change) (changes_seen c.changes.now)

@@ -1,6 +1,6 @@
-//! The lines on configuration that the user changed. The lines stand in `docs/commands.md`,
-//! "`add` and `del`", what is reported; which files are kept or laid beside others under
-//! "What a change does with files".
+//! The lines on configuration that the user changed. The lines are defined in `docs/commands.md`,
+//! "`add` and `del`", what is reported; which files are kept or laid beside others in "What a
+//! change does with files".
 ghost use Rattle.change_outcome.specs.ConfigurationLines.{aside_line, configuration_lines, kept_line, path_line, path_line_cmp};
 ghost use Rattle.change_report.specs.Notices.{notice_seen};
 ghost use Rattle.base_core.specs.Sorted.{sorted_by};
@@ -12,17 +12,18 @@ use own_core::FilePlan;
 use report_core::Report;
 use std::alloc::{AllocError, Global};
 
-/// What is told of one file of configuration that the user changed.
+/// A notice about one configuration file that the user changed.
 #[derive(Clone, Copy)]
 pub(crate) struct Notice<'p> {
     /// The path of the user's file.
     pub(crate) path: &'p [u8],
-    /// The user's file stays though its package is gone; else a new file is laid beside it.
+    /// The user's file is kept although its package is removed; otherwise a new file is laid beside
+    /// it.
     pub(crate) is_kept: bool,
 }
 
-/// Adds a line for each path beside which a file is laid, and for each at which the user's file
-/// stays, in byte order of the paths.
+/// Adds a line for each path beside which a file is laid, and for each at which the user's file is
+/// kept, in byte order of the paths.
 #[tactic(auto, unfolding(change_outcome::specs::ConfigurationLines::configuration_lines))]
 pub(crate) fn push_configuration_lines(
     alloc: Global,
@@ -56,7 +57,7 @@ fn push_notices<'p>(
     Ok(())
 }
 
-/// Puts notices into byte order of their paths.
+/// Sorts notices by their paths, in byte order.
 fn sort_notices(notices: &mut Vec<Notice<'_>>) -> Result<(), AllocError>
     ensures { OnOk result (map notice_seen notices.new.items
         ≡ sorted_by path_line_cmp (map notice_seen notices.old.items)) }
@@ -86,7 +87,7 @@ fn push_line(report: &mut Report, notice: &Notice<'_>) -> Result<(), AllocError>
     push_aside_line(report, notice.path)
 }
 
-/// Adds the line that tells that a new file is laid beside the user's.
+/// Adds the line that says that a new file is laid beside the user's.
 fn push_aside_line(report: &mut Report, path: &[u8]) -> Result<(), AllocError>
     ensures { OnOk result (report.new ≡ report.old ++ aside_line path.now) }
 {
@@ -98,7 +99,7 @@ fn push_aside_line(report: &mut Report, path: &[u8]) -> Result<(), AllocError>
     Ok(())
 }
 
-/// Adds the line that tells that the user's file stays.
+/// Adds the line that says that the user's file is kept.
 fn push_kept_line(report: &mut Report, path: &[u8]) -> Result<(), AllocError>
     ensures { OnOk result (report.new ≡ report.old ++ kept_line path.now) }
 {

@@ -42,7 +42,7 @@ pub fn first_due(members: &Members<'_>, folders: &[&[u8]]) -> Option<usize>
 ///
 /// # Errors
 ///
-/// Lack of memory.
+/// Out of memory.
 pub fn push_trigger_lines(
     report: &mut Report,
     members: &Members<'_>,
@@ -127,11 +127,11 @@ fn folder_text(folder: &[u8]) -> &[u8]
 }
 
 /// The folders of the files that a change writes and removes, in byte order, each once; the root's
-/// name is empty. A removed file counts also where none stood.
+/// name is empty. A removed file also counts if it did not exist.
 ///
 /// # Errors
 ///
-/// Lack of memory.
+/// Out of memory.
 pub fn touched_folders<'p>(alloc: Global, plan: &'p FilePlan) -> Result<Vec<&'p [u8]>, AllocError>
     ensures { IfOk result (λ folders. map (λ f. f.now) folders.items
         ≡ folders_of_paths (planned_paths plan.entry.now)) }

@@ -1,6 +1,6 @@
-//! The report of a change of packages that is carried out (apk(8)): its changes, what stays of the
-//! packages that were to go, configuration that the user changed, due triggers, and the sum over
-//! the packages after it.
+//! The report of a change of packages that is carried out (apk(8)): its changes, the kept packages
+//! that were to be removed, configuration that the user changed, due triggers, and the sum over the
+//! packages after it.
 //!
 //! A package watches folders by patterns (apk-package(5)), and its trigger is due for each of them
 //! in which a file is written or removed.

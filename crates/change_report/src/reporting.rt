@@ -1,5 +1,5 @@
-//! The whole report, and the sum over the packages after a change. The lines and their order stand
-//! in `docs/commands.md`, "`add` and `del`", what is reported.
+//! The whole report, and the sum over the packages after a change. The lines and their order are
+//! defined in `docs/commands.md`, "`add` and `del`", what is reported.
 
 ghost use Rattle.base_core.specs.Files.{Files};
 ghost use Rattle.change_files.specs.FileChange.{FileChange};
@@ -21,7 +21,7 @@ use report_core::Report;
 use solve_core::Trace;
 use std::alloc::{AllocError, Global};
 
-/// What the report of a change speaks of.
+/// The parts of a change that its report describes.
 #[derive(Clone, Copy)]
 pub struct ReportedChange<'c, 'd, 'm> {
     /// The packages before the change.
@@ -30,21 +30,22 @@ pub struct ReportedChange<'c, 'd, 'm> {
     pub pool: &'c Sealed<'d>,
     /// The places of the candidates that are selected.
     pub trace: &'c Trace,
-    /// What becomes of each package.
+    /// The change of each package.
     pub changes: &'c Changes<'d>,
-    /// The names that were to go: the operands of `del`.
+    /// The names that were to be removed: the operands of `del`.
     pub to_go: &'c Words,
     /// The packages after the change.
     pub members: &'c Members<'m>,
-    /// The plan of its files, by which configuration and triggers are told.
+    /// The plan of its files, for the lines on configuration and triggers.
     pub plan: &'c FilePlan,
 }
 
-/// The report of a change that is carried out. It takes all its memory before anything is written.
+/// The report of a change that is carried out. All its memory is allocated before anything is
+/// written.
 ///
 /// # Errors
 ///
-/// Lack of memory.
+/// Out of memory.
 pub fn change_report(
     alloc: Global,
     reported: &ReportedChange<'_, '_, '_>,
@@ -85,8 +86,8 @@ fn push_planned_triggers(
     Ok(())
 }
 
-/// Adds the last line: how many bytes and packages there are after a change, by what the packages
-/// say.
+/// Adds the last line: how many bytes and packages there are after a change, by the packages' own
+/// information.
 pub(crate) fn push_member_sum(report: &mut Report, members: &Members<'_>) -> Result<(), AllocError>
     ensures { OnOk result (report.new ≡ report.old ++ member_sum_line (members_of members.now)) }
 {
@@ -95,8 +96,8 @@ pub(crate) fn push_member_sum(report: &mut Report, members: &Members<'_>) -> Res
     Ok(())
 }
 
-/// The bytes that the packages take when they are installed, by their installed sizes. A u128 holds
-/// the sum of any number of them.
+/// The bytes that the packages take when they are installed, by their installed sizes. A u128 can
+/// hold the sum of any number of them.
 fn installed_bytes(members: &Members<'_>) -> u128
     ensures { result ≡ sum_by member_size (members_of members.now) }
 {

@@ -1,8 +1,8 @@
-//! What a package says of its trigger. The rule is in `docs/commands.md`, "`add` and `del`",
-//! which triggers are due; the fields in `docs/formats.md`, "Schemas", tables 6 and 7.
+//! The trigger of a package. The rule is in `docs/commands.md`, "`add` and `del`", which triggers
+//! are due; the fields in `docs/formats.md`, "Schemas", tables 6 and 7.
 //!
-//! The marks serve the borrow checker alone, which does not know the parts of a view that is made
-//! and lent in a function unless the signature names the view.
+//! The marks serve only the borrow checker: it does not know the parts of a view that is made and
+//! lent in a function unless the signature names the view.
 ghost use Rattle.adb_fields.specs.ListValue.{list_value};
 ghost use Rattle.adb_fields.specs.Repeated.{package_name};
 ghost use Rattle.adb_schema.specs.Views.{package_value};

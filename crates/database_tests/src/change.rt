@@ -12,7 +12,7 @@ use std::alloc::{AllocError, Global};
 use std::marker::PhantomData;
 
 /// The database after `change FLAGS NAME ..`: the packages of the database without those of these
-/// names, and behind them those that come, with the files whose flag is 1. A file that is none has
+/// names, and after them those that come, with the files whose flag is 1. A file that is none has
 /// no packages. None: they are not in order, one that comes is bad, or the database is too large.
 pub(crate) fn changed_database(
     alloc: Global,
@@ -31,7 +31,7 @@ pub(crate) fn changed_database(
 }
 
 /// The database after a change of the one that these bytes are, or of an empty one, with the fronts
-/// of the packages that come.
+/// of the added packages.
 fn changed_over<'a>(
     alloc: Global,
     file: &'a [u8],
@@ -91,7 +91,7 @@ fn is_written_again(alloc: Global, db: &Db<'_>, file: &[u8]) -> Result<bool, All
     }
 }
 
-/// Whether a name is one of the words behind the flags.
+/// Whether a name is one of the words after the flags.
 fn is_among(words: &Words, name: &[u8]) -> bool {
     for i in 2..words.len() {
         if words.word(i) == name {

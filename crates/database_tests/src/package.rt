@@ -20,7 +20,7 @@ pub(crate) fn package_file(alloc: Global, words: &Words) -> Result<Vec<u8>, Allo
     }
 }
 
-/// The container of a package; one that is too large counts as lack of memory.
+/// The container of a package; one that is too large counts as out of memory.
 fn container(alloc: Global, payload: &[u8]) -> Result<Vec<u8>, AllocError> {
     if payload.len() > MOST_BYTES {
         return Err(AllocError);
@@ -50,7 +50,7 @@ fn write_folders(alloc: Global, writer: &mut Writer, words: &Words) -> Result<Va
     writer.arr(&folders)
 }
 
-/// Writes the folder whose word has this place; its files are the words behind that, up to the next
+/// Writes the folder whose word has this place; its files are the words after that, up to the next
 /// folder.
 fn write_folder(
     alloc: Global,

@@ -78,7 +78,7 @@ pub fn replace<T: Tree>(
         (λ v. OnOk result (HasNow (T.history tree.new) (IsSyncedAt name.now))) }
 
     // The name is asked for first: either nothing has happened, or the tree accepts that a file is
-    // renamed to it from the scratch name. Ok is answered only if it does.
+    // renamed to it from the scratch name. Ok is returned only if it does.
     ensures asked { (T.history tree.new ≡ T.history tree.old)
         ⊎ T.accepts (Some (scratch_of name.now)) name.now }
     ensures accepted { OnOk result (T.accepts (Some (scratch_of name.now)) name.now) }
@@ -135,13 +135,13 @@ fn write_beside<T: Tree>(
         ⊎ T.accepts (Some scratch.now) name.now }
     ensures accepted { OnOk result (T.accepts (Some scratch.now) name.now) }
 
-    // No count of faults falls; a fault of the tree is answered only where that count rose, and Ok
-    // only where it did not.
+    // No count of faults falls; a fault of the tree is returned only if that count rose, and Ok
+    // only if it did not.
     ensures goes_on { GoesOn (T.counts tree.old) (T.counts tree.new) }
     ensures cause { OnErr result (HasCause (T.counts tree.old) (T.counts tree.new)) }
     ensures kept { OnOk result (IsNoFault (T.counts tree.old) (T.counts tree.new)) }
 
-    // Where the names may have a file each, no call is a misuse.
+    // If each of the names may have a file, no call is a misuse.
     ensures proper { IfObservable (T.history tree.old) (λ v. HasBothPlaces scratch.now name.now v
         → (T.counts tree.new).misuses ≡ (T.counts tree.old).misuses) }
 {

@@ -4,17 +4,17 @@ use Rattle.std.specs.Prelude.{codes}
 use Rattle.adb_dump.specs.Dump.{Line}
 use Rattle.adb_dump.specs.Margin.{margin}
 use Rattle.adb_dump.specs.ReadBack.{strip_prefix, stop_or_add, split_block, with_line}
-use Rattle.gen_core.specs.Cursors.{CursorState, after_block, after_line, at_entry, block_at, cursor_by, first_of, levels_after}
+use Rattle.gen_core.specs.Cursors.{CursorState, after_block, after_line, at_entry, block_at, cursor_by, line_of_block, levels_after}
 use Rattle.gen_core.proofs.TextLines.{levels_read, margin-sum, two_some, two_none, strip_prefix-append}
 
 -- a block and the lines after it
 abbrev pub Split : Type 0
 Split = List Line × List Line
 
-pub first_of_block : (depth : ℕ) (l : Line) (ls : List Line) → first_of (block_at depth (l ∷ ls)).0 ≡ strip_prefix (margin depth) l
+pub first_of_block : (depth : ℕ) (l : Line) (ls : List Line) → line_of_block (block_at depth (l ∷ ls)).0 ≡ strip_prefix (margin depth) l
 first_of_block depth l ls = go (strip_prefix (margin depth) l)
   where
-    go : (o : Option Line) → first_of (stop_or_add l ls o (block_at depth ls)).0 ≡ o
+    go : (o : Option Line) → line_of_block (stop_or_add l ls o (block_at depth ls)).0 ≡ o
     go None = refl
     go (Some inner) = refl
 
@@ -25,11 +25,11 @@ all_lines (l ∷ ls) = ap (λ (b : Split). with_line l b) (all_lines ls)
 
 -- ---- a block has no line, or a first one
 
-pub no_block : (depth : ℕ) (ls : List Line) → None ≡ first_of (block_at depth ls).0 → block_at depth ls ≡ ([], ls)
+pub no_block : (depth : ℕ) (ls : List Line) → None ≡ line_of_block (block_at depth ls).0 → block_at depth ls ≡ ([], ls)
 no_block depth [] e = refl
 no_block depth (l ∷ ls) e = go (strip_prefix (margin depth) l) e
   where
-    go : (o : Option Line) → None ≡ first_of (stop_or_add l ls o (block_at depth ls)).0 → stop_or_add l ls o (block_at depth ls) ≡ ([], l ∷ ls)
+    go : (o : Option Line) → None ≡ line_of_block (stop_or_add l ls o (block_at depth ls)).0 → stop_or_add l ls o (block_at depth ls) ≡ ([], l ∷ ls)
     go None e = refl
     go (Some inner) e = absurd cc
 
@@ -44,7 +44,7 @@ pub record FirstLine (depth : ℕ) (ls : List Line) (line : Line) : Type 0 where
   -- the block begins with it
   pub block : block_at depth ls ≡ (line ∷ (block_at depth others).0, (block_at depth others).1)
 
-pub first_line : (depth : ℕ) (ls : List Line) (line : Line) → Some line ≡ first_of (block_at depth ls).0 → FirstLine depth ls line
+pub first_line : (depth : ℕ) (ls : List Line) (line : Line) → Some line ≡ line_of_block (block_at depth ls).0 → FirstLine depth ls line
 first_line depth [] line e = absurd cc
 first_line depth (l ∷ ls) line e =
     let is : strip_prefix (margin depth) l ≡ Some line = sym (e ∙ first_of_block depth l ls) in

@@ -10,8 +10,8 @@ use Rattle.adb_dump.specs.Margin.{margin}
 use Rattle.adb_dump.specs.ReadBack.{LinesRead, after_lines, strip_prefix, stop_or_add, split_block, with_line, only_line, entry_read, after_dash, entries_read, arr_read, obj_read, field_on_line, field_below, if_named, block_read, named_read, fields_read}
 use Rattle.adb_dump.proofs.Booleans.{chosen}
 use Rattle.adb_dump.proofs.ReadOnly.{FieldsOnly, fields_only}
-use Rattle.gen_core.specs.Cursors.{CursorState, after_block, after_line, at_entry, block_at, cursor_by, first_of, levels_after}
-use Rattle.gen_core.specs.Reads.{Read, block_taken, end_read, entry_block_read, is_null_line, line_read, line_taken, values_taken, IsReadFault}
+use Rattle.gen_core.specs.Cursors.{CursorState, after_block, after_line, at_entry, block_at, cursor_by, line_of_block, levels_after}
+use Rattle.gen_core.specs.Reads.{Read, block_taken, end_read, entry_block_read, is_null_line, line_read, line_taken, values_taken, IsTextFault}
 use Rattle.gen_core.specs.declared.generate.GenFault.{GenFault}
 use Rattle.gen_core.proofs.TextLines.{strip_prefix-append}
 use Rattle.gen_core.proofs.Blocks.{FirstLine, Inner, Split, first_line, inner_block, no_block}
@@ -28,7 +28,7 @@ block_len depth (l ∷ ls) = go (strip_prefix (margin depth) l) (block_len depth
     go (Some inner) h = omega (arith, h)
 
 -- the two parts of a block have its lines
-split_count : (ls : List Line) → length (split_block ls).0 + length (split_block ls).1 ≡ length ls
+pub split_count : (ls : List Line) → length (split_block ls).0 + length (split_block ls).1 ≡ length ls
 split_count [] = omega arith
 split_count (l ∷ ls) = go (strip_prefix (codes "  ") l) (split_count ls)
   where
@@ -67,7 +67,7 @@ pub record EntryPlace (depth : ℕ) (line entry : Line) (c : CursorState) : Type
   pub number : (at_entry (depth + 1) entry c.lines c).number ≡ c.number
   pub shorter : length (block_at (depth + 1) others).1 < length c.lines
 
-pub entry_place : (depth : ℕ) (line entry : Line) (c : CursorState) → Some line ≡ first_of (block_at depth c.lines).0 → EntryPlace depth line entry c
+pub entry_place : (depth : ℕ) (line entry : Line) (c : CursorState) → Some line ≡ line_of_block (block_at depth c.lines).0 → EntryPlace depth line entry c
 entry_place depth line entry c e =
     let f = first_line depth c.lines line e in
     let h = inner_block depth f.others in
@@ -90,7 +90,7 @@ entries_from : (f : List Line → LinesRead Plain) (line entry : Line) (ls rest 
 entries_from f line entry ls rest d c e =
     ap (λ (o : Option Line). values_taken (after_dash f (entries_read f (length ls)) (split_block ls) o) (line ∷ ls, rest) d c) (sym e)
 
-pub entry_bad : (f : List Line → LinesRead Plain) (depth : ℕ) (line entry : Line) (d : DraftState) (c : CursorState) → Some line ≡ first_of (block_at depth c.lines).0 → Some entry ≡ strip_prefix (codes "- ") line → (n : ℕ)
+pub entry_bad : (f : List Line → LinesRead Plain) (depth : ℕ) (line entry : Line) (d : DraftState) (c : CursorState) → Some line ≡ line_of_block (block_at depth c.lines).0 → Some entry ≡ strip_prefix (codes "- ") line → (n : ℕ)
     → (let new = at_entry (depth + 1) entry c.lines c in block_taken (entry_block_read f (block_at (depth + 1) new.lines).0) (block_at (depth + 1) new.lines) d new ≡ bad_at n)
     → values_taken (entries_read f (length (block_at depth c.lines).0) (block_at depth c.lines).0) (block_at depth c.lines) d c ≡ bad_at n
 entry_bad f depth line entry d c e dash n bad =
@@ -124,7 +124,6 @@ abbrev read_ok : Reading → Read
 read_ok p = Ok p
 
 one : (p q : Reading) → Ok p ≡ read_ok q → p ≡ q
-
 one p q e = cc
 
 -- after an entry that was read
@@ -154,7 +153,7 @@ entry_read_left f depth line entry d c new p v same whole =
           ∙ sym whole;
     }
 
-pub entry_left : (f : List Line → LinesRead Plain) (depth : ℕ) (line entry : Line) (d : DraftState) (c : CursorState) → Some line ≡ first_of (block_at depth c.lines).0 → Some entry ≡ strip_prefix (codes "- ") line → (later : Reading)
+pub entry_left : (f : List Line → LinesRead Plain) (depth : ℕ) (line entry : Line) (d : DraftState) (c : CursorState) → Some line ≡ line_of_block (block_at depth c.lines).0 → Some entry ≡ strip_prefix (codes "- ") line → (later : Reading)
     → (let new = at_entry (depth + 1) entry c.lines c in block_taken (entry_block_read f (block_at (depth + 1) new.lines).0) (block_at (depth + 1) new.lines) d new ≡ Ok later)
     → EntryLeft f depth d c later
 entry_left f depth line entry d c e dash later ok = go (entry_read f entry r.0) inner whole
@@ -184,7 +183,7 @@ entry_left f depth line entry d c e dash later ok = go (entry_read f entry r.0) 
     go (Err k) h whole = absurd cc
     go (Ok v) h whole = subst (λ (x : Reading). EntryLeft f depth d c x) (one (draft_with v d, after_block (entry ∷ r.0, (block_at (depth + 1) p.others).1) new) later h) (entry_read_left f depth line entry d c new p v p.number whole)
 
-pub no_dash : (f : List Line → LinesRead Plain) (depth : ℕ) (line : Line) (d : DraftState) (c : CursorState) → Some line ≡ first_of (block_at depth c.lines).0 → None ≡ strip_prefix (codes "- ") line
+pub no_dash : (f : List Line → LinesRead Plain) (depth : ℕ) (line : Line) (d : DraftState) (c : CursorState) → Some line ≡ line_of_block (block_at depth c.lines).0 → None ≡ strip_prefix (codes "- ") line
     → values_taken (entries_read f (length (block_at depth c.lines).0) (block_at depth c.lines).0) (block_at depth c.lines) d c ≡ bad_at c.number
 no_dash f depth line d c e dash =
     let b = (first_line depth c.lines line e).block in
@@ -205,15 +204,15 @@ null_line f depth line d c b e r is =
     ∙ ap (λ (word : Bool). block_taken (cond word (only_line (λ x. Ok null) (line ∷ t.0)) (f (line ∷ t.0))) (line ∷ t.0, t.1) d c) e in
     subst (λ (x : Read). Answers r x (draft_with null d) (after_line c.lines c)) (sym whole) (place_ends depth line null d c b r is)
 
-pub null_entry : (f : List Line → LinesRead Plain) (depth : ℕ) (d : DraftState) (c : CursorState) → true ≡ is_null_line (first_of (block_at depth c.lines).0) → (r : Result (Unit {0}) GenFault)
+pub null_entry : (f : List Line → LinesRead Plain) (depth : ℕ) (d : DraftState) (c : CursorState) → true ≡ is_null_line (line_of_block (block_at depth c.lines).0) → (r : Result (Unit {0}) GenFault)
     → r ≡ end_read (block_at depth (after_line c.lines c).lines).0 (after_line c.lines c).number → Answers r (block_taken (entry_block_read f (block_at depth c.lines).0) (block_at depth c.lines) d c) (draft_with null d) (after_line c.lines c)
-null_entry f depth d c e r is = by_first (first_of (block_at depth c.lines).0) refl e
+null_entry f depth d c e r is = by_first (line_of_block (block_at depth c.lines).0) refl e
   where
-    by_first : (o : Option Line) → o ≡ first_of (block_at depth c.lines).0 → true ≡ is_null_line o → Answers r (block_taken (entry_block_read f (block_at depth c.lines).0) (block_at depth c.lines) d c) (draft_with null d) (after_line c.lines c)
+    by_first : (o : Option Line) → o ≡ line_of_block (block_at depth c.lines).0 → true ≡ is_null_line o → Answers r (block_taken (entry_block_read f (block_at depth c.lines).0) (block_at depth c.lines) d c) (draft_with null d) (after_line c.lines c)
     by_first None h e = absurd cc
     by_first (Some line) h e = null_line f depth line d c (first_line depth c.lines line h) (sym e) r is
 
-pub other_entry : (f : List Line → LinesRead Plain) (ls : List Line) → false ≡ is_null_line (first_of ls) → entry_block_read f ls ≡ f ls
+pub other_entry : (f : List Line → LinesRead Plain) (ls : List Line) → false ≡ is_null_line (line_of_block ls) → entry_block_read f ls ≡ f ls
 other_entry f [] e = refl
 other_entry f (l ∷ ls) e = ap (λ (word : Bool). cond word (only_line (λ x. Ok null) (l ∷ ls)) (f (l ∷ ls))) (sym e)
 
@@ -241,7 +240,7 @@ more_values (Ok v) n (Ok vs) e = absurd cc
 more_values (Ok v) n (Err k) e = absurd cc
 more_values (Err k) n r e = absurd cc
 
-some_entries : (f : List Line → LinesRead Plain) (ls : List Line) (line : Line) → Some line ≡ first_of ls → entries_read f (length ls) ls ≢ Ok none
+pub some_entries : (f : List Line → LinesRead Plain) (ls : List Line) (line : Line) → Some line ≡ line_of_block ls → entries_read f (length ls) ls ≢ Ok none
 some_entries f [] line e = absurd cc
 some_entries f (l ∷ ls) line e = go (strip_prefix (codes "- ") l)
   where
@@ -249,16 +248,16 @@ some_entries f (l ∷ ls) line e = go (strip_prefix (codes "- ") l)
     go None e = absurd cc
     go (Some m) e = more_values (entry_read f m (split_block ls).0) (1 + length (split_block ls).0) (entries_read f (length ls) (split_block ls).1) e
 
-pub array_made : (f : List Line → LinesRead Plain) (ls : List Line) (line : Line) → Some line ≡ first_of ls → (vs : Plains) → entries_read f (length ls) ls ≡ Ok vs → arr_read vs ≡ Ok (arr_value vs)
+pub array_made : (f : List Line → LinesRead Plain) (ls : List Line) (line : Line) → Some line ≡ line_of_block ls → (vs : Plains) → entries_read f (length ls) ls ≡ Ok vs → arr_read vs ≡ Ok (arr_value vs)
 array_made f ls line e none is = absurd (some_entries f ls line e is)
 array_made f ls line e (more v vs) is = refl
 
-no_line : (fs : Fields) (l : Line) (ls : List Line) → fields_lines fs none ≢ l ∷ ls
+pub no_line : (fs : Fields) (l : Line) (ls : List Line) → fields_lines fs none ≢ l ∷ ls
 unfolding fields_lines
 no_line no_fields l ls e = absurd cc
 no_line (field name s fs) l ls e = absurd cc
 
-pub object_made : (fs : Fields) (ls : List Line) (line : Line) → Some line ≡ first_of ls → (vs : Plains) → fields_read fs ls ≡ Ok vs → obj_read vs ≡ Ok (obj_value vs)
+pub object_made : (fs : Fields) (ls : List Line) (line : Line) → Some line ≡ line_of_block ls → (vs : Plains) → fields_read fs ls ≡ Ok vs → obj_read vs ≡ Ok (obj_value vs)
 object_made fs [] line e vs is = absurd cc
 object_made fs (l ∷ ls) line e vs is = go vs (fields_only fs (l ∷ ls) vs is)
   where
@@ -276,7 +275,7 @@ IsOnLine s = (g : List Line → LinesRead Plains) (ls : List Line) (l : Line) �
 abbrev pub IsBelow : Shape → Type 0
 IsBelow s = (g : List Line → LinesRead Plains) (ls : List Line) (l : Line) → named_read s g ls l ≡ field_below (block_read s) g (split_block ls) l
 
-some_line : (ls : List Line) → 0 < length ls → (line : Line) × (Some line ≡ first_of ls)
+some_line : (ls : List Line) → 0 < length ls → (line : Line) × (Some line ≡ line_of_block ls)
 some_line [] lt = absurd (omega arith)
 some_line (l ∷ ls) lt = (l, refl)
 

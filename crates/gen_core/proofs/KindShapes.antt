@@ -11,8 +11,9 @@ use Rattle.adb_view.specs.declared.tables.Kind.{Kind}
 use Rattle.adb_view.specs.declared.tables.Kind.TheVariants.{Int, Text, Hash, Obj, TextArr, ObjArr}
 use Rattle.adb_dump.specs.Dump.{Line}
 use Rattle.adb_dump.specs.ReadBack.{LinesRead, arr_read, entries_read, fields_read, obj_read, value_read, only_line, field_on_line, field_below, block_read, named_read, split_block, strip_prefix}
-use Rattle.gen_core.specs.Cursors.{CursorState, block_at, first_of}
-use Rattle.gen_core.specs.Reads.{block_taken, has_one_line, line_read}
+use Rattle.adb_dump.specs.Words.{has_one_line}
+use Rattle.gen_core.specs.Cursors.{CursorState, block_at, line_of_block}
+use Rattle.gen_core.specs.Reads.{block_taken, line_read}
 use Rattle.gen_core.proofs.Blocks.{Split, all_lines}
 use Rattle.gen_core.proofs.Reading.{HasOneLine}
 use Rattle.gen_core.proofs.Entries.{IsOnLine, IsBelow}
@@ -108,11 +109,11 @@ blob_read_as s b c l old new read ne same is = (blob b, read, is ∙ ap (λ (x :
 
 -- ---- the root
 
-pub root_block : (w : Which) (ls : List Line) (line : Line) → Some line ≡ first_of (block_at 0 ls).0 → value_read w ls ≡ block_read (shape_of (Obj w)) (block_at 0 ls).0
+pub root_block : (w : Which) (ls : List Line) (line : Line) → Some line ≡ line_of_block (block_at 0 ls).0 → value_read w ls ≡ block_read (shape_of (Obj w)) (block_at 0 ls).0
 root_block w [] line e = absurd cc
 root_block w (l ∷ ls) line e = ap (λ (b : Split). block_read (shape_of (Obj w)) b.0) (sym (all_lines (l ∷ ls)))
 
-pub root_taken_as : (w : Which) (d : DraftState) (c : CursorState) (line : Line) → Some line ≡ first_of (block_at 0 c.lines).0
+pub root_taken_as : (w : Which) (d : DraftState) (c : CursorState) (line : Line) → Some line ≡ line_of_block (block_at 0 c.lines).0
     → block_taken (value_read w c.lines) (c.lines, []) d c ≡ block_taken (block_read (shape_of (Obj w)) (block_at 0 c.lines).0) (block_at 0 c.lines) d c
 root_taken_as w d c line e =
     ap (λ (r : LinesRead Plain). block_taken r (c.lines, []) d c) (root_block w c.lines line e)

@@ -7,8 +7,8 @@ use Rattle.base_core.specs.Lists.{and_then}
 use Rattle.adb_dump.specs.Dump.{Line}
 use Rattle.adb_dump.specs.Margin.{margin}
 use Rattle.adb_dump.specs.ReadBack.{LinesRead, after_lines, strip_prefix, stop_or_add, split_block, only_line, entry_read, after_dash, entries_read, arr_read, obj_read, field_on_line, field_below, if_named, block_read, named_read, fields_read}
-use Rattle.gen_core.specs.Cursors.{CursorState, after_block, after_line, at_entry, block_at, cursor_by, first_of, levels_after}
-use Rattle.gen_core.specs.Reads.{Read, block_taken, end_read, entry_block_read, is_null_line, line_read, line_taken, values_taken, IsReadFault}
+use Rattle.gen_core.specs.Cursors.{CursorState, after_block, after_line, at_entry, block_at, cursor_by, line_of_block, levels_after}
+use Rattle.gen_core.specs.Reads.{Read, block_taken, end_read, entry_block_read, is_null_line, line_read, line_taken, values_taken, IsTextFault}
 use Rattle.gen_core.specs.declared.generate.GenFault.{GenFault}
 use Rattle.gen_core.specs.declared.generate.GenFault.TheVariants.{Bad, TooLarge, Memory}
 use Rattle.gen_core.proofs.TextLines.{strip_prefix-append}
@@ -29,17 +29,17 @@ bad_at n = Err n
 -- the answer of a function, by what reading comes to
 pub record Answers (r : Result (Unit {0}) GenFault) (read : Read) (d : DraftState) (c : CursorState) : Type 0 where
   pub ok : OnOk r (read ≡ taken d c)
-  pub err : IfErr r (λ fault. IsReadFault fault read)
+  pub err : IfErr r (λ fault. IsTextFault fault read)
 
 -- a fault of one reading is one of another
-pub same_fault : {A B : Type 0} (fault : GenFault) (r : Result A ℕ) (s : Result B ℕ) → ((n : ℕ) → r ≡ Err n → s ≡ Err n) → IsReadFault fault r → IsReadFault fault s
+pub same_fault : {A B : Type 0} (fault : GenFault) (r : Result A ℕ) (s : Result B ℕ) → ((n : ℕ) → r ≡ Err n → s ≡ Err n) → IsTextFault fault r → IsTextFault fault s
 same_fault (Bad n) r s h e = h n e
 same_fault (TooLarge b v) r s h e = e
 same_fault Memory r s h e = e
 
 -- a bad line is reported
-pub bad_fault : {A : Type 0} (fault : GenFault) (n : ℕ) (read : Result A ℕ) → fault ≡ Bad n → read ≡ Err n → IsReadFault fault read
-bad_fault fault n read e bad = subst (λ (f : GenFault). IsReadFault f read) (sym e) bad
+pub bad_fault : {A : Type 0} (fault : GenFault) (n : ℕ) (read : Result A ℕ) → fault ≡ Bad n → read ≡ Err n → IsTextFault fault read
+bad_fault fault n read e bad = subst (λ (f : GenFault). IsTextFault f read) (sym e) bad
 
 -- what follows from a clause of a call
 pub on_ok : (r : Result (Unit {0}) GenFault) (P Q : Type 0) → (P → Q) → OnOk r P → OnOk r Q
@@ -61,7 +61,6 @@ abbrev pub read_ok : Reading → Read
 read_ok p = Ok p
 
 pub one : (p q : Reading) → Ok p ≡ read_ok q → p ≡ q
-
 one p q e = cc
 
 -- ---- no lines
@@ -75,7 +74,7 @@ nothing_read (array s) = refl
 nothing_read (object which no_fields) = refl
 nothing_read (object which (field name s fs)) = refl
 
-pub none_taken : (s : Shape) (depth : ℕ) (d : DraftState) (c : CursorState) → None ≡ first_of (block_at depth c.lines).0 → block_taken (block_read s (block_at depth c.lines).0) (block_at depth c.lines) d c ≡ bad_at c.number
+pub none_taken : (s : Shape) (depth : ℕ) (d : DraftState) (c : CursorState) → None ≡ line_of_block (block_at depth c.lines).0 → block_taken (block_read s (block_at depth c.lines).0) (block_at depth c.lines) d c ≡ bad_at c.number
 none_taken s depth d c e =
     ap (λ (b : Split). block_taken (block_read s b.0) b d c) (no_block depth c.lines e)
     ∙ ap (λ (r : LinesRead Plain). block_taken r ([], c.lines) d c) (nothing_read s) ∙ number_plus_zero c.number
@@ -83,7 +82,7 @@ none_taken s depth d c e =
 same_place : (c : CursorState) → after_block ([], c.lines) c ≡ c
 same_place c = let e : c.number + 0 ≡ c.number = omega arith in ap (λ (n : ℕ). cursor_by c.lines n c.levels) e
 
-no_values : (r : List Line → LinesRead Plains) (depth : ℕ) (d : DraftState) (c : CursorState) → r [] ≡ Ok none → None ≡ first_of (block_at depth c.lines).0 → values_taken (r (block_at depth c.lines).0) (block_at depth c.lines) d c ≡ taken d c
+no_values : (r : List Line → LinesRead Plains) (depth : ℕ) (d : DraftState) (c : CursorState) → r [] ≡ Ok none → None ≡ line_of_block (block_at depth c.lines).0 → values_taken (r (block_at depth c.lines).0) (block_at depth c.lines) d c ≡ taken d c
 no_values r depth d c h e =
     ap (λ (b : Split). values_taken (r b.0) b d c) (no_block depth c.lines e)
     ∙ ap (λ (x : LinesRead Plains). values_taken x ([], c.lines) d c) h ∙ ap (λ (x : CursorState). taken d x) (same_place c)
@@ -93,10 +92,10 @@ unfolding fields_read
 no_fields_left no_fields = refl
 no_fields_left (field name s fs) = refl
 
-pub fields_stop : (fs : Fields) (depth : ℕ) (d : DraftState) (c : CursorState) → None ≡ first_of (block_at depth c.lines).0 → values_taken (fields_read fs (block_at depth c.lines).0) (block_at depth c.lines) d c ≡ taken d c
+pub fields_stop : (fs : Fields) (depth : ℕ) (d : DraftState) (c : CursorState) → None ≡ line_of_block (block_at depth c.lines).0 → values_taken (fields_read fs (block_at depth c.lines).0) (block_at depth c.lines) d c ≡ taken d c
 fields_stop fs depth d c e = no_values (fields_read fs) depth d c (no_fields_left fs) e
 
-pub entries_stop : (f : List Line → LinesRead Plain) (depth : ℕ) (d : DraftState) (c : CursorState) → None ≡ first_of (block_at depth c.lines).0 → values_taken (entries_read f (length (block_at depth c.lines).0) (block_at depth c.lines).0) (block_at depth c.lines) d c ≡ taken d c
+pub entries_stop : (f : List Line → LinesRead Plain) (depth : ℕ) (d : DraftState) (c : CursorState) → None ≡ line_of_block (block_at depth c.lines).0 → values_taken (entries_read f (length (block_at depth c.lines).0) (block_at depth c.lines).0) (block_at depth c.lines) d c ≡ taken d c
 entries_stop f depth d c e = no_values (λ ls. entries_read f (length ls) ls) depth d c refl e
 
 -- ---- values that come after a value
@@ -125,7 +124,7 @@ later_values block later n d c new g v (Err k) =
 abbrev pub HasOneLine : Shape → Type 0
 HasOneLine s = (ls : List Line) → block_read s ls ≡ only_line (line_read s) ls
 
-pub only_line_bad : (s : Shape) → HasOneLine s → (depth : ℕ) (line : Line) (d : DraftState) (c : CursorState) → Some line ≡ first_of (block_at depth c.lines).0 → (n : ℕ) → line_taken (line_read s line) d c ≡ bad_at n → block_taken (block_read s (block_at depth c.lines).0) (block_at depth c.lines) d c ≡ bad_at n
+pub only_line_bad : (s : Shape) → HasOneLine s → (depth : ℕ) (line : Line) (d : DraftState) (c : CursorState) → Some line ≡ line_of_block (block_at depth c.lines).0 → (n : ℕ) → line_taken (line_read s line) d c ≡ bad_at n → block_taken (block_read s (block_at depth c.lines).0) (block_at depth c.lines) d c ≡ bad_at n
 only_line_bad s h depth line d c e n bad =
     let f = first_line depth c.lines line e in
     let t = block_at depth f.others in
@@ -139,7 +138,7 @@ only_line_bad s h depth line d c e n bad =
     go (Err k) (m ∷ ms) rest e = e
 
 -- a line was read as a value, and then the block has to end
-pub line_ends : (line : Line) (v : Plain) (d : DraftState) (c : CursorState) (others ls rest : List Line) → (None ≡ first_of ls → rest ≡ others) → (r : Result (Unit {0}) GenFault) → r ≡ end_read ls (c.number + 1)
+pub line_ends : (line : Line) (v : Plain) (d : DraftState) (c : CursorState) (others ls rest : List Line) → (None ≡ line_of_block ls → rest ≡ others) → (r : Result (Unit {0}) GenFault) → r ≡ end_read ls (c.number + 1)
     → Answers r (block_taken (only_line (λ x. Ok v) (line ∷ ls)) (line ∷ ls, rest) d c) (draft_with v d) (cursor_by others (c.number + 1) 0)
 line_ends line v d c others [] rest same r is = subst (λ (r : Result (Unit {0}) GenFault). Answers r (block_taken (Ok v) (line ∷ [], rest) d c) (draft_with v d) (cursor_by others (c.number + 1) 0)) (sym is) (record { ok = ap (λ (ls : List Line). taken (draft_with v d) (cursor_by ls (c.number + 1) 0)) (same refl); err = tt })
 line_ends line v d c others (m ∷ ms) rest same r is = subst (λ (r : Result (Unit {0}) GenFault). Answers r (bad_at (c.number + 1)) (draft_with v d) (cursor_by others (c.number + 1) 0)) (sym is) (record { ok = tt; err = refl })
@@ -154,7 +153,7 @@ place_ends depth line v d c f r is =
     (line_ends line v d c f.others t.0 t.1 (λ none. ap (λ (b : Split). b.1) (no_block depth f.others none)) r) is
 
 -- the line is read, and then the block has to end
-pub only_line_ends : (s : Shape) → HasOneLine s → (depth : ℕ) (line : Line) (d : DraftState) (c : CursorState) → Some line ≡ first_of (block_at depth c.lines).0 → (later : Reading) → line_taken (line_read s line) d c ≡ Ok later
+pub only_line_ends : (s : Shape) → HasOneLine s → (depth : ℕ) (line : Line) (d : DraftState) (c : CursorState) → Some line ≡ line_of_block (block_at depth c.lines).0 → (later : Reading) → line_taken (line_read s line) d c ≡ Ok later
     → (r : Result (Unit {0}) GenFault) → r ≡ end_read (block_at depth later.1.lines).0 later.1.number → Answers r (block_taken (block_read s (block_at depth c.lines).0) (block_at depth c.lines) d c) later.0 later.1
 only_line_ends s h depth line d c e later ok r is =
     subst (λ (x : Read). Answers r x later.0 later.1) (sym whole) (go (line_read s line) ok)
@@ -180,7 +179,7 @@ after_null : (r : LinesRead Plains) (block : Split) (d : DraftState) (c : Cursor
 after_null (Ok vs) block d c = refl
 after_null (Err k) block d c = let e : c.number + k ≡ c.number + (0 + k) = omega arith in ap bad_at e
 
-pub field_absent : (name : List ℕ) (s : Shape) (fs : Fields) (depth : ℕ) (line : Line) (d : DraftState) (c : CursorState) → Some line ≡ first_of (block_at depth c.lines).0 → None ≡ strip_prefix (name ++ codes ":") line
+pub field_absent : (name : List ℕ) (s : Shape) (fs : Fields) (depth : ℕ) (line : Line) (d : DraftState) (c : CursorState) → Some line ≡ line_of_block (block_at depth c.lines).0 → None ≡ strip_prefix (name ++ codes ":") line
     → values_taken (fields_read fs (block_at depth c.lines).0) (block_at depth c.lines) (draft_with null d) c ≡ values_taken (fields_read (field name s fs) (block_at depth c.lines).0) (block_at depth c.lines) d c
 unfolding fields_read
 field_absent name s fs depth line d c e absent =
@@ -193,7 +192,7 @@ field_absent name s fs depth line d c e absent =
     ∙ ap (λ (b : Split). values_taken (fields_read (field name s fs) b.0) b d c) (sym f.block)
 
 -- a field that comes next, by what is left of its line
-pub field_there : (name : List ℕ) (s : Shape) (fs : Fields) (depth : ℕ) (line value : Line) (c : CursorState) → Some line ≡ first_of (block_at depth c.lines).0 → Some value ≡ strip_prefix (name ++ codes ":") line
+pub field_there : (name : List ℕ) (s : Shape) (fs : Fields) (depth : ℕ) (line value : Line) (c : CursorState) → Some line ≡ line_of_block (block_at depth c.lines).0 → Some value ≡ strip_prefix (name ++ codes ":") line
     → fields_read (field name s fs) (block_at depth c.lines).0 ≡ named_read s (fields_read fs) (drop 1 (block_at depth c.lines).0) value
 unfolding fields_read
 field_there name s fs depth line value c e there =
@@ -203,7 +202,7 @@ field_there name s fs depth line value c e there =
     ∙ ap (if_named (after_lines 0 (more null) (fields_read fs (line ∷ t.0))) (named_read s (fields_read fs) t.0)) (sym there)
     ∙ ap (λ (b : Split). named_read s (fields_read fs) (drop 1 b.0) value) (sym f.block)
 
-pub some_first : (ls : List Line) (line : Line) → Some line ≡ first_of ls → 0 < length ls
+pub some_first : (ls : List Line) (line : Line) → Some line ≡ line_of_block ls → 0 < length ls
 some_first [] line e = absurd cc
 some_first (l ∷ ls) line e = omega arith
 
@@ -211,6 +210,6 @@ pub fields_end : (depth : ℕ) (d : DraftState) (c : CursorState) (r : Result (U
 unfolding fields_read
 fields_end depth d c r is = go (block_at depth c.lines).0 (block_at depth c.lines).1 (λ none. ap (λ (b : Split). b.1) (no_block depth c.lines none)) is
   where
-    go : (ls rest : List Line) → (None ≡ first_of ls → rest ≡ c.lines) → r ≡ end_read ls c.number → Answers r (values_taken (fields_read no_fields ls) (ls, rest) d c) d c
+    go : (ls rest : List Line) → (None ≡ line_of_block ls → rest ≡ c.lines) → r ≡ end_read ls c.number → Answers r (values_taken (fields_read no_fields ls) (ls, rest) d c) d c
     go [] rest same is = subst (λ (r : Result (Unit {0}) GenFault). Answers r (values_taken (Ok none) ([], rest) d c) d c) (sym is) (record { ok = ap (λ (ls : List Line). taken d (after_block ([], ls) c)) (same refl) ∙ ap (λ (x : CursorState). taken d x) (same_place c); err = tt })
     go (l ∷ ls) rest same is = subst (λ (r : Result (Unit {0}) GenFault). Answers r (bad_at (c.number + 0)) d c) (sym is) (record { ok = tt; err = number_plus_zero c.number })

@@ -13,7 +13,7 @@ use Rattle.adb_dump.specs.Dump.{Line}
 use Rattle.adb_dump.specs.ReadBack.{LinesRead, value_read}
 use Rattle.gen_core.specs.Cursors.{CursorState, after_line, cursor_by}
 use Rattle.gen_core.specs.Generated.{DumpedRoot, IsGenFault, dumped_root, file_of_root, file_unless_too_large, generated_file, root_of_lines, root_of_table, root_read, table_of_line, text_lines, unless_rest, word_of_root}
-use Rattle.gen_core.specs.Reads.{IsReadFault, Read, block_taken, fault_of_writer, has_rest, root_taken, table_read}
+use Rattle.gen_core.specs.Reads.{IsTextFault, Read, block_taken, fault_of_writer, has_rest, root_taken, table_read}
 use Rattle.gen_core.specs.declared.generate.GenFault.{GenFault}
 use Rattle.gen_core.specs.declared.generate.GenFault.TheVariants.{Bad, TooLarge, Memory}
 use Rattle.gen_core.proofs.Reading.{Reading, bad_at, one, taken}
@@ -127,7 +127,7 @@ all_read t which d later e ok rest = let v = value_there t which d later e ok in
 
 -- ---- the container
 
-pub gen_fault : (t : List ℕ) (d : DraftState) (fault : GenFault) → IsReadFault fault (root_taken (dumped_root t) d) → IsGenFault fault (generated_file t)
+pub gen_fault : (t : List ℕ) (d : DraftState) (fault : GenFault) → IsTextFault fault (root_taken (dumped_root t) d) → IsGenFault fault (generated_file t)
 unfolding generated_file
 gen_fault t d (Bad n) e = go (dumped_root t) e
   where

@@ -8,7 +8,7 @@ use Rattle.adb_dump.specs.ReadBack.{strip_prefix}
 use Rattle.memchr.specs.Find.{IsFirstByte, is_byte}
 use Rattle.adb_dump.proofs.Booleans.{chosen, neq-eqb}
 use Rattle.adb_dump.proofs.Pieces.{ends_some, ends_none}
-use Rattle.gen_core.specs.Generated.{TextLines, with_byte, with_first_byte, text_lines}
+use Rattle.gen_core.specs.Generated.{TextLines, lines_with_byte, with_first_byte, text_lines}
 use Rattle.gen_core.specs.Reads.{has_rest}
 
 -- ---- prefixes
@@ -118,7 +118,7 @@ all_rest (c ∷ cs) e = go (eqb c 10) (text_lines cs).0 (text_lines cs).1 (all_r
     go true ls rest h e = absurd cc
     go false ls rest h e = first ls rest h e
 
-rest_same : (c : ℕ) (ls : List Line) (rest : List ℕ) → (ls ≡ [] → has_rest rest ≡ true) → has_rest (with_byte c (ls, rest)).1 ≡ has_rest rest
+rest_same : (c : ℕ) (ls : List Line) (rest : List ℕ) → (ls ≡ [] → has_rest rest ≡ true) → has_rest (lines_with_byte c (ls, rest)).1 ≡ has_rest rest
 rest_same c ls rest h = go (eqb c 10) ls h
   where
     go : (b : Bool) (ls : List Line) → (ls ≡ [] → has_rest rest ≡ true) → has_rest (cond {A = TextLines} b ([] ∷ ls, rest) (with_first_byte c ls rest)).1 ≡ has_rest rest

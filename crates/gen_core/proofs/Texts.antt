@@ -16,7 +16,7 @@ use Rattle.adb_dump.specs.ReadBack.{LinesRead, add_char, split_lines, value_read
 use Rattle.adb_dump.specs.Values.{IsOfBytes, IsValueOf}
 use Rattle.adb_dump.proofs.Booleans.{bytes_eq-same, bytes_eq-true, chosen}
 use Rattle.adb_dump.proofs.ValueLaws.{only_values, read_back, text_split}
-use Rattle.gen_core.specs.Generated.{DumpedRoot, TextLines, dumped_root, root_of_lines, root_of_table, root_read, root_tables, table_of_line, text_lines, unless_rest, with_byte, with_first_byte}
+use Rattle.gen_core.specs.Generated.{DumpedRoot, TextLines, dumped_root, root_of_lines, root_of_table, root_read, root_tables, table_of_line, text_lines, unless_rest, lines_with_byte, with_first_byte}
 
 -- ---- lines and texts
 
@@ -47,13 +47,13 @@ some_same x y e = cc
 ended : (c : ℕ) (cs : List ℕ) (ls : List Line) (o : Option (List Line)) → ((xs : List Line) → o ≡ Some xs → text_lines cs ≡ (xs, [])) → eqb c 10 ≡ true → option_map (λ (xs : List Line). [] ∷ xs) o ≡ Some ls → text_lines (c ∷ cs) ≡ (ls, [])
 ended c cs ls None h t e = absurd cc
 ended c cs ls (Some xs) h t e =
-    ap (with_byte c) (h xs refl) ∙ ap (λ (b : Bool). cond {A = TextLines} b ([] ∷ xs, []) (with_first_byte c xs [])) t ∙ ap (λ (x : List Line). (x, [])) (some_same ([] ∷ xs) ls e)
+    ap (lines_with_byte c) (h xs refl) ∙ ap (λ (b : Bool). cond {A = TextLines} b ([] ∷ xs, []) (with_first_byte c xs [])) t ∙ ap (λ (x : List Line). (x, [])) (some_same ([] ∷ xs) ls e)
 
 added : (c : ℕ) (cs : List ℕ) (ls : List Line) (o : Option (List Line)) → ((xs : List Line) → o ≡ Some xs → text_lines cs ≡ (xs, [])) → eqb c 10 ≡ false → add_char c o ≡ Some ls → text_lines (c ∷ cs) ≡ (ls, [])
 added c cs ls None h t e = absurd cc
 added c cs ls (Some []) h t e = absurd cc
 added c cs ls (Some (l ∷ xs)) h t e =
-    ap (with_byte c) (h (l ∷ xs) refl) ∙ ap (λ (b : Bool). cond {A = TextLines} b ([] ∷ l ∷ xs, []) (with_first_byte c (l ∷ xs) [])) t ∙ ap (λ (x : List Line). (x, [])) (some_same ((c ∷ l) ∷ xs) ls e)
+    ap (lines_with_byte c) (h (l ∷ xs) refl) ∙ ap (λ (b : Bool). cond {A = TextLines} b ([] ∷ l ∷ xs, []) (with_first_byte c (l ∷ xs) [])) t ∙ ap (λ (x : List Line). (x, [])) (some_same ((c ∷ l) ∷ xs) ls e)
 
 pub whole_lines : (t : List ℕ) (ls : List Line) → split_lines t ≡ Some ls → text_lines t ≡ (ls, [])
 whole_lines [] ls e = ap (λ (x : List Line). (x, [])) (some_same [] ls e)
@@ -79,9 +79,9 @@ line_of_root Index some = refl
 line_of_root Idb some = refl
 line_of_root Intent some = refl
 
-record NamesRoot (l : Line) (w : Which) : Type 0 where
-  root : IsSome (schema_word w)
-  line : schema_line (schema_word w) ≡ l
+pub record NamesRoot (l : Line) (w : Which) : Type 0 where
+  pub root : IsSome (schema_word w)
+  pub line : schema_line (schema_word w) ≡ l
 
 pub root_of_line : (l : Line) (w : Which) → table_of_line l ≡ Some w → NamesRoot l w
 root_of_line l w e =

@@ -32,9 +32,9 @@ ends_of_line None = 0
 ends_of_line (Some l) = 1
 
 -- the first line of a block, if it has a line
-abbrev pub first_of : List Line → Option Line
-first_of [] = None
-first_of (l ∷ ls) = Some l
+abbrev pub line_of_block : List Line → Option Line
+line_of_block [] = None
+line_of_block (l ∷ ls) = Some l
 
 -- the lines in front that are indented by so many levels, without these spaces, which are a block;
 -- and the lines after them

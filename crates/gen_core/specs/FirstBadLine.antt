@@ -29,7 +29,7 @@ pub record BeginsADump (front : List Line) : Type 0 where
 
 -- the line with this number, from 1, is the first that no dump has after the lines before it. Where
 -- another line must follow, and where the last line has no end, it is the number of whole lines plus 1
-pub record IsFirstBadLine (text : List ℕ) (number : ℕ) : Type 0 where
+pub record IsFirstBadDumpLine (text : List ℕ) (number : ℕ) : Type 0 where
   -- numbers count from 1, up to the number of whole lines plus 1
   pub low : 1 ≤ number
   pub high : number ≤ length (text_lines text).0 + 1

@@ -27,14 +27,14 @@ with_first_byte c [] rest = ([], c ∷ rest)
 with_first_byte c (l ∷ ls) rest = ((c ∷ l) ∷ ls, rest)
 
 -- the lines of a text with one byte more in front; a line end is the end of an empty first line
-abbrev pub with_byte : ℕ → TextLines → TextLines
-with_byte c lines =
+abbrev pub lines_with_byte : ℕ → TextLines → TextLines
+lines_with_byte c lines =
     if c == 0x0a then ([] ∷ lines.0, lines.1) else with_first_byte c lines.0 lines.1
 
 -- the lines of a text that have their line end, and the bytes after the last line end
 abbrev pub text_lines : List ℕ → TextLines
 text_lines [] = ([], [])
-text_lines (c ∷ cs) = with_byte c (text_lines cs)
+text_lines (c ∷ cs) = lines_with_byte c (text_lines cs)
 
 -- ---- the root that a text says
 

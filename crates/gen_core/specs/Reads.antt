@@ -4,8 +4,6 @@
 use Rattle.std.specs.Prelude.{◌≡◌, ◌≢◌, ℕ, ⊤, ◌+◌, ◌<◌, Bool, true, false, List, [], ◌∷◌, Option, Some, None, Result, Ok, Err, bytes_eq, codes}
 use Rattle.std.specs.List.{AllByRecursion}
 use Rattle.adb_view.specs.Plain.{Plain, Plains, Shape, number, text, hash, array, object}
-use Rattle.adb_view.specs.declared.tables.Kind.{Kind}
-use Rattle.adb_view.specs.declared.tables.Kind.TheVariants.{Int, Text, Hash, Obj, TextArr, ObjArr}
 use Rattle.adb_write.specs.declared.writer.WriteFault.{WriteFault}
 use Rattle.adb_write.specs.declared.writer.WriteFault.TheVariants as WriteFaults
 use Rattle.adb_values.specs.Drafts.{DraftState, draft_with, draft_with_all}
@@ -32,15 +30,6 @@ line_read text l = if_form text_line l (text_read l)
 line_read hash l = if_form hash_line l (hash_read l)
 line_read (array s) l = Err 0
 line_read (object schema fs) l = Err 0
-
--- whether a value of the kind is on the line of its field's name, and not below it
-abbrev pub has_one_line : Kind → Bool
-has_one_line Int = true
-has_one_line Text = true
-has_one_line Hash = true
-has_one_line (Obj which) = false
-has_one_line TextArr = false
-has_one_line (ObjArr which) = false
 
 -- a draft has the value that was read more; or the line cannot be read
 abbrev pub IsLineRead : Bool → LinesRead Plain → DraftState → DraftState → Type 0
@@ -87,10 +76,10 @@ end_read (l ∷ ls) n = Err (Bad n)
 
 -- a fault is the bad line that reading comes to; out of memory may be reported at any place, and a
 -- payload that is too large is reported at the end of the text alone
-abbrev pub IsReadFault : {A : Type 0} → GenFault → Result A ℕ → Type 0
-IsReadFault (Bad line) read = read ≡ Err line
-IsReadFault (TooLarge bytes values) read = ⊥
-IsReadFault Memory read = ⊤
+abbrev pub IsTextFault : {A : Type 0} → GenFault → Result A ℕ → Type 0
+IsTextFault (Bad line) read = read ≡ Err line
+IsTextFault (TooLarge bytes values) read = ⊥
+IsTextFault Memory read = ⊤
 
 -- ---- the text
 

@@ -6,7 +6,7 @@ ghost use Rattle.std.specs.Prelude.{◌≡◌, ◌+◌, ◌≤◌, ◌<◌, ◌^
 ghost use Rattle.adb_dump.specs.Margin.{margin};
 ghost use Rattle.adb_dump.specs.ReadBack.{strip_prefix};
 ghost use Rattle.gen_core.specs.declared.generate.GenFault.TheVariants.{Bad};
-ghost use Rattle.gen_core.specs.Cursors.{after_line, at_entry, block_at, cursor_by, first_of};
+ghost use Rattle.gen_core.specs.Cursors.{after_line, at_entry, block_at, cursor_by, line_of_block};
 ghost use Rattle.gen_core.specs.Generated.{text_lines};
 
 use crate::generate::GenFault;
@@ -78,10 +78,11 @@ impl<'a> Cursor<'a> {
         *self = Cursor::at(self.rest, self.number + 1);
     }
 
-    /// The first line of the block of this depth, without its levels; None if the block has no line.
+    /// The first line of the block of this depth, without its levels; None if the block has no
+    /// line.
     pub(crate) fn at_depth(&self, depth: u32) -> Option<&'a [u8]>
         requires { self.now.levels ≤ depth }
-        ensures { option_copied result ≡ first_of (block_at depth self.now.lines).0 }
+        ensures { option_copied result ≡ line_of_block (block_at depth self.now.lines).0 }
     {
         match self.line {
             Some(line) => without_levels(line, depth - self.levels),

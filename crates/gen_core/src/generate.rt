@@ -5,7 +5,7 @@ ghost use Rattle.std.specs.Prelude.{◌≡◌, IfErr, IfOk, OnOk, Ok, Err, Some,
 ghost use Rattle.gen_core.specs.declared.generate.GenFault.TheVariants.{Bad};
 ghost use Rattle.gen_core.specs.Cursors.{after_line};
 ghost use Rattle.gen_core.specs.Generated.{IsGenFault, dumped_root, generated_file, table_of_line, text_lines, word_of_root};
-ghost use Rattle.gen_core.specs.Reads.{IsReadFault, fault_of_writer, has_rest, root_taken, table_read};
+ghost use Rattle.gen_core.specs.Reads.{IsTextFault, fault_of_writer, has_rest, root_taken, table_read};
 
 use crate::cursor::Cursor;
 use crate::read::read_root;
@@ -49,7 +49,7 @@ fn fault_of_writer(fault: WriteFault) -> GenFault
 fn read_text(alloc: Global, draft: &mut Draft, text: &[u8]) -> Result<Which, GenFault>
     ensures ok { IfOk result (λ which. root_taken (dumped_root text.now) draft.old
         ≡ Ok (which, draft.new)) }
-    ensures err { IfErr result (λ fault. IsReadFault fault
+    ensures err { IfErr result (λ fault. IsTextFault fault
         (root_taken (dumped_root text.now) draft.old)) }
 {
     let mut cursor = Cursor::new(text);
@@ -133,8 +133,8 @@ fn word_of_root(which: Which) -> u32
 #[derive(Clone, Copy, Debug, PartialEq, Eq, Drop, Error)]
 pub enum GenFault {
     /// The number, from 1, of the first line that no dump text has after the lines before it. If
-    /// another line must follow, it is the number of lines plus 1. A last line without a line end is
-    /// a bad line.
+    /// another line must follow, it is the number of lines plus 1. A last line without a line end
+    /// is a bad line.
     #[error("bad line {line}")]
     Bad { line: u64 },
     /// The payload would pass a limit of the writer. The counts are those just after the value that

@@ -3,9 +3,9 @@
 //!
 //! A text is read from front to end in one pass, by the tables of fields (`adb_schema`), and its
 //! values are written as they are read (`adb_values`). The first line that no dump has after the
-//! lines before it is reported by its number. The contracts cite `Generated` of `specs/`, which goes
-//! by the reader that `adb_dump` defines (`ReadBack`); `laws` says what that comes to by the text of
-//! a dump alone, so that nobody needs to look into the reader.
+//! lines before it is reported by its number. The contracts cite `Generated` of `specs/`, which
+//! uses the reader that `adb_dump` defines (`ReadBack`). The laws describe it by the texts of dumps
+//! alone, so nobody has to read the reader's definition.
 //!
 //! The rules are in `docs/formats.md`, "Dump text" and "Canonical layout".
 #![tactic(auto)]

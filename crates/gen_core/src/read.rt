@@ -10,8 +10,9 @@ ghost use Rattle.adb_view.specs.declared.tables.Kind.TheVariants as Kinds;
 ghost use Rattle.adb_dump.specs.Dump.{Line};
 ghost use Rattle.adb_dump.specs.Margin.{DEPTH_LIMIT};
 ghost use Rattle.adb_dump.specs.ReadBack.{LinesRead, block_read, entries_read, fields_read, named_read, strip_prefix, value_read};
-ghost use Rattle.gen_core.specs.Cursors.{block_at, first_of};
-ghost use Rattle.gen_core.specs.Reads.{IsLineRead, IsReadFault, block_taken, end_read, entry_block_read, has_one_line, is_null_line, line_read, line_taken, values_taken};
+ghost use Rattle.adb_dump.specs.Words.{has_one_line};
+ghost use Rattle.gen_core.specs.Cursors.{block_at, line_of_block};
+ghost use Rattle.gen_core.specs.Reads.{IsLineRead, IsTextFault, block_taken, end_read, entry_block_read, is_null_line, line_read, line_taken, values_taken};
 
 use crate::cursor::{Cursor, without_prefix};
 use crate::generate::GenFault;
@@ -31,7 +32,7 @@ pub(crate) fn read_root(
     requires { cursor.old.levels ≡ 0 }
     ensures ok { OnOk result (block_taken (value_read which cursor.old.lines) (cursor.old.lines, [])
         draft.old cursor.old ≡ Ok (draft.new, cursor.new)) }
-    ensures err { IfErr result (λ fault. IsReadFault fault (block_taken
+    ensures err { IfErr result (λ fault. IsTextFault fault (block_taken
         (value_read which cursor.old.lines) (cursor.old.lines, []) draft.old cursor.old)) }
 {
     let Some(_line) = cursor.at_depth(0) else {
@@ -57,7 +58,7 @@ fn read_block(
         (block_taken (block_read (shape_of kind) block.0)
         block draft.old cursor.old ≡ Ok (draft.new, cursor.new)) }
     ensures err { let block = block_at depth cursor.old.lines in IfErr result (λ fault.
-        IsReadFault fault (block_taken (block_read (shape_of kind) block.0)
+        IsTextFault fault (block_taken (block_read (shape_of kind) block.0)
         block draft.old cursor.old)) }
 {
     match kind {
@@ -82,7 +83,7 @@ fn read_only_line(
         (block_taken (block_read (shape_of kind) block.0)
         block draft.old cursor.old ≡ Ok (draft.new, cursor.new)) }
     ensures err { let block = block_at depth cursor.old.lines in IfErr result (λ fault.
-        IsReadFault fault (block_taken (block_read (shape_of kind) block.0)
+        IsTextFault fault (block_taken (block_read (shape_of kind) block.0)
         block draft.old cursor.old)) }
 {
     let Some(line) = cursor.at_depth(depth) else {
@@ -102,7 +103,7 @@ fn read_line(
 ) -> Result<(), GenFault>
     ensures ok { OnOk result (line_taken (line_read (shape_of kind) line.now) draft.old cursor.old
         ≡ Ok (draft.new, cursor.new)) }
-    ensures err { IfErr result (λ fault. IsReadFault fault
+    ensures err { IfErr result (λ fault. IsTextFault fault
         (line_taken (line_read (shape_of kind) line.now) draft.old cursor.old)) }
 {
     if !read_value(draft, scratch, kind, line)? {
@@ -177,7 +178,7 @@ fn read_array(
         (block_taken (block_read (array (shape_of kind)) block.0)
         block draft.old cursor.old ≡ Ok (draft.new, cursor.new)) }
     ensures err { let block = block_at depth cursor.old.lines in IfErr result (λ fault.
-        IsReadFault fault (block_taken (block_read (array (shape_of kind)) block.0)
+        IsTextFault fault (block_taken (block_read (array (shape_of kind)) block.0)
         block draft.old cursor.old)) }
 {
     let Some(_line) = cursor.at_depth(depth) else {
@@ -204,7 +205,8 @@ fn read_entries(
         (values_taken (entries_read (block_read (shape_of kind)) (length block.0) block.0)
         block draft.old cursor.old ≡ Ok (draft.new, cursor.new)) }
     ensures err { let block = block_at depth cursor.old.lines in IfErr result (λ fault.
-        IsReadFault fault (values_taken (entries_read (block_read (shape_of kind)) (length block.0) block.0)
+        IsTextFault fault (values_taken
+        (entries_read (block_read (shape_of kind)) (length block.0) block.0)
         block draft.old cursor.old)) }
 {
     while let Some(line) = cursor.at_depth(depth) {
@@ -232,7 +234,7 @@ fn read_entry(
         (block_taken (entry_block_read (block_read (shape_of kind)) block.0)
         block draft.old cursor.old ≡ Ok (draft.new, cursor.new)) }
     ensures err { let block = block_at depth cursor.old.lines in IfErr result (λ fault.
-        IsReadFault fault (block_taken (entry_block_read (block_read (shape_of kind)) block.0)
+        IsTextFault fault (block_taken (entry_block_read (block_read (shape_of kind)) block.0)
         block draft.old cursor.old)) }
 {
     if is_null_entry(cursor, depth) {
@@ -246,7 +248,7 @@ fn read_entry(
 /// Whether a block has the first line `null`.
 fn is_null_entry(cursor: &Cursor<'_>, depth: u32) -> bool
     requires { cursor.now.levels ≤ depth }
-    ensures { result ≡ is_null_line (first_of (block_at depth cursor.now.lines).0) }
+    ensures { result ≡ is_null_line (line_of_block (block_at depth cursor.now.lines).0) }
 {
     match cursor.at_depth(depth) {
         Some(line) => line == b"null".as_slice(),
@@ -270,7 +272,7 @@ fn read_object(
         (block_taken (block_read (shape_of (Kinds.Obj which)) block.0)
         block draft.old cursor.old ≡ Ok (draft.new, cursor.new)) }
     ensures err { let block = block_at depth cursor.old.lines in IfErr result (λ fault.
-        IsReadFault fault (block_taken (block_read (shape_of (Kinds.Obj which)) block.0)
+        IsTextFault fault (block_taken (block_read (shape_of (Kinds.Obj which)) block.0)
         block draft.old cursor.old)) }
 {
     let Some(_line) = cursor.at_depth(depth) else {
@@ -298,7 +300,7 @@ fn read_fields(
         (values_taken (fields_read (shapes_of fields.now) block.0)
         block draft.old cursor.old ≡ Ok (draft.new, cursor.new)) }
     ensures err { let block = block_at depth cursor.old.lines in IfErr result (λ fault.
-        IsReadFault fault (values_taken (fields_read (shapes_of fields.now) block.0)
+        IsTextFault fault (values_taken (fields_read (shapes_of fields.now) block.0)
         block draft.old cursor.old)) }
 {
     for field in fields {
@@ -315,7 +317,8 @@ fn read_fields(
 
 /// What a line has after the name of a field and a colon, if it begins with these.
 fn after_name(line: &[u8], name: FieldName) -> Option<&[u8]>
-    ensures { option_copied result ≡ strip_prefix (field_name_text name ++ codes ":") line.entry.now }
+    ensures { option_copied result
+        ≡ strip_prefix (field_name_text name ++ codes ":") line.entry.now }
 {
     match without_prefix(line, name.text().as_bytes()) {
         Some(rest) => without_prefix(rest, b":"),
@@ -345,7 +348,7 @@ fn read_named(
         (block_at depth cursor.new.lines) draft.new cursor.new) }
     ensures begun { OnOk result (cursor.new.levels ≡ 0) }
     ensures err { let block = block_at depth cursor.old.lines in IfErr result (λ fault.
-        (others : List Line → LinesRead Plains) → IsReadFault fault
+        (others : List Line → LinesRead Plains) → IsTextFault fault
         (values_taken (named_read (shape_of kind) others (drop 1 block.0) value.now)
         block draft.old cursor.old)) }
 {

@@ -1,11 +1,11 @@
--- What `info` is asked for by its flags (apk(8)), of which at most one is given. The rules stand in
+-- The form of `info` that its flags select (apk(8)); at most one is given. The rules are in
 -- `docs/commands.md`, "`info`" and "Words", the options of `info`.
 use Rattle.std.specs.Prelude.{if◌then◌else◌}
 use Rattle.command_core.specs.declared.command.Flags.{Flags}
 use Rattle.installed_info.specs.declared.telling.Form.{Form}
 use Rattle.installed_info.specs.declared.telling.Form.TheVariants.{Contents, Depends, Description, Installed, Owner}
 
--- the form that flags ask for; without a flag descriptions are asked for
+-- the form that flags select; without a flag that of descriptions
 abbrev pub form_of : Flags → Form
 form_of flags =
     if flags.who_owns then Owner else

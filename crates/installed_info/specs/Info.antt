@@ -1,5 +1,5 @@
--- What `info` tells of the packages that are installed (apk(8)). The rules stand in
--- `docs/commands.md`, "`info`": the table of what each form prints, and what is refused.
+-- The report of `info` on the installed packages (apk(8)). The rules are in `docs/commands.md`,
+-- "`info`": the table of what each form prints, and what is refused.
 use Rattle.std.specs.Prelude.{ℕ, List, [], ◌∷◌, map, Option, Some, None, is_some, Result, Ok, Err, if◌then◌else◌}
 use Rattle.std.specs.List.{flat_map}
 use Rattle.std.specs.Option.{option_map_or}
@@ -26,7 +26,7 @@ use Rattle.installed_info.specs.declared.telling.Form.TheVariants.{Contents, Dep
 
 -- ---- of one package
 
--- the section on what a package is; a package that does not say so has an empty line there
+-- the section on what a package is; an empty line if the package does not say so
 abbrev pub description_text : Plain → List ℕ
 description_text pkg =
     description_section (package_name pkg) (version_text pkg)
@@ -42,11 +42,11 @@ depends_text pkg =
     depends_section (package_name pkg) (version_text pkg)
     (map dep_text (dependencies_in (entry_in (entry_in pkg PACKAGE_INFO) INFO_DEPENDS)))
 
--- the line that tells that a package owns a path
+-- the line that says that a package owns a path
 abbrev pub owner_line : List ℕ → Plain → List ℕ
 owner_line path pkg = report_line (owner_text path (package_name pkg) (version_text pkg))
 
--- what is told of the package that an operand asks for
+-- the report on the package of an operand
 abbrev pub package_info : Form → List ℕ → Plain → List ℕ
 package_info Description name pkg = description_text pkg
 package_info Contents name pkg = contents_text pkg
@@ -56,16 +56,16 @@ package_info Owner path pkg = owner_line (without_slash path) pkg
 
 -- ---- of operands
 
--- what is told of an operand: nothing where it asks for a package that is not installed
+-- the report on an operand: nothing if its package is not installed
 abbrev pub operand_info : Form → List Plain → Operand → List ℕ
 operand_info form packages o =
     option_map_or (package_info form o.text) (package_asked form packages o.text) []
 
--- what is told of operands, in the order given
+-- the report on operands, in the order given
 abbrev pub operands_info : Form → List Plain → List Operand → List ℕ
 operands_info form packages operands = flat_map (operand_info form packages) operands
 
--- the refusal of the first operand that asks for a package that is not installed, if there is one
+-- the refusal of the first operand whose package is not installed, if there is one
 abbrev pub info_refusal : Form → List Plain → List Operand → Option Refusal
 info_refusal form packages [] = None
 info_refusal form packages (o ∷ operands) =
@@ -78,19 +78,19 @@ info_refusal form packages (o ∷ operands) =
 abbrev pub names_info : List Plain → List ℕ
 names_info packages = report_lines (sorted_by bytes_cmp (map package_name packages))
 
--- ---- what is told
+-- ---- the result
 
--- what is told: a report, and a refusal behind it, if there is one
+-- the result: a report, followed by a refusal, if there is one
 abbrev pub info_done : List ℕ → Option Refusal → InfoDone
 info_done report late = record { report = report; late = late }
 
--- what is told: the report, unless there is a refusal, which stands in its place
+-- the result: the report, unless there is a refusal, which takes its place
 abbrev pub info_unless : Option Refusal → List ℕ → Result InfoDone Refusal
 info_unless None report = Ok (info_done report None)
 info_unless (Some refusal) report = Err refusal
 
--- what a form tells of packages and operands; `-e` tells which packages are installed, and is
--- refused behind that
+-- the result of a form for packages and operands; `-e` reports the installed packages, followed by a
+-- refusal
 abbrev pub form_info : Form → List Plain → List Operand → Result InfoDone Refusal
 form_info Installed packages operands =
     Ok (info_done (operands_info Installed packages operands)
@@ -99,6 +99,6 @@ form_info Description packages [] = Ok (info_done (names_info packages) None)
 form_info form packages operands =
     info_unless (info_refusal form packages operands) (operands_info form packages operands)
 
--- what a command tells of some packages, or why it is refused
+-- the result of a command for some packages, or why it is refused
 unfoldable pub info_of : CommandLine → List Plain → Result InfoDone Refusal
 info_of command packages = form_info (form_of command.flags) packages command.operands

@@ -1,6 +1,5 @@
--- Which of the packages that are installed an operand asks for. The rules stand in
--- `docs/commands.md`, "`info`"; that names and paths stand once in a database in `docs/formats.md`,
--- "Names that stand twice".
+-- The installed package that an operand means. The rules are in `docs/commands.md`, "`info`"; that no
+-- name or path is repeated in a database, in `docs/formats.md`, "Names that stand twice".
 use Rattle.std.specs.Prelude.{ℕ, List, Option}
 use Rattle.std.specs.List.{find}
 use Rattle.adb_view.specs.Plain.{Plain}
@@ -17,8 +16,8 @@ package_named packages name = find (is_package_named name) packages
 abbrev pub path_owner : List Plain → List ℕ → Option Plain
 path_owner packages path = find (lists_path path) packages
 
--- the package that an operand asks for: it is a path, which one leading `/` may stand before, or
--- the name of a package
+-- the package that an operand means: the operand is a path, with or without one leading `/`, or the
+-- name of a package
 abbrev pub package_asked : Form → List Plain → List ℕ → Option Plain
 package_asked Owner packages path = path_owner packages (without_slash path)
 package_asked form packages name = package_named packages name

@@ -1,4 +1,4 @@
--- Which refusals `info` has. Serves the law `info_refuses_an_operand`; the rule stands in
+-- The refusals of `info`. It serves the law `info_refuses_an_operand`; the rule is in
 -- `docs/commands.md`, "`info`", what is refused.
 use Rattle.std.specs.Prelude.{◌≡◌, List}
 use Rattle.adb_fields.specs.FirstPair.{IsIn}
@@ -6,7 +6,7 @@ use Rattle.command_core.specs.declared.operands.Operand.{Operand}
 use Rattle.report_core.specs.declared.refusal.Refusal.{Refusal}
 use Rattle.report_core.specs.declared.refusal.Refusal.TheVariants.{NotInstalled}
 
--- a refusal is that of one of the operands, which asks for what is not installed
+-- a refusal is that of one of the operands, whose package is not installed
 abbrev pub IsOfAnOperand : List Operand → Refusal → Type 0
 IsOfAnOperand operands refusal =
     (o : Operand) × IsIn o operands × (refusal ≡ NotInstalled o.place)

@@ -1,9 +1,9 @@
-//! What `info` tells of the packages that are installed (apk(8)): their names, what they are, what
-//! they list, what they depend on, which of some are installed, and which one owns a path.
+//! The report of `info` on the installed packages (apk(8)): their names, what they are, what they
+//! list, what they depend on, which of some are installed, and which one owns a path.
 //!
-//! The contract of `tell` cites `Info` of `specs/` (what is told, in each form) and with it `Form`
-//! (which form a command asks for) and `Packages` (which package an operand asks for). The rules
-//! stand in `docs/commands.md`, "`info`".
+//! The contract of `tell` cites `Info` of `specs/` (the report, in each form) and with it `Form`
+//! (the form that a command selects) and `Packages` (the package that an operand means). The rules
+//! are in `docs/commands.md`, "`info`".
 #![tactic(auto)]
 
 mod names;

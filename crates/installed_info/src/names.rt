@@ -1,4 +1,4 @@
-//! The names of all packages, which `info` without operands tells. The rule stands in
+//! The names of all packages, which `info` without operands prints. The rule is in
 //! `docs/commands.md`, "`info`", the first row of its table.
 ghost use Rattle.adb_fields.specs.Repeated.{package_name};
 ghost use Rattle.adb_view.specs.Plain.{Plain};
@@ -17,7 +17,7 @@ use db_core::Db;
 use std::alloc::{AllocError, Global};
 use std::marker::PhantomData;
 
-/// What `info` without operands tells: a line for each package, in byte order of their names.
+/// The report of `info` without operands: a line for each package, in byte order of their names.
 pub(crate) fn tell_names(alloc: Global, db: &Db<'_>) -> Result<InfoDone, AllocError>
     ensures { IfOk result (λ done. done ≡ info_done (names_info (packages_of db.now)) None) }
 {
@@ -43,9 +43,9 @@ fn names_of<'a>(alloc: Global, db: &Db<'a>) -> Result<Vec<&'a [u8]>, AllocError>
     Ok(names)
 }
 
-// The name of the package at a place, counted from 0. The mark serves the borrow checker alone,
-// which does not know the parts of a view that is made and lent here unless the signature names the
-// view as an argument.
+// The name of the package at a place, counted from 0. The mark serves only the borrow checker: it
+// does not know the parts of a view that is made and lent here unless the signature names the view
+// as an argument.
 fn name_at<'a>(db: &Db<'a>, i: usize, _mark: PhantomData<PackageView<'a>>) -> &'a [u8]
     requires { i < length (packages_of db.now) }
     ensures { (pkg : Plain) → slice_get (packages_of db.now) i ≡ Some pkg
@@ -55,7 +55,7 @@ fn name_at<'a>(db: &Db<'a>, i: usize, _mark: PhantomData<PackageView<'a>>) -> &'
     pkg.info().name()
 }
 
-// Puts names into byte order. Names that are in order are only looked at.
+// Sorts names in byte order. Names that are in order are only compared.
 fn sort_names(names: &mut Vec<&[u8]>) -> Result<(), AllocError>
     ensures { IfOk result (λ _. map (λ n. n.now) names.new.items
         ≡ sorted_by bytes_cmp (map (λ n. n.now) names.old.items)) }

@@ -1,5 +1,5 @@
-//! What is told of the packages that operands ask for, and the place of the package that an operand
-//! asks for. The rules stand in `docs/commands.md`, "`info`".
+//! The report on the packages of operands, and the place of an operand's package. The rules are in
+//! `docs/commands.md`, "`info`".
 
 ghost use Rattle.db_core.specs.Seen.{packages_of};
 ghost use Rattle.installed_info.specs.Info.{info_done, info_refusal, info_unless, operands_info, package_info};
@@ -20,8 +20,8 @@ use report_core::Refusal;
 use std::alloc::{AllocError, Global};
 use std::marker::PhantomData;
 
-/// What a form other than `-e` tells of each operand, unless the package of one is not installed:
-/// then just that is refused.
+/// The report of a form other than `-e` on each operand. If the package of one is not installed,
+/// the result is only its refusal.
 pub(crate) fn tell_operands(
     alloc: Global,
     form: Form,
@@ -47,8 +47,8 @@ pub(crate) fn tell_operands(
     }))
 }
 
-/// What `-e` tells of the operands whose packages are installed; the first of the others is refused
-/// behind that.
+/// The report of `-e` on the operands whose packages are installed, followed by the refusal of the
+/// first of the others.
 pub(crate) fn tell_installed(
     alloc: Global,
     form: Form,
@@ -72,7 +72,7 @@ pub(crate) fn tell_installed(
     })
 }
 
-// The refusal so far, or that of an operand of which nothing is told.
+// The refusal so far, or that of an operand without a report.
 fn refusal_after(late: Option<Refusal>, is_told: bool, place: u32) -> Option<Refusal>
     ensures { result ≡ option_or late (if is_told then None else Some (NotInstalled place)) }
 {
@@ -82,8 +82,7 @@ fn refusal_after(late: Option<Refusal>, is_told: bool, place: u32) -> Option<Ref
     Some(Refusal::NotInstalled { place })
 }
 
-// Adds what a form tells of the package that an operand asks for, and answers whether it is
-// installed.
+// Adds the report of a form on the package of an operand, and returns whether it is installed.
 fn push_operand(
     alloc: Global,
     report: &mut Vec<u8>,
@@ -106,8 +105,7 @@ fn push_operand(
     }
 }
 
-/// The place of the package that an operand asks for, counted from 0. Memory is taken for the path
-/// alone.
+/// The place of the package of an operand, counted from 0. Memory is allocated only for the path.
 pub(crate) fn place_asked(
     alloc: Global,
     form: Form,

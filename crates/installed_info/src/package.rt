@@ -1,4 +1,4 @@
-//! What is told of a package, and what it depends on, a line each. The rules stand in
+//! The report on a package, and what it depends on, a line each. The rules are in
 //! `docs/commands.md`, "`info`", the table of what each form prints.
 
 ghost use Rattle.adb_fields.specs.Repeated.{package_name};
@@ -22,8 +22,8 @@ use dep_core::{Dep, dep_of, dep_text, without_slash};
 use std::alloc::{AllocError, Global};
 use std::marker::PhantomData;
 
-/// Adds what a form tells of the package at a place, counted from 0. The mark serves the borrow
-/// checker alone, which does not know the parts of a view that is made and lent here unless the
+/// Adds the report of a form on the package at a place, counted from 0. The mark serves only the
+/// borrow checker: it does not know the parts of a view that is made and lent here unless the
 /// signature names the view as an argument.
 pub(crate) fn push_package<'a>(
     alloc: Global,
@@ -42,7 +42,7 @@ pub(crate) fn push_package<'a>(
     push_info(alloc, report, form, &pkg, text)
 }
 
-// Adds what a form tells of a package.
+// Adds the report of a form on a package.
 fn push_info(
     alloc: Global,
     report: &mut Vec<u8>,
@@ -99,7 +99,7 @@ fn push_depends(
     Ok(())
 }
 
-// Adds the line that tells that a package owns a path.
+// Adds the line that says that a package owns a path.
 fn push_owner(report: &mut Vec<u8>, path: &[u8], pkg: &PackageView<'_>) -> Result<(), AllocError>
     ensures { OnOk result (report.new.items
         ≡ report.old.items ++ owner_line path.now (package_value pkg.now)) }
@@ -141,8 +141,7 @@ pub(crate) fn push_dependencies<'a>(
     Ok(())
 }
 
-// Adds the line of an entry, unless the entry is no dependency: one that is a value out of the rule
-// says none.
+// Adds the line of an entry, unless its value breaks the rule of dependencies.
 fn push_entry(alloc: Global, report: &mut Vec<u8>, entry: &DepView<'_>) -> Result<(), AllocError>
     ensures { OnOk result (report.new.items ≡ report.old.items
         ++ option_map_or (λ d. report_line (dep_text d))

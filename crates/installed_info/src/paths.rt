@@ -1,6 +1,6 @@
-//! The paths that a package lists, a line each. The rule stands in `docs/commands.md`, "`info`",
-//! the row of `info -L`; the order of the paths is that of `docs/formats.md`,
-//! "The database after a change".
+//! The paths that a package lists, a line each. The rule is in `docs/commands.md`, "`info`", the
+//! row of `info -L`; the order of the paths is that of `docs/formats.md`, "The database after a
+//! change".
 ghost use Rattle.adb_fields.specs.ListValue.{list_value};
 ghost use Rattle.adb_fields.specs.Paths.{path_of};
 ghost use Rattle.adb_fields.specs.Repeated.{list_of, name_of, paths_under};

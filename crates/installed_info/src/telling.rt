@@ -1,4 +1,4 @@
-//! What `info` tells, form by form, and what follows of it. The rules stand in `docs/commands.md`,
+//! The report of `info`, form by form, and what follows of it. The rules are in `docs/commands.md`,
 //! "`info`".
 
 ghost use Rattle.db_core.specs.Seen.{packages_of};
@@ -25,16 +25,16 @@ use db_core::Db;
 use report_core::Refusal;
 use std::alloc::{AllocError, Global};
 
-/// What `info` tells of the packages of a database. Without operands these are the names of all, in
-/// byte order; with operands it is what the flags ask for of each, in the order given.
+/// The report of `info` on the packages of a database. Without operands it has the names of all, in
+/// byte order; with operands what the flags select of each, in the order given.
 ///
-/// It looks at the packages that are asked for alone, and for the owner of a path at all that the
-/// database lists, once.
+/// It reads only the requested packages; for the owner of a path it searches all that the database
+/// lists, once.
 ///
 /// # Errors
 ///
-/// Within the answer `NotInstalled` at the first operand whose package is not installed; `info -e`
-/// tells this behind its report. Else want of memory.
+/// Within the result `NotInstalled` at the first operand whose package is not installed; `info -e`
+/// has it after its report. Otherwise out of memory.
 #[tactic(auto, unfolding(crate::specs::Info::info_of))]
 pub fn tell(
     alloc: Global,
@@ -46,7 +46,7 @@ pub fn tell(
     tell_form(alloc, Form::of(command.flags()), command.operands(), db)
 }
 
-// What one form of `info` tells, of a database and operands.
+// The report of one form of `info`, on a database and operands.
 fn tell_form(
     alloc: Global,
     form: Form,
@@ -68,7 +68,7 @@ fn tell_form(
     }
 }
 
-/// What `info` is asked for: its form.
+/// The form of an `info`.
 #[derive(Clone, Copy)]
 pub(crate) enum Form {
     /// What packages are; without operands, which ones are installed.
@@ -77,14 +77,14 @@ pub(crate) enum Form {
     Contents,
     /// What packages depend on.
     Depends,
-    /// Which of the names given are installed.
+    /// Which of the given names are installed.
     Installed,
     /// Which package owns a path.
     Owner,
 }
 
 impl Form {
-    /// The form that flags ask for, of which at most one is given.
+    /// The form that flags select; at most one is given.
     pub(crate) fn of(flags: Flags) -> Form
         ensures { result ≡ form_of flags }
     {
@@ -104,28 +104,28 @@ impl Form {
     }
 }
 
-/// What `info` prints, and why it is refused behind that.
+/// What `info` prints, and the refusal that follows it, if there is one.
 #[derive(Drop)]
 pub struct InfoDone {
     /// What is printed on standard output.
     pub report: Text,
-    /// A refusal that is told behind the report. Only `info -e` has one.
+    /// A refusal that follows the report. Only `info -e` has one.
     pub late: Option<Refusal>,
 }
 
-/// The only refusal is that what an operand asks for is not installed, and only `info -e` has one
-/// behind its report.
+/// The only refusal is that an operand's package is not installed, and only `info -e` has one after
+/// its report.
 pub fn info_refuses_an_operand()
-    // A refusal in the report's place.
+    // A refusal in place of the report.
     ensures refused { (c : CommandLine) (packages : List Plain) (refusal : Refusal)
         → info_of c packages ≡ Err refusal → IsOfAnOperand c.operands refusal }
-    // A refusal behind the report.
+    // A refusal after the report.
     ensures late { (c : CommandLine) (packages : List Plain) (done : InfoDone)
         (refusal : Refusal) → info_of c packages ≡ Ok done → done.late ≡ Some refusal
         → (c.flags.installed ≡ true) × IsOfAnOperand c.operands refusal }
 {}
 
-/// A package that owns a path is installed and lists it; where names stand once, as in a database,
+/// A package that owns a path is installed and lists it; if no path is repeated, as in a database,
 /// each package that lists a path owns it.
 pub fn owners_are_those_that_list_a_path()
     // Of any packages.
@@ -138,7 +138,7 @@ pub fn owners_are_those_that_list_a_path()
         → path_owner (entries_at IDB_PACKAGES database) path ≡ Some pkg }
 {}
 
-/// A package that is asked for by a name is installed and has it; where names stand once, as in a
+/// A package that is requested by a name is installed and has it; if no name is repeated, as in a
 /// database, each package is the one of its name.
 pub fn packages_have_the_names_that_ask_for_them()
     // Of any packages.

@@ -1,4 +1,4 @@
--- Which files a package holds: those below a folder of a tree.
+-- The files of a package: those below a folder of a tree.
 -- The rule is in `docs/commands.md`, "`mkpkg`": "With `-F DIR` the package holds all files
 -- below DIR, under their names below it." Serves the law
 -- `a_made_package_has_the_files_below_its_folder`.
@@ -11,7 +11,7 @@ use Rattle.adb_fields.specs.Repeated.{files_in, folders_in, name_of, paths_in}
 use Rattle.package_files.specs.Folders.{path_below}
 use Rattle.package_files.specs.Package.{value_of_file}
 
--- the name in the tree of a path below a folder: the path behind the folder and a slash (47)
+-- the name in the tree of a path below a folder: the folder, a slash (47) and the path
 abbrev pub name_below : List ℕ → List ℕ → List ℕ
 name_below dir path = dir ++ 47 ∷ path
 
@@ -21,8 +21,8 @@ pub record IsFileBelow (files : Files) (dir folder : List ℕ) (file : Plain) : 
   pub stands : files (name_below dir (path_of folder (name_of file))) ≡ Some bytes
   pub is : file ≡ value_of_file (record { name = name_of file; bytes = bytes })
 
--- the paths in a package are just those of some names below a folder of the tree, each once, and
--- each of its files is the one that stands there
+-- the paths in a package are exactly those of some names below a folder of the tree, each once, and
+-- each of its files is the one under its name
 pub record HasFilesBelow (files : Files) (dir : List ℕ) (names : List (List ℕ)) (pkg : Plain) :
     Type 0 where
   pub paths : IsPermutation (map (path_below dir) names) (paths_in pkg)

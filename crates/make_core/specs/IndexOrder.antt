@@ -1,4 +1,4 @@
--- Of which packages an index tells, and in which order.
+-- The packages of an index, and their order.
 -- The rule is in `docs/commands.md`, "`mkndx PACKAGE..`". Serves the law
 -- `a_made_index_has_its_packages_in_order`.
 use Rattle.std.specs.Prelude.{◌≡◌, ℕ, ◌+◌, List, [], ◌∷◌, map, Some, None}
@@ -27,9 +27,9 @@ AreSoundPackages read n (o ∷ operands) (file ∷ files) =
     (read n (without_dot o.text) ≡ Some file) × (package_fault file ≡ None)
     × AreSoundPackages read (n + 1) operands files
 
--- an index tells of just the packages that operands name, in the order of its entries (*entry_cmp*);
--- which of two equal ones comes first is not said here. `files` are the operands' files, in their
--- order; reads are numbered from 0
+-- an index has the entries of exactly the packages that operands name, in order (*entry_cmp*); the
+-- order of two equal ones is not defined here. `files` are the operands' files, in their order; reads
+-- are numbered from 0
 pub record HasPackagesInOrder (read : Reads) (operands : List Operand) (index : Plain) :
     Type 0 where
   pub files : List (List ℕ)

@@ -1,7 +1,7 @@
--- At which option a file that is missing is reported.
--- The rules are in `docs/commands.md`, "`mkpkg`" (`word N: no such file`), and in
--- `docs/DECISIONS.md`, "Making" (a file that was listed below the folder of `-F` and is then not
--- found). Serves the law `a_missing_file_is_reported_at_its_option`.
+-- The option at which a missing file is reported.
+-- The rules are in `docs/commands.md`, "`mkpkg`" (`word N: no such file`), and in `docs/DECISIONS.md`,
+-- "Making" (a file that was listed below the folder of `-F` and is then not found). It serves the law
+-- `a_missing_file_is_reported_at_its_option`.
 use Rattle.std.specs.Prelude.{◌≡◌, ℕ, List, ◌∷◌, None, Contains}
 use Rattle.command_core.specs.Files.{without_dot}
 use Rattle.command_core.specs.Values.{script_file}

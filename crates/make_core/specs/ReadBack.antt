@@ -1,6 +1,6 @@
--- What a package and an index that are made hold when they are read again: the value that the
--- command and the reads give, and of a package the contents of its files.
--- The rules are in `docs/commands.md`, "`mkpkg`" and "`mkndx PACKAGE..`". Serves the laws
+-- The contents of a package and an index that were made, when they are read again: the value that the
+-- command and the reads give, and for a package the contents of its files.
+-- The rules are in `docs/commands.md`, "`mkpkg`" and "`mkndx PACKAGE..`". It serves the laws
 -- `a_made_package_is_read_back` and `a_made_index_is_read_back`.
 use Rattle.command_core.specs.declared.values.TheConstants.{FILES, SCRIPT, TRIGGER}
 use Rattle.std.specs.Prelude.{ℕ, List, length, Result, Ok, Err}
@@ -18,7 +18,7 @@ use Rattle.package_files.specs.Package.{Script, SourceFolder, contents_of_folder
 use Rattle.package_files.specs.Sources.{folders_below, and_then, scripts_from, texts_of, values_with}
 use Rattle.pkg_core.specs.Whole.{Packed}
 
--- the value and the contents of a package, by what was read of each part, in the order in which the
+-- the value and the contents of a package, given what was read of each part, in the order in which the
 -- parts are read
 abbrev pub packed_of_parts :
     CommandLine → List Script → List InfoItem → List SourceFolder → Result Packed MakeFault
@@ -28,7 +28,7 @@ packed_of_parts command scripts about folders =
     (texts_of (values_with TRIGGER command.values)) (replaces_priority about))
     (contents_of_folders 1 folders))
 
--- the value and the contents of the package that a command asks for
+-- the value and the contents of the package that a command describes
 abbrev pub packed_package : CommandLine → List (List ℕ) → Reads → Result Packed MakeFault
 packed_package command names read =
     and_then (scripts_from read 0 (values_with SCRIPT command.values)) (λ scripts.
@@ -36,14 +36,13 @@ packed_package command names read =
     and_then (folders_below read (length scripts) (values_with FILES command.values) names)
     (packed_of_parts command scripts about)))
 
--- the value of an index with these entries, put in order; or the fault of the first operand that
--- gives none
+-- the value of an index with these entries, sorted; or the fault of the first operand without one
 abbrev pub index_value_of : List ℕ → Result (List Plain) MakeFault → Result Plain MakeFault
 index_value_of description (Ok entries) =
     Ok (value_of_index description (sorted_by entry_cmp entries))
 index_value_of description (Err fault) = Err fault
 
--- the value of the index that a command asks for
+-- the value of the index that a command describes
 abbrev pub index_value_by : CommandLine → Reads → Result Plain MakeFault
 index_value_by command read =
     index_value_of (description_in command.values) (found_entries read 0 command.operands)

@@ -1,6 +1,6 @@
-//! `mkpkg` and `mkndx`: a package and an index are made, and they are sound.
+//! `mkpkg` and `mkndx`: they make a package and an index, which are sound.
 //! The rules are in `docs/commands.md`, "`mkpkg`" and "`mkndx PACKAGE..`", with the refusals in
-//! their order; that what is made is sound, in `docs/DECISIONS.md`, "Making".
+//! their order; that the result is sound, in `docs/DECISIONS.md`, "Making".
 ghost use Rattle.base_core.specs.Calls.{IfObservable};
 ghost use Rattle.base_core.specs.Read.{OnlyReads};
 ghost use Rattle.make_index.specs.Files.{AreFiles, reads_of};
@@ -17,18 +17,18 @@ use command_core::{Applet, Command};
 use make_info::MakeFault;
 use std::alloc::Global;
 
-/// Makes the package that a command asks for (apk(8), `mkpkg`): the container's bytes, which pass
-/// all tests of a package. The tree stays as it is, whatever the answer.
+/// Makes the package that a command describes (apk(8), `mkpkg`): the container's bytes, which pass
+/// all tests of a package. The tree is unchanged, whatever is returned.
 ///
 /// # Errors
 ///
 /// `FileMissing` at the place of the first script whose file is absent; then `InfoBad` as
-/// `read_information` says; then `FileMissing` at the folder's place where a file that was listed
-/// is not found; then `TooLarge` where the package's values pass a limit of the writer. `Disk`
-/// if the tree failed, and `Memory`.
+/// `read_information` says; then `FileMissing` at the folder's place if a listed file is gone; then
+/// `TooLarge` if the package's values exceed a limit of the writer. `Disk` if the tree failed, and
+/// `Memory`.
 pub fn mkpkg<T: Tree>(alloc: Global, command: &Command, tree: &mut T) -> Result<Vec<u8>, MakeFault>
     requires { command.now.applet ≡ Applet.Mkpkg }
-    // Over the files of a tree that tells them: the package is theirs, or the refusal.
+    // If the tree's files are observable: the package is theirs, or the refusal.
     ensures ok { IfOk result (λ file. IfObservable (T.history tree.old) (λ v.
         IsMadeIn command.now v (Ok file.items))) }
     ensures err { IfErr result (λ fault. OnRefusal fault (λ made.
@@ -38,7 +38,7 @@ pub fn mkpkg<T: Tree>(alloc: Global, command: &Command, tree: &mut T) -> Result<
     ensures found_err { IfErr result (λ fault. OnRefusal fault (IsMadeBySome command.now)) }
     // What is made passes all tests of a container.
     ensures sound { IfOk result (λ file. container_fault file.items ≡ None) }
-    // The tree is only read, and `Disk` has a fault of it for its cause.
+    // The tree is only read, and `Disk` has a fault of the tree as its cause.
     ensures tree { OnlyReads MakeFault.Disk (T.history tree.old) (T.history tree.new)
         (T.counts tree.old) (T.counts tree.new) result }
 {
@@ -48,16 +48,16 @@ pub fn mkpkg<T: Tree>(alloc: Global, command: &Command, tree: &mut T) -> Result<
 }
 
 /// Makes an index (apk(8), `mkndx`) of the packages that the operands name: the container's bytes,
-/// which pass all tests of an index. Each package passes all its tests. The tree stays as it is,
-/// whatever the answer.
+/// which pass all tests of an index. Each package passes all its tests. The tree is unchanged,
+/// whatever is returned.
 ///
 /// # Errors
 ///
-/// Operand by operand, `FileMissing` or `FileBad` at the operand's place; then `TooLarge` where the
-/// index passes a limit of the writer. `Disk` if the tree failed, and `Memory`.
+/// Operand by operand, `FileMissing` or `FileBad` at the operand's place; then `TooLarge` if the
+/// index exceeds a limit of the writer. `Disk` if the tree failed, and `Memory`.
 pub fn mkndx<T: Tree>(alloc: Global, command: &Command, tree: &mut T) -> Result<Vec<u8>, MakeFault>
     requires { command.now.applet ≡ Applet.Mkndx }
-    // Over the files of a tree that tells them.
+    // If the tree's files are observable.
     ensures made { IfObservable (T.history tree.old) (λ v.
         IsMadeBy (λ file. file.items) result (made_index command.now (reads_of v))) }
     // Over every tree: by some bytes for each read. The first operand's read has the number 0.
@@ -65,7 +65,7 @@ pub fn mkndx<T: Tree>(alloc: Global, command: &Command, tree: &mut T) -> Result<
         × IsMadeBy (λ file. file.items) result (made_index command.now read) }
     // What is made passes all tests of a container.
     ensures sound { IfOk result (λ file. container_fault file.items ≡ None) }
-    // The tree is only read, and `Disk` has a fault of it for its cause.
+    // The tree is only read, and `Disk` has a fault of the tree as its cause.
     ensures tree { OnlyReads MakeFault.Disk (T.history tree.old) (T.history tree.new)
         (T.counts tree.old) (T.counts tree.new) result }
 {

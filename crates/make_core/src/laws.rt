@@ -34,7 +34,7 @@ use dep_core::{read_texts_are_spelled, values_are_read_back};
 use make_index::an_index_is_in_order;
 use make_package::{each_name_stands_in_one_folder, the_installed_size_is_that_of_the_contents};
 
-/// An index that `mkndx` makes is sound, whatever packages it is made of: of files of bytes, fewer
+/// An index that `mkndx` makes is sound, whatever packages it is made from: files of bytes, fewer
 /// than 2^64 each.
 pub fn a_made_index_is_sound()
     ensures { (command : CommandLine) (read : Reads) (bytes : List ℕ)
@@ -48,8 +48,8 @@ pub fn a_made_index_is_sound()
     values_of_few_visits_have_no_fault();
 }
 
-/// A package that `mkpkg` makes is sound, whatever its files and scripts hold, where it has fewer
-/// than 2^64 bytes: of names below its folder, in byte order and each once.
+/// A package that `mkpkg` makes is sound, whatever its files and scripts contain, if it has fewer
+/// than 2^64 bytes and is made from names below its folder, in byte order and each once.
 pub fn a_made_package_is_sound()
     ensures { (command : CommandLine) (names : List (List ℕ)) (read : Reads) (bytes : List ℕ)
         → AreNamesFor (values_with FILES command.values) names
@@ -80,7 +80,7 @@ pub fn a_made_index_is_read_back()
 }
 
 /// The value of a package that `mkpkg` makes, and the contents of its files, are read back from it,
-/// where it has fewer than 2^64 bytes.
+/// if it has fewer than 2^64 bytes.
 pub fn a_made_package_is_read_back()
     ensures { (command : CommandLine) (names : List (List ℕ)) (read : Reads) (bytes : List ℕ)
         → AreNamesFor (values_with FILES command.values) names
@@ -96,8 +96,8 @@ pub fn a_made_package_is_read_back()
     the_first_pair_in_one_of_several_lists_is_reported();
 }
 
-/// An index that `mkndx` makes tells of just the packages that its operands name, each of which
-/// passes all its tests, and has their entries in order.
+/// An index that `mkndx` makes has the entries of exactly the packages that its operands name, in
+/// order; each package passes all its tests.
 pub fn a_made_index_has_its_packages_in_order()
     ensures { (command : CommandLine) (read : Reads) (bytes : List ℕ)
         → AreFiles read 0 command.operands → made_index command read ≡ Ok bytes
@@ -111,8 +111,8 @@ pub fn a_made_index_has_its_packages_in_order()
     values_of_few_visits_have_no_fault();
 }
 
-/// A package that `mkpkg` makes of a tree holds just the files below the folder that is given, each
-/// once and under its path, where the package has fewer than 2^64 bytes.
+/// A package that `mkpkg` makes of a tree has exactly the files below the given folder, each once
+/// and under its path, if the package has fewer than 2^64 bytes.
 pub fn a_made_package_has_the_files_below_its_folder()
     ensures { (command : CommandLine) (names : List (List ℕ)) (files : Files) (bytes : List ℕ)
         (folder : OptionValue) (others : List OptionValue)
@@ -132,8 +132,8 @@ pub fn a_made_package_has_the_files_below_its_folder()
     the_first_pair_in_one_of_several_lists_is_reported();
 }
 
-/// A file that is missing is reported at the option that gives it: at a script whose file is
-/// absent, or at the folder, where a name that was listed below it is gone.
+/// A missing file is reported at the option that gives it: at a script whose file is absent, or at
+/// the folder, if a name that was listed below it is gone.
 pub fn a_missing_file_is_reported_at_its_option()
     ensures { (command : CommandLine) (names : List (List ℕ)) (read : Reads) (place : ℕ)
         → made_package command names read ≡ Err (FileMissing place)

@@ -1,8 +1,8 @@
-//! Makes packages and indexes (apk(8), `mkpkg` and `mkndx`): a command and a tree come in, the
-//! bytes of a container go out, and they are sound.
+//! Makes packages and indexes (apk(8), `mkpkg` and `mkndx`): it takes a command and a tree, and
+//! returns the bytes of a sound container.
 //!
-//! What a package and an index are is said below: `make_info` (the information of a package, the
-//! output's name), `make_package` and `make_index`. `laws` says that what is made is sound and is
+//! What a package and an index are is defined below: `make_info` (the information of a package, the
+//! output's name), `make_package` and `make_index`. `laws` says that the results are sound and are
 //! read back.
 //! The rules are in `docs/commands.md`, "`mkpkg`" and "`mkndx PACKAGE..`"; what the tests of a
 //! container are, in `docs/formats.md`, "Tests of a container".

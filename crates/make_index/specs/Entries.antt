@@ -1,7 +1,7 @@
--- What an index says of a package (apk-v3(5)): its info, with the package's id and the length of
--- its file.
--- The rule is in `docs/commands.md`, "`mkndx PACKAGE..`"; what an id is, in `docs/formats.md`,
--- "The other blocks".
+-- The entry of a package in an index (apk-v3(5)): its info, with the package's id and the length of its
+-- file.
+-- The rule is in `docs/commands.md`, "`mkndx PACKAGE..`"; the id is defined in `docs/formats.md`, "The
+-- other blocks".
 use Rattle.std.specs.Prelude.{ℕ, List, length}
 use Rattle.adb_view.specs.Plain.{Plain}
 use Rattle.adb_view.specs.FieldIndexes.{PACKAGE_INFO}

@@ -10,15 +10,15 @@ use Rattle.adb_view.specs.Plain.{Plain}
 use Rattle.adb_view.specs.FieldIndexes.{INFO_HASHES, INFO_NAME, INFO_VERSION}
 use Rattle.adb_view.specs.Values.{entry_in, text_in}
 
--- the name of the package that an entry is of
+-- the name of the package of an entry
 abbrev pub name_in : Plain → List ℕ
 name_in entry = text_in (entry_in entry INFO_NAME)
 
--- the version of the package that an entry is of, as text
+-- the version of the package of an entry, as text
 abbrev pub version_in : Plain → List ℕ
 version_in entry = text_in (entry_in entry INFO_VERSION)
 
--- the id of the package that an entry is of, which an index has as its hash
+-- the id of the package of an entry, which an index has as its hash
 abbrev pub id_in : Plain → List ℕ
 id_in entry = text_in (entry_in entry INFO_HASHES)
 

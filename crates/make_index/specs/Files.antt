@@ -7,8 +7,8 @@ use Rattle.command_core.specs.Files.{without_dot}
 use Rattle.command_core.specs.declared.operands.Operand.{Operand}
 use Rattle.make_info.specs.Reads.{Reads}
 
--- what the reads of operands find are files, where they find something; the read of the first
--- operand has the number `n`
+-- the reads of operands find files, if they find anything; the read of the first operand has the number
+-- `n`
 abbrev pub AreFiles : Reads → ℕ → List Operand → Type 0
 AreFiles read n [] = Unit {0}
 AreFiles read n (o ∷ operands) =

@@ -24,7 +24,7 @@ use Rattle.base_core.specs.Sorted.{sorted_by}
 
 -- ---- the value
 
--- the value of an index with this description and these entries; no pattern tells the names of the
+-- the value of an index with this description and these entries, without a pattern for the names of the
 -- packages' files
 unfoldable pub value_of_index : List ℕ → List Plain → Plain
 value_of_index description entries =
@@ -32,19 +32,18 @@ value_of_index description entries =
 
 -- ---- the packages, operand by operand
 
--- the entry of the package in a file, unless a test of the file fails (`cause`); the place is that
--- of the operand which names the file
+-- the entry of the package in a file, unless a test of the file fails (`cause`); the place is that of
+-- the operand that names the file
 abbrev pub entry_unless : ℕ → List ℕ → Option Cause → Result Plain MakeFault
 entry_unless place file None = Ok (entry_of_package file)
 entry_unless place file (Some cause) = Err (FileBad place cause)
 
--- the entry of what was found under the name that the operand at a place gives, if that is a sound
--- package
+-- the entry of the package that was found under the name of the operand at a place, if it is sound
 abbrev pub found_entry : ℕ → Option (List ℕ) → Result Plain MakeFault
 found_entry place None = Err (FileMissing place)
 found_entry place (Some file) = entry_unless place file (package_fault file)
 
--- an entry in front of others, or the first refusal
+-- an entry followed by others, or the first refusal
 abbrev pub and_entries :
     Result Plain MakeFault → Result (List Plain) MakeFault → Result (List Plain) MakeFault
 and_entries (Err fault) others = Err fault
@@ -61,22 +60,22 @@ found_entries read n (o ∷ operands) =
 
 -- ---- the file
 
--- the file of an index with this payload, unless the payload passes a limit of the writer
+-- the file of an index with this payload, unless the payload exceeds a limit of the writer
 abbrev pub index_container : Result (List ℕ) PayloadCounts → Result (List ℕ) MakeFault
 index_container (Ok payload) = Ok (file_of INDEX_WORD payload)
 index_container (Err counts) = Err (TooLarge counts.0 counts.1)
 
--- the index of these entries, which are put in order, or the refusal where it passes a limit
+-- the index of these entries, sorted, or the refusal if it exceeds a limit
 unfoldable pub index_of : List ℕ → List Plain → Result (List ℕ) MakeFault
 index_of description entries =
     index_container (written_of (value_of_index description (sorted_by entry_cmp entries)))
 
--- the index of the entries of packages that were found, or the fault of the first that gives none
+-- the index of the entries of packages that were found, or the first fault
 abbrev pub index_of_found : List ℕ → Result (List Plain) MakeFault → Result (List ℕ) MakeFault
 index_of_found description (Ok entries) = index_of description entries
 index_of_found description (Err fault) = Err fault
 
--- the index of the packages that operands name, by what each read finds
+-- the index of the packages that operands name, given what each read finds
 abbrev pub index_by : List ℕ → List Operand → Reads → Result (List ℕ) MakeFault
 index_by description operands read = index_of_found description (found_entries read 0 operands)
 
@@ -87,11 +86,11 @@ abbrev pub text_or_empty : Option OptionValue → List ℕ
 text_or_empty None = []
 text_or_empty (Some v) = v.text
 
--- what an index says of itself: the value of the first `-d`, or nothing
+-- the description of an index: the value of the first `-d`, or nothing
 abbrev pub description_in : List OptionValue → List ℕ
 description_in values = text_or_empty (find (λ (v : OptionValue). v.letter == DESCRIPTION) values)
 
--- the index of a command: the container's bytes, or the first refusal, by what each read finds
--- under a name; reads are numbered from 0
+-- the index of a command: the container's bytes, or the first refusal, given what each read finds under
+-- a name; reads are numbered from 0
 unfoldable pub made_index : CommandLine → Reads → Result (List ℕ) MakeFault
 made_index command read = index_by (description_in command.values) command.operands read

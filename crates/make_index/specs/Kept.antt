@@ -1,6 +1,7 @@
--- What is kept of a package until the index is written, and what the calls that keep it answer.
--- No rule of a document but that of `docs/DECISIONS.md`, "Making", on entries that are too large.
--- Serves the contracts of `src/entry.rt` and `src/source.rt`.
+-- The part of a package that is kept until the index is written, and the results of the calls that keep
+-- it.
+-- Only `docs/DECISIONS.md`, "Making", has a rule for this, on entries that are too large. It serves the
+-- contracts of `src/entry.rt` and `src/source.rt`.
 use Rattle.std.specs.Prelude.{◌≡◌, ℕ, List, true, IsTrue, is_none, Option, Some, Result, Ok, Err}
 use Rattle.base_core.specs.declared.cause.Cause.{Cause}
 use Rattle.adb_view.specs.Head.{head_fault, root_of}
@@ -21,7 +22,7 @@ use Rattle.make_index.specs.declared.source.EntrySource.TheVariants.{Payload, Fi
 
 -- ---- entries
 
--- an entry, made once more of its own fields: nothing is lost by writing it into another payload
+-- an entry, rebuilt from its own fields: nothing is lost by writing it into another payload
 abbrev pub copy_of_entry : Plain → Plain
 copy_of_entry entry = info_with entry (text_in (entry_in entry INFO_HASHES))
     (int_in (entry_in entry INFO_FILE_SIZE))
@@ -44,10 +45,10 @@ pub record IsKeyed (name version id : List ℕ) (entry : Plain) : Type 0 where
   pub by_id : id ≡ id_in entry
   pub sound : IsTrue (is_version version)
 
--- ---- answers
+-- ---- results
 
--- an answer, seen by a view, is what a definition gives; lack of memory says nothing, and no tree
--- can have failed
+-- a result, seen by a view, is the value of a definition; out of memory says nothing, and no tree can
+-- have failed
 abbrev pub IsMade :
     {A B : Type 0} → (A → B) → Result A MakeFault → Result B MakeFault → Type 0
 IsMade view (Ok x) wanted = wanted ≡ Ok (view x)
@@ -55,8 +56,8 @@ IsMade view (Err Memory) wanted = Unit {0}
 IsMade view (Err Disk) wanted = ⊥
 IsMade view (Err fault) wanted = wanted ≡ Err fault
 
--- an answer, seen by a view, is what a definition gives; lack of memory and a fault of the tree say
--- nothing
+-- a result, seen by a view, is the value of a definition; out of memory and an I/O error of the tree
+-- say nothing
 abbrev pub IsMadeBy :
     {A B : Type 0} → (A → B) → Result A MakeFault → Result B MakeFault → Type 0
 IsMadeBy view (Ok x) wanted = wanted ≡ Ok (view x)

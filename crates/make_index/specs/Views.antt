@@ -1,5 +1,5 @@
--- What the program's entries stand for.
--- No rule of a document: serves the contracts of `src/entry.rt` and `src/index.rt`.
+-- What the program's entries denote.
+-- No document has a rule for this: it serves the contracts of `src/entry.rt` and `src/index.rt`.
 use Rattle.std.specs.Prelude.{List, Vec, map}
 use Rattle.std.specs.declared.alloc.Global.{Global}
 use Rattle.adb_view.specs.Plain.{Plain}

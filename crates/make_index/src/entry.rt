@@ -29,7 +29,7 @@ use std::alloc::{AllocError, Global};
 use std::cmp::Ordering;
 use version_core::Version;
 
-/// What an index says of a package. Contracts see the plain value, by `entry_view` of `specs/`.
+/// The entry of a package in an index. Contracts see the plain value, by `entry_view` of `specs/`.
 #[derive(Drop)]
 pub(crate) struct Entry {
     /// The name of the package.
@@ -38,7 +38,7 @@ pub(crate) struct Entry {
     version: Vec<u8>,
     /// The id of the package: the SHA-256 of its payload.
     id: [u8; 32],
-    /// What the entry is written from.
+    /// The source from which the entry is written.
     source: EntrySource,
     // The three are those of the entry, and the version is one.
     ghost keyed: { IsKeyed name.items version.items id (kept_value source) },
@@ -49,7 +49,7 @@ impl Entry {
     ghost use Rattle.base_core.specs.Files.{IsFile};
 
     /// The entry of the package in this file, which an operand at this place names. The file is
-    /// dropped, but where its entry alone passes a limit of the writer.
+    /// dropped, unless its entry alone exceeds a limit of the writer.
     ///
     /// # Errors
     ///
@@ -110,7 +110,7 @@ fn compare_versions(one: &[u8], other: &[u8]) -> Ordering
     }
 }
 
-/// What an entry is made of, of a package that was tested.
+/// The parts of an entry, of a package that was tested.
 #[derive(Drop)]
 struct Parts {
     /// The name of the package.
@@ -119,20 +119,20 @@ struct Parts {
     version: Vec<u8>,
     /// The id of the package: the SHA-256 of its payload.
     id: [u8; 32],
-    /// The entry in a payload of its own; none where the entry alone passes a limit of the writer.
+    /// The entry in a payload of its own; none if the entry alone exceeds a limit of the writer.
     payload: Option<Vec<u8>>,
 }
 
-/// Makes all tests of the package in a file, which the operand at this place names, and gives what
-/// its entry is made of.
+/// Tests the package in a file, which the operand at this place names, and returns the parts of its
+/// entry.
 fn read_parts(alloc: Global, place: u32, file: &[u8]) -> Result<Parts, MakeFault>
-    // What is refused is told with the first test that fails.
+    // A refusal has the first test that fails.
     ensures bad { IfErr result (λ fault. IsRefusedAt place fault (package_fault file.now)) }
     ensures sound { IfOk result (λ _. package_fault file.now ≡ None) }
     ensures opened { IfOk result (λ _. first_fault Tables.Package file.now ≡ None) }
     ensures keys { IfOk result (λ parts.
         IsKeyed parts.name.items parts.version.items parts.id (entry_of_package file.now)) }
-    // A payload that is kept holds the entry.
+    // A payload that is kept has the entry.
     ensures payload { IfOk result (λ parts.
         IfSome parts.payload (λ payload. HoldsEntry payload.items (entry_of_package file.now))) }
 {
@@ -155,7 +155,7 @@ fn read_parts(alloc: Global, place: u32, file: &[u8]) -> Result<Parts, MakeFault
     })
 }
 
-/// Makes all tests of a package.
+/// Tests a package completely.
 ///
 /// # Errors
 ///

@@ -1,7 +1,7 @@
-//! Makes an index of packages (apk(8), `mkndx`): reads the packages that operands name, puts their
-//! entries in order, and writes the container.
-//! The rule is in `docs/commands.md`, "`mkndx PACKAGE..`", with the refusals in their order;
-//! the fields in `docs/formats.md`, "Schemas", table 8.
+//! Makes an index of packages (apk(8), `mkndx`): reads the packages that operands name, sorts their
+//! entries, and writes the container.
+//! The rule is in `docs/commands.md`, "`mkndx PACKAGE..`", with the refusals in their order; the
+//! fields in `docs/formats.md`, "Schemas", table 8.
 
 ghost use Rattle.adb_view.specs.Schema.{shape_of, table};
 ghost use Rattle.adb_schema.specs.Soundness.{first_fault};
@@ -47,21 +47,21 @@ use std::alloc::{AllocError, Global};
 use version_core::order_is_total;
 
 /// Makes an index of the packages that the operands of a command name: the container's bytes. Each
-/// package passes all its tests. The tree stays as it is, whatever the answer.
+/// package passes all its tests. The tree is unchanged, whatever is returned.
 ///
 /// # Errors
 ///
-/// Operand by operand, `FileMissing` or `FileBad` at the operand's place; then `TooLarge` where the
-/// index passes a limit of the writer. `Disk` if the tree failed, and `Memory`.
+/// Operand by operand, `FileMissing` or `FileBad` at the operand's place; then `TooLarge` if the
+/// index exceeds a limit of the writer. `Disk` if the tree failed, and `Memory`.
 pub fn make<T: Tree>(alloc: Global, command: &Command, tree: &mut T) -> Result<Vec<u8>, MakeFault>
     requires { command.now.applet ≡ Applet.Mkndx }
-    // Over the files of a tree that tells them.
+    // If the tree's files are observable.
     ensures made { IfObservable (T.history tree.old) (λ v.
         IsMadeBy (λ file. file.items) result (made_index command.now (reads_of v))) }
     // Over every tree: by some bytes for each read. The first operand's read has the number 0.
     ensures found { (read : Reads) × AreFiles read 0 command.now.operands
         × IsMadeBy (λ file. file.items) result (made_index command.now read) }
-    // The tree is only read, and `Disk` has a fault of it for its cause.
+    // The tree is only read, and `Disk` has a fault of the tree as its cause.
     ensures tree { OnlyReads MakeFault.Disk (T.history tree.old) (T.history tree.new)
         (T.counts tree.old) (T.counts tree.new) result }
 {
@@ -80,9 +80,9 @@ fn description(values: &Values) -> &[u8]
     }
 }
 
-/// Reads the packages that operands name, one after another up to the first that is no sound one.
-/// The bytes of each file are dropped before the next is read, but where its entry alone passes a
-/// limit of the writer.
+/// Reads the packages that operands name, one after another up to the first that is not sound. The
+/// bytes of each file are dropped before the next is read, unless its entry alone exceeds a limit
+/// of the writer.
 fn read_entries<T: Tree>(
     alloc: Global,
     operands: &Operands,
@@ -105,7 +105,7 @@ fn read_entries<T: Tree>(
     Ok(entries)
 }
 
-/// Puts an entry behind the others.
+/// Adds an entry at the end.
 fn add_entry(entries: &mut Vec<Entry>, entry: Entry) -> Result<(), AllocError>
     ensures { IfOk result (λ _.
         map entry_view entries.new.items
@@ -150,7 +150,7 @@ fn entry_of(alloc: Global, place: u32, found: Option<Vec<u8>>) -> Result<Entry, 
 ///
 /// # Errors
 ///
-/// `TooLarge` where the payload passes a limit of the writer, or `Memory`.
+/// `TooLarge` if the payload exceeds a limit of the writer, or `Memory`.
 fn index_file(alloc: Global, description: &[u8], entries: Vec<Entry>) -> Result<Vec<u8>, MakeFault>
     ensures { IsMade (λ file. file.items) result
         (index_of description.now (map entry_view entries.items)) }
@@ -162,7 +162,7 @@ fn index_file(alloc: Global, description: &[u8], entries: Vec<Entry>) -> Result<
     Ok(file_of(alloc, INDEX_WORD, &payload)?)
 }
 
-/// Puts entries into the order of an index; equal ones stay in the order that they have.
+/// Sorts entries in the order of an index; equal ones keep their order.
 fn sort_entries(entries: &mut Vec<Entry>) -> Result<(), AllocError>
     ensures { IfOk result (λ _.
         map entry_view entries.new.items ≡ sorted_by entry_cmp (map entry_view entries.old.items)) }
@@ -186,8 +186,8 @@ fn index_payload(alloc: Global, description: &[u8], entries: &[Entry]) -> Result
     Ok(draft.finish()?)
 }
 
-/// Writes the values of an index: its description, and its entries. No pattern for names of package
-/// files is written.
+/// Writes the values of an index: its description, and its entries. No pattern for the names of
+/// package files is written.
 fn write_index(
     alloc: Global,
     draft: &mut Draft,
@@ -215,16 +215,16 @@ fn write_entries(alloc: Global, draft: &mut Draft, entries: &[Entry]) -> Result<
     draft.close_array()
 }
 
-/// The entry of a package is normal and has the shape of an info, and its version is one where the
+/// The entry of a package is normal and has the shape of an info, and it has a version if the
 /// package is sound.
 pub fn an_entry_is_an_info()
     // The entry is an object of the fields of table 3.
     ensures shape { (file : List ℕ)
         → HasShape (shape_of (Kinds.Obj Tables.PkgInfo)) (entry_of_package file) }
-    // The entry is normal where the file is one.
+    // The entry is normal if the file is one.
     ensures normal { (file : List ℕ) → All (λ b. b < 256) file → length file < 2 ^ 64
         → IsNormal (entry_of_package file) }
-    // Its version is one where the package is sound.
+    // It has a version if the package is sound.
     ensures version { (file : List ℕ) → first_fault Tables.Package file ≡ None
         → is_version (version_in (entry_of_package file)) ≡ true }
 {
@@ -233,8 +233,8 @@ pub fn an_entry_is_an_info()
     values_have_their_shape();
 }
 
-/// The entries of an index are those of the packages that are named, put in order: none stands in
-/// front of a smaller one, and equal ones stand as their packages are named.
+/// The entries of an index are those of the named packages, sorted: none is before a smaller one,
+/// and equal ones keep the order of the operands.
 pub fn an_index_is_in_order()
     ensures same { (entries : List Plain) → IsPermutation entries (sorted_by entry_cmp entries) }
     ensures sorted { (entries : List Plain) → IsSorted entry_cmp (sorted_by entry_cmp entries) }
@@ -244,9 +244,9 @@ pub fn an_index_is_in_order()
     order_is_total();
 }
 
-/// Which of two entries stands first in an index: the one of the smaller name; of equal names, the
-/// one of the smaller version; of equal versions, the one whose version is the smaller text; of
-/// equal texts, the one of the smaller id.
+/// Which of two entries is first in an index: the one with the smaller name; of equal names, the
+/// one with the smaller version; of equal versions, the one whose version is the smaller text; of
+/// equal texts, the one with the smaller id.
 pub fn entries_stand_by_name_version_and_id()
     ensures name { (a b : Plain) → bytes_cmp (name_in a) (name_in b) ≡ Less
         → entry_cmp a b ≡ Less }

@@ -1,8 +1,8 @@
-//! Makes an index of packages (apk(8), `mkndx`): a command and a tree come in, the bytes of a
-//! container go out.
+//! Makes an index of packages (apk(8), `mkndx`): it takes a command and a tree, and returns the
+//! bytes of a container.
 //!
-//! The contracts cite `Entries` (what an index says of a package), `EntryOrder` and `Index` (the
-//! index of a command) of `specs/`.
+//! The contracts cite `Entries` (the entry of a package), `EntryOrder` and `Index` (the index of a
+//! command) of `specs/`.
 //! The rules are in `docs/commands.md`, "`mkndx PACKAGE..`", and in `docs/formats.md`, "Schemas",
 //! tables 3 and 8.
 #![tactic(auto)]

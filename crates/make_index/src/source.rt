@@ -1,7 +1,7 @@
-//! What is kept of a package until the index is written.
-//! The rule for what is kept stands in `docs/DECISIONS.md`, "Making": the file of a package whose
-//! information alone passes a limit of the writer is kept to the end. What an entry has, says
-//! `docs/commands.md`, "`mkndx PACKAGE..`".
+//! The part of a package that is kept until the index is written.
+//! `docs/DECISIONS.md`, "Making", has the rule: the file of a package whose information alone
+//! exceeds a limit of the writer is kept to the end. `docs/commands.md`, "`mkndx PACKAGE..`",
+//! defines an entry.
 ghost use Rattle.adb_schema.specs.Soundness.{first_fault, root_value};
 ghost use Rattle.adb_view.specs.FieldIndexes.{PACKAGE_INFO};
 ghost use Rattle.adb_view.specs.Values.{entry_in, is_sound, value_at};
@@ -36,23 +36,23 @@ pub(crate) struct EntryPayload {
         ≡ true },
 }
 
-/// The file of a package whose entry alone passes a limit of the writer.
+/// The file of a package whose entry alone exceeds a limit of the writer.
 #[derive(Drop)]
 pub(crate) struct PackageFile {
     /// The bytes of the file.
     pub(crate) file: Vec<u8>,
-    // The first block of the file passes all tests of a package; the contents behind it were tested
+    // The first block of the file passes all tests of a package; the contents after it were tested
     // before.
     ghost sound: { is_none (first_fault Tables.Package file.items) ≡ true },
 }
 
-/// What the entry of a package is written from.
+/// The source from which the entry of a package is written.
 #[derive(Drop)]
 pub(crate) enum EntrySource {
     /// The entry in a payload of its own.
     Payload(EntryPayload),
-    /// The package's file, where the entry alone passes a limit of the writer. An index with it is
-    /// too large, and the two counts that the refusal tells are found by writing the entry again.
+    /// The package's file, if the entry alone exceeds a limit of the writer. An index with it is
+    /// too large; the two counts of the refusal are found by writing the entry again.
     File(PackageFile),
 }
 
@@ -137,7 +137,7 @@ fn write_entry_info(
     write_info(draft, adb, &mut known, info, id, len)
 }
 
-/// The entry of a package in a payload of its own, or None if the entry passes a limit of the
+/// The entry of a package in a payload of its own, or None if the entry exceeds a limit of the
 /// writer. `len` is the length of the package's file.
 pub(crate) fn entry_payload(
     alloc: Global,

@@ -1,4 +1,4 @@
--- Which fault of making a fault of another kind is. Serves the conversions to `MakeFault` and the
+-- The `MakeFault` for a fault of another kind. It serves the conversions to `MakeFault` and the
 -- contracts of the crates that make containers.
 use Rattle.std.specs.Prelude.{◌≡◌, ℕ, List, Result, Err}
 use Rattle.base_core.specs.declared.tree.TreeFault.{TreeFault}
@@ -9,17 +9,17 @@ use Rattle.adb_write.specs.declared.writer.WriteFault.TheVariants as Writes
 use Rattle.make_info.specs.declared.fault.MakeFault.{MakeFault}
 use Rattle.make_info.specs.declared.fault.MakeFault.TheVariants.{FileMissing, FileBad, InfoBad, TooLarge, Disk, Memory}
 
--- the fault of making that a fault of the tree is
+-- the `MakeFault` for a fault of the tree
 abbrev pub IsMakeFaultOf : TreeFault → MakeFault → Type 0
 IsMakeFaultOf Trees.Disk fault = fault ≡ Disk
 IsMakeFaultOf Trees.Memory fault = fault ≡ Memory
 
--- the fault of making that a fault of the writer is
+-- the `MakeFault` for a fault of the writer
 abbrev pub IsMakeFaultBy : WriteFault → MakeFault → Type 0
 IsMakeFaultBy (Writes.TooLarge bytes values) fault = fault ≡ TooLarge bytes values
 IsMakeFaultBy Writes.Memory fault = fault ≡ Memory
 
--- a fault of the information is at the first place that offends; lack of memory says nothing of the
+-- a fault of the information is at the first place that offends; out of memory says nothing about the
 -- values
 abbrev pub IsInfoFault : {A : Type 0} → MakeFault → Result A ℕ → Type 0
 IsInfoFault (FileMissing place) answer = ⊥
@@ -29,13 +29,13 @@ IsInfoFault (TooLarge bytes values) answer = ⊥
 IsInfoFault Disk answer = ⊥
 IsInfoFault Memory answer = Unit {0}
 
--- a fault of writing has the counts with which the writer stops; lack of memory says nothing of them
+-- a fault of writing has the counts at which the writer stops; out of memory says nothing about them
 abbrev pub IsOverflow : MakeFault → Result (List ℕ) PayloadCounts → Type 0
 IsOverflow (TooLarge bytes values) written = written ≡ Err (bytes, values)
 IsOverflow Memory written = Unit {0}
 IsOverflow fault written = ⊥
 
--- P holds whatever the answer is, unless it is that the tree failed
+-- P holds whatever is returned, unless it is that the tree failed
 abbrev pub UnlessDisk : {A : Type 0} → Result A MakeFault → Type 0 → Type 0
 UnlessDisk (Err Disk) P = Unit {0}
 UnlessDisk result P = P

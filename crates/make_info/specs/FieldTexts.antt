@@ -1,5 +1,5 @@
--- The values of `-I` of a command: which field each is for, the package's name and version among
--- them, and the file that is made.
+-- The values of `-I` of a command: the field of each, among them the package's name and version, and
+-- the file that is made.
 -- The rules are in `docs/commands.md`, "`mkpkg`", the first paragraphs, and in "Words", the rows of
 -- `-I` and `-o`.
 use Rattle.command_core.specs.declared.values.TheConstants.{INFO, OUTPUT}
@@ -23,23 +23,22 @@ pub record FieldText : Type 0 where
   pub field : Field
   pub value : List ℕ
 
--- the field and the value of a text, by how many bytes stand before its first `:`
+-- the field and the value of a text, given how many bytes are before its first `:`
 abbrev pub field_text_from : List ℕ → Option ℕ → Option FieldText
 field_text_from text None = None
 field_text_from text (Some colon) =
     option_map (λ f. record { field = f; value = drop (colon + 1) text })
     (field_of (take colon text))
 
--- a text FIELD:VALUE, where FIELD ends before the first `:`; None if there is no `:`, or FIELD
--- is no field
+-- a text FIELD:VALUE; FIELD ends before the first `:`; None if there is no `:`, or FIELD is no field
 abbrev pub field_text_in : List ℕ → Option FieldText
 field_text_in text = field_text_from text (position (λ b. b == COLON) text)
 
--- whether two fields are one: they are told apart by the words that name them
+-- whether two fields are one: they are distinguished by the words that name them
 abbrev pub is_same : Field → Field → Bool
 is_same f g = bytes_eq (field_word f) (field_word g)
 
--- whether a text FIELD:VALUE is for this field; false too where the text is none
+-- whether a text FIELD:VALUE is for this field; false if it is no such text
 abbrev pub is_text_for : Field → Option FieldText → Bool
 is_text_for f None = false
 is_text_for f (Some given) = is_same given.field f
@@ -48,8 +47,7 @@ is_text_for f (Some given) = is_same given.field f
 abbrev pub is_for : Field → OptionValue → Bool
 is_for f v = is_text_for f (field_text_in v.text)
 
--- whether a value is one of `-I`; other options with a value, such as `-o`, say nothing of the
--- information
+-- whether a value is one of `-I`; other options with a value, such as `-o`, do not describe the package
 abbrev pub is_info_option : OptionValue → Bool
 is_info_option v = v.letter == INFO
 
@@ -62,11 +60,11 @@ abbrev pub text_when_for : Field → Option FieldText → Option (List ℕ)
 text_when_for f None = None
 text_when_for f (Some given) = if is_same given.field f then Some given.value else None
 
--- what a value of an option gives for a field, if it is one of `-I` and for that field
+-- the value of an option for a field, if it is one of `-I` and for that field
 abbrev pub text_for : Field → OptionValue → Option (List ℕ)
 text_for f v = if is_info_option v then text_when_for f (field_text_in v.text) else None
 
--- the first value that is given for a field, good or not
+-- the first value for a field, valid or not
 abbrev pub first_text_for : Field → List OptionValue → Option (List ℕ)
 first_text_for f [] = None
 first_text_for f (v ∷ vs) = option_or (text_for f v) (first_text_for f vs)
@@ -75,17 +73,17 @@ first_text_for f (v ∷ vs) = option_or (text_for f v) (first_text_for f vs)
 abbrev pub if_passes : (List ℕ → Bool) → List ℕ → Option (List ℕ)
 if_passes is_good value = if is_good value then Some value else None
 
--- the package's name, if one is given and good; of several the first counts
+-- the package's name, if one is given and valid; of several the first counts
 abbrev pub package_name_in : List OptionValue → Option (List ℕ)
 package_name_in values =
     option_and_then (if_passes is_package_name) (first_text_for Fields.Name values)
 
--- the package's version, if one is given and good; of several the first counts
+-- the package's version, if one is given and valid; of several the first counts
 abbrev pub package_version_in : List OptionValue → Option (List ℕ)
 package_version_in values =
     option_and_then (if_passes is_version) (first_text_for Fields.Version values)
 
--- the name of a package's file, where the output has none of its own: NAME-VERSION.apk
+-- the name of a package's file, if the output has none of its own: NAME-VERSION.apk
 abbrev pub package_file_name : List ℕ → List ℕ → List ℕ
 package_file_name name version = name ++ (HYPHEN ∷ version ++ codes ".apk")
 
@@ -94,11 +92,11 @@ abbrev pub package_file_name_of : Option (List ℕ) → Option (List ℕ) → Op
 package_file_name_of name version =
     option_and_then (λ name. option_map (package_file_name name) version) name
 
--- the file that is made where no output is named
+-- the file that is made if no output is named
 abbrev pub default_output : List OptionValue → Option (List ℕ)
 default_output values = package_file_name_of (package_name_in values) (package_version_in values)
 
--- the file that a value of `-o` names, without a leading `./`
+-- the file of a value of `-o`, without a leading `./`
 abbrev pub file_name_in : OptionValue → List ℕ
 file_name_in v = without_dot v.text
 
@@ -106,8 +104,8 @@ file_name_in v = without_dot v.text
 abbrev pub named_output : List OptionValue → Option (List ℕ)
 named_output values = option_map file_name_in (first_value OUTPUT values)
 
--- whether a file's name is too long, since its scratch name, eight bytes longer, would be none; where
--- no output is known nothing is too long
+-- whether a file's name is too long: its scratch name, eight bytes longer, would be no name; if no
+-- output is known, nothing is too long
 abbrev pub is_long_name : Option (List ℕ) → Bool
 is_long_name None = false
 is_long_name (Some file) = nat_lt longest_output (length file)

@@ -1,4 +1,4 @@
--- The fields that `-I` of `mkpkg` may give, and what a value of each says (apk(8), `mkpkg`).
+-- The fields that `-I` of `mkpkg` may give, and the meaning of each one's values (apk(8), `mkpkg`).
 -- The rules are in `docs/commands.md`, "`mkpkg`", the table of fields; of dependencies without tag in
 -- `docs/formats.md`, "Dependencies".
 use Rattle.std.specs.Prelude.{ℕ, ◌^◌, ◌==◌, nat_lt, Bool, true, false, ◌&&◌, if◌then◌else◌, List, [], ◌∷◌, length, map, codes, Option, Some, None, option_map, option_and_then, is_some, Result, Ok, Err}
@@ -16,7 +16,7 @@ use Rattle.make_info.specs.declared.field.Field.TheVariants as Fields
 use Rattle.make_info.specs.declared.field.Kind.{Kind}
 use Rattle.make_info.specs.declared.field.Kind.TheVariants as Kinds
 
--- the word that names a field: what stands before the `:` of a value of `-I`
+-- the word that names a field: the text before the `:` of a value of `-I`
 abbrev pub field_word : Field → List ℕ
 field_word Fields.Name = codes "name"
 field_word Fields.Version = codes "version"
@@ -49,11 +49,11 @@ fields =
 abbrev pub field_among : List Field → List ℕ → Option Field
 field_among fields word = find (λ f. bytes_eq (field_word f) word) fields
 
--- the field that a word names; the word of no field gives none
+-- the field that a word names, if it names one
 unfoldable pub field_of : List ℕ → Option Field
 field_of word = field_among fields word
 
--- what a value of a field has to be
+-- the grammar of a field's values
 abbrev pub kind_of_field : Field → Kind
 kind_of_field Fields.Name = Kinds.PackageName
 kind_of_field Fields.Version = Kinds.PackageVersion
@@ -74,7 +74,7 @@ kind_of_field Fields.InstallIf = Kinds.Dependencies
 kind_of_field Fields.Recommends = Kinds.Dependencies
 kind_of_field Fields.Tags = Kinds.Texts
 
--- whether a field may stand several times, each value adding to it
+-- whether a field may be given several times, each value adding to it
 abbrev pub is_list : Kind → Bool
 is_list Kinds.PackageName = false
 is_list Kinds.PackageVersion = false
@@ -84,33 +84,31 @@ is_list Kinds.Number = false
 is_list Kinds.Dependencies = true
 is_list Kinds.Texts = true
 
--- one value of a field: a text, a number, or a dependency; pairs of hexadecimal digits stand for their
--- bytes
+-- one value of a field: a text, a number, or a dependency; pairs of hexadecimal digits are decoded
 pub data FieldValue : Type 0 where
   text : List ℕ → FieldValue
   number : ℕ → FieldValue
   need : Dependency → FieldValue
 
--- ---- the values that a text is under a kind; None if it is outside of the kind's grammar
+-- ---- the values of a text under a kind; None if it is not in the kind's grammar
 
--- the values of a field that has one text, which its rule has to allow
+-- the values of a field that has one text, if its rule allows it
 abbrev pub text_if : Bool → List ℕ → Option (List FieldValue)
 text_if true value = Some (text value ∷ [])
 text_if false value = None
 
--- the values of a field of hexadecimal digits: the bytes that they spell; None if the text is no
--- such digits
+-- the values of a field of hexadecimal digits: the decoded bytes; None if the text is not hexadecimal
 abbrev pub value_of_digits : Result (List ℕ) FromHexError → Option (List FieldValue)
 value_of_digits (Ok bytes) = Some (text bytes ∷ [])
 value_of_digits (Err e) = None
 
--- the number that a text is; None if it is none, has a zero in front or more than 64 bits
+-- the number that a text encodes; None if it is none, has a leading zero or more than 64 bits
 abbrev pub decimal_number : List ℕ → Option ℕ
 decimal_number value =
     if is_decimal value && nat_lt (digits_value 10 value) (2 ^ 64) then
     Some (digits_value 10 value) else None
 
--- whether a part of a list is counted: empty ones, between two spaces, are passed over
+-- whether a part of a list is counted: empty ones, between two spaces, are skipped
 abbrev pub is_nonempty : List ℕ → Bool
 is_nonempty part = nat_lt 0 (length part)
 
@@ -122,7 +120,7 @@ nonempty_parts value = filter is_nonempty (slice_split (λ b. b == 32) value)
 abbrev pub text_values : List (List ℕ) → List FieldValue
 text_values parts = map text parts
 
--- a dependency, if it has no tag: a tag stands in world alone, never in a package
+-- a dependency, if it has no tag: only world may have tags, a package never
 abbrev pub if_untagged : Dependency → Option Dependency
 if_untagged d = if is_some d.tag then None else Some d
 
@@ -130,7 +128,7 @@ if_untagged d = if is_some d.tag then None else Some d
 abbrev pub need_in : List ℕ → Option Dependency
 need_in part = option_and_then if_untagged (dependency_of part)
 
--- the values of a dependency and of others behind it; None if one of them is no dependency
+-- the values of a dependency followed by others; None if one of them is no dependency
 abbrev pub and_needs : Option Dependency → Option (List FieldValue) → Option (List FieldValue)
 and_needs d others =
     option_and_then (λ d. option_map (λ others. need d ∷ others) others) d
@@ -140,8 +138,8 @@ abbrev pub needs_in : List (List ℕ) → Option (List FieldValue)
 needs_in [] = Some []
 needs_in (part ∷ parts) = and_needs (need_in part) (needs_in parts)
 
--- the values that a text is under a kind: of a list several or none, of another kind one; None if
--- the text is not allowed
+-- the values of a text under a kind: several or none for a list, one for another kind; None if the text
+-- is not allowed
 abbrev pub values_by_kind : Kind → List ℕ → Option (List FieldValue)
 values_by_kind Kinds.PackageName value = text_if (is_package_name value) value
 values_by_kind Kinds.PackageVersion value = text_if (is_version value) value

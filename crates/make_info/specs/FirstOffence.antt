@@ -1,18 +1,18 @@
--- Which of the values of `-I` is the first that offends. `too_long`: the output is NAME-VERSION.apk,
--- and that is too long.
+-- The first of the values of `-I` that offends. `too_long`: the output is NAME-VERSION.apk, and that is
+-- too long.
 -- The rule is in `docs/commands.md`, "`mkpkg`", the row of `invalid package information`: the first
--- such place. Serves the law `the_first_value_that_offends_is_reported`.
+-- such place. It serves the law `the_first_value_that_offends_is_reported`.
 use Rattle.std.specs.Prelude.{◌≡◌, ℕ, Bool, true, false, List, ◌∷◌, ◌++◌}
 use Rattle.command_core.specs.declared.values.OptionValue.{OptionValue}
 use Rattle.make_info.specs.Information.{offends}
 
--- none of these values offends behind those before it
+-- none of these values offends after those before it
 abbrev pub NoneOffends : Bool → List OptionValue → Type 0
 NoneOffends too_long values =
     (before : List OptionValue) (v : OptionValue) (after : List OptionValue)
     → values ≡ before ++ v ∷ after → offends too_long before v ≡ false
 
--- of these values the first one that offends stands at this place of the command line
+-- the first of these values that offends is at this place of the command line
 pub record IsFirstOffence (too_long : Bool) (values : List OptionValue) (place : ℕ) : Type 0 where
   pub before : List OptionValue
   pub value : OptionValue

@@ -1,5 +1,4 @@
--- The information of a package, as the values of `-I` say it (apk(8), `mkpkg`), and its value
--- (apk-v3(5)).
+-- The information of a package by the values of `-I` (apk(8), `mkpkg`), and its value (apk-v3(5)).
 -- The rules are in `docs/commands.md`, "`mkpkg`", the table of fields and the row of `invalid package
 -- information`; the order of the fields in `docs/formats.md`, "Schemas", tables 1 and 3.
 use Rattle.std.specs.Prelude.{ℕ, Bool, false, ◌&&◌, ◌||◌, not, if◌then◌else◌, List, [], ◌∷◌, ◌++◌, map, Option, Some, None, option_map, option_and_then, is_some, unwrap_or, Result, Ok, Err}
@@ -24,8 +23,8 @@ pub record InfoItem : Type 0 where
 abbrev pub info_item : Field → FieldValue → InfoItem
 info_item f value = record { field = f; value = value }
 
--- the items so far, and behind them one for each of these values of a field; None if there are no
--- values, since the text is not allowed
+-- the items so far, followed by one for each of these values of a field; None if there are no values,
+-- since the text is not allowed
 abbrev pub with_values :
     List InfoItem → Field → Option (List FieldValue) → Option (List InfoItem)
 with_values before f values = option_map (λ values. before ++ map (info_item f) values) values
@@ -35,8 +34,8 @@ abbrev pub items_of_text : FieldText → Option (List InfoItem)
 items_of_text given =
     with_values [] given.field (values_by_kind (kind_of_field given.field) given.value)
 
--- the items that one value of `-I` says; None if it is no FIELD:VALUE, or the value is outside the
--- field's grammar
+-- the items of one value of `-I`; None if it is no FIELD:VALUE, or the value is not in the field's
+-- grammar
 abbrev pub items_of_option : OptionValue → Option (List InfoItem)
 items_of_option v = option_and_then items_of_text (field_text_in v.text)
 
@@ -46,18 +45,18 @@ repeats_field before None = false
 repeats_field before (Some given) =
     not (is_list (kind_of_field given.field)) && list_any (is_for given.field) before
 
--- whether a value is for a field that is given once, and one for it stands before
+-- whether a value is for a field that is given once, and another one for it is before it
 abbrev pub is_second : List OptionValue → OptionValue → Bool
 is_second before v = repeats_field before (field_text_in v.text)
 
--- whether a value offends: it is not allowed, it is a second one, or it is the version with which
--- the output's name is too long
+-- whether a value offends: it is not allowed, it is a second one, or it is the version that makes the
+-- output's name too long
 abbrev pub offends : Bool → List OptionValue → OptionValue → Bool
 offends too_long before v =
     not (is_some (items_of_option v))
     || (is_second before v || (too_long && is_for Fields.Version v))
 
--- the place of the first of these values that offends behind those before it
+-- the place of the first of these values that offends after those before it
 abbrev pub first_offence : Bool → List OptionValue → List OptionValue → Option ℕ
 first_offence too_long before [] = None
 first_offence too_long before (v ∷ vs) =
@@ -73,22 +72,22 @@ lacks_name_or_version values =
 abbrev pub all_items : List OptionValue → List InfoItem
 all_items values = flat_map (λ v. unwrap_or (items_of_option v) []) values
 
--- a refusal at the place that offends, if there is one, and else what is given
+-- a refusal at the place that offends, if there is one, and otherwise the given information
 abbrev pub unless_offence :
     Option ℕ → Result (List InfoItem) ℕ → Result (List InfoItem) ℕ
 unless_offence None otherwise = otherwise
 unless_offence (Some place) otherwise = Err place
 
--- the information that the values of a command say, or the first place that offends: that of a
--- value, or the one behind the last argument where the name or the version is lacking
+-- the information of the values of a command, or the first place that offends: that of a value, or the
+-- one after the last argument if the name or the version is missing
 unfoldable pub information_of : List OptionValue → ℕ → Result (List InfoItem) ℕ
 information_of values behind =
     let own = values_of_info values in
     unless_offence (first_offence (is_too_long values) [] own)
     (if lacks_name_or_version own then Err behind else Ok (all_items own))
 
--- the information that a command line says, or the first place that offends; the place behind its last
--- argument is where a lacking name or version is reported
+-- the information of a command line, or the first place that offends; a missing name or version is
+-- reported at the place after its last argument
 abbrev pub information : CommandLine → Result (List InfoItem) ℕ
 information command = information_of command.values command.behind
 
@@ -100,7 +99,7 @@ need_value v =
     obj_value
     (more (blob_value v.name) (more (blob_value v.version) (more (number_value v.matching) none)))
 
--- the plain value that stands in a package for one value of a field; a text that is empty is Null
+-- the plain value of one value of a field; an empty text is Null
 abbrev pub plain_value : FieldValue → Plain
 plain_value (text bytes) = blob_value bytes
 plain_value (number n) = int n
@@ -110,7 +109,7 @@ plain_value (need d) = need_value (dep_value d)
 abbrev pub is_item_for : Field → InfoItem → Bool
 is_item_for f item = is_same item.field f
 
--- the plain value of an item; Null where nothing is given for the field
+-- the plain value of an item; Null if nothing is given for the field
 abbrev pub item_value : Option InfoItem → Plain
 item_value None = null
 item_value (Some item) = plain_value item.value
@@ -149,14 +148,13 @@ information_fields info size =
 unfoldable pub information_value : List InfoItem → ℕ → Plain
 information_value info size = obj_value (information_fields info size)
 
--- the number that a value is; a text and a dependency are none
+-- the number that a value is, if it is one
 abbrev pub number_in : FieldValue → Option ℕ
 number_in (text bytes) = None
 number_in (number n) = Some n
 number_in (need d) = None
 
--- the priority of what a package replaces, which is a field of the package and not of its
--- information
+-- the priority in replacing, which is a field of the package and not of its information
 abbrev pub replaces_priority : List InfoItem → Option ℕ
 replaces_priority info =
     option_and_then (λ (item : InfoItem). number_in item.value)

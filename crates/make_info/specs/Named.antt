@@ -1,5 +1,5 @@
--- Which value stands at the field of a table that a word names (apk-v3(5)).
--- The rule is in `docs/formats.md`, "Schemas", table 3. Serves the law
+-- The value at the field of a table that a word names (apk-v3(5)).
+-- The rule is in `docs/formats.md`, "Schemas", table 3. It serves the law
 -- `an_option_gives_the_field_of_its_name`.
 use Rattle.std.specs.Prelude.{ℕ, List, [], ◌∷◌, Option, Some, None, if◌then◌else◌}
 use Rattle.std.specs.Str.{bytes_eq}
@@ -19,8 +19,8 @@ value_by_name word (f ∷ fields) none = None
 value_by_name word (f ∷ fields) (more v values) =
     if bytes_eq (field_name_text f.name) word then Some v else value_by_name word fields values
 
--- the value of a field that `-I` gives: of a list the array of its items, else the one. The priority in
--- replacing is none of a package's information.
+-- the value of a field that `-I` gives: for a list the array of its items, otherwise the one. The
+-- priority in replacing is not part of a package's information.
 abbrev pub value_of_field : Options.Field → List InfoItem → Option Plain
 value_of_field Fields.ReplacesPriority info = None
 value_of_field f info =

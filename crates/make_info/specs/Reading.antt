@@ -16,8 +16,8 @@ nonempty_part part = if is_nonempty part then part ∷ [] else []
 abbrev pub has_item_for : FieldText → List InfoItem → Bool
 has_item_for given before = is_some (find (is_item_for given.field) before)
 
--- The items so far, and those of one more value; None if it offends. A version offends too where
--- `too_long` says that the output's name passes its limit.
+-- The items so far, and those of one more value; None if it offends. A version also offends if the
+-- output's name is too long (`too_long`).
 abbrev pub items_with_text : Bool → List InfoItem → Option FieldText → Option (List InfoItem)
 items_with_text too_long before None = None
 items_with_text too_long before (Some given) =

@@ -1,4 +1,4 @@
--- What the program's values stand for.
+-- What the program's values denote.
 -- Serves the contracts of `information` and `writing`.
 use Rattle.dep_core.specs.Meets.{dependency}
 use Rattle.make_info.specs.declared.information.FieldText.{FieldText as FieldSlices}
@@ -13,7 +13,7 @@ use Rattle.make_info.specs.Information.{InfoItem}
 abbrev pub field_text_view : FieldSlices → FieldText
 field_text_view slice = record { field = slice.field; value = slice.value.now }
 
--- one value of a field; hexadecimal digits have become the bytes that they spell
+-- one value of a field; hexadecimal digits are decoded
 abbrev pub value_view : Value → FieldValue
 value_view (Text bytes) = text bytes.now
 value_view (Bytes bytes) = text bytes.items

@@ -11,15 +11,15 @@ pub enum MakeFault {
     FileMissing { place: u32 },
     /// The file under the name that this argument gives is no sound package.
     FileBad { place: u32, cause: Cause },
-    /// This argument says something of the package that is not allowed; or, behind the last
-    /// argument, something is lacking.
+    /// This argument says something about the package that is not allowed; or, after the last
+    /// argument, something is missing.
     InfoBad { place: u32 },
-    /// The payload to be made passes a limit of the writer. The counts are those just behind the
-    /// value that does.
+    /// The payload would exceed a limit of the writer. The counts are those after the value that
+    /// does.
     TooLarge { bytes: u64, values: u64 },
-    /// The tree failed.
+    /// An I/O error of the tree.
     Disk,
-    /// There was no memory.
+    /// Out of memory.
     Memory,
 }
 
@@ -29,7 +29,7 @@ impl From<AllocError> for MakeFault {
 
     ghost from_gives = { λ _ fault. fault ≡ Memory };
 
-    /// Where no memory was given nothing was made.
+    /// Out of memory as such a fault.
     fn from(_: AllocError) -> MakeFault {
         MakeFault::Memory
     }
@@ -41,7 +41,7 @@ impl From<Disk> for MakeFault {
 
     ghost from_gives = { λ _ fault. fault ≡ DiskFault };
 
-    /// A failed call of the tree is a fault of it.
+    /// A failed call of the tree as such a fault.
     fn from(_: Disk) -> MakeFault {
         MakeFault::Disk
     }
@@ -52,7 +52,7 @@ impl From<TreeFault> for MakeFault {
 
     ghost from_gives = { λ tree fault. IsMakeFaultOf tree fault };
 
-    /// A listing that failed is a fault of the tree, or there was no memory for it.
+    /// A failed listing as such a fault: an I/O error, or out of memory.
     fn from(fault: TreeFault) -> MakeFault {
         match fault {
             TreeFault::Disk => MakeFault::Disk,
@@ -66,7 +66,7 @@ impl From<WriteFault> for MakeFault {
 
     ghost from_gives = { λ write fault. IsMakeFaultBy write fault };
 
-    /// A payload that could not be written passes a limit, or there was no memory for it.
+    /// A failed write of a payload as such a fault: it exceeds a limit, or out of memory.
     fn from(fault: WriteFault) -> MakeFault {
         match fault {
             WriteFault::TooLarge { bytes, values } => MakeFault::TooLarge { bytes, values },

@@ -1,4 +1,4 @@
-//! The fields of `-I` of `mkpkg` (apk(8)), and what a value of each has to be.
+//! The fields of `-I` of `mkpkg` (apk(8)), and the grammar of each one's values.
 //! The rules are in `docs/commands.md`, "`mkpkg`", the table of fields.
 ghost use Rattle.make_info.specs.Fields.{field_of, field_word, is_list, kind_of_field, field_among, decimal_number};
 ghost use Rattle.std.specs.Prelude.{◌≡◌};
@@ -29,7 +29,7 @@ pub(crate) enum Field {
     Tags,
 }
 
-/// What a value of a field has to be.
+/// The grammar of a field's values.
 #[derive(Clone, Copy)]
 pub enum Kind {
     /// A package's name.
@@ -105,7 +105,7 @@ impl Field {
         }
     }
 
-    /// What a value of the field has to be.
+    /// The grammar of the field's values.
     pub(crate) fn kind(self) -> Kind
         ensures { result ≡ kind_of_field self }
     {
@@ -146,7 +146,8 @@ fn find_named(fields: &[Field], word: &[u8]) -> Option<Field>
     fields.iter().copied().find(|field| field.word() == word)
 }
 
-/// The number that the digits are. None: they are none, or above 2^64 - 1, or have a zero in front.
+/// The number that the digits encode. None: there are none, it is above 2^64 - 1, or it has a
+/// leading zero.
 pub fn read_number(digits: &[u8]) -> Option<u64>
     ensures { result ≡ decimal_number digits.now }
 {

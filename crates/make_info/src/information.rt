@@ -30,7 +30,7 @@ use std::alloc::{AllocError, Global};
 use std::marker::Model;
 use version_core::Version;
 
-/// What stands between FIELD and VALUE.
+/// The byte between FIELD and VALUE.
 const COLON: u8 = b':';
 
 /// A field, and the value that is given for it.
@@ -38,13 +38,13 @@ const COLON: u8 = b':';
 pub(crate) struct FieldText<'a> {
     /// The field that the value is for.
     pub field: Field,
-    /// What stands behind the first `:`.
+    /// The text after the first `:`.
     pub value: &'a [u8],
 }
 
 impl<'a> FieldText<'a> {
-    /// Reads FIELD:VALUE, where FIELD ends before the first `:`. None: there is no `:`, or FIELD is
-    /// no field.
+    /// Reads FIELD:VALUE; FIELD ends before the first `:`. None: there is no `:`, or FIELD is no
+    /// field.
     pub(crate) fn of(text: &'a [u8]) -> Option<FieldText<'a>>
         ensures { option_map field_text_view result ≡ field_text_in text.entry.now }
     {
@@ -55,7 +55,7 @@ impl<'a> FieldText<'a> {
     }
 }
 
-// Where the first `:` stands.
+// The place of the first `:`.
 fn colon_in(text: &[u8]) -> Option<usize>
     ensures at { result ≡ position (λ b. b == COLON) text.now }
     ensures within { IfSome result (λ at. at < length text.now) }
@@ -63,8 +63,8 @@ fn colon_in(text: &[u8]) -> Option<usize>
     text.iter().position(|byte| *byte == COLON)
 }
 
-/// What the values of `-I` of `mkpkg` say of a package (apk(8)). It borrows their texts from the
-/// command.
+/// The information that the values of `-I` of `mkpkg` give (apk(8)). It borrows their texts from
+/// the command.
 #[derive(Drop)]
 pub struct Information<'a> {
     pub(crate) entries: Items<'a>,
@@ -79,10 +79,10 @@ impl<'a> Model for Information<'a> {
     ghost view = { λ info. info.entries };
 }
 
-/// Reads the information of the package that a command is to make. `InfoBad` is at the first place
-/// that offends: that of a value that is not allowed, of a second value of a single field, or of
-/// the version where the output has no name of its own and NAME-VERSION.apk has more than 1,016
-/// bytes; and behind the last word where the name or the version is lacking.
+/// Reads the information of the package that a command is to make. `InfoBad` is at the first
+/// argument that is refused: a value that is not allowed, a second value of a single field, or the
+/// version if the output has no name of its own and NAME-VERSION.apk has more than 1,016 bytes; and
+/// after the last argument if the name or the version is missing.
 pub fn read_information<'a>(
     alloc: Global,
     command: &'a Command,
@@ -93,8 +93,8 @@ pub fn read_information<'a>(
     read_values(alloc, command.values(), command.behind())
 }
 
-// Reads the values of `-I` one by one. `behind` is the place behind the last argument, where a name
-// or a version that is lacking is reported.
+// Reads the values of `-I` one by one. `behind` is the place after the last argument, at which a
+// missing name or version is reported.
 #[tactic(auto, unfolding(crate::specs::Information::information_of))]
 fn read_values<'a>(
     alloc: Global,
@@ -122,7 +122,7 @@ fn read_values<'a>(
     Ok(Information { entries })
 }
 
-// Adds what a value of `-I` says. False: the value offends.
+// Adds the items of a value of `-I`. False: the value is not allowed.
 #[tactic(auto, unfolding(crate::specs::Reading::items_with))]
 fn add_value<'a>(
     entries: &mut Items<'a>,
@@ -144,7 +144,7 @@ fn add_value<'a>(
     entries.add(given)
 }
 
-// Whether nothing is said of the name or of the version.
+// Whether the name or the version is missing.
 fn is_lacking(entries: &Items<'_>) -> bool
     ensures { result ≡ has_no_name_or_version entries.now }
 {
@@ -156,7 +156,7 @@ fn is_lacking(entries: &Items<'_>) -> bool
 pub(crate) enum Value<'a> {
     /// A text as it was given.
     Text(&'a [u8]),
-    /// The bytes that hexadecimal digits spell.
+    /// The bytes that hexadecimal digits encode.
     Bytes(Vec<u8>),
     /// A number.
     Number(u64),
@@ -169,7 +169,7 @@ pub(crate) enum Value<'a> {
 pub(crate) struct Item<'a> {
     /// The field.
     pub field: Field,
-    /// What was given for it.
+    /// The value for it.
     pub value: Value<'a>,
 }
 
@@ -209,7 +209,7 @@ impl<'a> Items<'a> {
         self.entries.iter().find(|entry| entry.field == field)
     }
 
-    // Adds an item behind the others.
+    // Adds an item at the end.
     fn push(&mut self, field: Field, value: Value<'a>) -> Result<(), AllocError>
         ensures { OnOk result (self.new ≡ self.old ++ info_item field
             (value_view value.entry) ∷ []) }
@@ -218,8 +218,7 @@ impl<'a> Items<'a> {
         Ok(())
     }
 
-    /// Adds what a value says of its field. False: the value is outside of the grammar of the
-    /// field.
+    /// Adds the items of a value for its field. False: the value is not in the field's grammar.
     pub(crate) fn add(&mut self, given: FieldText<'a>) -> Result<bool, AllocError>
         ensures { IfOk result (λ good. (if good then Some self.new else None)
             ≡ with_values self.old given.entry.field
@@ -249,7 +248,7 @@ impl<'a> Items<'a> {
         Ok(true)
     }
 
-    // Adds the bytes that hexadecimal digits spell. False: the text is no such digits.
+    // Adds the bytes that hexadecimal digits encode. False: the text is not hexadecimal.
     fn add_bytes(&mut self, field: Field, digits: &'a [u8]) -> Result<bool, AllocError>
         ensures { IfOk result (λ good. (if good then Some self.new else None)
             ≡ with_values self.old field (value_of_digits (decode_of digits.entry.now))) }
@@ -264,7 +263,7 @@ impl<'a> Items<'a> {
         }
     }
 
-    // Adds a number. False: the text is none below 2^64, or has a zero in front.
+    // Adds a number. False: the text is no number below 2^64, or has a leading zero.
     fn add_number(&mut self, field: Field, digits: &[u8]) -> Result<bool, AllocError>
         ensures { IfOk result (λ good. (if good then Some self.new else None)
             ≡ with_values self.old field (option_map (λ n. number n ∷ [])
@@ -277,7 +276,7 @@ impl<'a> Items<'a> {
         Ok(true)
     }
 
-    // Adds dependencies, with spaces between them. False: one of them is none without tag.
+    // Adds dependencies, with spaces between them. False: one of them is no dependency without tag.
     fn add_needs(&mut self, field: Field, texts: &'a [u8]) -> Result<bool, AllocError>
         ensures { IfOk result (λ good. (if good then Some self.new else None)
             ≡ with_values self.old field (needs_in (nonempty_parts texts.entry.now))) }
@@ -308,7 +307,7 @@ impl<'a> Items<'a> {
         }
     }
 
-    // Adds texts with spaces between them, those that are not empty. True always.
+    // Adds the texts between spaces that are not empty. True always.
     fn add_texts(&mut self, field: Field, texts: &'a [u8]) -> Result<bool, AllocError>
         ensures { IfOk result (λ good. (if good then Some self.new else None)
             ≡ with_values self.old field (Some (text_values (nonempty_parts texts.entry.now)))) }
@@ -333,9 +332,9 @@ pub fn read_need(text: &[u8]) -> Option<Dep<'_>>
     Some(dep)
 }
 
-/// What `-I` gives for a field stands in a package's information at the field whose name in the
-/// table is the field's word: all eighteen but the priority in replacing, which is none of its
-/// fields.
+/// The value of `-I` for a field is in a package's information at the field whose name in the table
+/// is the field's word: all eighteen except the priority in replacing, which is no field of the
+/// information.
 pub fn an_option_gives_the_field_of_its_name()
     ensures { (f : Field) (info : List InfoItem) (size : ℕ)
         → value_by_name (field_word f) (table PkgInfo) (information_fields info size)
@@ -343,8 +342,8 @@ pub fn an_option_gives_the_field_of_its_name()
 {}
 
 /// The value of `-I` that is reported is the first that offends, in the order given: it is not
-/// allowed, it is a second one of its field, or it is the version with which the output's name is
-/// too long. If none is reported, none offends.
+/// allowed, it is a second one of its field, or it is the version that makes the output's name too
+/// long. If none is reported, none offends.
 pub fn the_first_value_that_offends_is_reported()
     ensures offends { (too_long : Bool) (values : List OptionValue) (place : ℕ)
         → first_offence too_long [] values ≡ Some place

@@ -1,5 +1,5 @@
-//! The information of a package that `mkpkg` is given (apk(8)), and under which name its container
-//! is written: a command comes in, an information, its value and a name go out.
+//! The information of a package by the options of `mkpkg` (apk(8)), and the name of its container:
+//! it takes a command, and returns an information, its value and a name.
 //!
 //! The contracts cite `Fields`, `FieldTexts`, `Values`, `Information`, `Output` and `Reads` of
 //! `specs/`.

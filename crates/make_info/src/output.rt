@@ -1,4 +1,4 @@
-//! Under which name a container is written (apk(8)): the file that `-o` names, or NAME-VERSION.apk.
+//! The name under which a container is written (apk(8)): the file of `-o`, or NAME-VERSION.apk.
 //! The rules are in `docs/commands.md`, "`mkpkg`" and "`mkndx PACKAGE..`", and in "Words", the
 //! row of `-o`.
 ghost use Rattle.make_info.specs.FieldTexts.{first_text_for, is_too_long, package_name_in, named_output, default_output, text_for, package_version_in};
@@ -23,10 +23,10 @@ use dep_core::is_package_name;
 use std::alloc::{AllocError, Global};
 use version_core::{Version, versions_have_version_bytes};
 
-/// What stands between NAME and VERSION.
+/// The byte between NAME and VERSION.
 const HYPHEN: u8 = b'-';
 
-/// NAME-VERSION.apk, where a good name and a good version are given.
+/// NAME-VERSION.apk, if a valid name and a valid version are given.
 pub(crate) fn default_output(alloc: Global, values: &Values) -> Result<Option<Vec<u8>>, AllocError>
     ensures { IfOk result (λ file. option_map (λ file. file.items) file
         ≡ default_output values.now) }
@@ -67,7 +67,7 @@ fn is_output_named(values: &Values) -> bool
     values.first(OUTPUT).is_some()
 }
 
-// The package's name, where a good one is given.
+// The package's name, if a valid one is given.
 fn package_name_in(values: &Values) -> Option<&[u8]>
     ensures { option_map (λ name. name.now) result ≡ package_name_in values.entry.now }
 {
@@ -78,7 +78,7 @@ fn package_name_in(values: &Values) -> Option<&[u8]>
     Some(name)
 }
 
-// The package's version, where a good one is given.
+// The package's version, if a valid one is given.
 fn package_version_in(values: &Values) -> Option<&[u8]>
     ensures { option_map (λ version. version.now) result ≡ package_version_in values.entry.now }
 {
@@ -102,7 +102,7 @@ fn first_text_for(values: &Values, field: Field) -> Option<&[u8]>
     None
 }
 
-// What a value of an option gives for a field, if it is one of `-I` and for that field.
+// The value of an option for a field, if it is one of `-I` and for that field.
 fn text_for(value: &OptionValue, field: Field) -> Option<&[u8]>
     ensures { option_map (λ text. text.now) result ≡ text_for field value.entry.now }
 {
@@ -116,9 +116,9 @@ fn text_for(value: &OptionValue, field: Field) -> Option<&[u8]>
     Some(given.value)
 }
 
-/// The name under which the container of `mkpkg` or `mkndx` is written (apk(8)): the file that `-o`
-/// names, or of `mkpkg` else NAME-VERSION.apk. None comes exactly when the package information of
-/// `mkpkg` is not allowed.
+/// The name under which the container of `mkpkg` or `mkndx` is written (apk(8)): the file of `-o`,
+/// or for `mkpkg` by default NAME-VERSION.apk. None is returned exactly if the package information
+/// of `mkpkg` is not allowed.
 pub fn output_name(alloc: Global, command: &Command) -> Result<Option<Name>, AllocError>
     ensures { IfOk result (λ name. name ≡ output_name command.now) }
 {
@@ -143,14 +143,14 @@ fn named_output(alloc: Global, command: &Command) -> Result<Option<Name>, AllocE
     }
 }
 
-// Whether the applet is `mkpkg`, whose output may be named by what is packed.
+// Whether the applet is `mkpkg`, whose output may be named after the package.
 fn is_mkpkg(applet: Applet) -> bool
     ensures { result ≡ is_mkpkg applet }
 {
     applet == Applet::Mkpkg
 }
 
-// The name of the output of `mkpkg`, where its information is allowed.
+// The name of the output of `mkpkg`, if its information is allowed.
 fn package_output(alloc: Global, command: &Command) -> Result<Option<Name>, AllocError>
     ensures { IfOk result (λ name. name ≡ package_output command.now) }
 {
@@ -168,7 +168,7 @@ fn package_output(alloc: Global, command: &Command) -> Result<Option<Name>, Allo
     }
 }
 
-// Whether the information that `mkpkg` is given is allowed.
+// Whether the information of `mkpkg` is allowed.
 fn is_allowed(alloc: Global, command: &Command) -> Result<bool, AllocError>
     ensures { IfOk result (λ allowed. allowed ≡ is_ok (information command.now)) }
 {
@@ -179,7 +179,7 @@ fn is_allowed(alloc: Global, command: &Command) -> Result<bool, AllocError>
     }
 }
 
-/// An output's name has room for the eight bytes more of its scratch name.
+/// An output's name is short enough for its scratch name, which has eight more bytes.
 pub fn an_output_is_short()
     ensures { (command : CommandLine) (name : List ℕ) → IsCommand command
         → output_name command ≡ Some name → length name ≤ longest_output }
@@ -188,13 +188,13 @@ pub fn an_output_is_short()
     values_are_of_their_kind();
 }
 
-/// Where the information of a package is allowed, there is an output.
+/// If the information of a package is allowed, there is an output.
 pub fn a_package_with_information_has_an_output()
     ensures { (command : CommandLine) → command.applet ≡ Mkpkg
         → IsTrue (is_ok (information command)) → IsSome (output_name command) }
 {}
 
-/// `mkndx` needs `-o`, so that the output of an index is given.
+/// `mkndx` requires `-o`, so an index has an output.
 pub fn an_index_has_an_output()
     ensures { (command : CommandLine) → IsCommand command → command.applet ≡ Mkndx
         → IsSome (output_name command) }

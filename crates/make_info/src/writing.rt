@@ -1,6 +1,6 @@
 //! Writes the information of a package as an object of table 3 (`docs/formats.md`, "Schemas"),
 //! field by field.
-//! That of a dependency is table 1, and its match number stands in "Dependencies".
+//! A dependency is an object of table 1; its match number is defined in "Dependencies".
 ghost use Rattle.adb_values.specs.Drafts.{draft_with, draft_with_all};
 ghost use Rattle.adb_view.specs.Plain.{blob_value};
 ghost use Rattle.dep_core.specs.Meets.{dependency};
@@ -17,16 +17,16 @@ use adb_values::Draft;
 use dep_core::Dep;
 use std::alloc::AllocError;
 
-/// Where a field of the package's information comes from (apk-v3(5)).
+/// The source of a field of the package's information (apk-v3(5)).
 #[derive(Clone, Copy)]
 enum Column {
-    /// What is said of a field that is given once.
+    /// The value of a field that is given once.
     Single(Field),
-    /// All that is said of a field that may be given several times.
+    /// All values of a field that may be given several times.
     List(Field),
     /// The size of the package's files.
     InstalledSize,
-    /// Nothing: `mkpkg` does not give the field.
+    /// None: `mkpkg` does not give the field.
     Null,
 }
 
@@ -69,7 +69,7 @@ impl Information<'_> {
         draft.close_object()
     }
 
-    /// The priority of what the package replaces, which is a field of the package itself.
+    /// The priority in replacing, which is a field of the package itself.
     pub fn replaces_priority(&self) -> Option<u64>
         ensures { result ≡ replaces_priority self.now }
     {
@@ -112,7 +112,7 @@ impl Items<'_> {
         }
     }
 
-    // Writes what is said of a field that is given once.
+    // Writes the value of a field that is given once.
     fn write_single(&self, draft: &mut Draft, field: Field) -> Result<(), AllocError>
         ensures { OnOk result (draft.new ≡ draft_with (value_of_single field self.now) draft.old) }
     {
@@ -122,7 +122,7 @@ impl Items<'_> {
         }
     }
 
-    // Writes all that is said of a field.
+    // Writes all values of a field.
     fn write_list(&self, draft: &mut Draft, field: Field) -> Result<(), AllocError>
         ensures { OnOk result (draft.new ≡ draft_with (value_of_list field self.now) draft.old) }
     {
@@ -161,7 +161,7 @@ impl Value<'_> {
     }
 }
 
-/// Writes a size; one of 0 is NULL.
+/// Writes a size; 0 is written as NULL.
 pub fn write_size(draft: &mut Draft, size: u64) -> Result<(), AllocError>
     ensures { OnOk result (draft.new ≡ draft_with (size_value size) draft.old) }
 {
@@ -194,7 +194,7 @@ fn write_version(draft: &mut Draft, dep: &Dep<'_>) -> Result<(), AllocError>
     }
 }
 
-/// Writes a number; one that is lacking is NULL.
+/// Writes an optional number; None is written as NULL.
 pub fn write_number(draft: &mut Draft, number: Option<u64>) -> Result<(), AllocError>
     ensures { OnOk result (draft.new ≡ draft_with (number_value number) draft.old) }
 {
@@ -204,9 +204,9 @@ pub fn write_number(draft: &mut Draft, number: Option<u64>) -> Result<(), AllocE
     }
 }
 
-// The match number of a dependency: its operator's, with 16 more for a conflict, and 23 (7 and 16)
-// for a conflict without version. None if there is no conflict, and either any version is taken
-// or just the one that is named (`=`, which is 1).
+// The match number of a dependency: its operator's, plus 16 for a conflict, and 23 (7 and 16) for a
+// conflict without version. None if there is no conflict, and any version is allowed or only the
+// named one (`=`, which is 1).
 fn matching_of(dep: &Dep<'_>) -> Option<u64>
     ensures { result ≡ (dep_value (dependency dep.now)).matching }
 {

@@ -1,6 +1,6 @@
--- A package that is made, and what it holds in the words of the format (apk-package(5)).
--- The rules are in `docs/commands.md`, "`mkpkg`", the paragraph on `-F DIR`; the names of fields
--- in `docs/formats.md`, "Schemas". Serves the laws of `src/packages.rt`.
+-- A package that was made, and its contents in the terms of the format (apk-package(5)).
+-- The rules are in `docs/commands.md`, "`mkpkg`", the paragraph on `-F DIR`; the names of fields in
+-- `docs/formats.md`, "Schemas". It serves the laws of `src/packages.rt`.
 use Rattle.command_core.specs.declared.values.TheConstants.{FILES, TRIGGER}
 use Rattle.std.specs.Prelude.{◌≡◌, ◌↔◌, ◌⊎◌, ◌==◌, ℕ, ◌+◌, ◌*◌, ◌^◌, ◌<◌, List, [], length, map, codes, sum_by, Ok, All}
 use Rattle.std.specs.List.{filter, flat_map}
@@ -20,7 +20,7 @@ use Rattle.make_package.specs.Making.{made_package}
 use Rattle.package_files.specs.Sources.{AreNamesFor, values_with}
 use Rattle.make_laws.specs.NamedFields.{IsAccessOfRoot, entries_named, field_named}
 
--- `mkpkg` makes these bytes, fewer than 2^64, of names below the folder that is given
+-- `mkpkg` makes these bytes, fewer than 2^64, from names below the given folder
 pub record IsMadePackage (command : CommandLine) (names : List (List ℕ)) (read : Reads)
     (bytes : List ℕ) : Type 0 where
   pub below : AreNamesFor (values_with FILES command.values) names
@@ -33,27 +33,26 @@ contained_package bytes = root_value Package (payload_in bytes)
 
 -- ---- folders and files
 
--- the folders of a package stand in byte order of their names, each once, and so do the files of
--- each
+-- the folders of a package are in byte order of their names, each once, and so are the files of each
 pub record IsInByteOrder (pkg : Plain) : Type 0 where
   pub folders : IsRising (map name_of (folders_in pkg))
   pub files : All (λ folder. IsRising (map name_of (files_in folder))) (folders_in pkg)
 
--- the folder is over the path: it is the root, or the path stands below it, at any depth
+-- the folder is above the path: it is the root, or the path is below it, at any depth
 abbrev pub IsOverPath : List ℕ → List ℕ → Type 0
 IsOverPath folder path = (folder ≡ []) ⊎ IsFolderOf folder path
 
--- a folder of the package is over the path of one of the names, which stand below `dir` of the tree
+-- a folder of the package is above the path of one of the names, which are below `dir` of the tree
 abbrev pub IsOverOne : List ℕ → List (List ℕ) → List ℕ → Type 0
 IsOverOne dir names folder =
     (path : List ℕ) × IsIn (name_below dir path) names × IsOverPath folder path
 
--- the folders of a package are just those that are over the path of a name
+-- the folders of a package are exactly those above the path of a name
 abbrev pub HasFoldersOver : List ℕ → List (List ℕ) → Plain → Type 0
 HasFoldersOver dir names pkg =
     (folder : List ℕ) → IsIn folder (map name_of (folders_in pkg)) ↔ IsOverOne dir names folder
 
--- ---- who may do what
+-- ---- access rights
 
 -- the digit of a mode by which the bytes of a file, or the names in a folder, may be read
 abbrev pub MAY_READ : ℕ
@@ -67,7 +66,7 @@ MAY_WRITE = 2
 abbrev pub MAY_ENTER : ℕ
 MAY_ENTER = 1
 
--- the mode by what the user, the group and all others may do, each an octal digit
+-- the mode from the rights of the user, the group and all others, each an octal digit
 abbrev pub mode_of : ℕ → ℕ → ℕ → ℕ
 mode_of user group others = 64 * user + 8 * group + others
 
@@ -96,11 +95,11 @@ HasTriggersInOrder values pkg =
     map text_in (entries_named Package (codes "triggers") pkg)
     ≡ map (λ (v : OptionValue). v.text) (filter (λ (v : OptionValue). v.letter == TRIGGER) values)
 
--- the size that a file's entry tells
+-- the size in a file's entry
 abbrev pub size_told : Plain → ℕ
 size_told file = int_in (field_named File (codes "size") file)
 
--- the installed size of a package is the sum of the sizes that its files tell
+-- the installed size of a package is the sum of its files' sizes
 abbrev pub HasSizeOfFiles : Plain → Type 0
 HasSizeOfFiles pkg =
     int_in (field_named PkgInfo (codes "installed-size") (field_named Package (codes "info") pkg))

@@ -1,5 +1,5 @@
 -- The field of a value by its name in the table (apk-v3(5)).
--- The tables stand in `docs/formats.md`, "Schemas". By these definitions the laws trust no number
+-- The tables are in `docs/formats.md`, "Schemas". With these definitions the laws depend on no number
 -- of a field.
 use Rattle.std.specs.Prelude.{◌≡◌, ℕ, suc, List, [], ◌∷◌, codes, if◌then◌else◌}
 use Rattle.std.specs.Str.{bytes_eq}
@@ -11,14 +11,13 @@ use Rattle.adb_view.specs.declared.tables.Which.{Which}
 use Rattle.adb_view.specs.declared.tables.Which.TheVariants.{Acl}
 use Rattle.adb_view.specs.Plain.{Plain, int, blob}
 
--- the place of the field of this name in a table, counted from 0; behind the last where there is
--- none
+-- the place of the field of this name in a table, counted from 0; after the last if there is none
 abbrev pub place_of_name : List ℕ → List Field → ℕ
 place_of_name name [] = 0
 place_of_name name (f ∷ fields) =
     if bytes_eq (field_name_text f.name) name then 0 else suc (place_of_name name fields)
 
--- the field of this name of an object of a table; Null where the object lacks it
+-- the field of this name of an object of a table; Null if the object lacks it
 abbrev pub field_named : Which → List ℕ → Plain → Plain
 field_named which name v = entry_in v (place_of_name name (table which))
 

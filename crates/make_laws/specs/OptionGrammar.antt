@@ -1,6 +1,6 @@
--- Which values `-I` takes, field by field (apk(8), `mkpkg`), and what each says.
--- The rules are in `docs/commands.md`, "`mkpkg`": the table of fields, and which field is given
--- once; the grammar of a dependency in `docs/formats.md`, "Dependencies".
+-- Which values `-I` accepts, field by field (apk(8), `mkpkg`), and their meaning.
+-- The rules are in `docs/commands.md`, "`mkpkg`": the table of fields, and which field is given once;
+-- the grammar of a dependency in `docs/formats.md`, "Dependencies".
 use Rattle.std.specs.Prelude.{◌≡◌, ◌≢◌, ℕ, ◌*◌, ◌+◌, ◌^◌, ◌<◌, ◌==◌, Bool, true, false, not, List, [], ◌∷◌, ◌++◌, length, map, None, Some}
 use Rattle.std.specs.Fmt.{decimal}
 use Rattle.std.specs.List.{filter, slice_split}
@@ -20,7 +20,7 @@ option_text f value = field_word f ++ 58 ∷ value
 
 -- ---- the grammars
 
--- hexadecimal digits spell bytes: two digits, of either case, spell each byte
+-- hexadecimal digits encode bytes: two digits, of either case, encode each byte
 abbrev pub SpellsBytes : List ℕ → List ℕ → Type 0
 SpellsBytes [] [] = Unit {0}
 SpellsBytes [] (byte ∷ bytes) = ⊥
@@ -31,7 +31,7 @@ SpellsBytes (high ∷ low ∷ digits) (byte ∷ bytes) =
     × (byte ≡ h * 16 + l))
     × SpellsBytes digits bytes
 
--- a text spells a number below 2^64: its decimal digits, as it is printed
+-- a text encodes a number below 2^64: its decimal digits, as it is printed
 abbrev pub SpellsNumber : List ℕ → ℕ → Type 0
 SpellsNumber value n = (n < 2 ^ 64) × (value ≡ decimal n)
 
@@ -39,7 +39,7 @@ SpellsNumber value n = (n < 2 ^ 64) × (value ≡ decimal n)
 abbrev pub spaced_parts : List ℕ → List (List ℕ)
 spaced_parts value = filter (λ part. not (length part == 0)) (slice_split (λ b. b == 32) value)
 
--- each part spells a dependency without tag, in their order
+-- each part encodes a dependency without tag, in their order
 abbrev pub SpellNeeds : List (List ℕ) → List FieldValue → Type 0
 SpellNeeds [] [] = Unit {0}
 SpellNeeds [] (value ∷ values) = ⊥
@@ -51,19 +51,19 @@ SpellNeeds (part ∷ parts) (need d ∷ values) =
 
 -- ---- field by field
 
--- a value of a field of text says the value itself
+-- a value of a field of text means the value itself
 abbrev pub SaysText : List ℕ → List FieldValue → Type 0
 SaysText value said = said ≡ text value ∷ []
 
--- a value of a field of a number says one number
+-- a value of a field of a number means one number
 abbrev pub SaysNumber : List ℕ → List FieldValue → Type 0
 SaysNumber value said = (n : ℕ) × SpellsNumber value n × (said ≡ number n ∷ [])
 
--- a value of a list of dependencies says a dependency for each part
+-- a value of a list of dependencies means a dependency for each part
 abbrev pub SaysNeeds : List ℕ → List FieldValue → Type 0
 SaysNeeds value said = SpellNeeds (spaced_parts value) said
 
--- a value is allowed for the field, and says this
+-- a value is allowed for the field, and means this
 abbrev pub SaysOfField : Field → List ℕ → List FieldValue → Type 0
 SaysOfField Fields.Name value said = (is_package_name value ≡ true) × SaysText value said
 SaysOfField Fields.Version value said = (is_version value ≡ true) × SaysText value said
@@ -101,9 +101,9 @@ is_list_field f = false
 abbrev pub IsGivenFor : Field → OptionValue → Type 0
 IsGivenFor f option = (value : List ℕ) × (option.text ≡ option_text f value)
 
--- an option is taken behind those before it (*taken* in `docs/names.md`, "Command lines and what
--- comes of them"): its value is one of its field; where the field is no list it is the first; and
--- it is no version that makes NAME-VERSION.apk too long (`too_long`)
+-- an option is accepted after those before it (*taken* in `docs/names.md`, "Command lines and what
+-- comes of them"): its value is one of its field; if the field is no list, it is the first; and it is
+-- no version that makes NAME-VERSION.apk too long (`too_long`)
 pub record IsTakenOption (too_long : Bool) (before : List OptionValue) (option : OptionValue) :
     Type 0 where
   pub field : Field

@@ -1,4 +1,4 @@
--- Which file a script is (apk(8), `mkpkg`).
+-- The file of a script (apk(8), `mkpkg`).
 -- The rule is in `docs/commands.md`, "`mkpkg`": TYPE of `-s`, and FILE is read whole. Serves
 -- the law `a_made_package_has_its_scripts`.
 use Rattle.std.specs.Prelude.{◌≡◌, ◌⊎◌, ℕ, List, Some}
@@ -26,12 +26,12 @@ abbrev pub IsNotGiven : List OptionValue → List ℕ → Type 0
 IsNotGiven options type =
     (option : OptionValue) → IsIn option options → script_type option.text ≡ type → ⊥
 
--- what a package has as its script of the type: the one that is given, or none if none is given
+-- the script of the type in a package: the one that is given, or none if none is given
 abbrev pub IsScriptGiven : Reads → List OptionValue → List ℕ → Plain → Type 0
 IsScriptGiven read options type script =
     ((bytes : List ℕ) × IsGivenScript read options type bytes × (script ≡ blob_value bytes))
     ⊎ (IsNotGiven options type × (script ≡ null))
 
--- what a package has as its script of this type; Null where it has none
+-- the script of this type in a package; Null if it has none
 abbrev pub script_named : List ℕ → Plain → Plain
 script_named type pkg = field_named Scripts type (field_named Package (codes "scripts") pkg)

@@ -1,4 +1,4 @@
--- What the bytes of a file are (apk-package(5)), apart from how they are taken apart.
+-- What the bytes of a file are (apk-package(5)), independent of how they are parsed.
 -- The rule is in `docs/commands.md`, "`mkpkg`": "A file whose bytes are `!<symlink>` and a
 -- UTF-8 text that is not empty is a symbolic link to that text." Serves the law
 -- `a_file_tells_what_its_bytes_are`.

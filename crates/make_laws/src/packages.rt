@@ -1,4 +1,4 @@
-//! What a package that is made holds: laws over the definitions of `make_package`.
+//! The contents of a package that was made: laws over the definitions of `make_package`.
 //! The rules are in `docs/commands.md`, "`mkpkg`": the paragraph on `-F DIR`, and the options
 //! `-I`, `-s` and `-t`.
 ghost use Rattle.adb_fields.specs.FirstPair.{IsIn};
@@ -20,7 +20,7 @@ use dep_core::{read_texts_are_spelled, spelled_texts_are_read};
 use make_core::a_made_package_is_read_back;
 use make_package::each_name_stands_in_one_folder;
 
-/// The folders of a package that is made stand in byte order, each once, and so do the files of
+/// The folders of a package that was made are in byte order, each once, and so are the files of
 /// each folder.
 pub fn a_made_package_is_in_byte_order()
     ensures { (command : CommandLine) (names : List (List ℕ)) (read : Reads) (bytes : List ℕ)
@@ -29,8 +29,8 @@ pub fn a_made_package_is_in_byte_order()
     a_made_package_is_read_back();
 }
 
-/// The folders of a package that is made are just those that are over the path of a file, at any
-/// depth, with the root: none is left out, and there is no other.
+/// The folders of a package that was made are exactly those above the path of a file, at any depth,
+/// with the root.
 pub fn a_made_package_has_just_the_folders_over_its_paths()
     ensures { (command : CommandLine) (names : List (List ℕ)) (read : Reads) (bytes : List ℕ)
         (dir : OptionValue) (others : List OptionValue) → IsMadePackage command names read bytes
@@ -41,7 +41,7 @@ pub fn a_made_package_has_just_the_folders_over_its_paths()
     each_name_stands_in_one_folder();
 }
 
-/// All may read each file of a package that is made, and enter each folder; both belong to root.
+/// All may read each file of a package that was made, and enter each folder; both belong to root.
 pub fn a_made_package_may_be_read_by_all()
     ensures { (command : CommandLine) (names : List (List ℕ)) (read : Reads) (bytes : List ℕ)
         → IsMadePackage command names read bytes
@@ -50,7 +50,7 @@ pub fn a_made_package_may_be_read_by_all()
     a_made_package_is_read_back();
 }
 
-/// The triggers of a package that is made are the texts of `-t`, in the order given.
+/// The triggers of a package that was made are the texts of `-t`, in the order given.
 pub fn a_made_package_has_its_triggers_in_order()
     ensures { (command : CommandLine) (names : List (List ℕ)) (read : Reads) (bytes : List ℕ)
         → IsMadePackage command names read bytes
@@ -59,8 +59,8 @@ pub fn a_made_package_has_its_triggers_in_order()
     a_made_package_is_read_back();
 }
 
-/// A package that is made has the script of each type that an option gives as TYPE:FILE, with the
-/// bytes of the file, and no others.
+/// A package that was made has exactly the scripts that options give as TYPE:FILE, with the bytes
+/// of the files.
 pub fn a_made_package_has_its_scripts()
     ensures { (command : CommandLine) (names : List (List ℕ)) (read : Reads) (bytes : List ℕ)
         (type : List ℕ) → IsMadePackage command names read bytes → IsIn type script_types
@@ -70,8 +70,8 @@ pub fn a_made_package_has_its_scripts()
     a_made_package_is_read_back();
 }
 
-/// A package that is made tells of each field what the options `-I` say: of a list all that they
-/// say, in the order given, of another field the one value, and nothing if none is given.
+/// Each field of a package that was made has what the options `-I` say: a list has all values, in
+/// the order given, another field the one value, if there is one.
 pub fn a_made_package_tells_what_its_options_say()
     ensures { (command : CommandLine) (names : List (List ℕ)) (read : Reads) (bytes : List ℕ)
         (f : Field) → IsMadePackage command names read bytes
@@ -82,7 +82,7 @@ pub fn a_made_package_tells_what_its_options_say()
     spelled_texts_are_read();
 }
 
-/// The installed size that a package tells is the sum of the sizes that its files tell.
+/// The installed size of a package is the sum of its files' sizes.
 pub fn a_made_package_tells_the_size_of_its_files()
     ensures { (command : CommandLine) (names : List (List ℕ)) (read : Reads) (bytes : List ℕ)
         → IsMadePackage command names read bytes → HasSizeOfFiles (contained_package bytes) }

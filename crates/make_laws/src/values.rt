@@ -1,6 +1,6 @@
-//! Which values `-I` of `mkpkg` takes and what `--script` gives, and what the values of a package
-//! and of an index tell, field by field: laws over the definitions of `make_info`, `package_files`
-//! and `make_index`.
+//! Which values `-I` of `mkpkg` accepts, what `--script` gives, and the values of a package and of
+//! an index, field by field: laws over the definitions of `make_info`, `package_files` and
+//! `make_index`.
 //! The rules are in `docs/commands.md`, "`mkpkg`" (the table of fields) and "`mkndx PACKAGE..`";
 //! the names of fields in `docs/formats.md`, "Schemas".
 ghost use Rattle.adb_copy.specs.Zeros.{without_zeros};
@@ -30,14 +30,14 @@ ghost use Rattle.std.specs.Prelude.{◌≡◌, ◌↔◌, ◌==◌, ◌++◌, �
 
 use dep_core::{read_texts_are_spelled, spelled_texts_are_read};
 
-/// A text gives a value to a field exactly when it is FIELD:VALUE: the field's name, a colon, and
-/// the value.
+/// A text gives a value to a field exactly if it is FIELD:VALUE: the field's name, a colon, and the
+/// value.
 pub fn a_text_gives_a_value_to_a_field()
     ensures { (t value : List ℕ) (f : Field)
         → field_text_in t ≡ Some (record { field = f; value = value }) ↔ t ≡ option_text f value }
 {}
 
-/// A value is one of a field exactly when it is of the field's grammar, and says what this says.
+/// A value is one of a field exactly if it is in the field's grammar, which also gives its meaning.
 pub fn a_value_is_taken_by_the_grammar_of_its_field()
     ensures { (f : Field) (value : List ℕ) (said : List FieldValue)
         → values_by_kind (kind_of_field f) value ≡ Some said ↔ SaysOfField f value said }
@@ -46,7 +46,7 @@ pub fn a_value_is_taken_by_the_grammar_of_its_field()
     spelled_texts_are_read();
 }
 
-/// A value of `-I` offends behind those before it exactly when it is not taken.
+/// A value of `-I` offends after those before it exactly if it is not accepted.
 pub fn an_option_offends_unless_it_is_taken()
     ensures { (too_long : Bool) (before : List OptionValue) (option : OptionValue)
         → offends too_long before option ≡ false ↔ IsTakenOption too_long before option }
@@ -55,15 +55,15 @@ pub fn an_option_offends_unless_it_is_taken()
     spelled_texts_are_read();
 }
 
-/// A script is given as TYPE:FILE: the type ends before the first colon (58), and all behind it is
-/// the file's name, also further colons.
+/// A script is given as TYPE:FILE: the type ends before the first colon (58), and all after it is
+/// the file's name, with any further colons.
 pub fn a_script_is_given_as_its_type_and_its_file()
     ensures { (type file : List ℕ) → list_any (λ b. b == 58) type ≡ false
         → (script_type (type ++ 58 ∷ file) ≡ type) × (script_file (type ++ 58 ∷ file) ≡ file) }
 {}
 
-/// A file of a package tells what its bytes in the tree are: if they are a link, the target and
-/// neither size nor hash; else how many they are and their SHA-256, and no target.
+/// The entry of a file describes its bytes: for a link the target and neither size nor hash;
+/// otherwise their number and their SHA-256, and no target.
 pub fn a_file_tells_what_its_bytes_are()
     // A link: 0 and 160 are the kind 0xa000, little-endian.
     ensures link { (name bytes target : List ℕ) → IsLinkTo target bytes
@@ -79,7 +79,7 @@ pub fn a_file_tells_what_its_bytes_are()
         × (field_named File (codes "hashes") file ≡ blob_value (sha256 bytes))) }
 {}
 
-/// A value that an option says stands as it is: a text, a number, also 0, and of a dependency the
+/// The value of an option is stored unchanged: a text, a number, also 0, and for a dependency the
 /// name, the version and the match number.
 pub fn a_value_stands_as_it_is_said()
     ensures text { (bytes : List ℕ) → plain_value (text bytes) ≡ blob_value bytes }
@@ -91,7 +91,7 @@ pub fn a_value_stands_as_it_is_said()
         × (field_named Dep (codes "match") told ≡ number_value (dep_value d).matching)) }
 {}
 
-/// An entry of an index tells the package's id and the length of its file. Each other field, by its
+/// An entry of an index has the package's id and the length of its file. Each other field, by its
 /// name, is the one of the package's information, without zeros.
 pub fn an_entry_tells_what_its_package_tells()
     ensures id { (file : List ℕ) → field_named PkgInfo (codes "hashes") (entry_of_package file)
@@ -103,8 +103,8 @@ pub fn an_entry_tells_what_its_package_tells()
         (field_named PkgInfo name (field_named Package (codes "info") (contained_package file))) }
 {}
 
-/// A value without zeros tells the same as the value: the same number, the same text, and of each
-/// entry the same. None of its entries is the number 0.
+/// A value without zeros is read the same: it has the same number, the same text, and the same
+/// entries. None of its entries is the number 0.
 pub fn values_without_zeros_tell_the_same()
     ensures number { (v : Plain) → int_in (without_zeros v) ≡ int_in v }
     ensures text { (v : Plain) → text_in (without_zeros v) ≡ text_in v }
@@ -113,7 +113,7 @@ pub fn values_without_zeros_tell_the_same()
     ensures none_zero { (v : Plain) → without_zeros v ≢ int 0 }
 {}
 
-/// An index has the description that is given, and its packages' entries.
+/// An index has the given description, and its packages' entries.
 pub fn an_index_has_its_description_and_packages()
     ensures { (description : List ℕ) (entries : List Plain)
         → (field_named Index (codes "description") (value_of_index description entries)

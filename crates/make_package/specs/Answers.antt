@@ -1,6 +1,6 @@
--- What the calls that make a package say of their answers.
--- No rule of a document: serves the contracts of `src/` and of `make_core`; *made_package* of
--- `Making` says by the rule what is made.
+-- What the calls that make a package ensure of their results.
+-- No document has a rule for this: it serves the contracts of `src/` and of `make_core`; *made_package*
+-- of `Making` defines by the rule what is made.
 use Rattle.command_core.specs.declared.values.TheConstants.{FILES}
 use Rattle.std.specs.Prelude.{◌≡◌, ℕ, List, [], ◌∷◌, Option, Some, None, Result, Ok, Err, Vec}
 use Rattle.std.specs.Borrow.{Bor}
@@ -20,7 +20,7 @@ use Rattle.package_files.specs.Sources.{AreNamesFor, values_with}
 
 -- ---- parts of a run
 
--- what was found is the first of some values; none where there is no value
+-- the first of some values was found; none if there is no value
 abbrev pub IsFirstValue : Option (Bor OptionValue) → List OptionValue → Type 0
 IsFirstValue None values = values ≡ []
 IsFirstValue (Some v) values = (others : List OptionValue) × (values ≡ v.now ∷ others)
@@ -29,14 +29,14 @@ IsFirstValue (Some v) values = (others : List OptionValue) × (values ≡ v.now 
 abbrev pub IsBytes : Vec ℕ Global → List ℕ → Type 0
 IsBytes file bytes = bytes ≡ file.items
 
--- an answer that is an error is a fault of the tree, or lack of memory
+-- an error is an I/O error of the tree, or out of memory
 abbrev pub IsCutOff : {A : Type 0} → Result A MakeFault → Type 0
 IsCutOff (Ok x) = Unit {0}
 IsCutOff (Err Disk) = Unit {0}
 IsCutOff (Err Memory) = Unit {0}
 IsCutOff (Err fault) = ⊥
 
--- an answer is not that the tree failed
+-- the result is not that the tree failed
 abbrev pub IsNotDisk : {A : Type 0} → Result A MakeFault → Type 0
 IsNotDisk (Err Disk) = ⊥
 IsNotDisk result = Unit {0}
@@ -47,16 +47,16 @@ abbrev pub AreBelow : List OptionValue → TreeState → List (List ℕ) → Typ
 AreBelow [] v names = Unit {0}
 AreBelow (dir ∷ dirs) v names = IsListOf (without_dot dir.text) v names
 
--- of a refusal with a fault this holds; a fault of the tree and lack of memory say nothing
+-- this holds of a refusal with a fault; an I/O error of the tree and out of memory say nothing
 abbrev pub OnRefusal : MakeFault → (Result (List ℕ) MakeFault → Type 0) → Type 0
 OnRefusal Disk P = Unit {0}
 OnRefusal Memory P = Unit {0}
 OnRefusal fault P = P (Err fault)
 
--- ---- what a run answers
+-- ---- results of a run
 
--- `made` is what is made of a command, of some names below its folder and of some reads, which are
--- those of the tree where its history can be observed
+-- `made` is made from a command, some names below its folder and some reads, which are the tree's if
+-- its history is observable
 pub record IsMadeOf (history : List TreeState) (command : CommandLine)
     (made : Result (List ℕ) MakeFault) : Type 0 where
   pub names : List (List ℕ)
@@ -64,19 +64,19 @@ pub record IsMadeOf (history : List TreeState) (command : CommandLine)
   pub below : IfObservable history (λ v. AreBelow (values_with FILES command.values) v names)
   pub reads : Explains history (λ read. made_package command names read ≡ made)
 
--- the answer of a run is what is made; a fault of the tree and lack of memory stand for anything
+-- the result of a run is what is made; an I/O error of the tree and out of memory may occur in any case
 abbrev pub IsMadeRun : List TreeState → CommandLine → Result (Vec ℕ Global) MakeFault → Type 0
 IsMadeRun history command (Ok file) = IsMadeOf history command (Ok file.items)
 IsMadeRun history command (Err fault) = OnRefusal fault (IsMadeOf history command)
 
--- `made` is what is made of a command and of the files of a tree in this state
+-- `made` is made from a command and the files of a tree in this state
 pub record IsMadeIn (command : CommandLine) (v : TreeState) (made : Result (List ℕ) MakeFault) :
     Type 0 where
   pub names : List (List ℕ)
   pub below : AreBelow (values_with FILES command.values) v names
   pub is : made_package command names (λ n name. files_of v name) ≡ made
 
--- `made` is what is made of a command by some names below its folder and some reads
+-- `made` is made from a command, some names below its folder and some reads
 pub record IsMadeBySome (command : CommandLine) (made : Result (List ℕ) MakeFault) : Type 0 where
   pub names : List (List ℕ)
   pub named : AreNamesFor (values_with FILES command.values) names

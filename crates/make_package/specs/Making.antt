@@ -1,7 +1,7 @@
--- What `mkpkg` makes (apk(8)): a package of its command, of the names below its folder, and of what
--- reads find.
--- The rule is in `docs/commands.md`, "`mkpkg`", with the refusals in their order; the limits of
--- a payload in `docs/formats.md`, "Canonical layout".
+-- What `mkpkg` makes (apk(8)): a package from its command, the names below its folder, and what reads
+-- find.
+-- The rule is in `docs/commands.md`, "`mkpkg`", with the refusals in their order; the limits of a
+-- payload in `docs/formats.md`, "Canonical layout".
 use Rattle.command_core.specs.declared.values.TheConstants.{FILES, SCRIPT, TRIGGER}
 use Rattle.std.specs.Prelude.{ℕ, List, length, Option, Some, None, Result, Ok, Err}
 use Rattle.adb_view.specs.Plain.{Plain}
@@ -19,27 +19,26 @@ use Rattle.package_files.specs.Sources.{and_then, values_with, texts_of, scripts
 
 -- ---- the file
 
--- the bytes of a package, where its value passes no limit of the writer; else the refusal, with the
+-- the bytes of a package, if its value exceeds no limit of the writer; otherwise the refusal, with the
 -- two counts at which it does
 abbrev pub container_unless :
     Option PayloadCounts → Plain → List Contents → Result (List ℕ) MakeFault
 container_unless None v contents = Ok (container_of PACKAGE_WORD v contents)
 container_unless (Some counts) v contents = Err (TooLarge counts.0 counts.1)
 
--- the container of a package's value and of the contents of its files, unless the value passes a
+-- the container of a package's value and of the contents of its files, unless the value exceeds a limit
 -- limit
 unfoldable pub package_container : Plain → List Contents → Result (List ℕ) MakeFault
 package_container v contents = container_unless (overflow_of v) v contents
 
 -- ---- the package
 
--- what `-I` says of a package; where it says what it may not, that is a fault of making, at the
--- place of its argument
+-- the information of `-I`; a place at which it is not allowed is a fault of making
 abbrev pub or_info_bad : Result (List InfoItem) ℕ → Result (List InfoItem) MakeFault
 or_info_bad (Ok information) = Ok information
 or_info_bad (Err place) = Err (InfoBad place)
 
--- the package of what was read: of the scripts, of what `-I` says (`about`), and of the folders
+-- the package of what was read: the scripts, the information of `-I` (`about`), and the folders
 abbrev pub package_of_parts :
     CommandLine → List Script → List InfoItem → List SourceFolder → Result (List ℕ) MakeFault
 package_of_parts command scripts about folders =
@@ -48,7 +47,7 @@ package_of_parts command scripts about folders =
     (texts_of (values_with TRIGGER command.values)) (replaces_priority about))
     (contents_of_folders 1 folders)
 
--- the package of a command, by the names below its folder and by reads: scripts first, then the
+-- the package of a command, given the names below its folder and the reads: scripts first, then the
 -- information, then the files below the folder; or the first refusal
 unfoldable pub made_package : CommandLine → List (List ℕ) → Reads → Result (List ℕ) MakeFault
 made_package command names read =

@@ -1,6 +1,6 @@
--- Scripts as the program has them.
--- No rule of a document: serves the contracts of `src/reading.rt` and `src/writing.rt`, whose types
--- are slices.
+-- Scripts as values of the program.
+-- No document has a rule for this: it serves the contracts of `src/reading.rt` and `src/writing.rt`,
+-- whose types are slices.
 use Rattle.std.specs.Prelude.{◌≡◌, List, Vec, map}
 use Rattle.std.specs.declared.alloc.Global.{Global}
 use Rattle.package_files.specs.Package as packages
@@ -14,10 +14,10 @@ script_view script = record { field = script.kind.now; bytes = script.bytes.item
 abbrev pub scripts_view : List Script → List packages.Script
 scripts_view scripts = map script_view scripts
 
--- a script of the program stands for this one
+-- a script of the program denotes this one
 abbrev pub IsScript : Script → packages.Script → Type 0
 IsScript script is = script_view script ≡ is
 
--- scripts of the program stand for these, one by one and in their order
+-- scripts of the program denote these, one by one and in their order
 abbrev pub AreScripts : Vec Script Global → List packages.Script → Type 0
 AreScripts scripts are = scripts_view scripts.items ≡ are

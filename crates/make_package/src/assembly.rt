@@ -1,6 +1,6 @@
-//! The container of a package: its payload, and the contents blocks behind it.
-//! The rules are in `docs/formats.md`, "Container" and "The other blocks"; what the installed
-//! size is, in `docs/commands.md`, "`mkpkg`"; that the contents are not held twice, in
+//! The container of a package: its payload, followed by the contents blocks.
+//! The rules are in `docs/formats.md`, "Container" and "The other blocks"; the installed size is
+//! defined in `docs/commands.md`, "`mkpkg`"; that the contents are in memory only once, in
 //! `docs/DECISIONS.md`, "Making".
 ghost use Rattle.command_core.specs.declared.values.TheConstants.{TRIGGER};
 ghost use Rattle.std.specs.Prelude.{ℕ, ◌≡◌, ◌≤◌, ◌<◌, ◌^◌, ◌++◌, Ok, List, length, map, IfOk, IfErr};
@@ -36,16 +36,16 @@ pub(crate) fn package(
     packing: Packing<'_>,
     scripts: &[Script<'_>],
 ) -> Result<Vec<u8>, MakeFault>
-    // Each regular file that was packed has its bytes in the blocks, so that the sum of the sizes
-    // is no more than they are.
+    // Each packed regular file has its bytes in the blocks, so the sum of the sizes is at most
+    // their length.
     requires { packed_size packing.folders.items ≤ length packing.blocks.items }
     ensures made { (sources : List SourceFolder) → IsPacking packing.entry sources
         → IsAnswer IsBytes result (package_of_parts command.now
         (scripts_view scripts.now) about.now sources) }
-    // The tree is not asked, so it is not what failed.
+    // The tree is not called, so it did not fail.
     ensures disk { IsNotDisk result }
 {
-    // Each size stands in the blocks, so that the sum has 64 bits.
+    // Each file's bytes are in the blocks, so the sum of sizes has 64 bits.
     let size = installed_size(&packing.folders);
     let payload = payload(
         alloc,
@@ -84,7 +84,7 @@ fn size_in(files: &[File<'_>]) -> u64
 }
 
 /// The payload of a package with this information, these folders and scripts, with the triggers and
-/// the priority that the options say, and with the installed size `size`.
+/// the priority of the options, and with the installed size `size`.
 fn payload(
     alloc: Global,
     values: &Values,
@@ -108,7 +108,8 @@ fn payload(
     Ok(draft.finish()?)
 }
 
-/// The bytes of the package with this payload and these blocks behind it, which are not held twice.
+/// The bytes of the package with this payload followed by these blocks, which are in memory only
+/// once.
 fn package_file(alloc: Global, payload: &[u8], mut blocks: Vec<u8>) -> Result<Vec<u8>, AllocError>
     requires { length payload.now ≤ MOST_BYTES }
     ensures { IfOk result (λ bytes. bytes.items
@@ -119,7 +120,7 @@ fn package_file(alloc: Global, payload: &[u8], mut blocks: Vec<u8>) -> Result<Ve
     Ok(blocks)
 }
 
-/// The size that a package is told to have installed is that of the contents behind it.
+/// The installed size of a package is that of its contents.
 pub fn the_installed_size_is_that_of_the_contents()
     ensures { (first : ℕ) (folders : List SourceFolder)
         → installed_size folders ≡ contents_size (contents_of_folders first folders) }

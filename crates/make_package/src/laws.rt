@@ -1,6 +1,6 @@
-//! What a package is, in the words of the format: laws over the definitions of `package_files`.
-//! The rules are in `docs/commands.md`, "`mkpkg`", and in `docs/formats.md`, "Schemas", tables 4
-//! to 7, by the names of the fields there.
+//! What a package is, in the terms of the format: laws over the definitions of `package_files`.
+//! The rules are in `docs/commands.md`, "`mkpkg`", and in `docs/formats.md`, "Schemas", tables 4 to
+//! 7, by the names of the fields there.
 ghost use Rattle.adb_view.specs.Schema.{field_name_text, table};
 ghost use Rattle.adb_view.specs.declared.tables.Which.TheVariants.{Dir, File, Package, Scripts};
 ghost use Rattle.adb_view.specs.Plain.{Plain, arr_value, blob_value, null};
@@ -20,16 +20,16 @@ ghost use Rattle.std.specs.Ordering.{nat_cmp};
 ghost use Rattle.std.specs.Prelude.{◌≡◌, ◌∷◌, ℕ, All, Any, Contains, List, Option, Some, codes, false, length, map, true};
 
 /// The types that `--script` may name are the fields of a package's scripts, in their order, and a
-/// script stands at the field of its type. What `-I` gives for the priority in replacing stands at
-/// the package's field of that name.
+/// script is at the field of its type. The value of `-I` for the priority in replacing is at the
+/// package's field of that name.
 pub fn a_part_stands_in_the_field_of_its_name()
     // The types of `-s` are the names of the fields of table 6, in their order.
     ensures types { script_types ≡ map (λ field. field_name_text field.name) (table Scripts) }
-    // A script stands at the field of its type.
+    // A script is at the field of its type.
     ensures scripts { (scripts : List Script) → All (λ type.
         value_by_name type (table Scripts) (script_fields scripts)
         ≡ Some (blob_value (script_in scripts type))) script_types }
-    // The priority in replacing stands at the package's field of that name.
+    // The priority in replacing is at the package's field of that name.
     ensures priority { (info : Plain) (paths : List Plain) (scripts : List Script)
         (triggers : List (List ℕ)) (priority : Option ℕ)
         → value_by_name (field_word ReplacesPriority) (table Package)
@@ -37,30 +37,30 @@ pub fn a_part_stands_in_the_field_of_its_name()
         ≡ Some (number_value priority) }
 {}
 
-/// The folders of a package rise in byte order, so that none stands twice. They are just those that
-/// are over a path, at any depth. The files in them are the names that were listed, each once.
+/// The folders of a package are in byte order, so none is repeated. They are exactly those above a
+/// path, at any depth. The files in them are the listed names, each once.
 pub fn each_name_stands_in_one_folder()
-    // The files of all folders are the names that were listed, each once.
+    // The files of all folders are the listed names, each once.
     ensures names { (dir : List ℕ) (names : List (List ℕ))
         → IsPermutation names (flat_map (λ folder. folder.files) (folders_of dir names)) }
-    // The folders rise in byte order of their names.
+    // The folders are in byte order of their names.
     ensures rise { (dir : List ℕ) (names : List (List ℕ)) → IsStrictlySortedBy (slice_cmp nat_cmp)
         (map (λ folder. folder.name) (folders_of dir names)) }
-    // Each folder is over a path.
+    // Each folder is above a path.
     ensures over { (paths : List (List ℕ)) (folder : List ℕ)
         → Contains (folder_names paths) folder
         → Any (λ path. Contains (folders_over path) folder) paths }
-    // Each folder that is over a path is one of them.
+    // Each folder that is above a path is one of them.
     ensures whole { (paths : List (List ℕ)) (path folder : List ℕ)
         → Contains paths path → Contains (folders_over path) folder
         → Contains (folder_names paths) folder }
 {}
 
-/// The fields of a file in a package say what its bytes are: of a link its target and neither size
-/// nor hash, of another file the number of its bytes and their SHA-256, and no target. Each may be
-/// read by all and written by root (0644), and a folder may be entered too (0755).
+/// The fields of a file in a package describe its bytes: for a link its target and neither size nor
+/// hash, for another file the number of its bytes and their SHA-256, and no target. All may read
+/// each file and root may write it (0644); a folder may be entered too (0755).
 pub fn the_fields_of_a_file_are_those_of_its_bytes()
-    // A regular file tells its size and its hash.
+    // A regular file has its size and its hash.
     ensures regular { (name bytes : List ℕ) → is_link_file bytes ≡ false
         → (value_by_name (codes "size") (table File) (file_fields name (kind_of_file bytes))
         ≡ Some (size_value (length bytes)))
@@ -68,7 +68,7 @@ pub fn the_fields_of_a_file_are_those_of_its_bytes()
         ≡ Some (blob_value (sha256 bytes)))
         × (value_by_name (codes "target") (table File) (file_fields name (kind_of_file bytes))
         ≡ Some null) }
-    // A link tells its target alone.
+    // A link has only its target.
     ensures link { (name bytes : List ℕ) → is_link_file bytes ≡ true
         → (value_by_name (codes "size") (table File) (file_fields name (kind_of_file bytes))
         ≡ Some null)
@@ -76,13 +76,13 @@ pub fn the_fields_of_a_file_are_those_of_its_bytes()
         ≡ Some null)
         × (value_by_name (codes "target") (table File) (file_fields name (kind_of_file bytes))
         ≡ Some (blob_value (0 ∷ 160 ∷ link_text bytes))) }
-    // Each file tells its name and who may read it.
+    // Each file has its name and its access rights.
     ensures named { (name : List ℕ) (kind : FileKind)
         → (value_by_name (codes "name") (table File) (file_fields name kind)
         ≡ Some (blob_value name))
         × (value_by_name (codes "acl") (table File) (file_fields name kind)
         ≡ Some (access_value FILE_MODE)) }
-    // A folder tells its name, who may enter it, and its files.
+    // A folder has its name, its access rights, and its files.
     ensures folder { (name : List ℕ) (files : List Plain)
         → (value_by_name (codes "name") (table Dir) (folder_fields name files)
         ≡ Some (blob_value name))

@@ -1,5 +1,5 @@
-//! Makes a package (apk(8), `mkpkg`): a command and a tree come in, the bytes of a container go
-//! out.
+//! Makes a package (apk(8), `mkpkg`): it takes a command and a tree, and returns the bytes of a
+//! container.
 //!
 //! The contract cites `Folders`, `Package` and `Sources` of `package_files` (what a package is made
 //! of, and its value) and `Making` (the package of a command) of `specs/`.

@@ -1,4 +1,4 @@
-//! Makes the package that a command asks for, of what it reads in a tree.
+//! Makes the package that a command describes, from what it reads in a tree.
 //! The rule is in `docs/commands.md`, "`mkpkg`", with the refusals in their order.
 ghost use Rattle.base_core.specs.Read.{OnlyReads};
 ghost use Rattle.make_package.specs.Answers.{IsBytes, IsMadeRun};
@@ -16,23 +16,23 @@ use make_info::{MakeFault, read_information};
 use package_files::Packing;
 use std::alloc::Global;
 
-/// Makes the package that a command asks for: lists the names below its folder, reads the scripts
-/// and the files, each once, and writes the container's bytes. The tree stays as it is, whatever
-/// the answer.
+/// Makes the package that a command describes: lists the names below its folder, reads the scripts
+/// and the files, each once, and writes the container's bytes. The tree is unchanged, whatever is
+/// returned.
 ///
 /// # Errors
 ///
 /// `FileMissing` at the place of the first script whose file is absent; then `InfoBad` as
-/// `read_information` says; then `FileMissing` at the folder's place where a file that was listed
-/// is not found; then `TooLarge` where the package's values pass a limit of the writer. `Disk`
-/// if the tree failed, and `Memory`.
+/// `read_information` says; then `FileMissing` at the folder's place if a listed file is gone; then
+/// `TooLarge` if the package's values exceed a limit of the writer. `Disk` if the tree failed, and
+/// `Memory`.
 pub fn make<T: Tree>(alloc: Global, command: &Command, tree: &mut T) -> Result<Vec<u8>, MakeFault>
     requires { command.now.applet ≡ Applet.Mkpkg }
-    // The tree is only read, and `Disk` has a fault of it for its cause.
+    // The tree is only read, and `Disk` has a fault of the tree as its cause.
     ensures tree { OnlyReads MakeFault.Disk (T.history tree.old) (T.history tree.new)
         (T.counts tree.old) (T.counts tree.new) result }
     // The bytes are the package of the command, of names below its folder and of some reads; or the
-    // first refusal is told.
+    // first refusal is returned.
     ensures made { IsMadeRun (T.history tree.old) command.now result }
 {
     // A law that the proof needs; it computes nothing.

@@ -1,5 +1,5 @@
-//! Reads what options name in the tree (apk(8), `mkpkg`): the folder whose files a package holds,
-//! and the files of its scripts.
+//! Reads what options name in the tree (apk(8), `mkpkg`): the folder whose files a package has, and
+//! the files of its scripts.
 //! The rules are in `docs/commands.md`, "`mkpkg`" (TYPE:FILE of `-s`, and `-F DIR`) and "Words"
 //! (the options).
 ghost use Rattle.base_core.specs.Calls.{IfObservable};
@@ -24,7 +24,7 @@ use package_files::{Packing, pack_names, read_file};
 use std::alloc::{AllocError, Global};
 
 /// The names below the folder that an option gives, in byte order and each once, whatever the tree
-/// answers; none where no folder is given.
+/// returns; none if no folder is given.
 pub(crate) fn list_names<T: Tree>(
     alloc: Global,
     tree: &mut T,
@@ -34,12 +34,12 @@ pub(crate) fn list_names<T: Tree>(
     requires { IsTrue (are_values (value_rules Mkpkg) values.now) }
     ensures tree { OnlyReads MakeFault.Disk (T.history tree.old) (T.history tree.new)
         (T.counts tree.old) (T.counts tree.new) result }
-    // Listing can fail by the tree and for lack of memory alone.
+    // A listing can fail only by an I/O error of the tree or out of memory.
     ensures cut { IsCutOff result }
-    // Where the tree tells its files, these are the names below the folder.
+    // If the tree's files are observable, these are the names below the folder.
     ensures names { IfOk result (λ names. IfObservable (T.history tree.old) (λ v.
         AreBelow (values_with FILES values.now) v names)) }
-    // Whatever the tree answers, these are names below the folder, in byte order and each once.
+    // Whatever the tree returns, these are names below the folder, in byte order and each once.
     ensures order { IfOk result (λ names. AreNamesFor (values_with FILES values.now) names) }
 {
     match values.first_file(FILES) {
@@ -51,8 +51,8 @@ pub(crate) fn list_names<T: Tree>(
     }
 }
 
-/// Packs the files of these names, which are listed below the folder that `-F` gives; nothing where
-/// no folder is given.
+/// Packs the files of these names, which are listed below the folder of `-F`; nothing if no folder
+/// is given.
 pub(crate) fn pack_below<'a, T: Tree>(
     alloc: Global,
     tree: &mut T,
@@ -98,7 +98,7 @@ pub(crate) fn read_scripts<'a, T: Tree>(
     let mut scripts = Vec::new(alloc);
     for i in 0..values.len() {
         let value = values.get(i);
-        // The values of all options stand in one list.
+        // The values of all options are in one list.
         if value.letter != SCRIPT {
             continue;
         }
@@ -108,7 +108,7 @@ pub(crate) fn read_scripts<'a, T: Tree>(
     Ok(scripts)
 }
 
-/// Puts a script behind the others.
+/// Adds a script at the end.
 fn push_script<'a>(scripts: &mut Vec<Script<'a>>, script: Script<'a>) -> Result<(), AllocError>
     ensures { OnOk result (scripts.new.items ≡ scripts.old.items ++ script.entry ∷ []) }
 {

@@ -26,8 +26,8 @@ const FOLDER_MODE: u64 = 0o755;
 /// The mode of every file (420 there): all may read, and root may write.
 const FILE_MODE: u64 = 0o644;
 
-/// Writes a package with this information, these folders and scripts, with the triggers that the
-/// values of options say, and with the installed size `size`.
+/// Writes a package with this information, these folders and scripts, with the triggers of the
+/// options, and with the installed size `size`.
 pub(crate) fn write_package(
     draft: &mut Draft,
     values: &Values,

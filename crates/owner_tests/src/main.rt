@@ -33,7 +33,7 @@ const QUESTIONS: [(&[u8], Question); 3] = [
     (b"owners", Question::Owners),
 ];
 
-/// The packages that come, as the rows before have told them.
+/// The added packages, as the rows before have told them.
 #[derive(Drop)]
 struct ComingPackages {
     /// Their containers, in the order in which they were told.

@@ -1,5 +1,5 @@
 //! The containers of packages, from the words of a row. Each is made of a dump text
-//! (`docs/formats.md`, "Dump text"); how a row writes a package stands in the README of this crate.
+//! (`docs/formats.md`, "Dump text"); how a row writes a package is in the README of this crate.
 
 use base_core::Words;
 use row_dump::{DumpFault, container_of};
@@ -7,7 +7,7 @@ use row_lines::word_at;
 use std::alloc::{AllocError, Global};
 
 /// The container of `package NAME VERSION PRIORITY PATHS REPLACES..`. The paths have commas between
-/// them, and each is that of an empty file. What is replaced is `NAME:VERSION:MATCH`, where the
+/// them, and each is that of an empty file. What is replaced is `NAME:VERSION:MATCH`; the
 /// number says which versions match. None if the words give no container.
 pub(crate) fn package_of(alloc: Global, words: &Words) -> Result<Option<Vec<u8>>, AllocError> {
     let mut dump = Vec::new(alloc);
@@ -98,7 +98,7 @@ fn add_rights(dump: &mut Vec<u8>, user: &[u8], group: &[u8]) -> Result<(), Alloc
     add_field(dump, group, b"root")
 }
 
-/// What stands before the first byte of this kind, and what behind it.
+/// What is before the first byte of this kind, and what after it.
 fn parted(text: &[u8], mark: u8) -> (&[u8], &[u8]) {
     match text.iter().position(|byte| *byte == mark) {
         Some(i) if i < text.len() => (&text[..i], &text[i + 1..]),

@@ -178,7 +178,7 @@ fn version_change<'a>(name: &'a [u8], old: &'a [u8], new: &'a [u8]) -> Change<'a
     }
 }
 
-/// The order of the texts of two versions; a text that is no version comes first.
+/// The order of the texts of two versions; a text that is no version is first.
 fn version_text_cmp(old: &[u8], new: &[u8]) -> Ordering
     ensures { result ≡ version_text_cmp old.now new.now }
 {

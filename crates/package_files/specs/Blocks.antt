@@ -9,22 +9,21 @@ use Rattle.adb_block.specs.declared.block.BlockKind.TheVariants as Kinds
 use Rattle.pkg_core.specs.Contents.{Contents}
 use Rattle.adb_sound.specs.Container.{contents_piece}
 
--- one block as it stands in the file: the contents of one file behind their two positions
+-- one block as in the file: the contents of one file after their two positions
 abbrev pub contents_block : Contents → List ℕ
 contents_block contents = block_bytes (contents_piece contents)
 
--- the blocks of some contents, one behind the other
+-- the blocks of some contents, one after the other
 abbrev pub contents_blocks : List Contents → List ℕ
 contents_blocks contents = flat_map contents_block contents
 
--- what stands in front of the bytes of a file in its block: the header, and the two positions, of
--- four bytes each
+-- the bytes before those of a file in its block: the header, and the two positions, of four bytes each
 abbrev pub contents_front : ℕ → ℕ → ℕ → List ℕ
 contents_front folder file size =
     head_bytes Kinds.Contents (8 + size) ++ (to_le_bytes w32 folder ++ to_le_bytes w32 file)
 
--- behind `before` stands the front of the block of a file with these positions, and from the offset
--- `at` on the bytes of the file
+-- `before` is followed by the front of the block of a file with these positions, and by the bytes of
+-- the file from the offset `at` on
 pub record HasBlockFront (folder file : ℕ) (before later : List ℕ) (at : ℕ) : Type 0 where
   pub within : at ≤ length later
   pub front : take at later ≡ before ++ contents_front folder file (length later - at)

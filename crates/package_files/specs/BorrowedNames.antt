@@ -1,6 +1,6 @@
--- Folders as the program has them.
--- No rule of a document: serves the contracts of `src/folders.rt` and `src/packing.rt`, which
--- borrow names.
+-- Folders as values of the program.
+-- No document has a rule for this: it serves the contracts of `src/folders.rt` and `src/packing.rt`,
+-- which borrow names.
 use Rattle.std.specs.Prelude.{◌≡◌, ℕ, ◌<◌, ◌==◌, false, List, [], ◌∷◌, length, map, slice_index_or, bytes_eq, Option, Some, None, Vec}
 use Rattle.std.specs.Borrow.{Bor}
 use Rattle.package_files.specs.Folders.{FolderListing}
@@ -10,8 +10,8 @@ use Rattle.std.specs.declared.alloc.Global.{Global}
 abbrev pub names_borrowed : Vec (Bor (List ℕ)) Global → List (List ℕ)
 names_borrowed names = map (λ (name : Bor (List ℕ)). name.now) names.items
 
--- what is found of a name in a list where each stands once: its index, counted from 0, or none
--- where the list has not the name
+-- the result of a search for a name in a list without repeats: its index, counted from 0, or none if
+-- the list does not have the name
 abbrev pub IsIndexOf : List ℕ → List (List ℕ) → Option ℕ → Type 0
 IsIndexOf name names None =
     (k : ℕ) → k < length names → bytes_eq name (slice_index_or names k []) ≡ false
@@ -19,8 +19,7 @@ IsIndexOf name names (Some at) =
     (at < length names)
     × ((k : ℕ) → k < length names → bytes_eq name (slice_index_or names k []) ≡ (k == at))
 
--- the listings of a package's folders, for each of which the names in the tree of its files are
--- given
+-- the listings of a package's folders, given the names in the tree of each folder's files
 abbrev pub listings_of :
     List (List ℕ) → List (Vec (Bor (List ℕ)) Global) → List FolderListing
 listings_of [] files = []

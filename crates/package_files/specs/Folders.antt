@@ -1,4 +1,4 @@
--- The folders of a package, and which of the files below a folder of the tree stands in which.
+-- The folders of a package, and the folder of each file below a folder of the tree.
 -- The rule is in `docs/commands.md`, "`mkpkg`", the paragraph on `-F DIR`.
 use Rattle.std.specs.Prelude.{ℕ, ◌+◌, ◌==◌, Bool, if◌then◌else◌, List, [], ◌∷◌, length, drop, map, filter, bytes_eq}
 use Rattle.std.specs.List.{flat_map, before_last, after_last}
@@ -11,35 +11,35 @@ use Rattle.std.specs.declared.cmp.Ordering.TheVariants.{Less, Equal, Greater}
 abbrev pub is_slash : ℕ → Bool
 is_slash b = b == 47
 
--- the folder in which a path stands: what is before its last `/`; empty for the root
+-- the folder of a path: the text before its last `/`; empty for the root
 abbrev pub folder_of : List ℕ → List ℕ
 folder_of path = before_last is_slash path
 
--- the last part of a path: what stands behind its last `/`, or all of it
+-- the last part of a path: the text after its last `/`, or all of it
 abbrev pub last_part_of : List ℕ → List ℕ
 last_part_of path = after_last is_slash path
 
--- what stands before each slash of a text, by its first byte and what stands before the slashes
--- behind that: nothing, if the byte is a slash; and each further one begins with the byte
+-- the texts before each slash of a text, given its first byte and the texts before the slashes after
+-- that: nothing, if the byte is a slash; and each later one begins with the byte
 abbrev pub with_byte : ℕ → List (List ℕ) → List (List ℕ)
 with_byte b folders =
     if is_slash b then [] ∷ map (λ folder. b ∷ folder) folders
     else map (λ folder. b ∷ folder) folders
 
--- what stands before each slash of a text
+-- the texts before each slash of a text
 abbrev pub before_slashes : List ℕ → List (List ℕ)
 before_slashes [] = []
 before_slashes (b ∷ bs) = with_byte b (before_slashes bs)
 
--- the folders that hold a path, at any depth: the root, and what stands before each slash
+-- the folders that contain a path, at any depth: the root, and the text before each slash
 abbrev pub folders_over : List ℕ → List (List ℕ)
 folders_over path = [] ∷ before_slashes path
 
 -- ---- names in byte order, each once
 
--- a name put among names that rise in byte order, by its order to the first of them (`x`): it goes
--- in front of the first that comes behind it, and one that is there is not put in again. `further`
--- are the others with the name among them
+-- inserts a name into names in rising byte order, given its order to the first of them (`x`): it is put
+-- before the first greater one, and a name that is there is not inserted again. `further` are the
+-- others with the name inserted
 abbrev pub with_folder_by :
     Ordering → List ℕ → List ℕ → List (List ℕ) → List (List ℕ) → List (List ℕ)
 with_folder_by Less name x xs further = name ∷ x ∷ xs
@@ -63,7 +63,7 @@ sorted_names names = with_folders [] names
 
 -- ---- the folders of a package
 
--- a folder by its name in the package, and the names in the tree of the files that stand in it
+-- a folder by its name in the package, and the names in the tree of its files
 pub record FolderListing : Type 0 where
   pub name : List ℕ
   pub files : List (List ℕ)
@@ -72,18 +72,18 @@ pub record FolderListing : Type 0 where
 abbrev pub path_below : List ℕ → List ℕ → List ℕ
 path_below folder name = drop (length folder + 1) name
 
--- the names of a package's folders, by the paths of its files: the root and each folder that holds
--- a path at any depth, in byte order; no folder where there is no path
+-- the names of a package's folders, given the paths of its files: the root and each folder that
+-- contains a path at any depth, in byte order; no folder if there is no path
 abbrev pub folder_names : List (List ℕ) → List (List ℕ)
 folder_names paths = sorted_names (flat_map folders_over paths)
 
--- of the names that are listed below `dir` of the tree, those whose paths stand in a folder of the
--- package, in the order listed
+-- the names listed below `dir` of the tree whose paths are in a folder of the package, in the listed
+-- order
 abbrev pub names_in_folder : List ℕ → List (List ℕ) → List ℕ → List (List ℕ)
 names_in_folder dir names folder =
     filter (λ name. bytes_eq (folder_of (path_below dir name)) folder) names
 
--- a folder of the package, with the names of the files that stand in it
+-- a folder of the package, with the names of its files
 abbrev pub listing_of : List ℕ → List (List ℕ) → List ℕ → FolderListing
 listing_of dir names folder = record { name = folder; files = names_in_folder dir names folder }
 

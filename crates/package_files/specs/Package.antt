@@ -1,4 +1,4 @@
--- The value of a package (apk-v3(5)) and the contents of its files, of what was read.
+-- The value of a package (apk-v3(5)) and the contents of its files, given what was read.
 -- The rules are in `docs/commands.md`, "`mkpkg`" (modes, users, sizes, links), and in
 -- `docs/formats.md`: "Schemas", tables 2, 4, 5, 6 and 7 (the fields in their order), and "The other
 -- blocks" (contents).
@@ -17,12 +17,12 @@ pub record Source : Type 0 where
   pub name : List ℕ
   pub bytes : List ℕ
 
--- a folder that was read, by its name in the package, and the files that stand in it
+-- a folder that was read: its name in the package, and its files
 pub record SourceFolder : Type 0 where
   pub name : List ℕ
   pub files : List Source
 
--- a script that was read, by its type, which is its field's name, and its bytes
+-- a script that was read: its type, which is its field's name, and its bytes
 pub record Script : Type 0 where
   pub field : List ℕ
   pub bytes : List ℕ
@@ -33,7 +33,7 @@ pub record Script : Type 0 where
 abbrev pub link_mark : List ℕ
 link_mark = codes "!<symlink>"
 
--- the text of a link: what stands behind its mark
+-- the text of a link: the bytes after its mark
 abbrev pub link_text : List ℕ → List ℕ
 link_text bytes = drop (length link_mark) bytes
 
@@ -50,17 +50,17 @@ kind_of_file bytes =
     if is_link_file bytes then Link (0 ∷ 160 ∷ link_text bytes)
     else Regular (length bytes) (sha256 bytes)
 
--- the size that a package tells of a file; a link has the size 0
+-- the size of a file in its entry; a link has the size 0
 abbrev pub size_of_kind : FileKind → ℕ
 size_of_kind (Link target) = 0
 size_of_kind (Regular size hash) = size
 
--- the hash that a package tells of a file; a link has none
+-- the hash of a file in its entry; a link has none
 abbrev pub hash_of_kind : FileKind → List ℕ
 hash_of_kind (Link target) = []
 hash_of_kind (Regular size hash) = hash
 
--- the target that a package tells of a file; a file that is no link has an empty one
+-- the target of a file in its entry; a file that is no link has an empty one
 abbrev pub target_of_kind : FileKind → List ℕ
 target_of_kind (Link target) = target
 target_of_kind (Regular size hash) = []
@@ -88,11 +88,11 @@ file_fields name kind =
     (more null (more (blob_value (hash_of_kind kind))
     (more (blob_value (target_of_kind kind)) none)))))
 
--- the entry of a file, by what it is
+-- the entry of a file, given what it is
 abbrev pub value_of_kind : List ℕ → FileKind → Plain
 value_of_kind name kind = obj_value (file_fields name kind)
 
--- the entry of a file, by its bytes
+-- the entry of a file, given its bytes
 abbrev pub value_of_file : Source → Plain
 value_of_file file = value_of_kind file.name (kind_of_file file.bytes)
 
@@ -121,7 +121,7 @@ installed_size folders = sum_by size_of_folder folders
 
 -- ---- scripts
 
--- the bytes of the script that a field is for; none where no script is
+-- the bytes of the script for a field, if there is one
 abbrev pub script_in : List Script → List ℕ → List ℕ
 script_in [] field = []
 script_in (script ∷ scripts) field =
@@ -132,14 +132,13 @@ abbrev pub script_fields : List Script → Plains
 script_fields scripts =
     plains_of_list (map (λ field. blob_value (script_in scripts field)) script_types)
 
--- the scripts of a package as an object; Null where the package has no script at all
+-- the scripts of a package as an object; Null if the package has no script at all
 abbrev pub value_of_scripts : List Script → Plain
 value_of_scripts scripts = obj_value (script_fields scripts)
 
 -- ---- the package
 
--- the fields of a package: information, paths, scripts, triggers and the priority in replacing,
--- which may be lacking
+-- the fields of a package: information, paths, scripts, triggers and the optional priority in replacing
 abbrev pub package_fields : Plain → List Plain → List Script → List (List ℕ) → Option ℕ → Plains
 package_fields info paths scripts triggers priority =
     more info (more (arr_value (plains_of_list paths)) (more (value_of_scripts scripts)
@@ -150,22 +149,21 @@ abbrev pub package_with : Plain → List Plain → List Script → List (List �
 package_with info paths scripts triggers priority =
     obj_value (package_fields info paths scripts triggers priority)
 
--- the value of a package, by what was read
+-- the value of a package, given what was read
 abbrev pub value_of_package :
     Plain → List SourceFolder → List Script → List (List ℕ) → Option ℕ → Plain
 value_of_package info folders scripts triggers priority =
     package_with info (map value_of_folder folders) scripts triggers priority
 
--- ---- the contents behind it: of each regular file that is not empty, in order, with the
--- positions of its folder and of itself, from 1
+-- ---- the contents after it: of each regular file that is not empty, in order, with the positions of
+-- its folder and of itself, from 1
 
 -- whether a file has a block of contents of its own: a regular file that is not empty has; a link
 -- and an empty file have none
 abbrev pub has_contents : FileKind → Bool
 has_contents kind = nat_lt 0 (size_of_kind kind)
 
--- the contents of the file at these positions, of its folder and of itself in that, if it has a
--- block
+-- the contents of the file at these positions, of its folder and of itself in that, if it has a block
 abbrev pub contents_of_file : ℕ → ℕ → List ℕ → List Contents
 contents_of_file folder i bytes =
     if has_contents (kind_of_file bytes) then
@@ -177,8 +175,8 @@ contents_of_files folder i [] = []
 contents_of_files folder i (file ∷ files) =
     contents_of_file folder i file.bytes ++ contents_of_files folder (i + 1) files
 
--- the contents of the files of folders, from the one with this position on, in the order in which
--- their blocks stand
+-- the contents of the files of folders, from the one with this position on, in the order of their
+-- blocks
 abbrev pub contents_of_folders : ℕ → List SourceFolder → List Contents
 contents_of_folders i [] = []
 contents_of_folders i (folder ∷ folders) =

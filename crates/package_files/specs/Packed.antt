@@ -1,6 +1,6 @@
--- Folders and files as the program packs them, and the values that stand for them.
--- No rule of a document: serves the contracts of `src/packing.rt` and of `make_package`; *Package*
--- says the same of what was read.
+-- Packed folders and files as values of the program, and their plain values.
+-- No document has a rule for this: it serves the contracts of `src/packing.rt` and of `make_package`;
+-- *Package* defines the same of what was read.
 use Rattle.std.specs.Prelude.{◌≡◌, ℕ, List, [], ◌∷◌, ◌++◌, map, sum_by, Vec}
 use Rattle.std.specs.declared.alloc.Global.{Global}
 use Rattle.adb_view.specs.Plain.{Plain}
@@ -26,8 +26,7 @@ files_size files = sum_by (λ (file : File). size_of_kind file.kind) files
 abbrev pub packed_size : List Folder → ℕ
 packed_size folders = sum_by (λ (folder : Folder). files_size folder.files.items) folders
 
--- a file that was packed is that of a file that was read: it has the name, and is what the bytes
--- say
+-- a packed file is that of a file that was read: it has the name, and is what the bytes say
 pub record IsFileFrom (file : File) (source : Source) : Type 0 where
   pub name : file.name.now ≡ source.name
   pub kind : file.kind ≡ kind_of_file source.bytes
@@ -56,22 +55,22 @@ AreFoldersFrom (folder ∷ folders) (source ∷ sources) =
 
 -- ---- what is appended to the blocks meanwhile
 
--- the file at position `at` of a folder was packed: it is what its bytes say, and its block of
--- contents stands behind those before
+-- the file at position `at` of a folder was packed: it is what its bytes say, and its block of contents
+-- follows those before
 pub record IsPackedFile (folder at : ℕ) (before later : List ℕ) (file : File) (source : Source) :
     Type 0 where
   pub is : IsFileFrom file source
   pub blocks : later ≡ before ++ contents_blocks (contents_of_file folder at source.bytes)
 
--- the files of a folder were packed, from the first on: they are what their bytes say, and their
--- blocks stand behind those before
+-- the files of a folder were packed, from the first on: they are what their bytes say, and their blocks
+-- follow those before
 pub record ArePackedFiles (folder : ℕ) (before later : List ℕ) (files : Vec File Global)
     (sources : List Source) : Type 0 where
   pub are : AreFilesFrom files.items sources
   pub blocks : later ≡ before ++ contents_blocks (contents_of_files folder 1 sources)
 
--- a folder was packed, with its position among the folders, counted from 1, and the blocks of its
--- files stand behind those before
+-- a folder was packed, with its position among the folders, counted from 1, and the blocks of its files
+-- follow those before
 pub record IsPackedFolder (folder : ℕ) (before later : List ℕ) (packed : Folder)
     (source : SourceFolder) : Type 0 where
   pub is : IsFolderFrom packed source

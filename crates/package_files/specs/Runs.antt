@@ -1,6 +1,6 @@
--- What a call that reads a tree says of what it found.
--- No rule of a document: serves the contracts of the calls of `make_package`, `make_index` and this
--- crate that read; which read finds what, says *Sources*.
+-- How the result of a call that reads a tree relates to what it found.
+-- No document has a rule for this: it serves the contracts of the calls of `make_package`, `make_index`
+-- and this crate that read; *Sources* says which read finds what.
 use Rattle.std.specs.Prelude.{◌≡◌, ℕ, List, Result, Ok, Err}
 use Rattle.base_core.specs.Calls.{IfObservable}
 use Rattle.base_core.specs.Tree.{TreeState, files_of}
@@ -8,20 +8,19 @@ use Rattle.make_info.specs.Reads.{Reads}
 use Rattle.make_info.specs.declared.fault.MakeFault.{MakeFault}
 use Rattle.make_info.specs.declared.fault.MakeFault.TheVariants.{Disk, Memory}
 
--- where the history of a tree is observable, each read finds what stands in the tree under its name
+-- if the history of a tree is observable, each read finds the file of the tree under its name
 abbrev pub AreObserved : List TreeState → Reads → Type 0
 AreObserved history read =
     IfObservable history (λ v. (n : ℕ) (name : List ℕ) → read n name ≡ files_of v name)
 
--- there are some reads, as observed where the tree can be, of which this holds: they explain what
--- was found
+-- this holds of some reads, which are the tree's if it is observable: they explain what was found
 pub record Explains (history : List TreeState) (P : Reads → Type 0) : Type 0 where
   pub read : Reads
   pub observed : AreObserved history read
   pub is : P read
 
--- an answer stands for what is wanted, or is the wanted fault; a fault of the tree and want of
--- memory stand for anything
+-- a result denotes the wanted value, or is the wanted fault; an I/O error of the tree and out of memory
+-- may occur in any case
 abbrev pub IsAnswer :
     {A B : Type 0} → (A → B → Type 0) → Result A MakeFault → Result B MakeFault → Type 0
 IsAnswer {A} {B} StandsFor (Ok x) wanted = (y : B) × (wanted ≡ Ok y) × StandsFor x y

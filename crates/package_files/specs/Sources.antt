@@ -1,6 +1,6 @@
 -- What a package is made of, as reads find it: the script files, and the files of each folder.
--- The rules are in `docs/commands.md`, "`mkpkg`": TYPE:FILE of `-s`, the files below the folder
--- of `-F`, and where the place of a file that is absent is reported.
+-- The rules are in `docs/commands.md`, "`mkpkg`": TYPE:FILE of `-s`, the files below the folder of
+-- `-F`, and the place at which an absent file is reported.
 use Rattle.std.specs.Prelude.{ℕ, ◌+◌, ◌==◌, List, [], ◌∷◌, length, map, filter, Option, Some, None, Result, Ok, Err}
 pub use Rattle.base_core.specs.Lists.{and_then}
 use Rattle.base_core.specs.Listed.{AreNamesBelow}
@@ -13,13 +13,13 @@ use Rattle.make_info.specs.declared.fault.MakeFault.TheVariants.{FileMissing}
 use Rattle.package_files.specs.Folders.{last_part_of, FolderListing, folders_of}
 use Rattle.package_files.specs.Package.{Source, SourceFolder, Script}
 
--- what a read found for the argument at a place: its bytes, or that the file is missing
+-- the result of a read for the argument at a place: its bytes, or that the file is missing
 abbrev pub found_at : ℕ → Option (List ℕ) → Result (List ℕ) MakeFault
 found_at place None = Err (FileMissing place)
 found_at place (Some bytes) = Ok bytes
 
--- what comes of each element of a list, one after the other, or the first fault; an element makes
--- so many reads (`count`), and `of` is given the number of its first
+-- the results of `of` for each element of a list, one after the other, or the first fault; an element
+-- makes `count` reads, and `of` gets the number of its first
 abbrev pub each_from :
     {X Y : Type 0} → (X → ℕ) → (ℕ → X → Result Y MakeFault) → ℕ → List X → Result (List Y) MakeFault
 each_from count of n [] = Ok []
@@ -65,13 +65,12 @@ scripts_from read n values = each_from (λ v. 1) (script_at read) n values
 abbrev pub source_with : List ℕ → List ℕ → Source
 source_with name bytes = record { name = last_part_of name; bytes = bytes }
 
--- the file under a name in the tree by the read of number `n`; the argument at a place lists the
--- name
+-- the file under a name in the tree by the read of number `n`; the argument at a place lists the name
 abbrev pub file_at : ℕ → Reads → ℕ → List ℕ → Result Source MakeFault
 file_at place read n name =
     and_then (found_at place (read n name)) (λ bytes. Ok (source_with name bytes))
 
--- the files under names in the tree, each with a read of its own; `place` is that of `-F`, where a
+-- the files under names in the tree, each with a read of its own; `place` is that of `-F`, at which a
 -- file that is gone is reported
 abbrev pub sources_from : ℕ → Reads → ℕ → List (List ℕ) → Result (List Source) MakeFault
 sources_from place read n names = each_from (λ name. 1) (file_at place read) n names
@@ -82,14 +81,14 @@ folder_at place read n folder =
     and_then (sources_from place read n folder.files)
     (λ files. Ok (record { name = folder.name; files = files }))
 
--- folders with their files, one read behind another
+-- folders with their files, one read after another
 abbrev pub source_folders_from :
     ℕ → Reads → ℕ → List FolderListing → Result (List SourceFolder) MakeFault
 source_folders_from place read n folders =
     each_from (λ (folder : FolderListing). length folder.files) (folder_at place read) n folders
 
--- the folders of a package by the names that are listed below the folder that the first value of
--- `-F` gives; no folders if it is not given
+-- the folders of a package, given the names that are listed below the folder of the first value of
+-- `-F`; no folders if it is not given
 abbrev pub folders_below :
     Reads → ℕ → List OptionValue → List (List ℕ) → Result (List SourceFolder) MakeFault
 folders_below read n [] names = Ok []

@@ -1,6 +1,6 @@
-//! The files of a package as it is packed, and what their bytes are (apk-package(5)).
+//! The packed files of a package, and what their bytes are (apk-package(5)).
 //! The rules are in `docs/commands.md`, "`mkpkg`", the paragraph on `-F DIR` (when a file is a
-//! symbolic link), and in `docs/formats.md`, "The texts", field 406 (what its target is).
+//! symbolic link), and in `docs/formats.md`, "The texts", field 406 (its target).
 ghost use Rattle.std.specs.Prelude.{◌≡◌, ◌∷◌, true, false, IfOk, MatchOption};
 ghost use Rattle.std.specs.Str.{is_utf8};
 ghost use Rattle.package_files.specs.Package.{is_link_file, link_text, has_contents, kind_of_file, size_of_kind, hash_of_kind, target_of_kind};
@@ -18,11 +18,11 @@ const LINK_MARK: &[u8] = b"!<symlink>";
 pub struct Packing<'a> {
     /// The folders, in byte order of their names.
     pub folders: Vec<Folder<'a>>,
-    /// The blocks of contents of the files, one behind the other.
+    /// The blocks of contents of the files, one after the other.
     pub blocks: Vec<u8>,
 }
 
-/// A folder of a package, with the files that stand in it.
+/// A folder of a package, with the files in it.
 #[derive(Drop)]
 pub struct Folder<'a> {
     /// The name of the folder; empty for the root.
@@ -43,15 +43,15 @@ pub struct File<'a> {
 /// What the bytes of a file are in a package (apk-package(5)).
 #[derive(Drop)]
 pub enum FileKind {
-    /// A symbolic link, with what its field `target` holds.
+    /// A symbolic link, with the value of its field `target`.
     Link { target: Text },
     /// A regular file, with its size in bytes and its SHA-256.
     Regular { size: u64, hash: [u8; 32] },
 }
 
 impl FileKind {
-    /// What the bytes of a file are: a link, if they are its mark and a text that is not empty,
-    /// else a regular file.
+    /// What the bytes of a file are: a link, if they are its mark and a text that is not empty;
+    /// otherwise a regular file.
     #[tactic(auto, unfolding(crate::specs::Package::kind_of_file))]
     pub(crate) fn of(alloc: Global, bytes: &[u8]) -> Result<FileKind, AllocError>
         ensures { IfOk result (λ kind. kind ≡ kind_of_file bytes.now) }
@@ -98,7 +98,7 @@ impl FileKind {
         }
     }
 
-    /// Whether the file has contents behind the package's values: it is a regular file that is not
+    /// Whether the file has contents after the package's values: it is a regular file that is not
     /// empty.
     pub(crate) fn has_contents(&self) -> bool
         ensures { result ≡ has_contents self.now }
@@ -117,7 +117,7 @@ fn target(alloc: Global, text: &[u8]) -> Result<Text, AllocError>
     Ok(Text::from_vec(target))
 }
 
-/// The text behind the mark of a link. None comes exactly when the bytes are no link.
+/// The text after the mark of a link. None is returned exactly if the bytes are no link.
 #[tactic(auto, unfolding(crate::specs::Package::is_link_file))]
 fn link_text(bytes: &[u8]) -> Option<&[u8]>
     ensures { MatchOption result (is_link_file bytes.now ≡ false) (λ text.

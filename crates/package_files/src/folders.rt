@@ -1,4 +1,4 @@
-//! The folders of a package, and which of the files below a folder of the tree stands in which.
+//! The folders of a package, and the folder of each file below a folder of the tree.
 //! The rule is in `docs/commands.md`, "`mkpkg`", the paragraph on `-F DIR`: "Its folders are
 //! the root and each folder that holds a file at any depth, in byte order".
 ghost use Rattle.std.specs.Prelude.{◌≡◌, ◌<◌, ◌≤◌, ◌+◌, ◌-◌, not, [], length, drop, map, replicate, slice_get, OnOk, IfOk};
@@ -41,7 +41,7 @@ impl<'a> FolderNames<'a> {
         }
     }
 
-    /// Adds the folders that hold a path, at any depth: the root, and what stands before each `/`.
+    /// Adds the folders that contain a path, at any depth: the root, and the text before each `/`.
     pub(crate) fn add_over(&mut self, path: &'a [u8]) -> Result<(), AllocError>
         ensures { OnOk result (self.new ≡ with_folders self.old (folders_over path.now)) }
     {
@@ -54,9 +54,8 @@ impl<'a> FolderNames<'a> {
         Ok(())
     }
 
-    /// Adds a folder, unless it is there. Paths that come in byte order bring the folders nearly in
-    /// order: a folder comes too late only behind those that its name begins, so that few are
-    /// moved.
+    /// Adds a folder, unless it is there. For paths in byte order the folders are nearly in order:
+    /// only those that begin with a folder's name can be before it too early, so few are moved.
     fn add(&mut self, folder: &'a [u8]) -> Result<(), AllocError>
         ensures { OnOk result (self.new ≡ with_folder folder.now self.old) }
     {
@@ -82,7 +81,7 @@ impl<'a> FolderNames<'a> {
         self.names[i]
     }
 
-    /// The place of a folder, counted from 0, if it is there; found by halving.
+    /// The place of a folder, counted from 0, if it is there; by binary search.
     fn index_of(&self, folder: &[u8]) -> Option<usize>
         ensures { IsIndexOf folder.now self.now result }
     {
@@ -90,8 +89,8 @@ impl<'a> FolderNames<'a> {
     }
 }
 
-/// The folders of a package, of the names that are listed below a folder of the tree. Where the
-/// folder of a path is there, all that are over the path are: they are not searched for again.
+/// The folders of a package, given the names that are listed below a folder of the tree. If the
+/// folder of a path is there, so are all above the path: they are not searched for again.
 pub(crate) fn folder_names<'a>(
     alloc: Global,
     dir: &[u8],
@@ -102,7 +101,7 @@ pub(crate) fn folder_names<'a>(
     let mut folders = FolderNames::new(alloc);
     for i in 0..names.len() {
         let path = path_below(dir.len(), names.get(i).as_bytes());
-        // Where the folder is known, so are all above it.
+        // If the folder is known, so are all above it.
         if folders.index_of(folder_of(path)).is_none() {
             folders.add_over(path)?;
         }
@@ -110,7 +109,7 @@ pub(crate) fn folder_names<'a>(
     Ok(folders)
 }
 
-/// For each of these folders the names that stand in it, in the order listed.
+/// For each of these folders the names in it, in the listed order.
 pub(crate) fn names_in_folders<'a>(
     alloc: Global,
     dir: &[u8],
@@ -142,7 +141,7 @@ fn empty_lists<'a>(alloc: Global, len: usize) -> Result<Vec<Vec<&'a Name>>, Allo
     Ok(lists)
 }
 
-/// The folder in which a path stands, which is empty for the root.
+/// The folder of a path, which is empty for the root.
 pub fn folder_of(path: &[u8]) -> &[u8]
     ensures { result.now ≡ folder_of path.now }
 {
@@ -156,7 +155,7 @@ pub(crate) fn last_part_of(path: &[u8]) -> &[u8]
     &path[part_start(path)..]
 }
 
-/// The offset at which the last part of a path begins: behind its last `/`, or 0.
+/// The offset at which the last part of a path begins: after its last `/`, or 0.
 fn part_start(path: &[u8]) -> usize
     ensures value { result ≡ length path.now - suffix_len (λ b. not (is_slash b)) path.now }
     ensures within { result ≤ length path.now }
@@ -170,8 +169,8 @@ fn part_start(path: &[u8]) -> usize
     start
 }
 
-/// The path of a name below a folder, whose own name has so many bytes: without the folder and
-/// without the slash behind it.
+/// The path of a name below a folder, whose own name has this many bytes: without the folder and
+/// the slash after it.
 pub(crate) fn path_below(folder: usize, name: &[u8]) -> &[u8]
     ensures { result.now ≡ drop (folder + 1) name.now }
 {

@@ -24,12 +24,13 @@ use base_core::{Name, Names, Tree, TreeFault, read_all, read_behind};
 use make_info::MakeFault;
 use std::alloc::{AllocError, Global};
 
-/// The most bytes that memory holds in one piece: a vector has no more.
+/// The most bytes of one allocation: a vector has no more.
 const MOST_IN_MEMORY: u64 = isize::MAX as u64;
 
 /// Appends the front of the block with the contents of a file: its header, and the positions of its
-/// folder and of itself in it, which count from 1. Behind it room is made for the file's bytes. A
-/// position of more than 32 bits is cut: so many files pass the limits of a payload.
+/// folder and of itself in it, which count from 1. Room for the file's bytes is reserved after it.
+/// A position of more than 32 bits is cut: a package with so many files exceeds the limits of a
+/// payload.
 fn begin_block(blocks: &mut Vec<u8>, position: (u64, u64), size: u64) -> Result<(), AllocError>
     ensures { OnOk result (blocks.new.items
         ≡ blocks.old.items ++ contents_front position.0 position.1 size) }
@@ -47,7 +48,7 @@ fn begin_block(blocks: &mut Vec<u8>, position: (u64, u64), size: u64) -> Result<
 }
 
 /// Ends the block that begins at `start`, of a file of this kind whose bytes are the last ones, by
-/// its padding. A file that has no contents has no block, and what was begun is taken away.
+/// its padding. A file that has no contents has no block, and the begun one is removed.
 fn end_block(blocks: &mut Vec<u8>, start: usize, kind: &FileKind) -> Result<(), AllocError>
     requires { start ≤ length blocks.old.items }
     ensures none { OnOk result (has_contents kind.now ≡ false
@@ -64,7 +65,7 @@ fn end_block(blocks: &mut Vec<u8>, start: usize, kind: &FileKind) -> Result<(), 
     append_padding(blocks, (blocks.len() - start) as u64)
 }
 
-/// Appends zeros behind a block of so many bytes, up to the next multiple of eight.
+/// Appends zeros after a block of this many bytes, up to the next multiple of eight.
 fn append_padding(blocks: &mut Vec<u8>, size: u64) -> Result<(), AllocError>
     ensures { OnOk result (blocks.new.items ≡ blocks.old.items ++ replicate (padding_of size) 0) }
 {
@@ -72,12 +73,12 @@ fn append_padding(blocks: &mut Vec<u8>, size: u64) -> Result<(), AllocError>
     blocks.extend_from_slice(&[0; 8][..padding as usize])
 }
 
-/// Puts a front before the bytes of a vector, which are not held twice.
+/// Inserts a prefix before the bytes of a vector, without a second copy of them.
 pub fn put_in_front(bytes: &mut Vec<u8>, front: &[u8]) -> Result<(), AllocError>
     ensures { OnOk result (bytes.new.items ≡ front.now ++ bytes.old.items) }
 {
     bytes.extend_from_slice(front)?;
-    // The front was appended; the turn brings it before the rest, in the same memory.
+    // The prefix was appended; the rotation moves it to the front, in the same memory.
     bytes.rotate_right(front.len());
     Ok(())
 }
@@ -91,11 +92,11 @@ pub fn pack_names<'a, T: Tree>(
     dir: &[u8],
     names: &'a Names,
 ) -> Result<Packing<'a>, MakeFault>
-    // The tree is only read, and `Disk` has a fault of it for its cause.
+    // The tree is only read, and `Disk` has a fault of the tree as its cause.
     ensures tree { OnlyReads MakeFault.Disk (T.history tree.old) (T.history tree.new)
         (T.counts tree.old) (T.counts tree.new) result }
-    // Some reads, from any number on, explain the answer; where the tree tells its files they find
-    // these.
+    // Some reads, from any number on, explain the result; if the tree's files are observable, the
+    // reads are theirs.
     ensures read { (n : ℕ) → Explains (T.history tree.old) (λ read.
         IsAnswer IsPacking result (source_folders_from place read n
         (folders_of dir.now names.now))) }
@@ -106,8 +107,8 @@ pub fn pack_names<'a, T: Tree>(
     Ok(packing)
 }
 
-/// Packs the files of these folders, of each of which the names of its files are given (`files`).
-/// The argument at a place lists them.
+/// Packs the files of these folders; `files` has the names of each folder's files. The argument at
+/// a place lists them.
 fn pack_folders<'a, T: Tree>(
     alloc: Global,
     tree: &mut T,
@@ -143,7 +144,7 @@ fn pack_folders<'a, T: Tree>(
     })
 }
 
-/// Puts a folder behind the others.
+/// Adds a folder at the end.
 fn push_folder<'a>(folders: &mut Vec<Folder<'a>>, folder: Folder<'a>) -> Result<(), AllocError>
     ensures { OnOk result (folders.new.items ≡ folders.old.items ++ folder.entry ∷ []) }
 {
@@ -175,7 +176,7 @@ fn pack_folder<'a, T: Tree>(
     Ok(Folder { name, files })
 }
 
-/// Packs the files of these names, which stand in the folder at a position, counted from 1: their
+/// Packs the files of these names, which are in the folder at a position, counted from 1: their
 /// contents are appended to the blocks.
 fn pack_files<'a, T: Tree>(
     alloc: Global,
@@ -199,7 +200,7 @@ fn pack_files<'a, T: Tree>(
     Ok(files)
 }
 
-/// Puts a file behind the others.
+/// Adds a file at the end.
 fn push_file<'a>(files: &mut Vec<File<'a>>, file: File<'a>) -> Result<(), AllocError>
     ensures { OnOk result (files.new.items ≡ files.old.items ++ file.entry ∷ []) }
 {
@@ -254,8 +255,8 @@ fn read_listed<T: Tree>(
     }
 }
 
-/// Reads the file under a name where its bytes will stand: behind the front of a block, which is
-/// appended. Gives the offset at which the bytes begin, or None exactly if the file is absent.
+/// Reads the file under a name into its block: after the front of a block, which is appended.
+/// Returns the offset at which the bytes begin, or None exactly if the file is absent.
 fn read_in_block<T: Tree>(
     tree: &mut T,
     position: (u64, u64),

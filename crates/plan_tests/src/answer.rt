@@ -21,7 +21,7 @@ pub(crate) fn add_files(
     add_flags(plan.owned(), answer)
 }
 
-/// Adds each name behind a mark.
+/// Adds each name after a mark.
 fn add_names(mark: &[u8], names: &Names, answer: &mut Vec<u8>) -> Result<(), AllocError> {
     for i in 0..names.len() {
         add_marked(mark, names.get(i), answer)?;
@@ -29,7 +29,7 @@ fn add_names(mark: &[u8], names: &Names, answer: &mut Vec<u8>) -> Result<(), All
     Ok(())
 }
 
-/// Adds a name behind its mark.
+/// Adds a name after its mark.
 fn add_marked(mark: &[u8], name: &Name, answer: &mut Vec<u8>) -> Result<(), AllocError> {
     add_word(answer, mark)?;
     answer.extend_from_slice(name.as_bytes())

@@ -1,5 +1,5 @@
 //! Changes of packages, from the words of rows, and the plans of their files. How a row tells a
-//! package stands in `tests/lines.md`; the rules of plans in `docs/commands.md`,
+//! package is in `tests/lines.md`; the rules of plans in `docs/commands.md`,
 //! "What a change does with files".
 use crate::answer::{add_fault, add_files};
 use crate::package::{database_file, package_file};
@@ -38,7 +38,7 @@ pub(crate) fn add_plan(
     add_plan_over(alloc, tree, change, &file, &fronts, answer)
 }
 
-/// Adds the plan over the file of a database and the fronts of the packages that come.
+/// Adds the plan over the file of a database and the fronts of the added packages.
 fn add_plan_over<'a>(
     alloc: Global,
     tree: &mut MemoryTree,
@@ -95,14 +95,14 @@ fn database_after(
     }
 }
 
-// ---- the packages that come
+// ---- the added packages
 
 /// Whether the package of a row stays.
 fn does_stay(row: &Words) -> bool {
     word_at(row, 0) == b"stays".as_slice()
 }
 
-/// The fronts of the packages that come.
+/// The fronts of the added packages.
 fn fronts_of(alloc: Global, rows: &[Words]) -> Result<Vec<Front>, AllocError> {
     let mut fronts = Vec::new(alloc);
     for row in rows {

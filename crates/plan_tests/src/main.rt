@@ -66,12 +66,12 @@ struct Planned {
     tree: MemoryTree,
     /// How many calls of the tree the last plan made.
     asked: u64,
-    /// The database behind the change of the last plan.
+    /// The database after the change of the last plan.
     database: Vec<u8>,
 }
 
 impl Planned {
-    /// No package is told, and no file stands in the tree.
+    /// No package is told, and no file is in the tree.
     fn new(alloc: Global) -> Planned {
         Planned {
             change: ToldChange {
@@ -136,7 +136,7 @@ impl Subject for Planned {
     }
 }
 
-/// Puts a file into the tree, and says so where it may not stand there.
+/// Puts a file into the tree, and says so if that is not allowed.
 fn put_file(
     alloc: Global,
     tree: &mut MemoryTree,

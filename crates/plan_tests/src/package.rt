@@ -1,5 +1,5 @@
-//! Packages and databases, from the words of rows. How a row writes them stands in
-//! `tests/lines.md`; the fields in `docs/formats.md`, "Schemas", where they count from 1 and the
+//! Packages and databases, from the words of rows. How a row writes them is in
+//! `tests/lines.md`; the fields in `docs/formats.md`, "Schemas". They count from 1, the
 //! places here from 0.
 
 use adb_schema::{IDB_WORD, PACKAGE_WORD};
@@ -30,10 +30,10 @@ const HASHES: usize = 4;
 /// The place of a link's target, counted from 0.
 const TARGET: usize = 5;
 
-/// What stands before the text of a link's target (`docs/formats.md`, "The texts", field 406).
+/// What is before the text of a link's target (`docs/formats.md`, "The texts", field 406).
 const LINK: &[u8] = b"\x00\xa0";
 
-/// What may stand between a path and what is said of its file.
+/// What may be between a path and what is said of its file.
 const MARKS: &[u8] = b"=#:>";
 
 /// The container of the package of a row, without contents.
@@ -56,7 +56,7 @@ pub(crate) fn database_file(alloc: Global, rows: &[Words]) -> Result<Vec<u8>, Al
     container(alloc, writer, root, IDB_WORD)
 }
 
-/// The container of a root; one too large for a container counts as lack of memory.
+/// The container of a root; one too large for a container counts as out of memory.
 fn container(alloc: Global, writer: Writer, root: Val, schema: u32) -> Result<Vec<u8>, AllocError> {
     let Ok(payload) = writer.finish(root) else {
         return Err(AllocError);
@@ -68,7 +68,7 @@ fn container(alloc: Global, writer: Writer, root: Val, schema: u32) -> Result<Ve
 }
 
 /// Writes the package of `WORD NAME VERSION PRIORITY FILES REPLACES..`. Files have commas between
-/// them. What is replaced is `NAME:VERSION:MATCH`, where the number says which versions match. The
+/// them. What is replaced is `NAME:VERSION:MATCH`; the number says which versions match. The
 /// name is field 0 and the version field 1 of its information.
 fn write_package(alloc: Global, writer: &mut Writer, row: &Words) -> Result<Val, AllocError> {
     let mut info = [Val::of(0); INFO_FIELDS];
@@ -87,7 +87,7 @@ fn number_in(word: &[u8]) -> u64 {
     u64::try_from(number_of(word).unwrap_or(0)).unwrap_or(0)
 }
 
-/// Writes a number; nothing stands for 0.
+/// Writes a number; nothing denotes 0.
 fn write_number(writer: &mut Writer, number: u64) -> Result<Val, AllocError> {
     if number == 0 {
         return Ok(Val::of(0));
@@ -216,7 +216,7 @@ fn listed_parts(file: &[u8]) -> (&[u8], &[u8]) {
     }
 }
 
-/// What stands before the first byte of this kind, and what behind it.
+/// What is before the first byte of this kind, and what after it.
 fn parted(text: &[u8], mark: u8) -> (&[u8], &[u8]) {
     match text.iter().position(|byte| *byte == mark) {
         Some(i) if i < text.len() => (&text[..i], &text[i + 1..]),

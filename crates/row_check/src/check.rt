@@ -1,4 +1,4 @@
-//! What rows run, and what is seen of a run, beside what is wanted. What is wanted stands in
+//! What rows run, and what is seen of a run, beside what is wanted. What is expected is in
 //! `tests/rows.md`, "Lines".
 
 use crate::differences::{RowFault, compare, compare_numbers, differs};
@@ -23,7 +23,7 @@ pub fn check_run<P: Program>(
     check_names(alloc, step, &run.tree)
 }
 
-/// Compares the streams and the status with those that are wanted.
+/// Compares the streams and the status with those that are expected.
 pub fn check_streams<P: Program>(
     alloc: Global,
     program: &P,
@@ -114,7 +114,7 @@ fn tell(alloc: Global, line: u64, name: &Name, what: &[u8]) -> Result<(), RowFau
     Err(differs(alloc, line, &pieces))
 }
 
-/// What is wanted of a file, where the row says something of it.
+/// What is expected of a file, if the row says something of it.
 fn wanted_file<'a>(step: &'a Step, name: &Name) -> Option<&'a NamedFile> {
     for file in &step.files {
         if file.name.as_bytes() == name.as_bytes() {
@@ -171,7 +171,7 @@ pub trait Program {
         err: &mut MemorySink,
     ) -> u8;
 
-    /// Finishes what a run that was stopped left undone. Answers false where that failed.
+    /// Finishes what a run that was stopped left undone. Returns false where that failed.
     fn recover(&self, alloc: Global, tree: &mut MemoryTree) -> bool;
 
     /// The container of a dump text, or None if the text is none.

@@ -1,11 +1,11 @@
-//! Why a row fails, and two texts or numbers beside each other. Such a line stands behind
+//! Why a row fails, and two texts or numbers beside each other. Such a line is after
 //! `FAILED NAME: `, as `tests/rows.md` says in "What runs them".
 use std::alloc::{AllocError, AllocFailed, Global};
 
 /// How many bytes are shown of a text that differs.
 const SHOWN: usize = 60;
 
-// How many of them stand before the first one that differs.
+// How many of them are before the first one that differs.
 const BEFORE: usize = 20;
 
 /// Why a row fails.
@@ -18,14 +18,14 @@ pub enum RowFault {
 }
 
 impl From<AllocError> for RowFault {
-    // Lack of memory, as the reason why a row fails.
+    // Out of memory, as the reason why a row fails.
     fn from(_: AllocError) -> RowFault {
         RowFault::Memory
     }
 }
 
 impl<T: Drop> From<AllocFailed<T>> for RowFault {
-    // Lack of memory, where what was to be kept comes back.
+    // Out of memory; the value to be kept is returned.
     fn from(_: AllocFailed<T>) -> RowFault {
         RowFault::Memory
     }

@@ -1,5 +1,5 @@
-//! What is left behind a crash: each image of a tree is recovered, twice, and then has the files
-//! that are wanted. The rules are in `tests/rows.md`, "What goes wrong": the paragraphs on images
+//! What is left after a crash: each image of a tree is recovered, twice, and then has the files
+//! that are expected. The rules are in `tests/rows.md`, "What goes wrong": the paragraphs on images
 //! and on the two sides.
 use crate::check::Program;
 use crate::differences::{RowFault, differs, digits};
@@ -71,7 +71,7 @@ impl Sides {
         Err(differs(alloc, step.line, &[where_found, what]))
     }
 
-    /// Each image that a crash may leave of a tree has the files of behind.
+    /// Each image that a crash may leave of a tree has the files afterwards.
     pub fn check_images<P: Program>(
         &self,
         alloc: Global,

@@ -1,12 +1,12 @@
-//! Values that stand on one line: numbers, hashes, and texts with and without quotes. The forms
-//! stand in `docs/formats.md`, "Dump text".
+//! Values that are on one line: numbers, hashes, and texts with and without quotes. The forms
+//! are in `docs/formats.md`, "Dump text".
 use crate::values::DumpFault;
 use std::alloc::Global;
 
 /// Where a byte between quotes stands.
 #[derive(Clone, Copy)]
 enum Place {
-    /// It stands for itself, or begins an escape.
+    /// It denotes itself, or begins an escape.
     Plain,
     /// Behind a backslash.
     Escape,
@@ -76,7 +76,7 @@ pub(crate) fn byte_of(high: u8, low: u8) -> u8 {
     (high << 4) | low
 }
 
-/// The bytes of a text, which stands as it is or between quotes.
+/// The bytes of a text, with or without quotes.
 pub(crate) fn text_bytes(alloc: Global, text: &[u8]) -> Result<Vec<u8>, DumpFault> {
     let Some(rest) = text.strip_prefix(b"\"") else {
         return Ok(Vec::from_slice(alloc, text)?);
@@ -95,7 +95,7 @@ pub(crate) fn text_bytes(alloc: Global, text: &[u8]) -> Result<Vec<u8>, DumpFaul
     }
 }
 
-/// Adds what a byte between quotes stands for, and tells where the next one stands.
+/// Adds what a byte between quotes denotes, and returns where the next one is.
 fn add_quoted(bytes: &mut Vec<u8>, place: Place, byte: u8) -> Result<Place, DumpFault> {
     let meant = match (place, byte) {
         (Place::Plain, b'\\') => return Ok(Place::Escape),

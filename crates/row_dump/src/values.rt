@@ -1,5 +1,5 @@
 //! Reads the lines of a dump text into a writer. Each value is written as soon as its last line is
-//! read. The form of the lines stands in `docs/formats.md`, "Dump text", and the layout of the
+//! read. The form of the lines is in `docs/formats.md`, "Dump text", and the layout of the
 //! values in "Canonical layout".
 use crate::text::{hash, number, text_bytes};
 use adb_view::{Field, Kind, Val, Which, fields_of};
@@ -19,14 +19,14 @@ pub enum DumpFault {
 }
 
 impl From<AllocError> for DumpFault {
-    // Lack of memory, as the reason why there is no container.
+    // Out of memory, as the reason why there is no container.
     fn from(_: AllocError) -> DumpFault {
         DumpFault::Memory
     }
 }
 
 impl<T: Drop> From<AllocFailed<T>> for DumpFault {
-    // Lack of memory, where what was to be kept comes back.
+    // Out of memory; the value to be kept is returned.
     fn from(_: AllocFailed<T>) -> DumpFault {
         DumpFault::Memory
     }
@@ -48,7 +48,7 @@ enum Shape {
 struct Frame {
     /// What its lines make.
     shape: Shape,
-    /// How many blanks stand before its lines.
+    /// How many blanks are before its lines.
     column: usize,
     /// The words of its entries, or of its fields, so far.
     words: Vec<Val>,
@@ -119,7 +119,7 @@ impl Reader {
         Ok(reader)
     }
 
-    /// Begins a list or an object, whose lines stand at a column.
+    /// Begins a list or an object, whose lines are at a column.
     fn open(&mut self, shape: Shape, column: usize) -> Result<(), DumpFault> {
         self.frames.push(Frame {
             shape,
@@ -228,7 +228,7 @@ impl Reader {
     }
 
     /// Adds NULLs for the fields that are left out in front of the one with this index. A field
-    /// that does not stand behind those before it makes no dump text.
+    /// that does not follow those before it makes no dump text.
     fn skip_to(&mut self, index: usize) -> Result<(), DumpFault> {
         let Some(frame) = self.frames.last_mut() else {
             return Err(DumpFault::NoDump);
@@ -242,7 +242,7 @@ impl Reader {
         Ok(())
     }
 
-    /// Adds a value that stands behind its field's name.
+    /// Adds a value that is after its field's name.
     fn read_value(&mut self, kind: Kind, rest: &[u8]) -> Result<(), DumpFault> {
         let Some(text) = rest.strip_prefix(b" ") else {
             return Err(DumpFault::NoDump);
@@ -255,7 +255,7 @@ impl Reader {
         self.add(word)
     }
 
-    /// Begins a value that stands below its field's name.
+    /// Begins a value that is below its field's name.
     fn read_below(&mut self, shape: Shape, rest: &[u8], column: usize) -> Result<(), DumpFault> {
         if !rest.is_empty() {
             return Err(DumpFault::NoDump);
@@ -266,7 +266,7 @@ impl Reader {
     /// The container, once all lines are read: what is open is written, down to the root.
     fn finish(self, schema: u32) -> Result<Vec<u8>, DumpFault> {
         let mut reader = self;
-        // All but the root, whose lines stand at column 0.
+        // All but the root, whose lines are at column 0.
         reader.close_down_to(0)?;
         let word = reader.close()?;
         let Reader { alloc, writer, .. } = reader;
@@ -282,7 +282,7 @@ impl Reader {
     }
 }
 
-/// What stands behind the dash of an entry.
+/// What follows the dash of an entry.
 fn entry(item: &[u8]) -> Result<&[u8], DumpFault> {
     match item.strip_prefix(b"- ") {
         Some(entry) => Ok(entry),
@@ -290,7 +290,7 @@ fn entry(item: &[u8]) -> Result<&[u8], DumpFault> {
     }
 }
 
-/// The column of what stands one level deeper: two blanks further.
+/// The column of what is one level deeper: two blanks further.
 fn deeper(column: usize) -> Result<usize, DumpFault> {
     match column.checked_add(2) {
         Some(column) => Ok(column),

@@ -26,7 +26,7 @@ pub trait Subject {
     ) -> Result<(), AllocError>;
 }
 
-/// Runs the rows that stand on standard input, and prints what `run_lines` reports. Answers the
+/// Runs the rows that are on standard input, and prints what `run_lines` reports. Returns the
 /// exit status: 0 where no row failed, else 1.
 pub fn run_program<R: Input + Print, S: Subject>(
     rt: &R,
@@ -42,7 +42,7 @@ pub fn run_program<R: Input + Print, S: Subject>(
 }
 
 /// Runs all rows of a text, and reports each that fails, with its answer, and the count of rows.
-/// Answers whether none failed.
+/// Returns whether none failed.
 fn run_lines<S: Subject>(
     alloc: Global,
     subject: &mut S,
@@ -97,8 +97,8 @@ fn add_failure(report: &mut Vec<u8>, line: &[u8], found: &[u8]) -> Result<(), Al
     report.extend_from_slice(b"\n")
 }
 
-/// The question of a line, and the answer that is wanted: what stands before the first ` ->`, and
-/// behind it.
+/// The question of a line, and the answer that is expected: the text before the first ` ->`, and
+/// after it.
 fn parts_of(line: &[u8]) -> Option<(&[u8], &[u8])> {
     for i in 0..line.len() {
         if let Some(rest) = line[i..].strip_prefix(b" ->") {
@@ -127,7 +127,7 @@ pub fn add_word(text: &mut Vec<u8>, word: &[u8]) -> Result<(), AllocError> {
     text.extend_from_slice(word)
 }
 
-/// Adds a name and what stands under it, as a word `NAME=BYTES`.
+/// Adds a name and what is under it, as a word `NAME=BYTES`.
 pub fn add_named(text: &mut Vec<u8>, name: &[u8], bytes: &[u8]) -> Result<(), AllocError> {
     add_word(text, name)?;
     text.push(b'=')?;

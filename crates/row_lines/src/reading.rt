@@ -1,5 +1,5 @@
-//! The words of a question, and the bytes that they stand for. The forms stand in `tests/lines.md`:
-//! the table of what stands for which byte, and numbers.
+//! The words of a question, and the bytes that they denote. The forms are in `tests/lines.md`:
+//! the table of which text denotes which byte, and numbers.
 use base_core::Words;
 use std::alloc::{AllocError, Global};
 
@@ -9,7 +9,7 @@ const MOST_WORDS: usize = 100_000;
 /// The most times that a byte is repeated, so that a row cannot ask for all memory.
 const MOST_TIMES: usize = 2_000_000;
 
-/// The words of a question, which stand between spaces.
+/// The words of a question, which are between spaces.
 pub(crate) fn words_of(alloc: Global, question: &[u8]) -> Result<Words, AllocError> {
     let mut words = Words::new(alloc);
     for part in question.split(|byte| *byte == b' ') {
@@ -40,7 +40,7 @@ pub fn words_behind(alloc: Global, words: &Words, first: usize) -> Result<Words,
     Ok(rest)
 }
 
-/// What stands beside a word in a table.
+/// What is beside a word in a table.
 pub fn value_named<T: Copy>(table: &[(&[u8], T)], word: &[u8]) -> Option<T> {
     for (name, value) in table {
         if *name == word {
@@ -50,7 +50,7 @@ pub fn value_named<T: Copy>(table: &[(&[u8], T)], word: &[u8]) -> Option<T> {
     None
 }
 
-/// The number that a word is: in decimal digits, or behind `0x` in hexadecimal ones.
+/// The number that a word is: in decimal digits, or after `0x` in hexadecimal ones.
 pub fn number_of(word: &[u8]) -> Option<u128> {
     match word.strip_prefix(b"0x") {
         Some(digits) => number_in(digits, 16),
@@ -77,31 +77,31 @@ fn number_in(digits: &[u8], base: u8) -> Option<u128> {
     Some(number)
 }
 
-/// Where a byte of a text stands: alone, behind a backslash, or in what such a one begins.
+/// Where a byte of a text is: alone, after a backslash, or in what such a one begins.
 #[derive(Clone, Copy)]
 enum Place {
-    /// It stands alone.
+    /// It is alone.
     Plain,
-    /// It stands behind a backslash.
+    /// It is after a backslash.
     Backslash,
-    /// It stands behind `\x`.
+    /// It is after `\x`.
     HighDigit,
-    /// It stands behind `\x` and the digit of this value.
+    /// It is after `\x` and the digit of this value.
     LowDigit(u8),
-    /// It stands behind `\{` and digits of this number.
+    /// It is after `\{` and digits of this number.
     Count(usize),
 }
 
 /// The bytes of a text so far.
 #[derive(Drop)]
 struct Unescaped {
-    /// The bytes that it stands for so far.
+    /// The bytes that it denotes so far.
     bytes: Vec<u8>,
     /// Where the next byte stands.
     place: Place,
 }
 
-/// The bytes that a text stands for: `\n` is a line's end, `\s` a space, `\e` nothing, `\x` and two
+/// The bytes that a text denotes: `\n` is a line's end, `\s` a space, `\e` nothing, `\x` and two
 /// hexadecimal digits that byte, a byte and `\{n}` that byte n times, and a backslash and another
 /// byte that byte.
 pub(crate) fn bytes_of(alloc: Global, text: &[u8]) -> Result<Vec<u8>, AllocError> {
@@ -116,7 +116,7 @@ pub(crate) fn bytes_of(alloc: Global, text: &[u8]) -> Result<Vec<u8>, AllocError
 }
 
 impl Unescaped {
-    /// Takes a byte; what escapes stand for is the table of `tests/lines.md`.
+    /// Takes a byte; what escapes denote is the table of `tests/lines.md`.
     fn add(&mut self, byte: u8) -> Result<(), AllocError> {
         match (self.place, byte) {
             (Place::Plain, b'\\') => self.place = Place::Backslash,
@@ -132,7 +132,7 @@ impl Unescaped {
         Ok(())
     }
 
-    /// Adds what a backslash and this byte stand for.
+    /// Adds what a backslash and this byte denote.
     fn add_escape(&mut self, byte: u8) -> Result<(), AllocError> {
         match byte {
             b'e' => self.add_times(0, byte),

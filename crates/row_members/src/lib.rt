@@ -1,6 +1,6 @@
-//! Members of a change for rows: packages that come, as containers, and installed ones, as a
+//! Members of a change for rows: added packages, as containers, and installed ones, as a
 //! database has them. They serve the rows of the crates `owner_tests`, `plan_tests` and
-//! `database_tests`; how rows write packages stands in `tests/lines.md`.
+//! `database_tests`; how rows write packages is in `tests/lines.md`.
 #![tactic(auto)]
 
 mod members;

@@ -57,7 +57,7 @@ pub fn add_installed(members: &mut Members<'_>, i: usize) -> Result<bool, AllocE
     Ok(true)
 }
 
-/// Adds the package with this front, and tells whether it is good and in order.
+/// Adds the package with this front, and returns whether it is good and in order.
 pub fn add_coming<'a>(
     alloc: Global,
     members: &mut Members<'a>,
@@ -70,7 +70,7 @@ pub fn add_coming<'a>(
     }
 }
 
-/// Adds a package that comes. False: there are too many members, or its name is not behind theirs.
+/// Adds an added package. False: there are too many members, or its name is not after theirs.
 fn add_contents<'a>(
     members: &mut Members<'a>,
     contents: &Contents<'a>,

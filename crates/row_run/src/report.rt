@@ -1,12 +1,12 @@
 //! A whole text of rows, and what is printed of each: that it passed, or what differs and where.
-//! The lines stand in `tests/rows.md`, "What runs them" and "A text that is none".
+//! The lines are in `tests/rows.md`, "What runs them" and "A text that is none".
 use crate::run::run_row;
 use row_check::{Program, RowFault, add_number};
 use row_text::{Fault, Row, read_rows};
 use std::alloc::{AllocError, Global};
 use tree_memory::MemoryTree;
 
-/// Runs all rows of a text, and adds a line for each. Answers whether the text is one of rows and
+/// Runs all rows of a text, and adds a line for each. Returns whether the text is one of rows and
 /// none failed.
 pub fn run_text<P: Program>(
     alloc: Global,

@@ -1,4 +1,4 @@
-//! A row, and one command line over a tree and two sinks. What a row wants stands in
+//! A row, and one command line over a tree and two sinks. What a row expects is in
 //! `tests/rows.md`, "Lines", and of further runs in "What goes wrong".
 use crate::sweep::Swept;
 use row_check::{Program, RowFault, Run, Sides, check_images, check_run, copy_of, tree_of};
@@ -60,7 +60,7 @@ fn planned_tree(alloc: Global, step: &Step, before: &MemoryTree) -> Result<Memor
     Ok(tree)
 }
 
-/// All that is wanted of a command line is seen, also if it is run again with what goes wrong.
+/// All that is expected of a command line is seen, also if it is run again with what goes wrong.
 fn check_step<P: Program>(
     alloc: Global,
     program: &P,

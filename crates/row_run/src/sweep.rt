@@ -1,5 +1,5 @@
-//! A command line with each of its calls failing in turn, cut off behind each of them, and with a
-//! stream that ends behind each number of bytes. The rules are in `tests/rows.md`,
+//! A command line with each of its calls failing in turn, cut off after each of them, and with a
+//! stream that ends after each number of bytes. The rules are in `tests/rows.md`,
 //! "What goes wrong", its table and what follows.
 use crate::run::{StreamEnds, run_once};
 use row_check::{
@@ -28,7 +28,7 @@ const STREAM_FAULT: u64 = 3;
 pub(crate) struct Swept<'a, P: Program> {
     /// The program that is run.
     pub(crate) program: &'a P,
-    /// The command line, and what is wanted of it.
+    /// The command line, and what is expected of it.
     pub(crate) step: &'a Step,
     /// The files that it finds.
     pub(crate) before: &'a MemoryTree,
@@ -70,7 +70,7 @@ impl<'a, P: Program> Swept<'a, P> {
     }
 
     /// Lets each call fail in turn (`fail each`). What is left, and what a crash leaves of it, has
-    /// the files of before or of behind, and the same command line goes on from there.
+    /// the files from before or from after, and the same command line goes on from there.
     fn fail_each(&self, alloc: Global) -> Result<(), RowFault> {
         for call in 1..MOST_CALLS {
             let failed = self.run_failing(alloc, call)?;
@@ -92,7 +92,7 @@ impl<'a, P: Program> Swept<'a, P> {
     }
 
     /// Stops behind each call in turn (`stop each`). A crash then leaves the files of before or of
-    /// behind, the latter are seen, and the same command line goes on from what is left.
+    /// after, the new ones are seen, and the same command line goes on from what is left.
     fn stop_each(&self, alloc: Global) -> Result<(), RowFault> {
         let mut new_seen = false;
         for calls in 0..MOST_CALLS {
@@ -107,7 +107,7 @@ impl<'a, P: Program> Swept<'a, P> {
         Err(self.too_many(alloc))
     }
 
-    /// Runs the command line with all calls failing behind so many.
+    /// Runs the command line with all calls failing after so many.
     fn run_stopped(&self, alloc: Global, calls: u64) -> Result<Run, RowFault> {
         let mut tree = copy_of(alloc, self.before)?;
         tree.stop_after(calls);
@@ -128,12 +128,12 @@ impl<'a, P: Program> Swept<'a, P> {
         run_once(alloc, self.program, self.step, tree, StreamEnds::NONE)
     }
 
-    /// All that is wanted of the command line is seen of a run in which nothing failed.
+    /// All that is expected of the command line is seen of a run in which nothing failed.
     fn check_whole(&self, alloc: Global, run: &Run) -> Result<(), RowFault> {
         check_run(alloc, self.program, self.step, self.before, run)
     }
 
-    /// Told where a command line makes more calls than are swept.
+    /// Reported if a command line makes more calls than are swept.
     fn too_many(&self, alloc: Global) -> RowFault {
         differs(alloc, self.step.line, &[b"too many calls"])
     }
@@ -164,7 +164,7 @@ impl<'a, P: Program> Swept<'a, P> {
     }
 
     /// Each image that a crash may leave has the files of before or of behind, and the command line
-    /// goes on from there. Answers whether one has those of behind.
+    /// goes on from there. Returns whether one has those afterwards.
     fn look(&self, alloc: Global, call: u64, tree: &MemoryTree) -> Result<bool, RowFault> {
         let mut new_seen = false;
         for choice in 0..images_of(tree) {
@@ -176,7 +176,7 @@ impl<'a, P: Program> Swept<'a, P> {
         Ok(new_seen)
     }
 
-    /// What a run leaves whose call failed has the files of before or of behind, and the command
+    /// What a run leaves whose call failed has the files from before or from after, and the command
     /// line goes on from there.
     fn go_on_from(&self, alloc: Global, call: u64, failed: Run) -> Result<(), RowFault> {
         let place = at_call(alloc, call, b", what is left")?;
@@ -221,7 +221,7 @@ impl<'a, P: Program> Swept<'a, P> {
             .check_images(alloc, self.program, self.step, &second.tree)
     }
 
-    /// Compares a second run, behind a recovery, with the wanted one: its status and what it
+    /// Compares a second run, after a recovery, with the wanted one: its status and what it
     /// prints.
     fn check_again(&self, alloc: Global, call: u64, second: &Run) -> Result<(), RowFault> {
         let what = at_call(alloc, call, b" and a second run, what is seen")?;
@@ -233,8 +233,8 @@ impl<'a, P: Program> Swept<'a, P> {
         self.check_seen(alloc, &what, second, wanted)
     }
 
-    /// Lets a stream end behind each number of bytes in turn (`ends after each`). It has these
-    /// bytes then, and the files are those of behind.
+    /// Lets a stream end after each number of bytes in turn (`ends after each`). It has these
+    /// bytes then, and the files are those afterwards.
     fn end_each(&self, alloc: Global, is_out: bool) -> Result<(), RowFault> {
         let whole = self.wanted_text(alloc, is_out)?;
         for count in 0..whole.len() {
@@ -252,7 +252,7 @@ impl<'a, P: Program> Swept<'a, P> {
         }
     }
 
-    /// Lets a stream end behind these bytes.
+    /// Lets a stream end after these bytes.
     fn end_after(&self, alloc: Global, is_out: bool, bytes: &[u8]) -> Result<(), RowFault> {
         let count = bytes.len();
         let ends = StreamEnds {
@@ -264,7 +264,7 @@ impl<'a, P: Program> Swept<'a, P> {
         self.check_end(alloc, is_out, bytes, &cut)
     }
 
-    /// The stream that ended has these bytes, and the files are those of behind.
+    /// The stream that ended has these bytes, and the files are those afterwards.
     fn check_end(
         &self,
         alloc: Global,
@@ -298,7 +298,7 @@ fn at_call(alloc: Global, call: u64, rest: &[u8]) -> Result<Vec<u8>, AllocError>
     Ok(text)
 }
 
-/// Says where a difference is seen: in an image behind such a fault.
+/// Says where a difference is seen: in an image after such a fault.
 fn at_image(alloc: Global, call: u64, choice: u64) -> Result<Vec<u8>, AllocError> {
     let mut text = at_call(alloc, call, b", image ")?;
     add_number(alloc, &mut text, choice)?;

@@ -1,5 +1,5 @@
-//! Parts of a row: the files that stand there before and behind a command line, and what goes wrong
-//! while it runs. The lines stand in `tests/rows.md`, "Lines" (`in memory`, `file`, `then`, `\`)
+//! Parts of a row: the files that are there before and after a command line, and what goes wrong
+//! while it runs. The lines are in `tests/rows.md`, "Lines" (`in memory`, `file`, `then`, `\`)
 //! and "What goes wrong"; what is reported of a line that is none, in "A text that is none".
 use crate::reader::{Form, Reader, Target, first_word};
 use crate::row::{Content, NamedFile, SinkPlan, Sweeps, TreePlan, Trouble};
@@ -30,7 +30,7 @@ impl Reader {
         }
     }
 
-    /// Takes `file PATH ..`: a file that stands there before the first command line.
+    /// Takes `file PATH ..`: a file that is there before the first command line.
     pub(crate) fn add_given(&mut self, rest: &[u8]) -> Result<(), Trouble> {
         if self.step.is_some() {
             return Err(Trouble::OutOfPlace);
@@ -49,7 +49,7 @@ impl Reader {
         Ok(())
     }
 
-    /// Takes `then PATH ..`: what stands at a path behind the command line.
+    /// Takes `then PATH ..`: what is at a path after the command line.
     pub(crate) fn add_wanted(&mut self, rest: &[u8]) -> Result<(), Trouble> {
         let (path, kind) = first_word(rest);
         let name = name_of(self.alloc, path)?;
@@ -137,7 +137,7 @@ pub(crate) fn name_of(alloc: Global, path: &[u8]) -> Result<Name, Trouble> {
     }
 }
 
-/// How a file's lines are read, by the word behind its path.
+/// How a file's lines are read, by the word after its path.
 fn form_of(word: &[u8]) -> Result<Form, Trouble> {
     match value_named(&FORMS, word) {
         Some(form) => Ok(form),
@@ -268,7 +268,7 @@ impl Reader {
         self.plan_tree(TreePlan::Fail(calls))
     }
 
-    /// Takes `stop each`: behind which calls the tree stops.
+    /// Takes `stop each`: after which calls the tree stops.
     pub(crate) fn plan_stops(&mut self, rest: &[u8]) -> Result<(), Trouble> {
         if rest != b"each".as_slice() {
             return Err(Trouble::BadShape);
@@ -317,7 +317,7 @@ impl Reader {
     }
 }
 
-/// What a stream takes: `ends after N` bytes, or behind `each` number of bytes in turn, or
+/// What a stream takes: `ends after N` bytes, or after `each` number of bytes in turn, or
 /// `takes N at most` of a piece.
 fn sink_plan(before: SinkPlan, rest: &[u8]) -> Result<SinkPlan, Trouble> {
     let mut plan = before;

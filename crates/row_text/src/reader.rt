@@ -1,5 +1,5 @@
 //! Reads a text line by line: rows, command lines, and what is to be seen of them. Each line
-//! belongs to the row, the command line or the file that stands last before it. The lines stand in
+//! belongs to the row, the command line or the file that is last before it. The lines are in
 //! `tests/rows.md`, "Lines", and the faults in "A text that is none".
 use crate::parts::{add_line, name_of, number_at_most};
 use crate::row::{Content, Fault, Row, SinkPlan, Step, TreePlan, Trouble};
@@ -12,9 +12,9 @@ use std::alloc::{AllocError, Global};
 pub(crate) enum Target {
     /// A line of a file, or one without an end, has no place here.
     Nothing,
-    /// A file that stands there before, by its form.
+    /// A file that is there before, by its form.
     Given(Form),
-    /// A file that stands there afterwards.
+    /// A file that is there afterwards.
     Wanted(Form),
     /// Standard output of the command line, line by line.
     Out,
@@ -184,7 +184,7 @@ impl Reader {
         }
     }
 
-    /// Reads what stands behind the word of a line.
+    /// Reads what follows the word of a line.
     fn read_word(&mut self, word: Word, rest: &[u8]) -> Result<(), Trouble> {
         match word {
             Word::Row => self.begin_row(rest),
@@ -203,7 +203,7 @@ impl Reader {
     }
 }
 
-/// What stands behind the mark of a line: nothing, or a blank and a text.
+/// What follows the mark of a line: nothing, or a blank and a text.
 fn piece(rest: &[u8]) -> Result<&[u8], Trouble> {
     match rest.split_first() {
         None => Ok(rest),
@@ -212,7 +212,7 @@ fn piece(rest: &[u8]) -> Result<&[u8], Trouble> {
     }
 }
 
-/// The first word of a line, and what stands behind the blank that ends it.
+/// The first word of a line, and what follows the blank that ends it.
 pub(crate) fn first_word(line: &[u8]) -> (&[u8], &[u8]) {
     match line.iter().position(|byte| *byte == b' ') {
         Some(at) => (&line[..at], &line[at + 1..]),
@@ -266,7 +266,7 @@ impl Reader {
         Ok(())
     }
 
-    /// Takes `from NAME`: the row begins with the files that an earlier row leaves. They stand in
+    /// Takes `from NAME`: the row begins with the files that an earlier row leaves. They are in
     /// place of files of its own.
     fn begin_with(&mut self, rest: &[u8]) -> Result<(), Trouble> {
         let Some(number) = self.number_of(rest) else {
@@ -316,7 +316,7 @@ impl Reader {
         Ok(())
     }
 
-    /// Puts the last command line behind the others of its row.
+    /// Adds the last command line to the others of its row.
     fn end_step(&mut self) -> Result<(), AllocError> {
         if let Some(step) = self.step.take()
             && let Some(row) = &mut self.row
@@ -347,7 +347,7 @@ impl Reader {
         add_line(&mut step.err, piece)
     }
 
-    /// A count that is wanted: the exit status, how many calls there are of the tree, how many of
+    /// A count that is expected: the exit status, how many calls there are of the tree, how many of
     /// them write, or the most bytes that one read may ask for.
     fn add_count(&mut self, word: Word, number: Result<u64, Trouble>) -> Result<(), Trouble> {
         let number = number?;

@@ -1,5 +1,5 @@
-//! What comes out of a text: rows, each with its files, its command lines and what is wanted of
-//! them; or the first fault, with its line. The lines that say them stand in `tests/rows.md`.
+//! What comes out of a text: rows, each with its files, its command lines and what is expected of
+//! them; or the first fault, with its line. The lines that say them are in `tests/rows.md`.
 use base_core::{Name, Words};
 use std::alloc::{AllocError, AllocFailed};
 
@@ -12,7 +12,7 @@ pub struct Row {
     pub line: u64,
     /// The row, by its number from 0, with whose files it begins.
     pub from: Option<usize>,
-    /// What stands besides before the first command line.
+    /// What else is before the first command line.
     pub files: Vec<NamedFile>,
     /// Its command lines, in order.
     pub steps: Vec<Step>,
@@ -39,7 +39,7 @@ pub enum Content {
 /// A command line, what goes wrong while it runs, and what is to be seen then.
 #[derive(Drop)]
 pub struct Step {
-    /// The line of the text that it stands at, counted from 1.
+    /// The line of the text that it is on, counted from 1.
     pub line: u64,
     /// Its words, without the program's name.
     pub command: Words,
@@ -55,7 +55,7 @@ pub struct Step {
     pub err: Vec<u8>,
     /// The exit status: 0 if none is said.
     pub status: Option<u64>,
-    /// What stands afterwards at these paths. All others are as they were before.
+    /// What is afterwards at these paths. All others are as they were before.
     pub files: Vec<NamedFile>,
     /// All names that there are afterwards, if that is said.
     pub names: Option<Vec<Name>>,
@@ -83,7 +83,7 @@ pub enum TreePlan {
 pub struct Sweeps {
     /// Those in which that call alone fails.
     pub fail: bool,
-    /// Those in which all calls behind that one fail.
+    /// Those in which all calls after that one fail.
     pub stop: bool,
 }
 
@@ -92,7 +92,7 @@ pub struct Sweeps {
 pub struct SinkPlan {
     /// How many bytes it takes before it fails.
     pub end: Option<usize>,
-    /// Whether it fails behind each number of bytes in turn: the command line is run once for each.
+    /// Whether it fails after each number of bytes in turn: the command line is run once for each.
     pub each: bool,
     /// How many bytes it takes of one piece at most.
     pub most: Option<usize>,
@@ -123,7 +123,7 @@ pub enum Trouble {
     UnknownWord,
     /// It has more, or less, than its word takes.
     BadShape,
-    /// It stands before the first row.
+    /// It is before the first row.
     NoRow,
     /// It begins a row without a name.
     NoName,
@@ -131,7 +131,7 @@ pub enum Trouble {
     NoSentence,
     /// It begins a row of a name that an earlier row has.
     TwoOfOneName,
-    /// It names a row that does not stand before it.
+    /// It names a row that is not before it.
     NoSuchRow,
     /// It is no path of a file.
     BadPath,
@@ -143,7 +143,7 @@ pub enum Trouble {
     BadNumber,
     /// A quotation of the command line does not end.
     BadQuotation,
-    /// It says what is to be seen, and no command line stands before it.
+    /// It says what is to be seen, and no command line is before it.
     NoCommand,
     /// The row before it runs no command line.
     NothingRun,
@@ -151,7 +151,7 @@ pub enum Trouble {
     OutOfPlace,
     /// It says once more what was said of the command line.
     SaidTwice,
-    /// It is the last line, and no line end is behind it.
+    /// It is the last line, and no line end is after it.
     NoLineEnd,
     /// There is no memory for it.
     Memory,
@@ -184,14 +184,14 @@ impl Trouble {
 }
 
 impl From<AllocError> for Trouble {
-    // Lack of memory, as a fault of the text.
+    // Out of memory, as a fault of the text.
     fn from(_: AllocError) -> Trouble {
         Trouble::Memory
     }
 }
 
 impl<T: Drop> From<AllocFailed<T>> for Trouble {
-    // Lack of memory, where what was to be kept comes back.
+    // Out of memory; the value to be kept is returned.
     fn from(_: AllocFailed<T>) -> Trouble {
         Trouble::Memory
     }

@@ -1,5 +1,5 @@
 //! The words of a command line, as a shell reads them; bytes in hexadecimal digits, in groups that
-//! may be repeated, as `4144422e 2049*00000000`; and numbers. The forms stand in `tests/rows.md`,
+//! may be repeated, as `4144422e 2049*00000000`; and numbers. The forms are in `tests/rows.md`,
 //! "Lines".
 use crate::row::Trouble;
 use base_core::Words;
@@ -30,7 +30,7 @@ struct Line {
     place: Place,
 }
 
-/// The words of a command line behind the program's name, which is `apk`. A blank ends a word, and
+/// The words of a command line after the program's name, which is `apk`. A blank ends a word, and
 /// what stands between two `'` is taken as it is.
 pub(crate) fn words_of(alloc: Global, text: &[u8]) -> Result<Words, Trouble> {
     let Some(rest) = text.strip_prefix(b"apk") else {
@@ -98,7 +98,7 @@ pub(crate) fn add_hex(out: &mut Vec<u8>, line: &[u8]) -> Result<(), Trouble> {
     Ok(())
 }
 
-/// Adds the bytes of a group: an even number of digits, behind a count and `*` as often as that
+/// Adds the bytes of a group: an even number of digits, after a count and `*` as often as that
 /// says.
 fn add_group(out: &mut Vec<u8>, group: &[u8]) -> Result<(), Trouble> {
     match group.iter().position(|byte| *byte == b'*') {

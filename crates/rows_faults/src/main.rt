@@ -1,7 +1,7 @@
-//! Shows what is reported of texts that are no rows, and of rows that fail. The faults stand in
+//! Shows what is reported of texts that are no rows, and of rows that fail. The faults are in
 //! `tests/rows.md`, "A text that is none", and what is compared in "Lines" and "What goes wrong".
 //!
-//! Standard input has texts of rows, each behind a line `==== NAME`. Each is run with a program
+//! Standard input has texts of rows, each after a line `==== NAME`. Each is run with a program
 //! that mostly echoes: it prints each word on a line, and is refused if there is none. Some
 //! words make it do what no program should. A text whose last line is `\` has no end of its line
 //! before that.
@@ -48,7 +48,7 @@ impl Program for Echo {
         if words.is_empty() { 1 } else { 0 }
     }
 
-    /// Recovers by removing what waits, and fails or never ends its work on files of two names.
+    /// Recovers by removing staged files, and fails or never ends its work on files of two names.
     fn recover(&self, alloc: Global, tree: &mut MemoryTree) -> bool {
         match recover(alloc, tree) {
             Ok(()) => true,
@@ -56,7 +56,7 @@ impl Program for Echo {
         }
     }
 
-    /// Its containers are texts behind the line of a schema.
+    /// Its containers are texts after the line of a schema.
     fn container_of(&self, alloc: Global, text: &[u8]) -> Result<Option<Vec<u8>>, AllocError> {
         match text.strip_prefix(b"#%SCHEMA: ") {
             Some(rest) => Ok(Some(Vec::from_slice(alloc, rest)?)),
@@ -73,7 +73,7 @@ fn act(alloc: Global, word: &[u8], tree: &mut MemoryTree) -> Result<(), Disk> {
             make(alloc, tree, b"made")?;
             settle(alloc, tree, b"made")
         }
-        // a file that waits for its place until it is synced
+        // a staged file for its place until it is synced
         b"careful" => {
             make(alloc, tree, b"waiting")?;
             settle(alloc, tree, b"waiting")?;
@@ -82,7 +82,7 @@ fn act(alloc: Global, word: &[u8], tree: &mut MemoryTree) -> Result<(), Disk> {
         }
         // a file that nothing keeps
         b"hasty" => make(alloc, tree, b"made"),
-        // a fault that is not told
+        // a fault that is not reported
         b"silent" => {
             let _ = tree.sync_names();
             Ok(())
@@ -127,7 +127,7 @@ fn settle(alloc: Global, tree: &mut MemoryTree, name: &[u8]) -> Result<(), Disk>
     tree.sync_names()
 }
 
-/// Removes a file that waits. A file `stuck` makes this fail, and a file `growing` is longer behind
+/// Removes a staged file. A file `stuck` makes this fail, and a file `growing` is longer after
 /// each call.
 fn recover(alloc: Global, tree: &mut MemoryTree) -> Result<(), Disk> {
     tree.remove(&named(alloc, b"waiting")?)?;
@@ -178,7 +178,7 @@ impl Cases {
     }
 }
 
-/// The text of a case: without the end of its last line where a line `\` stands behind it.
+/// The text of a case: without the end of its last line where a line `\` is after it.
 fn case_text(text: &[u8]) -> &[u8] {
     match text.strip_suffix(b"\n\\\n") {
         Some(cut) => cut,

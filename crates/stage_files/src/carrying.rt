@@ -110,7 +110,7 @@ pub fn carry_out<T: Tree>(
         × IsStageRun (after_actions stage.old.intent (with_staged 1 contents (files_of v)))
         v (T.history tree.old) (T.history tree.new)))) }
     // All targets are asked for first: either nothing has happened, or the tree accepts each. Ok is
-    // answered only if it accepts them.
+    // returned only if it accepts them.
     ensures asked { (T.history tree.new ≡ T.history tree.old)
         ⊎ AreAccepted T.accepts stage.old.intent }
     ensures accepted { OnOk result (AreAccepted T.accepts stage.old.intent) }

@@ -180,7 +180,7 @@ impl From<Disk> for StageFault {
     ghost use Rattle.std.specs.Prelude.{◌≡◌};
     ghost use Rattle.stage_files.specs.declared.writes.StageFault.TheVariants.{Disk as DiskFault};
 
-    // What becomes of it, as a caller that uses `?` sees it.
+    // The fault that a caller gets by `?`.
     ghost from_gives = { λ _ fault. fault ≡ DiskFault };
 
     // A fault of the tree as a fault of a change.

@@ -1,5 +1,5 @@
 //! The two changes that the rows make by a stage. Each removes `x` and writes `y` with the one byte
-//! `2`; the second writes `z` too, with the one byte `3`. The calls of a stage stand in
+//! `2`; the second writes `z` too, with the one byte `3`. The calls of a stage are in
 //! `docs/crash-safety.md`, "A change of several files", in the table of its steps.
 ghost use Rattle.std.specs.Prelude.{◌≡◌, [], ◌∷◌, ◌++◌, true, codes, IfOk, IfSome, OnOk};
 ghost use Rattle.journal_core.specs.Staged.{new_stage};
@@ -66,7 +66,7 @@ pub(crate) fn run_change(
     }
 }
 
-/// A list of one name; none where the bytes are no name.
+/// A list of one name; none if the bytes are no name.
 fn one_name(alloc: Global, bytes: &[u8]) -> Result<Option<Names>, AllocError>
     ensures { IfOk result (λ found. IfSome found (λ names. names ≡ bytes.now ∷ [])) }
 {
@@ -78,7 +78,7 @@ fn one_name(alloc: Global, bytes: &[u8]) -> Result<Option<Names>, AllocError>
     Ok(Some(names))
 }
 
-/// A list with one name more; none where the bytes are no name.
+/// A list with one name more; none if the bytes are no name.
 fn one_more_name(alloc: Global, names: Names, bytes: &[u8]) -> Result<Option<Names>, AllocError>
     ensures { IfOk result (λ found. IfSome found (λ more. more ≡ names ++ bytes.now ∷ [])) }
 {

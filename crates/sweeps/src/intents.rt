@@ -81,8 +81,8 @@ fn is_refused(alloc: Global, tree: &mut MemoryTree, intent: &[u8]) -> Result<boo
 }
 
 /// Answers `change CHANGE CALLS (NAME BYTES)..`: how far a change of these files comes that is cut
-/// off behind so many calls, how many of them write, how many maps of names a crash may leave, and
-/// what then stands in the tree.
+/// off after so many calls, how many of them write, how many maps of names a crash may leave, and
+/// what then is in the tree.
 pub(crate) fn add_change(
     alloc: Global,
     words: &Words,
@@ -96,7 +96,7 @@ pub(crate) fn add_change(
     add_changed_tree(alloc, change, &mut tree, answer)
 }
 
-/// Runs a change, and adds how far it came and what stands in the tree.
+/// Runs a change, and adds how far it came and what is in the tree.
 fn add_changed_tree(
     alloc: Global,
     change: StagedChange,

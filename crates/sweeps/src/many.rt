@@ -23,7 +23,7 @@ const MOST_BYTES: usize = 268_435_455;
 const MOST: u64 = 65_536;
 
 /// Answers `many WRITES WAITING`: whether an intent of so many writes is read back, name by name,
-/// and what a recovery makes of it, where the last so many files wait and the others were moved
+/// and what a recovery makes of it, if the last so many files wait and the others were moved
 /// before: how many calls of it write, and how many of the files then are under their names.
 pub(crate) fn add_many(
     alloc: Global,
@@ -74,7 +74,7 @@ fn name_text(alloc: Global, i: usize) -> Result<Vec<u8>, AllocError> {
     Vec::from_slice(alloc, text.as_bytes())
 }
 
-/// The container of an intent of so many writes, where the writer takes it.
+/// The container of an intent of so many writes, if the writer takes it.
 fn intent_file(alloc: Global, count: usize) -> Result<Option<Vec<u8>>, AllocError> {
     let mut writer = Writer::new(alloc);
     let mut writes = Vec::new(alloc);
@@ -100,7 +100,7 @@ fn write_root(writer: &mut Writer, writes: &[Val]) -> Result<Val, AllocError> {
     writer.obj(&[Val::of(0), writes])
 }
 
-/// The intent's file; none where the payload is too long for a container.
+/// The intent's file; none if the payload is too long for a container.
 fn file_of_payload(alloc: Global, payload: &[u8]) -> Result<Option<Vec<u8>>, AllocError> {
     if payload.len() > MOST_BYTES {
         return Ok(None);

@@ -1,4 +1,4 @@
-//! A change that is cut off behind a call, or whose call fails, and the recovery of each image. The
+//! A change that is cut off after a call, or whose call fails, and the recovery of each image. The
 //! rules are in `docs/crash-safety.md`, "A change of several files" and "Recovery".
 use crate::changing::{Reached, StagedChange, add_reached, change_named, run_change};
 use crate::trees::{add_count, long_at, text_of, tree_of};
@@ -15,12 +15,12 @@ const RUNS: u64 = 6400;
 /// The index of the first word of a row that names a file.
 const FILES: usize = 3;
 
-/// The files before and behind the change of a row, as text.
+/// The files before and after the change of a row, as text.
 #[derive(Drop)]
 struct Wanted {
     /// The files before the change.
     old: Vec<u8>,
-    /// The files behind the change.
+    /// The files after the change.
     new: Vec<u8>,
 }
 
@@ -29,14 +29,14 @@ struct Wanted {
 enum Recovered {
     /// The files before the change.
     Old,
-    /// The files behind the change.
+    /// The files after the change.
     New,
     /// Other files; or a recovery failed, or a second one leaves other files.
     Other,
 }
 
 /// How many recovered trees have the old files, how many the new ones, and how many others, or
-/// other ones behind a second recovery.
+/// other ones after a second recovery.
 #[derive(Clone, Copy)]
 struct Tally {
     /// How many have the old files.
@@ -78,7 +78,7 @@ impl Tally {
 
 // ---- what is wanted, and what is found
 
-/// The files of a row before and behind its change, where it can be made.
+/// The files of a row before and after its change, if it can be made.
 fn wanted_texts(
     alloc: Global,
     words: &Words,
@@ -88,7 +88,7 @@ fn wanted_texts(
     texts_of_change(alloc, change, &mut tree)
 }
 
-/// What stands in the tree before the change and behind it; none where the change fails.
+/// What is in the tree before the change and after it; none if the change fails.
 fn texts_of_change(
     alloc: Global,
     change: StagedChange,
@@ -153,7 +153,7 @@ fn recovers_to(alloc: Global, tree: &mut MemoryTree, text: &[u8]) -> Result<bool
 
 // ---- stops
 
-/// Answers `stop CHANGE CALLS (NAME BYTES)..`: how far a change comes that is cut off behind so
+/// Answers `stop CHANGE CALLS (NAME BYTES)..`: how far a change comes that is cut off after so
 /// many calls, how many maps of names a crash may then leave, and what the images recover to.
 pub(crate) fn add_stop(
     alloc: Global,
@@ -169,7 +169,7 @@ pub(crate) fn add_stop(
     add_stop_of(alloc, words, change, &wanted, answer)
 }
 
-/// Runs the change on a tree that stops behind so many calls, and recovers all of its images.
+/// Runs the change on a tree that stops after so many calls, and recovers all of its images.
 fn add_stop_of(
     alloc: Global,
     words: &Words,
@@ -230,7 +230,7 @@ struct Failing {
 }
 
 impl Failing {
-    /// The numbers behind these, if there are any: the second recovery fails at each of its calls,
+    /// The numbers after these, if there are any: the second recovery fails at each of its calls,
     /// for each call of the first one.
     fn next(self, run: Recoveries) -> Option<Failing> {
         let mut next = self;
@@ -256,7 +256,7 @@ struct Recoveries {
 }
 
 /// Answers `fault CHANGE CALL (NAME BYTES)..`: how far a change comes whose call with this number
-/// fails, and what a third recovery leaves, behind one and a second that fail, each at each of its
+/// fails, and what a third recovery leaves, after one and a second that fail, each at each of its
 /// calls.
 pub(crate) fn add_fault(
     alloc: Global,
@@ -298,7 +298,7 @@ fn run_failing(
     run_change(alloc, change, tree)
 }
 
-/// What a third recovery leaves, behind each call of a first and of a second one that fails.
+/// What a third recovery leaves, after each call of a first and of a second one that fails.
 fn tally_of_faults(
     alloc: Global,
     words: &Words,
@@ -334,7 +334,7 @@ fn run_and_recover(
     recover_thrice(alloc, change, wanted, &mut tree, failing)
 }
 
-/// Recovers three times, where a call of each of the first two fails.
+/// Recovers three times, if a call of each of the first two fails.
 fn recover_thrice(
     alloc: Global,
     change: StagedChange,

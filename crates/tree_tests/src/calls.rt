@@ -1,4 +1,4 @@
-//! Calls of a tree in memory that read a part or write: which are a misuse, and what then stands in
+//! Calls of a tree in memory that read a part or write: which are a misuse, and what then is in
 //! the tree. The rules are in `docs/crash-safety.md`, "What each call does" and
 //! "Misuses, faults and counts".
 use crate::trees::{add_tree, long_at, name_at};
@@ -56,7 +56,7 @@ const CALLS: [(&[u8], Call); 5] = [
 ];
 
 /// Makes a call that writes, and adds whether it succeeded, how many maps of names there are, and
-/// what then stands in the tree.
+/// what then is in the tree.
 pub(crate) fn add_call(
     alloc: Global,
     tree: &mut MemoryTree,
@@ -93,7 +93,7 @@ fn moves(
 }
 
 /// Syncs the names, and adds what `add_call` adds: whether it succeeded, how many maps of names
-/// there are, and what then stands in the tree.
+/// there are, and what then is in the tree.
 pub(crate) fn add_sync_names(
     alloc: Global,
     tree: &mut MemoryTree,

@@ -76,7 +76,7 @@ pub(crate) fn add_list(
     }
 }
 
-/// Makes the calls of these numbers fail (`fail_at`), or all behind so many (`stop_after`).
+/// Makes the calls of these numbers fail (`fail_at`), or all after so many (`stop_after`).
 pub(crate) fn plan_failures(
     alloc: Global,
     tree: &mut MemoryTree,
@@ -93,7 +93,7 @@ pub(crate) fn plan_failures(
     tree.fail_at(&calls)
 }
 
-/// Adds how many calls were made, which of them wrote, failed, and failed for lack of memory, the
+/// Adds how many calls were made, which of them wrote, failed, and were out of memory, the
 /// longest read, and how many maps of names there are.
 pub(crate) fn add_counts(
     alloc: Global,

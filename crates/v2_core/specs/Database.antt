@@ -1,6 +1,6 @@
--- The installed database that records say (apk-v3(5)).
+-- The installed database of records (apk-v3(5)).
 -- The rules are in `docs/formats.md`, "Text database of version 2", the column "Goes to" and the
--- paragraph of what the records say; the order of fields in "Schemas", tables 2 to 5, 7 and 9.
+-- paragraph on the value of records; the order of fields in "Schemas", tables 2 to 5, 7 and 9.
 use Rattle.std.specs.Prelude.{ℕ, List, [], ◌∷◌, map, Option, Some, None, if◌then◌else◌}
 use Rattle.std.specs.List.{find, flat_map}
 use Rattle.adb_view.specs.Plain.{Plain, null, int, blob_value, arr_value, obj_value}
@@ -12,22 +12,22 @@ use Rattle.v2_lines.specs.declared.field.InfoField.{InfoField}
 use Rattle.v2_lines.specs.declared.field.InfoField.TheVariants as Fields
 use Rattle.v2_core.specs.Records.{InfoLine, ListedFile, ListedFolder, Record, is_line_of}
 
--- the array of some values; Null where there are none
+-- the array of some values; Null if there are none
 abbrev pub array_of : List Plain → Plain
 array_of vs = arr_value (plains_of_list vs)
 
--- the object of some values, without the Nulls that stand last
+-- the object of some values, without the last Nulls
 abbrev pub object_of : List Plain → Plain
 object_of vs = obj_value (plains_of_list vs)
 
 -- ---- the package's information
 
--- the plain value of a field that takes one value; Null where its line gives none
+-- the plain value of a field that takes one value; Null if its line gives none
 abbrev pub value_of_first : List FieldValue → Plain
 value_of_first [] = null
 value_of_first (v ∷ vs) = plain_value v
 
--- the plain value that the line of a field gives; Null where there is no line
+-- the plain value of the line of a field; Null if there is no line
 abbrev pub value_of_line : Option InfoLine → Plain
 value_of_line None = null
 value_of_line (Some line) = value_of_first line.values
@@ -36,7 +36,7 @@ value_of_line (Some line) = value_of_first line.values
 abbrev pub single_value : InfoField → List InfoLine → Plain
 single_value f info = value_of_line (find (is_line_of f) info)
 
--- the values of a line if it is of the field, else none
+-- the values of a line if it is of the field, otherwise none
 abbrev pub values_for : InfoField → InfoLine → List FieldValue
 values_for f line = if is_line_of f line then line.values else []
 
@@ -45,7 +45,7 @@ abbrev pub joined_value : InfoField → List InfoLine → Plain
 joined_value f info = array_of (map plain_value (flat_map (values_for f) info))
 
 -- the object of a package's information: the first 18 fields of table 3 in order. The 13th, file-size,
--- is Null, since the text does not tell it, and so are the fields behind these
+-- is Null, since the text does not have it, and so are the fields after these
 unfoldable pub record_info_value : List InfoLine → Plain
 record_info_value info =
     object_of
@@ -61,18 +61,18 @@ record_info_value info =
 
 -- ---- folders and files
 
--- the object of an access (table 2): mode, user, group; Null where no line gives one
+-- the object of an access (table 2): mode, user, group; Null if no line gives one
 abbrev pub listed_access_value : Option Access → Plain
 listed_access_value None = null
 listed_access_value (Some a) = object_of (int a.mode ∷ blob_value a.user ∷ blob_value a.group ∷ [])
 
--- the blob of a file's hash; Null where no line gives it
+-- the blob of a file's hash; Null if no line gives it
 abbrev pub listed_hash_value : Option (List ℕ) → Plain
 listed_hash_value None = null
 listed_hash_value (Some hash) = blob_value hash
 
 -- the object of a file (table 4): name, acl, size, mtime, hashes; size and mtime are Null, since the
--- text does not tell them
+-- text does not have them
 abbrev pub listed_file_value : ListedFile → Plain
 listed_file_value file =
     object_of

@@ -1,11 +1,11 @@
--- Which line of a text is reported.
--- The rule is in `docs/formats.md`, "Text database of version 2": the first bad line of the whole
--- text is reported.
+-- The line of a text that is reported.
+-- The rule is in `docs/formats.md`, "Text database of version 2": the first bad line of the whole text
+-- is reported.
 use Rattle.std.specs.Prelude.{◌≡◌, ℕ, ◌<◌, List, [], ◌∷◌, ◌++◌, length, take, Result, Ok, Err}
 use Rattle.v2_core.specs.Reading.{records_from}
 use Rattle.v2_core.specs.Records.{Record, empty_record}
 
--- what the lines of a text say
+-- the records of a text's lines
 abbrev pub read_lines : List (List ℕ) → Result (List Record) ℕ
 read_lines lines = records_from 0 empty_record lines
 
@@ -15,8 +15,9 @@ pub record BeginsText (front : List (List ℕ)) : Type 0 where
   pub records : List Record
   pub is_read : read_lines (front ++ more) ≡ Ok records
 
--- The lines up to a number are those of no text in which their last record ends there, and no text
--- that goes on from there is refused otherwise; but those up to any smaller number begin a text.
+-- The lines up to a number are those of no text in which their last record ends there, and every text
+-- that continues from there is refused with this number; but those up to any smaller number begin a
+-- text.
 pub record IsReportedLine (lines : List (List ℕ)) (number : ℕ) : Type 0 where
   pub front : List (List ℕ)
   pub rest : List (List ℕ)

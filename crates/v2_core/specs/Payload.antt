@@ -1,5 +1,4 @@
--- What `read_v2` makes of a text: the payload of the installed database that it says, or why there
--- is none.
+-- The result of `read_v2` for a text: the payload of the installed database, or why there is none.
 -- The rules are in `docs/formats.md`, "Text database of version 2", the last paragraphs: the order of
 -- bad lines, limits and tests.
 use Rattle.std.specs.Prelude.{◌≡◌, ℕ, ⊤, List, Option, Some, None, Result, Ok, Err}
@@ -19,12 +18,12 @@ abbrev pub unless_bad : List ℕ → Option Cause → Result (List ℕ) V2Fault
 unless_bad payload None = Ok payload
 unless_bad payload (Some cause) = Err (Bad cause)
 
--- the payload, unless it passes a limit of the writer
+-- the payload, unless it exceeds a limit of the writer
 abbrev pub or_too_large : Result (List ℕ) PayloadCounts → Result (List ℕ) V2Fault
 or_too_large (Ok payload) = Ok payload
 or_too_large (Err counts) = Err (TooLarge counts.0 counts.1)
 
--- the payload of the database that the records of a text say, before it is tested
+-- the payload of the database of a text's records, before it is tested
 abbrev pub written_payload : Result (List Record) ℕ → Result (List ℕ) V2Fault
 written_payload (Ok records) = or_too_large (written_of (value_of_records records))
 written_payload (Err line) = Err (Bad (TextLine line))
@@ -34,13 +33,13 @@ abbrev pub payload_if_sound : Result (List ℕ) V2Fault → Result (List ℕ) V2
 payload_if_sound (Ok payload) = unless_bad payload (payload_fault Idb payload)
 payload_if_sound (Err fault) = Err fault
 
--- the payload of the installed database that a text says; or what is reported: the first bad line, else
--- the counts of a limit of the writer that is passed, else the first test of an installed database that
--- fails
+-- the payload of the installed database of a text; or what is reported: the first bad line, otherwise
+-- the counts of a limit of the writer that is exceeded, otherwise the first test of an installed
+-- database that fails
 unfoldable pub payload_of_text : List ℕ → Result (List ℕ) V2Fault
 payload_of_text text = payload_if_sound (written_payload (records_of text))
 
--- a fault is the one that this answer has; lack of memory may come at any text
+-- a fault is the one of this result; out of memory may occur for any text
 abbrev pub IsV2Fault : V2Fault → Result (List ℕ) V2Fault → Type 0
 IsV2Fault Memory answer = ⊤
 IsV2Fault (Bad cause) answer = answer ≡ Err (Bad cause)

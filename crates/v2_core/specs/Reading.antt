@@ -11,20 +11,20 @@ use Rattle.v2_core.specs.Records.{Record, empty_record, lacks_needed_line, with_
 abbrev pub with_text : Record → List ℕ → Option Record
 with_text r line = option_and_then (with_record_line r) (record_line_of line)
 
--- records in front of others, unless there is a bad line behind them
+-- records before others, unless these have a bad line
 abbrev pub with_records : List Record → Result (List Record) ℕ → Result (List Record) ℕ
 with_records records (Ok others) = Ok (records ++ others)
 with_records records (Err line) = Err line
 
--- The records from one on that has ended, where so many lines stand up to its end; a record without a
--- line is none, and one without a name or a version is bad at its last line.
+-- The records from one on that has ended, with this many lines up to its end; a record without a line
+-- is none, and one without a name or a version is bad at its last line.
 abbrev pub at_record_end : ℕ → Record → Result (List Record) ℕ → Result (List Record) ℕ
 at_record_end lines r others =
     if r.has_line
     then (if lacks_needed_line r.info then Err lines else with_records (r ∷ []) others)
     else others
 
--- the records of some lines, behind so many lines and a record that these began; or the number of the
+-- the records of some lines, after this many lines and a record that these began; or the number of the
 -- first bad line
 abbrev pub records_from : ℕ → Record → List (List ℕ) → Result (List Record) ℕ
 records_from before r [] = at_record_end before r (Ok [])

@@ -1,7 +1,6 @@
--- A record of a text database: what its lines say of one package, of its folders and of their
--- files.
+-- A record of a text database: its lines on one package, on its folders and on their files.
 -- The rules are in `docs/formats.md`, "Text database of version 2", the table and the two paragraphs
--- behind it.
+-- after it.
 use Rattle.std.specs.Prelude.{ℕ, Bool, true, false, not, ◌&&◌, ◌||◌, ◌==◌, if◌then◌else◌, List, [], ◌∷◌, ◌++◌, Option, Some, None, option_map, is_some}
 use Rattle.std.specs.List.{list_any}
 use Rattle.make_info.specs.Fields.{FieldValue}
@@ -11,12 +10,12 @@ use Rattle.v2_lines.specs.Lines.{RecordLine, info_line, folder_line, folder_acce
 use Rattle.v2_lines.specs.declared.field.InfoField.{InfoField}
 use Rattle.v2_lines.specs.declared.field.InfoField.TheVariants as Fields
 
--- what one line says of a field of the package
+-- one line on a field of the package
 pub record InfoLine : Type 0 where
   pub field : InfoField
   pub values : List FieldValue
 
--- a file, as the lines of a record say of it
+-- a file, by the lines of a record
 pub record ListedFile : Type 0 where
   pub name : List ℕ
   pub access : Option Access
@@ -28,8 +27,8 @@ pub record ListedFolder : Type 0 where
   pub access : Option Access
   pub files : List ListedFile
 
--- a record: whether it has a line, and what its lines say; the last folder and its last file are those
--- that further lines belong to
+-- a record: whether it has a line, and the meaning of its lines; further lines belong to the last
+-- folder and its last file
 pub record Record : Type 0 where
   pub has_line : Bool
   pub info : List InfoLine
@@ -44,7 +43,7 @@ record_by has_line info folders =
 abbrev pub empty_record : Record
 empty_record = record_by false [] []
 
--- what a line says of a field, by its parts
+-- a line on a field, by its parts
 abbrev pub info_by : InfoField → List FieldValue → InfoLine
 info_by f values = record { field = f; values = values }
 
@@ -56,7 +55,7 @@ file_by name access hash = record { name = name; access = access; hash = hash }
 abbrev pub folder_by : List ℕ → Option Access → List ListedFile → ListedFolder
 folder_by name access files = record { name = name; access = access; files = files }
 
--- ---- one more line; None if the line may not stand there
+-- ---- one more line; None if the line is not allowed there
 
 -- whether a line is of a field
 abbrev pub is_line_of : InfoField → InfoLine → Bool
@@ -80,17 +79,17 @@ with_last_changed change (x ∷ []) = option_map (λ y. y ∷ []) (change x)
 with_last_changed change (x ∷ y ∷ rest) =
     option_map (λ rest. x ∷ rest) (with_last_changed change (y ∷ rest))
 
--- a file with its access, which may be told once
+-- a file with its access, which may be given once
 abbrev pub file_with_access : Access → ListedFile → Option ListedFile
 file_with_access a file =
     if is_some file.access then None else Some (file_by file.name (Some a) file.hash)
 
--- a file with its hash, which may be told once
+-- a file with its hash, which may be given once
 abbrev pub file_with_hash : List ℕ → ListedFile → Option ListedFile
 file_with_hash hash file =
     if is_some file.hash then None else Some (file_by file.name file.access (Some hash))
 
--- a folder with its access, which may be told once
+-- a folder with its access, which may be given once
 abbrev pub folder_with_access : Access → ListedFolder → Option ListedFolder
 folder_with_access a folder =
     if is_some folder.access then None else Some (folder_by folder.name (Some a) folder.files)
@@ -99,7 +98,7 @@ folder_with_access a folder =
 abbrev pub folder_with_files : ListedFolder → List ListedFile → ListedFolder
 folder_with_files folder files = folder_by folder.name folder.access files
 
--- a folder with one file more, of which only the name is known
+-- a folder with one more file, of which only the name is known
 abbrev pub folder_with_file : List ℕ → ListedFolder → Option ListedFolder
 folder_with_file name folder =
     Some (folder_with_files folder (folder.files ++ file_by name None None ∷ []))
@@ -109,7 +108,7 @@ abbrev pub folder_with_last : (ListedFile → Option ListedFile) → ListedFolde
 folder_with_last change folder =
     option_map (folder_with_files folder) (with_last_changed change folder.files)
 
--- folders and their files with what one more line says of them; None if it may not stand there
+-- folders and their files with one more line; None if it is not allowed there
 abbrev pub with_path_line : RecordLine → List ListedFolder → Option (List ListedFolder)
 with_path_line (info_line f values) folders = Some folders
 with_path_line (folder_line name) folders = Some (folders ++ folder_by name None [] ∷ [])
@@ -121,24 +120,24 @@ with_path_line (file_hash_line hash) folders =
     with_last_changed (folder_with_last (file_with_hash hash)) folders
 with_path_line other_line folders = Some folders
 
--- the information with what one more line says of it; None if it may not stand there
+-- the information with one more line; None if it is not allowed there
 abbrev pub with_info_line : RecordLine → List InfoLine → Option (List InfoLine)
 with_info_line (info_line f values) info = with_info f values info
 with_info_line line info = Some info
 
--- the record of the information and the folders behind one more line; None if the line may not stand
+-- the record of the information and the folders after one more line; None if the line is not allowed
 -- for one of them
 abbrev pub record_of_parts : Option (List InfoLine) → Option (List ListedFolder) → Option Record
 record_of_parts None folders = None
 record_of_parts (Some info) None = None
 record_of_parts (Some info) (Some folders) = Some (record_by true info folders)
 
--- a record with what one more line says; None if the line may not stand there
+-- a record with one more line; None if the line is not allowed there
 abbrev pub with_record_line : Record → RecordLine → Option Record
 with_record_line r line =
     record_of_parts (with_info_line line r.info) (with_path_line line r.folders)
 
--- whether the line of the package's name or that of its version is lacking
+-- whether the line of the package's name or that of its version is missing
 abbrev pub lacks_needed_line : List InfoLine → Bool
 lacks_needed_line info =
     not (has_line_of Fields.Name info) || not (has_line_of Fields.Version info)

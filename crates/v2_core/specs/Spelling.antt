@@ -1,6 +1,5 @@
--- The text that records have: each record's lines in the order of its parts, and an empty line
--- behind it.
--- The rules are in `docs/formats.md`, "Text database of version 2". Serves the law
+-- The text of records: each record's lines in the order of its parts, followed by an empty line.
+-- The rules are in `docs/formats.md`, "Text database of version 2". It serves the law
 -- `the_text_of_records_is_read_back`.
 use Rattle.std.specs.Prelude.{◌≡◌, ℕ, Bool, true, false, not, ◌&&◌, ◌||◌, ⊤, List, [], ◌∷◌, ◌++◌, map, Option, Some, None}
 use Rattle.std.specs.List.{flat_map, list_all}
@@ -10,17 +9,17 @@ use Rattle.v2_lines.specs.InfoFields.{adds_to_list}
 use Rattle.v2_lines.specs.Lines.{RecordLine, info_line, folder_line, folder_access_line, file_line, file_access_line, file_hash_line, record_line_of}
 use Rattle.v2_core.specs.Records.{InfoLine, ListedFile, ListedFolder, Record, has_line_of, lacks_needed_line}
 
--- the line of an access, of a file or of a folder; none where no line said it
+-- the line of an access, of a file or of a folder; none if no line gave it
 abbrev pub access_lines : (Access → RecordLine) → Option Access → List RecordLine
 access_lines line None = []
 access_lines line (Some a) = line a ∷ []
 
--- the line of a file's hash; none where no line said it
+-- the line of a file's hash; none if no line gave it
 abbrev pub hash_lines : Option (List ℕ) → List RecordLine
 hash_lines None = []
 hash_lines (Some hash) = file_hash_line hash ∷ []
 
--- the lines of a file: its name, then its access and its hash, where these are known
+-- the lines of a file: its name, then its access and its hash, if these are known
 abbrev pub file_lines : ListedFile → List RecordLine
 file_lines file =
     file_line file.name ∷ (access_lines file_access_line file.access ++ hash_lines file.hash)
@@ -35,12 +34,12 @@ folder_lines folder =
 abbrev pub info_lines : List InfoLine → List RecordLine
 info_lines info = map (λ (l : InfoLine). info_line l.field l.values) info
 
--- the lines of a record: those of the information in front of those of the folders
+-- the lines of a record: those of the information, then those of the folders
 abbrev pub record_lines : Record → List RecordLine
 record_lines r = info_lines r.info ++ flat_map folder_lines r.folders
 
--- whether each of these lines is the first one of its field, unless the field is a list, where those
--- before them stand in front
+-- whether each of these lines is the first one of its field, unless the field is a list, given the
+-- lines before them
 abbrev pub stand_once : List InfoLine → List InfoLine → Bool
 stand_once before [] = true
 stand_once before (l ∷ ls) =
@@ -50,7 +49,7 @@ stand_once before (l ∷ ls) =
 abbrev pub is_one_line : List ℕ → Bool
 is_one_line text = list_all (λ b. not (is_line_end b)) text
 
--- these texts are lines that say these things, one for one
+-- these texts are lines with these meanings, one for one
 abbrev pub AreLines : List (List ℕ) → List RecordLine → Type 0
 AreLines [] [] = ⊤
 AreLines [] (l ∷ ls) = ⊥
@@ -58,20 +57,19 @@ AreLines (t ∷ ts) [] = ⊥
 AreLines (t ∷ ts) (l ∷ ls) =
     (is_one_line t ≡ true) × (record_line_of t ≡ Some l) × AreLines ts ls
 
--- these lines are those of a record, which has a name and a version and each field that stands once
--- only once
+-- these lines are those of a record, which has a name and a version and each single field only once
 pub record SpellsRecord (lines : List (List ℕ)) (r : Record) : Type 0 where
   pub begun : r.has_line ≡ true
   pub complete : lacks_needed_line r.info ≡ false
   pub once : stand_once [] r.info ≡ true
   pub lines_say : AreLines lines (record_lines r)
 
--- the text of some lines, each with its line end (10), and another text behind them
+-- the text of some lines, each with its line end (10), followed by another text
 abbrev pub lines_before : List (List ℕ) → List ℕ → List ℕ
 lines_before [] text = text
 lines_before (line ∷ lines) text = line ++ 10 ∷ lines_before lines text
 
--- a text is that of these records: the lines of each, and an empty line behind them
+-- a text is that of these records: the lines of each, followed by an empty line
 abbrev pub SpellsText : List ℕ → List Record → Type 0
 SpellsText text [] = text ≡ []
 SpellsText text (r ∷ rs) = (lines : List (List ℕ)) × (rest : List ℕ)

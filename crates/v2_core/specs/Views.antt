@@ -1,4 +1,4 @@
--- What the program's values stand for.
+-- What the program's values denote.
 -- Serves the contracts of `record` and `writing`.
 use Rattle.std.specs.Prelude.{ℕ, List, Option, option_map, Vec}
 use Rattle.std.specs.declared.alloc.Global.{Global}
@@ -6,10 +6,10 @@ use Rattle.v2_lines.specs.Accesses.{Access, access_view}
 use Rattle.v2_lines.specs.Views.{bytes_view}
 use Rattle.v2_lines.specs.declared.access.Access.{Access as AccessSlices}
 
--- the access of a file or a folder, which may be lacking
+-- the access of a file or a folder, if it is known
 abbrev pub access_views : Option AccessSlices → Option Access
 access_views a = option_map access_view a
 
--- the hash of a file, which may be lacking
+-- the hash of a file, if it is known
 abbrev pub hash_view : Option (Vec ℕ Global) → Option (List ℕ)
 hash_view hash = option_map bytes_view hash

@@ -1,6 +1,6 @@
 -- What is written while a text is read.
--- Serves the contracts of `read`; the order of what is reported stands in `docs/formats.md`, "Text
--- database of version 2".
+-- It serves the contracts of `read`; the order of what is reported is defined in `docs/formats.md`,
+-- "Text database of version 2".
 use Rattle.std.specs.Prelude.{◌≡◌, ℕ, ⊤, List, map, Result, Ok, Err}
 use Rattle.adb_values.specs.Drafts.{DraftState, draft_with, draft_with_all}
 use Rattle.base_core.specs.declared.cause.Cause.TheVariants.{TextLine}
@@ -20,8 +20,8 @@ abbrev pub draft_with_database : Result (List Record) ℕ → DraftState → Res
 draft_with_database (Ok records) d = Ok (draft_with (value_of_records records) d)
 draft_with_database (Err line) d = Err line
 
--- the fault of a text is that of its first bad line, or lack of memory; a limit is told only at the end
--- of the text
+-- the fault of a text is that of its first bad line, or out of memory; a limit is reported only at the
+-- end of the text
 abbrev pub IsLineFault : V2Fault → Result (List Record) ℕ → Type 0
 IsLineFault (Bad cause) read = (line : ℕ) × (cause ≡ TextLine line) × (read ≡ Err line)
 IsLineFault (TooLarge bytes values) read = ⊥

@@ -1,5 +1,5 @@
-//! The text database of version 2 of apk-tools, taken over: the bytes of `lib/apk/db/installed`
-//! come in, and the payload of the installed database that they say goes out, or the first bad
+//! Converts the text database of version 2 of apk-tools: it takes the bytes of
+//! `lib/apk/db/installed`, and returns the payload of the installed database, or the first bad
 //! line.
 //!
 //! The contracts cite `Payload` (what comes out), `Reading` (the records of a text), `Records` and

@@ -1,5 +1,5 @@
-//! Reads a text line by line, and writes each package at the end of its record; or tells why a text
-//! database is not taken over.
+//! Reads a text line by line, and writes each package at the end of its record; or returns why a
+//! text database is not converted.
 //! The rules are in `docs/formats.md`, "Text database of version 2".
 
 ghost use Rattle.std.specs.Prelude.{◌≡◌, ◌<◌, ◌-◌, ◌∷◌, IfErr, IfOk, List, None, OnOk, Ok, Result, ℕ, Err};
@@ -26,14 +26,14 @@ use base_core::Cause;
 use std::alloc::{AllocError, Global};
 use thiserror::Error;
 
-/// Reads a text database (`lib/apk/db/installed` of apk-tools 2): the payload of the installed
-/// database that it says.
+/// Reads a text database (`lib/apk/db/installed` of apk-tools 2): returns the payload of the
+/// installed database.
 ///
 /// # Errors
 ///
-/// `Bad` with the cause `TextLine` and the number of the first bad line, counted from 1; else
-/// `TooLarge`, where the payload passes a limit of the writer; else `Bad` with the first test of an
-/// installed database that the payload fails. Or `Memory`.
+/// `Bad` with the cause `TextLine` and the number of the first bad line, counted from 1; otherwise
+/// `TooLarge`, if the payload exceeds a limit of the writer; otherwise `Bad` with the first test of
+/// an installed database that the payload fails. Or `Memory`.
 #[tactic(auto, unfolding(crate::specs::Payload::payload_of_text))]
 pub fn read_v2(alloc: Global, bytes: &[u8]) -> Result<Vec<u8>, V2Fault>
     ensures ok { IfOk result (λ payload. payload_of_text bytes.now ≡ Ok payload.items) }
@@ -62,7 +62,7 @@ fn check_database(alloc: Global, payload: &[u8]) -> Result<(), ReadFault>
     }
 }
 
-// Writes the payload of what a text says.
+// Writes the payload of a text.
 fn write_payload(alloc: Global, bytes: &[u8]) -> Result<Vec<u8>, V2Fault>
     ensures ok { IfOk result
         (λ payload. written_payload (records_of bytes.now) ≡ Ok payload.items) }
@@ -77,7 +77,7 @@ fn write_payload(alloc: Global, bytes: &[u8]) -> Result<Vec<u8>, V2Fault>
     }
 }
 
-// Writes the database that a text says.
+// Writes the database of a text.
 fn write_database(alloc: Global, draft: &mut Draft, bytes: &[u8]) -> Result<(), V2Fault>
     ensures ok { OnOk result
         (draft_with_database (records_of bytes.now) draft.old ≡ Ok draft.new) }
@@ -91,7 +91,7 @@ fn write_database(alloc: Global, draft: &mut Draft, bytes: &[u8]) -> Result<(), 
     Ok(())
 }
 
-// Writes the packages that a text says, each at the end of its record.
+// Writes the packages of a text, each at the end of its record.
 #[tactic(auto, unfolding(crate::specs::Reading::records_of))]
 fn write_packages(alloc: Global, draft: &mut Draft, bytes: &[u8]) -> Result<(), V2Fault>
     ensures ok { OnOk result (draft_with_read (records_of bytes.now) draft.old ≡ Ok draft.new) }
@@ -107,8 +107,8 @@ fn write_packages(alloc: Global, draft: &mut Draft, bytes: &[u8]) -> Result<(), 
 }
 
 // Reads the line with this number, counted from 1: an empty one ends the record, another belongs to
-// it. The clauses say it of whatever lines stand behind this one: what is written with them is what
-// the text from this line on gives.
+// it. The clauses hold for any lines that follow: what is written with them is the result of the
+// text from this line on.
 fn add_line<'a>(
     draft: &mut Draft,
     text_record: &mut Record<'a>,
@@ -132,8 +132,8 @@ fn add_line<'a>(
     Ok(())
 }
 
-// Ends a record, where so many lines stand up to there, and begins a new one. The clauses say it of
-// whatever records stand behind this one.
+// Ends a record, with this many lines up to there, and begins a new one. The clauses hold for any
+// records that follow.
 fn end_record(draft: &mut Draft, text_record: &mut Record<'_>, lines: u64) -> Result<(), V2Fault>
     ensures new { OnOk result (text_record.new ≡ empty_record) }
     ensures ok { OnOk result ((others : Result (List RecordModel) ℕ)
@@ -147,8 +147,8 @@ fn end_record(draft: &mut Draft, text_record: &mut Record<'_>, lines: u64) -> Re
     Ok(())
 }
 
-// Writes the package of a record, where so many lines stand up to its end; a record without a line
-// is none. The clauses say it of whatever records stand behind this one.
+// Writes the package of a record, with this many lines up to its end; a record without a line is
+// none. The clauses hold for any records that follow.
 fn write_record(draft: &mut Draft, text_record: &Record<'_>, lines: u64) -> Result<(), V2Fault>
     ensures ok { OnOk result ((others : Result (List RecordModel) ℕ)
         → draft_with_read others draft.new
@@ -179,11 +179,11 @@ pub enum V2Fault {
     /// The first bad line; or the first test of an installed database that its value fails.
     #[error("bad text database")]
     Bad(Cause),
-    /// The payload would pass a limit of the writer. The counts are those just behind the value
-    /// that does: the payload's bytes, and its values with the root.
+    /// The payload would exceed a limit of the writer. The counts are those after the value that
+    /// does: the payload's bytes, and its values with the root.
     #[error("a payload of {bytes} bytes and {values} values is too large")]
     TooLarge { bytes: u64, values: u64 },
-    /// There was no memory.
+    /// Out of memory.
     #[error("out of memory")]
     Memory,
 }
@@ -194,7 +194,7 @@ impl From<AllocError> for V2Fault {
 
     ghost from_gives = { λ _ fault. fault ≡ Memory };
 
-    /// Where no memory was given the text is not read.
+    /// Out of memory as such a fault.
     fn from(_: AllocError) -> V2Fault {
         V2Fault::Memory
     }
@@ -206,15 +206,15 @@ impl From<Cause> for V2Fault {
 
     ghost from_gives = { λ cause fault. fault ≡ Bad cause };
 
-    /// A failed test refuses the text.
+    /// A failed test as such a fault.
     fn from(cause: Cause) -> V2Fault {
         V2Fault::Bad(cause)
     }
 }
 
-/// The line that is reported is the first that no text has: whatever stands behind the end of its
-/// record, the lines up to it are refused with its number; and any fewer of them begin a text that
-/// is read.
+/// The reported line is the first that is in no text: the lines up to it are refused with its
+/// number, whatever follows the end of its record; and any fewer of them begin a text that is
+/// accepted.
 pub fn the_reported_line_is_the_first_that_no_text_has()
     ensures { (text : List ℕ) (number : ℕ) → records_of text ≡ Err number
         → IsReportedLine (lines_of text) number }

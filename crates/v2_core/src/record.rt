@@ -1,7 +1,6 @@
-//! A record of a text database: what its lines say of one package, of its folders and of their
-//! files.
+//! A record of a text database: its lines on one package, on its folders and on their files.
 //! The rules are in `docs/formats.md`, "Text database of version 2", the table and the two
-//! paragraphs behind it.
+//! paragraphs after it.
 ghost use Rattle.std.specs.List.{find, list_any};
 ghost use Rattle.std.specs.Option.{option_map};
 ghost use Rattle.std.specs.Prelude.{◌≡◌, ◌++◌, ◌∷◌, [], IfOk, None, OnOk, Some, if◌then◌else◌, is_some, option_and_then};
@@ -15,12 +14,12 @@ use std::alloc::{AllocError, Global};
 use std::marker::Model;
 use v2_lines::{Access, InfoField, Line, Value, read_line};
 
-/// What one line says of a field of the package.
+/// One line on a field of the package.
 #[derive(Drop)]
 pub(crate) struct InfoLine<'a> {
     /// The field, by the line's letter.
     pub field: InfoField,
-    /// What the line's value says.
+    /// The line's value.
     pub value: Value<'a>,
 }
 
@@ -38,9 +37,9 @@ impl<'a> Model for InfoLine<'a> {
 pub(crate) struct File<'a> {
     /// Its name: one part of a path.
     pub name: &'a [u8],
-    /// Whose the file is, where a line said it.
+    /// Its owner and mode, if a line gave them.
     pub access: Option<Access<'a>>,
-    /// The SHA-1 of its bytes, where a line said it.
+    /// The SHA-1 of its bytes, if a line gave it.
     pub hash: Option<Vec<u8>>,
 }
 
@@ -54,7 +53,7 @@ impl<'a> Model for File<'a> {
 }
 
 impl<'a> File<'a> {
-    /// Says whose the file is. False: that was said before.
+    /// Sets the file's owner and mode. False: they were given before.
     fn add_access(&mut self, access: Access<'a>) -> bool
         ensures { (if result then Some self.new else None)
             ≡ file_with_access (access_view access.entry) self.old }
@@ -66,7 +65,7 @@ impl<'a> File<'a> {
         true
     }
 
-    /// Says what the hash of the file is. False: that was said before.
+    /// Sets the hash of the file. False: it was given before.
     fn add_hash(&mut self, hash: Vec<u8>) -> bool
         ensures { (if result then Some self.new else None)
             ≡ file_with_hash hash.items self.old }
@@ -84,7 +83,7 @@ impl<'a> File<'a> {
 pub(crate) struct Folder<'a> {
     /// Its path; empty for the root.
     pub name: &'a [u8],
-    /// Whose the folder is, where a line said it.
+    /// Its owner and mode, if a line gave them.
     pub access: Option<Access<'a>>,
     /// In the order of their lines.
     pub files: Vec<File<'a>>,
@@ -101,7 +100,7 @@ impl<'a> Model for Folder<'a> {
 }
 
 impl<'a> Folder<'a> {
-    /// Says whose the folder is. False: that was said before.
+    /// Sets the folder's owner and mode. False: they were given before.
     fn add_access(&mut self, access: Access<'a>) -> bool
         ensures { (if result then Some self.new else None)
             ≡ folder_with_access (access_view access.entry) self.old }
@@ -113,7 +112,7 @@ impl<'a> Folder<'a> {
         true
     }
 
-    /// Begins a file, behind those of the folder.
+    /// Begins a file, after those of the folder.
     fn add_file(&mut self, name: &'a [u8]) -> Result<(), AllocError>
         ensures { OnOk result (Some self.new ≡ folder_with_file name.entry.now self.old) }
     {
@@ -125,7 +124,7 @@ impl<'a> Folder<'a> {
         Ok(())
     }
 
-    /// Says whose the last file is. False: there is none, or that was said before.
+    /// Sets the last file's owner and mode. False: there is none, or they were given before.
     fn add_file_access(&mut self, access: Access<'a>) -> bool
         ensures { (if result then Some self.new else None)
             ≡ folder_with_last (file_with_access (access_view access.entry)) self.old }
@@ -133,7 +132,7 @@ impl<'a> Folder<'a> {
         add_access_to_last(&mut self.files, access)
     }
 
-    /// Says what the hash of the last file is. False: there is none, or that was said before.
+    /// Sets the hash of the last file. False: there is none, or it was given before.
     fn add_file_hash(&mut self, hash: Vec<u8>) -> bool
         ensures { (if result then Some self.new else None)
             ≡ folder_with_last (file_with_hash hash.items) self.old }
@@ -142,7 +141,7 @@ impl<'a> Folder<'a> {
     }
 }
 
-// Says whose the last of some files is. False: there is none, or that was said before.
+// Sets the owner and mode of the last file. False: there is none, or they were given before.
 fn add_access_to_last<'a>(files: &mut Vec<File<'a>>, access: Access<'a>) -> bool
     ensures { (if result then Some files.new.items else None)
         ≡ with_last_changed (file_with_access (access_view access.entry)) files.old.items }
@@ -153,7 +152,7 @@ fn add_access_to_last<'a>(files: &mut Vec<File<'a>>, access: Access<'a>) -> bool
     }
 }
 
-// Says what the hash of the last of some files is. False: there is none, or that was said before.
+// Sets the hash of the last file. False: there is none, or it was given before.
 fn add_hash_to_last(files: &mut Vec<File<'_>>, hash: Vec<u8>) -> bool
     ensures { (if result then Some files.new.items else None)
         ≡ with_last_changed (file_with_hash hash.items) files.old.items }
@@ -164,13 +163,13 @@ fn add_hash_to_last(files: &mut Vec<File<'_>>, hash: Vec<u8>) -> bool
     }
 }
 
-/// What the lines of a record say.
+/// The lines of a record.
 #[derive(Drop)]
 pub(crate) struct Record<'a> {
     alloc: Global,
     // Whether a line was read; a record without one is none.
     has_line: bool,
-    /// What lines said of the package, in their order.
+    /// The lines on the package, in their order.
     pub info: Vec<InfoLine<'a>>,
     /// The folders, in the order of their lines.
     pub folders: Vec<Folder<'a>>,
@@ -197,7 +196,7 @@ impl<'a> Record<'a> {
         }
     }
 
-    /// Drops all that the record's lines said, so that another record can begin.
+    /// Drops the record's lines, so that another record can begin.
     pub(crate) fn clear(&mut self)
         ensures { self.new ≡ empty_record }
     {
@@ -213,7 +212,7 @@ impl<'a> Record<'a> {
         self.has_line
     }
 
-    /// Whether the line of the package's name or that of its version is lacking.
+    /// Whether the line of the package's name or that of its version is missing.
     pub(crate) fn lacks_needed_line(&self) -> bool
         ensures { result ≡ lacks_needed_line self.now.info }
     {
@@ -231,7 +230,7 @@ impl<'a> Record<'a> {
         }
     }
 
-    /// Adds what a line says. False: the line may not stand behind those before it.
+    /// Adds a line. False: the line is not allowed after those before it.
     fn add(&mut self, line: Line<'a>) -> Result<bool, AllocError>
         ensures { IfOk result (λ good. (if good then Some self.new else None)
             ≡ with_record_line self.old (line_view line.entry)) }
@@ -249,14 +248,14 @@ impl<'a> Record<'a> {
     }
 }
 
-/// Whether a line of this field was taken before.
+/// Whether a line of this field was accepted before.
 fn has_line_of(info: &[InfoLine<'_>], field: InfoField) -> bool
     ensures { result ≡ has_line_of field info.now }
 {
     info.iter().any(|line| line.field == field)
 }
 
-/// Adds what a line says of a field. False: the line is a second one of a field that is no list.
+/// Adds a line on a field. False: the line is a second one of a field that is no list.
 fn add_info<'a>(
     info: &mut Vec<InfoLine<'a>>,
     field: InfoField,
@@ -272,7 +271,7 @@ fn add_info<'a>(
     Ok(true)
 }
 
-/// Begins a folder, behind those of the record. True always.
+/// Begins a folder, after those of the record. True always.
 fn add_folder<'a>(
     alloc: Global,
     folders: &mut Vec<Folder<'a>>,
@@ -289,7 +288,7 @@ fn add_folder<'a>(
     Ok(true)
 }
 
-/// Says whose the last folder is. False: there is none, or that was said before.
+/// Sets the last folder's owner and mode. False: there is none, or they were given before.
 fn add_access<'a>(folders: &mut Vec<Folder<'a>>, access: Access<'a>) -> bool
     ensures { (if result then Some folders.new.items else None)
         ≡ with_last_changed (folder_with_access (access_view access.entry)) folders.old.items }
@@ -312,7 +311,8 @@ fn add_file<'a>(folders: &mut Vec<Folder<'a>>, name: &'a [u8]) -> Result<bool, A
     Ok(true)
 }
 
-/// Says whose the last file of the last folder is. False: there is none, or that was said before.
+/// Sets the owner and mode of the last folder's last file. False: there is none, or they were given
+/// before.
 fn add_file_access<'a>(folders: &mut Vec<Folder<'a>>, access: Access<'a>) -> bool
     ensures { (if result then Some folders.new.items else None)
         ≡ with_last_changed (folder_with_last (file_with_access (access_view access.entry)))
@@ -324,8 +324,7 @@ fn add_file_access<'a>(folders: &mut Vec<Folder<'a>>, access: Access<'a>) -> boo
     }
 }
 
-/// Says what the hash of the last file of the last folder is. False: there is none, or that was
-/// said before.
+/// Sets the hash of the last folder's last file. False: there is none, or it was given before.
 fn add_file_hash<'a>(folders: &mut Vec<Folder<'a>>, hash: Vec<u8>) -> bool
     ensures { (if result then Some folders.new.items else None)
         ≡ with_last_changed (folder_with_last (file_with_hash hash.items)) folders.old.items }

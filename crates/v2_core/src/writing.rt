@@ -1,4 +1,4 @@
-//! Writes the package that a record says, as an installed database has it (apk-v3(5)).
+//! Writes the package of a record, as an installed database has it (apk-v3(5)).
 //! The rules are in `docs/formats.md`, "Text database of version 2", the column "Goes to"; the
 //! order of fields in "Schemas", tables 2 to 5 and 7.
 ghost use Rattle.adb_values.specs.Drafts.{draft_with, draft_with_all};
@@ -23,7 +23,7 @@ use make_info::write_need;
 use std::alloc::AllocError;
 use v2_lines::{Access, InfoField, Value};
 
-/// Where a field of the package's information comes from.
+/// The source of a field of the package's information.
 #[derive(Clone, Copy)]
 enum Column {
     /// A field of which a record has one line at most.
@@ -35,7 +35,7 @@ enum Column {
 }
 
 /// The fields of a package's information in the order of table 3, up to the last that a line gives,
-/// which is the 18th. The 13th is the file's size, which the text does not tell.
+/// which is the 18th. The 13th is the file's size, which the text does not have.
 const COLUMNS: [Column; 18] = [
     Column::Once(InfoField::Name),
     Column::Once(InfoField::Version),
@@ -110,7 +110,7 @@ fn write_column(draft: &mut Draft, info: &[InfoLine<'_>], column: Column) -> Res
     }
 }
 
-// Writes what the line of a field says, or NULL if there is none.
+// Writes the line of a field, or NULL if there is none.
 fn write_once(draft: &mut Draft, info: &[InfoLine<'_>], field: InfoField) -> Result<(), AllocError>
     ensures { OnOk result (draft.new ≡ draft_with (single_value field info.now) draft.old) }
 {
@@ -144,7 +144,7 @@ fn write_first(draft: &mut Draft, value: &Value<'_>) -> Result<(), AllocError>
     }
 }
 
-// Writes what all lines of a field say, as an array.
+// Writes the values of all lines of a field, as an array.
 fn write_list(draft: &mut Draft, info: &[InfoLine<'_>], field: InfoField) -> Result<(), AllocError>
     ensures { OnOk result (draft.new ≡ draft_with (joined_value field info.now) draft.old) }
 {
@@ -157,7 +157,7 @@ fn write_list(draft: &mut Draft, info: &[InfoLine<'_>], field: InfoField) -> Res
     draft.close_array()
 }
 
-// Writes the values that a line says.
+// Writes the values of a line.
 fn write_values(draft: &mut Draft, value: &Value<'_>) -> Result<(), AllocError>
     ensures { OnOk result (draft.new
         ≡ draft_with_all (plains_of_list (map plain_value (line_value_view value.now)))
@@ -170,7 +170,7 @@ fn write_values(draft: &mut Draft, value: &Value<'_>) -> Result<(), AllocError>
     }
 }
 
-// Writes dependencies, one behind the other.
+// Writes dependencies, one after the other.
 fn write_needs(draft: &mut Draft, needs: &[Dep<'_>]) -> Result<(), AllocError>
     ensures { OnOk result (draft.new
         ≡ draft_with_all (plains_of_list (map (λ d. plain_value (need (dependency d))) needs.now))
@@ -219,7 +219,7 @@ fn write_files(draft: &mut Draft, files: &[File<'_>]) -> Result<(), AllocError>
     draft.close_array()
 }
 
-// Writes a file, in the order of table 4. Size and mtime are NULL, since the text does not tell
+// Writes a file, in the order of table 4. Size and mtime are NULL, since the text does not have
 // them.
 fn write_file(draft: &mut Draft, file: &File<'_>) -> Result<(), AllocError>
     ensures { OnOk result (draft.new ≡ draft_with (listed_file_value file.now) draft.old) }
@@ -233,7 +233,7 @@ fn write_file(draft: &mut Draft, file: &File<'_>) -> Result<(), AllocError>
     draft.close_object()
 }
 
-// Writes an access, or NULL where no line gives it.
+// Writes an access, or NULL if no line gives it.
 fn write_access(draft: &mut Draft, access: &Option<Access<'_>>) -> Result<(), AllocError>
     ensures { OnOk result
         (draft.new ≡ draft_with (listed_access_value (access_views access.now)) draft.old) }
@@ -256,7 +256,7 @@ fn write_known_access(draft: &mut Draft, access: &Access<'_>) -> Result<(), Allo
     draft.close_object()
 }
 
-// Writes a hash, or NULL where no line gives it.
+// Writes a hash, or NULL if no line gives it.
 fn write_hash(draft: &mut Draft, hash: &Option<Vec<u8>>) -> Result<(), AllocError>
     ensures { OnOk result
         (draft.new ≡ draft_with (listed_hash_value (hash_view hash.now)) draft.old) }

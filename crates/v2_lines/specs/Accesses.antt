@@ -1,6 +1,6 @@
--- Whose a file or a folder is, and its mode: `uid:gid:mode`.
--- The rules are in `docs/formats.md`, "Text database of version 2", the rows M and a and the
--- paragraph behind the table.
+-- The owner of a file or a folder, and its mode: `uid:gid:mode`.
+-- The rules are in `docs/formats.md`, "Text database of version 2", the rows M and a and the paragraph
+-- after the table.
 use Rattle.std.specs.Prelude.{ℕ, ◌^◌, ◌==◌, nat_lt, nat_le, Bool, not, ◌&&◌, if◌then◌else◌, List, length, Option, Some, None, option_map}
 use Rattle.std.specs.Char.{is_ascii_digit}
 use Rattle.std.specs.List.{after_first, before_first, list_all}
@@ -8,8 +8,8 @@ use Rattle.std.specs.Str.Parse.{digits_value}
 use Rattle.v2_lines.specs.declared.access.Access.{Access as AccessSlices}
 use Rattle.v2_lines.specs.declared.access.TheConstants.{COLON}
 
--- an access: whose a file or a folder is, and its mode; the numbers of the user and of the group are
--- kept as the texts that they are
+-- an access: the owner of a file or a folder, and its mode; the numbers of the user and of the group
+-- are kept as texts
 pub record Access : Type 0 where
   pub user : List ℕ
   pub group : List ℕ
@@ -23,11 +23,11 @@ access_by user group mode = record { user = user; group = group; mode = mode }
 abbrev pub access_view : AccessSlices → Access
 access_view a = access_by a.user.now a.group.now a.mode
 
--- what stands before the first colon; all if there is none
+-- the text before the first colon; all if there is none
 abbrev pub before_colon : List ℕ → List ℕ
 before_colon text = before_first (λ b. b == COLON) text
 
--- what stands behind the first colon; nothing if there is none
+-- the text after the first colon; nothing if there is none
 abbrev pub behind_colon : List ℕ → List ℕ
 behind_colon text = after_first (λ b. b == COLON) text
 
@@ -43,13 +43,13 @@ is_octal_digit b = nat_le 48 b && nat_le b 55
 abbrev pub is_octal : List ℕ → Bool
 is_octal text = not (length text == 0) && list_all is_octal_digit text
 
--- the number that octal digits are; None if they are none, or it has more than 64 bits
+-- the number that octal digits encode; None if there are none, or it has more than 64 bits
 abbrev pub octal_number : List ℕ → Option ℕ
 octal_number digits =
     if is_octal digits && nat_lt (digits_value 8 digits) (2 ^ 64) then Some (digits_value 8 digits)
     else None
 
--- the access that a text `uid:gid:mode` is, if it is one; parts behind the third are passed over
+-- the access that a text `uid:gid:mode` encodes, if it is one; parts after the third are skipped
 abbrev pub access_in : List ℕ → Option Access
 access_in text =
     let user = before_colon text in

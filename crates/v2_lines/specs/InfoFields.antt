@@ -1,6 +1,6 @@
--- The fields of a package that lines of a text database give, and what a value of each has to be.
--- The rules are in `docs/formats.md`, "Text database of version 2", the table, from C to the row D,
--- p, r, i.
+-- The fields of a package in lines of a text database, and the grammar of each one's values.
+-- The rules are in `docs/formats.md`, "Text database of version 2", the table, from C to the row D, p,
+-- r, i.
 use Rattle.std.specs.Prelude.{ℕ, ◌==◌, Bool, true, false, List, [], ◌∷◌, Option}
 use Rattle.std.specs.List.{find}
 use Rattle.v2_lines.specs.declared.field.InfoField.{InfoField}
@@ -46,7 +46,7 @@ info_field_among among letter = find (λ f. letter_of f == letter) among
 unfoldable pub field_of_letter : ℕ → Option InfoField
 field_of_letter letter = info_field_among info_fields letter
 
--- what a value of a field has to be
+-- the grammar of a field's values
 abbrev pub grammar_of : InfoField → Grammar
 grammar_of Fields.Hashes = Grammars.Sha1Text
 grammar_of Fields.Name = Grammars.PackageName

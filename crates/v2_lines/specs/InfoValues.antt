@@ -1,4 +1,4 @@
--- What the value of a line says of its field.
+-- The meaning of a line's value for its field.
 -- The rules are in `docs/formats.md`, "Text database of version 2", the column of values.
 use Rattle.std.specs.Prelude.{ℕ, ◌==◌, Bool, true, ◌&&◌, if◌then◌else◌, List, [], ◌∷◌, ◌++◌, length, Option, Some, None, option_map, Result, Ok, Err}
 use Rattle.base64.specs.Engines.{standard}
@@ -38,7 +38,7 @@ abbrev pub commit_values : Result (List ℕ) FromHexError → List FieldValue
 commit_values (Ok bytes) = one_text bytes
 commit_values (Err e) = []
 
--- the values that a text is under a grammar; None if it is outside of it
+-- the values of a text under a grammar; None if it is not in it
 abbrev pub values_by_grammar : Grammar → List ℕ → Option (List FieldValue)
 values_by_grammar Grammars.Sha1Text value = option_map one_text (sha1_of value)
 values_by_grammar Grammars.PackageName value = text_if (is_package_name value) value
@@ -48,6 +48,6 @@ values_by_grammar Grammars.Number value = option_map one_number (decimal_number 
 values_by_grammar Grammars.Commit value = Some (commit_values (hex_bytes value))
 values_by_grammar Grammars.Dependencies value = needs_in (nonempty_parts value)
 
--- dependencies with more of them behind, unless one of these is none
+-- dependencies followed by more of them, unless one of these is none
 abbrev pub with_needs : List FieldValue → Option (List FieldValue) → Option (List FieldValue)
 with_needs before needs = option_map (λ needs. before ++ needs) needs

@@ -1,4 +1,4 @@
--- The definitions of this crate. Each file names the place of its rule.
+-- The definitions of this crate. Each file names the document with its rule.
 -- what the contract of `apk` says
 pub mod InfoFields
 pub mod InfoValues

@@ -1,6 +1,6 @@
--- What a line of a text database says.
--- The rules are in `docs/formats.md`, "Text database of version 2", the table; a letter that is not
--- listed is passed over by the paragraph above it.
+-- The meaning of a line of a text database.
+-- The rules are in `docs/formats.md`, "Text database of version 2", the table; by the paragraph above
+-- it, a line with an unlisted letter is skipped.
 use Rattle.std.specs.Prelude.{ℕ, ◌==◌, if◌then◌else◌, List, [], ◌∷◌, Option, Some, None, option_map}
 use Rattle.adb_schema.specs.Rules.{is_folder_name, is_one_part}
 use Rattle.make_info.specs.Fields.{FieldValue}
@@ -10,8 +10,8 @@ use Rattle.v2_lines.specs.InfoValues.{sha1_of, values_by_grammar}
 use Rattle.v2_lines.specs.declared.field.InfoField.{InfoField}
 use Rattle.v2_lines.specs.declared.line.TheConstants.{MARK, FOLDER, FOLDER_ACCESS, FILE, FILE_ACCESS, FILE_HASH}
 
--- What a line says: something of the package, which of a list may be several values; a folder begins;
--- whose the last folder is; a file begins; whose the last file is; its SHA-1; or nothing that is kept.
+-- The meaning of a line: a field of the package, with several values for a list; a folder begins; the
+-- last folder's owner; a file begins; the last file's owner; its SHA-1; or nothing that is kept.
 pub data RecordLine : Type 0 where
   info_line : InfoField → List FieldValue → RecordLine
   folder_line : List ℕ → RecordLine
@@ -29,13 +29,12 @@ folder_line_of name = if is_folder_name name then Some (folder_line name) else N
 abbrev pub file_line_of : List ℕ → Option RecordLine
 file_line_of name = if is_one_part name then Some (file_line name) else None
 
--- the line that says something of the package itself; one of a letter that is not listed says nothing
--- that is kept
+-- the meaning of a line on the package itself; one with an unlisted letter has none that is kept
 abbrev pub info_line_by : Option InfoField → List ℕ → Option RecordLine
 info_line_by None value = Some other_line
 info_line_by (Some f) value = option_map (info_line f) (values_by_grammar (grammar_of f) value)
 
--- what a line with this letter and this value says; None if the value is outside of the letter's
+-- the meaning of a line with this letter and this value; None if the value is not in the letter's
 -- grammar
 unfoldable pub record_line_by : ℕ → List ℕ → Option RecordLine
 record_line_by letter value =
@@ -46,7 +45,7 @@ record_line_by letter value =
     if letter == FILE_HASH then option_map file_hash_line (sha1_of value) else
     info_line_by (field_of_letter letter) value
 
--- what a line says, which is a letter, a colon and a value; None if it is bad
+-- the meaning of a line, which is a letter, a colon and a value; None if it is bad
 abbrev pub record_line_of : List ℕ → Option RecordLine
 record_line_of [] = None
 record_line_of (letter ∷ []) = None

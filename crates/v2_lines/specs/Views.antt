@@ -1,4 +1,4 @@
--- What the program's values stand for.
+-- What the program's values denote.
 -- Serves the contracts of `value` and `line`.
 use Rattle.std.specs.Prelude.{ℕ, List, [], ◌∷◌, map, Vec}
 use Rattle.std.specs.declared.alloc.Global.{Global}
@@ -20,7 +20,7 @@ bytes_view v = v.items
 abbrev pub needs_view : Vec Dep Global → List FieldValue
 needs_view v = map (λ d. need (dependency d)) v.items
 
--- the values that the value of a line stands for; a commit that is no hexadecimal text stands for none
+-- the values that the value of a line denotes; a commit that is not hexadecimal denotes none
 abbrev pub line_value_view : Value → List FieldValue
 line_value_view (Text t) = text t.now ∷ []
 line_value_view (Bytes b) = text b.items ∷ []
@@ -28,7 +28,7 @@ line_value_view (Number n) = number n ∷ []
 line_value_view (Needs ds) = needs_view ds
 line_value_view Nothing = []
 
--- what a line of the program says
+-- the meaning of a line of the program
 abbrev pub line_view : Line → RecordLine
 line_view (Lines.Info f v) = info_line f (line_value_view v)
 line_view (Lines.Folder name) = folder_line name.now

@@ -1,6 +1,6 @@
-//! Who may do what with a file or a folder: `uid:gid:mode`.
+//! The access rights of a file or a folder: `uid:gid:mode`.
 //! The rules are in `docs/formats.md`, "Text database of version 2", the rows M and a and the
-//! paragraph behind the table.
+//! paragraph after the table.
 ghost use Rattle.std.specs.List.{list_all};
 ghost use Rattle.std.specs.Option.{option_map};
 ghost use Rattle.std.specs.Prelude.{◌≡◌, ◌==◌, ◌<◌, IfSome, length, position, true};
@@ -9,10 +9,10 @@ ghost use Rattle.v2_lines.specs.Accesses.{access_in, access_view, before_colon, 
 
 use std::str;
 
-/// What stands between the parts of an access.
+/// The byte between the parts of an access.
 const COLON: u8 = b':';
 
-/// Whose a file or a folder is, and its mode.
+/// The owner of a file or a folder, and its mode.
 #[derive(Clone, Copy)]
 pub struct Access<'a> {
     /// The user's number, in decimal digits.
@@ -23,8 +23,8 @@ pub struct Access<'a> {
     pub mode: u64,
 }
 
-/// Reads `uid:gid:mode`. Parts behind the third are passed over. None comes exactly when the text
-/// is no access.
+/// Reads `uid:gid:mode`. Parts after the third are skipped. None is returned exactly if the text is
+/// no access.
 pub(crate) fn read_access(text: &[u8]) -> Option<Access<'_>>
     ensures { option_map access_view result ≡ access_in text.now }
 {
@@ -38,7 +38,7 @@ pub(crate) fn read_access(text: &[u8]) -> Option<Access<'_>>
     Some(Access { user, group, mode })
 }
 
-// Where the first colon stands.
+// The place of the first colon.
 fn colon_in(text: &[u8]) -> Option<usize>
     ensures at { result ≡ position (λ b. b == COLON) text.now }
     ensures within { IfSome result (λ at. at < length text.now) }
@@ -46,7 +46,7 @@ fn colon_in(text: &[u8]) -> Option<usize>
     text.iter().position(|byte| *byte == COLON)
 }
 
-// What stands before the first colon; all if there is none.
+// The text before the first colon; all if there is none.
 fn before_colon(text: &[u8]) -> &[u8]
     ensures { result.now ≡ before_colon text.now }
 {
@@ -56,7 +56,7 @@ fn before_colon(text: &[u8]) -> &[u8]
     }
 }
 
-// What stands behind the first colon; nothing if there is none.
+// The text after the first colon; nothing if there is none.
 fn behind_colon(text: &[u8]) -> &[u8]
     ensures { result.now ≡ behind_colon text.now }
 {
@@ -73,14 +73,14 @@ fn is_id(text: &[u8]) -> bool
     !text.is_empty() && are_digits(text)
 }
 
-// Whether all bytes are decimal digits, as of no bytes all are.
+// Whether all bytes are decimal digits; true of no bytes.
 fn are_digits(text: &[u8]) -> bool
     ensures { result ≡ list_all is_ascii_digit text.now }
 {
     text.iter().all(|byte| byte.is_ascii_digit())
 }
 
-// The number that octal digits are. None: they are none, or it is above 2^64 - 1.
+// The number that octal digits encode. None: there are none, or it is above 2^64 - 1.
 fn read_octal(digits: &[u8]) -> Option<u64>
     ensures { result ≡ octal_number digits.now }
 {

@@ -45,7 +45,7 @@ pub enum InfoField {
     InstallIf,
 }
 
-/// What a value of a field has to be.
+/// The grammar of a field's values.
 #[derive(Clone, Copy)]
 pub enum Grammar {
     /// `Q1` and the base64 of the 20 bytes of a SHA-1.
@@ -58,7 +58,7 @@ pub enum Grammar {
     AnyText,
     /// A decimal number below 2^64 without leading zeros.
     Number,
-    /// Any text, of which only pairs of hexadecimal digits say something.
+    /// Any text, but only pairs of hexadecimal digits have a meaning.
     Commit,
     /// Dependencies without tag, with spaces between them.
     Dependencies,
@@ -121,7 +121,7 @@ impl InfoField {
         }
     }
 
-    /// What a value of the field has to be.
+    /// The grammar of the field's values.
     pub(crate) fn grammar(self) -> Grammar
         ensures { result ≡ grammar_of self }
     {

@@ -1,8 +1,8 @@
-//! The lines of a text database, as version 2 of apk-tools keeps it in `lib/apk/db/installed`: a
-//! line comes in, and what it says of a package, a folder or a file goes out.
+//! The lines of a text database, in the format of version 2 of apk-tools (`lib/apk/db/installed`):
+//! it takes a line, and returns its meaning for a package, a folder or a file.
 //!
-//! The contracts cite `InfoFields` (the letters, and what a value of each has to be), `InfoValues`,
-//! `Accesses` and `Lines` of `specs/`.
+//! The contracts cite `InfoFields` (the letters, and the grammar of each one's values),
+//! `InfoValues`, `Accesses` and `Lines` of `specs/`.
 //! The rules are in `docs/formats.md`, "Text database of version 2", the table.
 #![tactic(auto)]
 

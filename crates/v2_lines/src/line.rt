@@ -16,36 +16,36 @@ use crate::value::{Value, read_sha1, read_value};
 use base_core::is_name;
 use std::alloc::{AllocError, Global};
 
-/// What stands between the letter and the value.
+/// The byte between the letter and the value.
 const MARK: u8 = b':';
 
 /// The letter of a line that starts a folder.
 const FOLDER: u8 = b'F';
 
-/// The letter of a line that says whose the folder is.
+/// The letter of a line with the folder's owner and mode.
 const FOLDER_ACCESS: u8 = b'M';
 
 /// The letter of a line that starts a file.
 const FILE: u8 = b'R';
 
-/// The letter of a line that says whose the file is.
+/// The letter of a line with the file's owner and mode.
 const FILE_ACCESS: u8 = b'a';
 
 /// The letter of a line with the file's hash.
 const FILE_HASH: u8 = b'Z';
 
-/// What a line of a record says (the installed database of apk-tools 2).
+/// The meaning of a record's line (the installed database of apk-tools 2).
 #[derive(Drop)]
 pub enum Line<'a> {
-    /// Something of the package.
+    /// A field of the package.
     Info(InfoField, Value<'a>),
     /// A folder of this name begins; the root's name is empty.
     Folder(&'a [u8]),
-    /// Whose the folder is.
+    /// The folder's owner and mode.
     FolderAccess(Access<'a>),
     /// A file of this name begins in the folder.
     File(&'a [u8]),
-    /// Whose the file is.
+    /// The file's owner and mode.
     FileAccess(Access<'a>),
     /// The SHA-1 of the file's bytes.
     FileHash(Vec<u8>),
@@ -53,8 +53,8 @@ pub enum Line<'a> {
     Other,
 }
 
-/// Reads a line without its line end. None: it has no `:` behind its letter, or its value is
-/// outside of the letter's grammar.
+/// Reads a line without its line end. None: it has no `:` after its letter, or its value is not in
+/// the letter's grammar.
 pub fn read_line<'a>(alloc: Global, line: &'a [u8]) -> Result<Option<Line<'a>>, AllocError>
     ensures { IfOk result (λ found. option_map line_view found ≡ record_line_of line.entry.now) }
 {
@@ -64,8 +64,7 @@ pub fn read_line<'a>(alloc: Global, line: &'a [u8]) -> Result<Option<Line<'a>>, 
     }
 }
 
-// Reads the value of a line by its letter. A letter that is not known makes a line that says
-// nothing.
+// Reads the value of a line by its letter. A line with an unknown letter has no meaning.
 #[tactic(auto, unfolding(crate::specs::Lines::record_line_by))]
 fn read_by_letter<'a>(
     alloc: Global,
@@ -137,8 +136,7 @@ fn read_file_hash<'a>(alloc: Global, value: &[u8]) -> Result<Option<Line<'a>>, A
     }
 }
 
-// Reads a line that says something of the package itself; one of a letter that is not listed says
-// nothing that is kept.
+// Reads a line on the package itself; one with an unlisted letter has no meaning that is kept.
 fn read_info<'a>(alloc: Global, letter: u8, value: &'a [u8]) -> Result<Option<Line<'a>>, AllocError>
     ensures { IfOk result (λ found. option_map line_view found
         ≡ info_line_by (field_of_letter letter) value.entry.now) }

@@ -24,10 +24,10 @@ use version_core::Version;
 /// How many bytes a SHA-1 has.
 const SHA1_LEN: usize = 20;
 
-/// What a line says of its field.
+/// The value of a line for its field.
 #[derive(Drop)]
 pub enum Value<'a> {
-    /// The text as it stands.
+    /// The unchanged text.
     Text(&'a [u8]),
     /// The bytes of a hash or of a commit, decoded.
     Bytes(Vec<u8>),
@@ -39,7 +39,7 @@ pub enum Value<'a> {
     Nothing,
 }
 
-/// Reads the value of a field. None: it is outside of the field's grammar.
+/// Reads the value of a field. None: it is not in the field's grammar.
 pub(crate) fn read_value<'a>(
     alloc: Global,
     field: InfoField,
@@ -59,7 +59,7 @@ pub(crate) fn read_value<'a>(
     }
 }
 
-// A text as a value, where its rule allows it.
+// A text as a value, if its rule allows it.
 fn text_if(text: &[u8], is_good: bool) -> Option<Value<'_>>
     ensures { option_map line_value_view result ≡ text_if is_good text.now }
 {
@@ -69,7 +69,7 @@ fn text_if(text: &[u8], is_good: bool) -> Option<Value<'_>>
     Some(Value::Text(text))
 }
 
-// A number as a value. None: the text is none below 2^64, or has a zero in front.
+// A number as a value. None: the text is no number below 2^64, or has a leading zero.
 fn number_value<'a>(digits: &[u8]) -> Option<Value<'a>>
     ensures { option_map line_value_view result
         ≡ option_map one_number (decimal_number digits.now) }
@@ -99,7 +99,7 @@ pub(crate) fn read_sha1(alloc: Global, text: &[u8]) -> Result<Option<Vec<u8>>, A
     }
 }
 
-// The bytes of a base64 text, where it has as many as a SHA-1.
+// The bytes of a base64 text, if there are as many as a SHA-1 has.
 fn read_twenty_bytes(alloc: Global, encoded: &[u8]) -> Result<Option<Vec<u8>>, AllocError>
     ensures { IfOk result (λ found. option_map bytes_view found
         ≡ twenty_bytes (base64_bytes standard encoded.now)) }
@@ -124,7 +124,8 @@ fn read_commit<'a>(alloc: Global, text: &[u8]) -> Result<Option<Value<'a>>, Allo
     }
 }
 
-// Dependencies as a value, with spaces between them. None: one of them is none without tag.
+// Dependencies as a value, with spaces between them. None: one of them is no dependency without
+// tag.
 fn read_needs<'a>(alloc: Global, text: &'a [u8]) -> Result<Option<Value<'a>>, AllocError>
     ensures { IfOk result (λ found. option_map line_value_view found
         ≡ needs_in (nonempty_parts text.entry.now)) }

@@ -33,8 +33,8 @@ fn add_dump(alloc: Global, payload: &[u8], answer: &mut Vec<u8>) -> Result<(), A
     answer.extend_from_slice(text.as_bytes())
 }
 
-/// Adds the number of the first bad line, another fault as its variant and its fields, or nothing
-/// for lack of memory, which is passed on.
+/// Adds the number of the first bad line, or another fault as its variant and its fields. Nothing
+/// is added if out of memory, which is passed on.
 fn add_fault(alloc: Global, fault: V2Fault, answer: &mut Vec<u8>) -> Result<(), AllocError> {
     match fault {
         V2Fault::Bad(Cause::TextLine { line }) => {

@@ -2,6 +2,7 @@ pub mod Sites
 pub mod OneMore
 pub mod Found
 pub mod Helped
+pub mod Hints
 pub mod KindsKept
 pub mod GivenKept
 pub mod WhatIsRead

@@ -3,6 +3,7 @@
 pub mod Options
 pub mod Grammar
 pub mod HelpTexts
+pub mod Usage
 -- what only inner contracts and proofs use
 pub mod Rows
 pub mod Steps

@@ -16,6 +16,7 @@ mod next;
 mod options;
 mod read;
 mod reading;
+mod usage;
 mod word;
 
 pub use command_core::{Applet, Command, Flags, Operand, Operands, OptionValue, Values};
@@ -27,3 +28,4 @@ pub use laws::{
     words_offend_whatever_follows,
 };
 pub use read::{WordsFault, read_words};
+pub use usage::explain_usage;

@@ -4,7 +4,7 @@ use Rattle.adb_values.specs.Drafts.{DraftState, empty_draft}
 use Rattle.adb_write.specs.Canonical.{PayloadCounts}
 use Rattle.adb_write.specs.File.{file_of}
 use Rattle.gen_core.specs.Generated.{IsGenFault, dumped_root, file_unless_too_large, generated_file, word_of_root}
-use Rattle.gen_core.specs.Reads.{IsReadFault, root_taken}
+use Rattle.gen_core.specs.Reads.{IsTextFault, root_taken}
 use Rattle.gen_core.specs.declared.generate.GenFault.{GenFault}
 use Rattle.gen_core.proofs.Reading.{handed_on}
 use Rattle.gen_core.proofs.RootText.{RootOf, gen_fault, root_of_text, writer_fault}
@@ -15,7 +15,7 @@ returns-in_err-which-clause-err c =
     let t = c.args.text.now in
     let fault = c.in_err-which.field-0.0 in
     handed_on c.from_residual.result fault (λ (f : GenFault). IsGenFault f (generated_file t)) (err_from_is_err_and c.from_residual.result c.from_residual.ensures.1)
-    (gen_fault t empty_draft fault (subst (λ (d : DraftState). IsReadFault fault (root_taken (dumped_root t) d)) c.new-draft.ensures c.in_err-which.ensures.err))
+    (gen_fault t empty_draft fault (subst (λ (d : DraftState). IsTextFault fault (root_taken (dumped_root t) d)) c.new-draft.ensures c.in_err-which.ensures.err))
 
 pub returns-in_ok-file_of-in-Ok-clause-ok : goal.returns-in_ok-file_of-in-Ok-clause-ok
 returns-in_ok-file_of-in-Ok-clause-ok c =

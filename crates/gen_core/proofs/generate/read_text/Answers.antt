@@ -4,7 +4,7 @@ use Rattle.adb_view.specs.declared.tables.Which.{Which}
 use Rattle.adb_dump.specs.ReadBack.{value_read}
 use Rattle.gen_core.specs.Cursors.{CursorState, after_line}
 use Rattle.gen_core.specs.Generated.{dumped_root}
-use Rattle.gen_core.specs.Reads.{IsReadFault, block_taken, root_taken, table_read}
+use Rattle.gen_core.specs.Reads.{IsTextFault, block_taken, root_taken, table_read}
 use Rattle.gen_core.specs.declared.generate.GenFault.{GenFault}
 use Rattle.gen_core.specs.declared.generate.GenFault.TheVariants.{Bad}
 use Rattle.gen_core.proofs.Reading.{bad_fault, handed_on, same_fault, taken}
@@ -22,7 +22,7 @@ pub returns-in_err-which-clause-err : goal.returns-in_err-which-clause-err
 returns-in_err-which-clause-err c =
     let whole = root_taken (dumped_root c.args.text.now) c.args.draft.now in
     let fault : c.in_err-which.field-0.0 ≡ Bad 1 = c.in_err-which.ensures.err.0 ∙ ap (λ (p : CursorState). Bad p.number) c.new-cursor.ensures in
-    handed_on c.from_residual.result c.in_err-which.field-0.0 (λ (f : GenFault). IsReadFault f whole) (err_from_is_err_and c.from_residual.result c.from_residual.ensures.1)
+    handed_on c.from_residual.result c.in_err-which.field-0.0 (λ (f : GenFault). IsTextFault f whole) (err_from_is_err_and c.from_residual.result c.from_residual.ensures.1)
     (bad_fault c.in_err-which.field-0.0 1 whole fault (no_table c.args.text.now c.args.draft.now (begun c.new-cursor.result _ None c.new-cursor.ensures c.in_err-which.ensures.err.1)))
 
 pub returns-in_err-read_root-clause-err : goal.returns-in_err-read_root-clause-err
@@ -33,9 +33,9 @@ returns-in_err-read_root-clause-err c =
     let fault = c.in_err-read_root.field-0.0 in
     let table = begun c.new-cursor.result _ (Some which) c.new-cursor.ensures c.in_ok-which.ensures.ok in
     let place : c.read_table.new.cursor ≡ after_first t = next_place c.new-cursor.result _ c.read_table.new.cursor c.new-cursor.ensures c.in_ok-which.ensures.next in
-    handed_on c.from_residual-in_err-read_root.result fault (λ (f : GenFault). IsReadFault f whole) (err_from_is_err_and c.from_residual-in_err-read_root.result c.from_residual-in_err-read_root.ensures.1)
+    handed_on c.from_residual-in_err-read_root.result fault (λ (f : GenFault). IsTextFault f whole) (err_from_is_err_and c.from_residual-in_err-read_root.result c.from_residual-in_err-read_root.ensures.1)
     (same_fault fault (rest_taken t which c.args.draft.now) whole (λ n e. bad_value t which c.args.draft.now n table e)
-    (subst (λ (p : CursorState). IsReadFault fault (block_taken (value_read which p.lines) (p.lines, []) c.args.draft.now p)) place c.in_err-read_root.ensures.err))
+    (subst (λ (p : CursorState). IsTextFault fault (block_taken (value_read which p.lines) (p.lines, []) c.args.draft.now p)) place c.in_err-read_root.ensures.err))
 
 pub returns-then-has_rest-clause-err : goal.returns-then-has_rest-clause-err
 returns-then-has_rest-clause-err c =

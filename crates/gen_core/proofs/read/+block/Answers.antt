@@ -12,8 +12,8 @@ use Rattle.adb_view.specs.declared.tables.Kind.TheVariants.{Int, Text, Obj, Text
 use Rattle.adb_values.specs.Drafts.{DraftState, draft_with, draft_with_open_list}
 use Rattle.adb_dump.specs.Dump.{Line}
 use Rattle.adb_dump.specs.ReadBack.{LinesRead, strip_prefix, arr_read, block_read, entries_read, fields_read, named_read, obj_read}
-use Rattle.gen_core.specs.Cursors.{CursorState, after_line, block_at, first_of}
-use Rattle.gen_core.specs.Reads.{IsReadFault, Read, block_taken, end_read, entry_block_read, line_read, line_taken, values_taken}
+use Rattle.gen_core.specs.Cursors.{CursorState, after_line, block_at, line_of_block}
+use Rattle.gen_core.specs.Reads.{IsTextFault, Read, block_taken, end_read, entry_block_read, line_read, line_taken, values_taken}
 use Rattle.gen_core.specs.declared.generate.GenFault.{GenFault}
 use Rattle.gen_core.proofs.Blocks.{Split}
 use Rattle.gen_core.proofs.Escapes.{empty_line, some_line}
@@ -35,7 +35,7 @@ read_array-returns-in_err-read_entries-clause-err t c =
     let block = block_at c.args.depth c.args.cursor.now.lines in
     let read = entries_read (block_read s) (length block.0) block.0 in
     let whole = block_taken (block_read (array s) block.0) block c.args.draft.now c.args.cursor.now in
-    handed_on c.from_residual-in_err-read_entries.result c.in_err-read_entries.field-0.0 (λ (fault : GenFault). IsReadFault fault whole) (err_from_is_err_and c.from_residual-in_err-read_entries.result c.from_residual-in_err-read_entries.ensures.1)
+    handed_on c.from_residual-in_err-read_entries.result c.in_err-read_entries.field-0.0 (λ (fault : GenFault). IsTextFault fault whole) (err_from_is_err_and c.from_residual-in_err-read_entries.result c.from_residual-in_err-read_entries.ensures.1)
     (same_fault c.in_err-read_entries.field-0.0 (values_taken read block c.open_list.new.self c.args.cursor.now) whole
     (λ n e. ap (λ (r : LinesRead Plain). block_taken r block c.args.draft.now c.args.cursor.now) (array_read s block.0) ∙ list_bad read arr_read block c.args.draft.now c.open_list.new.self c.args.cursor.now n e)
     c.in_err-read_entries.ensures.err)
@@ -62,7 +62,7 @@ read_block-returns-in-TextArr-clause-ok t c =
 pub read_block-returns-in-TextArr-clause-err : goal.read_block-returns-in-TextArr-clause-err
 read_block-returns-in-TextArr-clause-err t c =
     let block = block_at c.args.depth c.args.cursor.now.lines in
-    subst (λ (s : Shape). IfErr c.read_array.result (λ fault. IsReadFault fault (block_taken (block_read s block.0) block c.args.draft.now c.args.cursor.now))) (array_kind c.args.kind TextArr Text c.in-TextArr.is texts_shape) c.read_array.ensures.err
+    subst (λ (s : Shape). IfErr c.read_array.result (λ fault. IsTextFault fault (block_taken (block_read s block.0) block c.args.draft.now c.args.cursor.now))) (array_kind c.args.kind TextArr Text c.in-TextArr.is texts_shape) c.read_array.ensures.err
 
 pub read_block-returns-in-ObjArr-clause-ok : goal.read_block-returns-in-ObjArr-clause-ok
 read_block-returns-in-ObjArr-clause-ok t c =
@@ -72,7 +72,7 @@ read_block-returns-in-ObjArr-clause-ok t c =
 pub read_block-returns-in-ObjArr-clause-err : goal.read_block-returns-in-ObjArr-clause-err
 read_block-returns-in-ObjArr-clause-err t c =
     let block = block_at c.args.depth c.args.cursor.now.lines in
-    subst (λ (s : Shape). IfErr c.read_array-in-ObjArr.result (λ fault. IsReadFault fault (block_taken (block_read s block.0) block c.args.draft.now c.args.cursor.now))) (array_kind c.args.kind (ObjArr c.in-ObjArr.which) (Obj c.in-ObjArr.which) c.in-ObjArr.is (objects_shape c.in-ObjArr.which)) c.read_array-in-ObjArr.ensures.err
+    subst (λ (s : Shape). IfErr c.read_array-in-ObjArr.result (λ fault. IsTextFault fault (block_taken (block_read s block.0) block c.args.draft.now c.args.cursor.now))) (array_kind c.args.kind (ObjArr c.in-ObjArr.which) (Obj c.in-ObjArr.which) c.in-ObjArr.is (objects_shape c.in-ObjArr.which)) c.read_array-in-ObjArr.ensures.err
 
 -- ---- entries
 
@@ -99,7 +99,7 @@ read_entries-returns-in_err-read_entry-clause-err t c =
     let start = block_at c.args.depth c.args.cursor.now.lines in
     let whole = values_taken (entries_read f (length start.0) start.0) start c.args.draft.now c.args.cursor.now in
     let inner = block_at (c.args.depth + 1) c.read_dash.new.self.lines in
-    handed_on c.from_residual.result c.in_err-read_entry.field-0.0 (λ (fault : GenFault). IsReadFault fault whole) (err_from_is_err_and c.from_residual.result c.from_residual.ensures.1)
+    handed_on c.from_residual.result c.in_err-read_entry.field-0.0 (λ (fault : GenFault). IsTextFault fault whole) (err_from_is_err_and c.from_residual.result c.from_residual.ensures.1)
     (same_fault c.in_err-read_entry.field-0.0 (block_taken (entry_block_read f inner.0) inner c.loop-line.draft c.read_dash.new.self) whole
     (λ n e. sym c.loop-line.invariant.so_far ∙ entry_bad f c.args.depth c.in-Some.line.now c.in-Some-without_prefix.entry.now c.loop-line.draft c.loop-line.cursor c.in-Some.ensures c.in-Some-without_prefix.ensures n
     (subst (λ (p : CursorState). block_taken (entry_block_read f (block_at (c.args.depth + 1) p.lines).0) (block_at (c.args.depth + 1) p.lines) c.loop-line.draft p ≡ Err n) c.read_dash.ensures e))
@@ -131,7 +131,7 @@ pub read_fields-returns-in_default-clause-ok : goal.read_fields-returns-in_defau
 read_fields-returns-in_default-clause-ok t c = sym c.loop-field.invariant.so_far ∙ fields_stop (shapes_of (drop c.loop-field.field-index c.args.fields.now)) c.args.depth c.loop-field.draft c.loop-field.cursor c.in_default.ensures
 
 -- a field that comes next
-there : (fs : List Field) (i depth : ℕ) (line value : Line) (d : DraftState) (c : CursorState) → i < length fs → Some line ≡ first_of (block_at depth c.lines).0 → Some value ≡ strip_prefix (field_name_text (get_or fs i first).name ++ codes ":") line
+there : (fs : List Field) (i depth : ℕ) (line value : Line) (d : DraftState) (c : CursorState) → i < length fs → Some line ≡ line_of_block (block_at depth c.lines).0 → Some value ≡ strip_prefix (field_name_text (get_or fs i first).name ++ codes ":") line
     → values_taken (fields_read (shapes_of (drop i fs)) (block_at depth c.lines).0) (block_at depth c.lines) d c
     ≡ values_taken (named_read (shape_of (get_or fs i first).kind) (fields_read (shapes_of (drop (i + 1) fs))) (drop 1 (block_at depth c.lines).0) value) (block_at depth c.lines) d c
 there fs i depth line value d c lt e named =
@@ -139,7 +139,7 @@ there fs i depth line value d c lt e named =
     ∙ ap (λ (r : LinesRead Plains). values_taken r (block_at depth c.lines) d c) (field_there (field_name_text (get_or fs i first).name) (shape_of (get_or fs i first).kind) (shapes_of (drop (i + 1) fs)) depth line value c e named)
 
 -- a field that does not
-absent : (fs : List Field) (i depth : ℕ) (line : Line) (d : DraftState) (c : CursorState) → i < length fs → Some line ≡ first_of (block_at depth c.lines).0 → None ≡ strip_prefix (field_name_text (get_or fs i first).name ++ codes ":") line
+absent : (fs : List Field) (i depth : ℕ) (line : Line) (d : DraftState) (c : CursorState) → i < length fs → Some line ≡ line_of_block (block_at depth c.lines).0 → None ≡ strip_prefix (field_name_text (get_or fs i first).name ++ codes ":") line
     → values_taken (fields_read (shapes_of (drop (i + 1) fs)) (block_at depth c.lines).0) (block_at depth c.lines) (draft_with null d) c ≡ values_taken (fields_read (shapes_of (drop i fs)) (block_at depth c.lines).0) (block_at depth c.lines) d c
 absent fs i depth line d c lt e named =
     field_absent (field_name_text (get_or fs i first).name) (shape_of (get_or fs i first).kind) (shapes_of (drop (i + 1) fs)) depth line d c e named
@@ -153,7 +153,7 @@ read_fields-returns-in_err-read_named-in-Some-after_name-clause-err t c =
     let whole = values_taken (fields_read (shapes_of fs) start.0) start c.args.draft.now c.args.cursor.now in
     let block = block_at c.args.depth c.loop-field.cursor.lines in
     let others = fields_read (shapes_of (drop (i + 1) fs)) in
-    handed_on c.from_residual.result c.in_err-read_named-in-Some-after_name.field-0.0 (λ (fault : GenFault). IsReadFault fault whole) (err_from_is_err_and c.from_residual.result c.from_residual.ensures.1)
+    handed_on c.from_residual.result c.in_err-read_named-in-Some-after_name.field-0.0 (λ (fault : GenFault). IsTextFault fault whole) (err_from_is_err_and c.from_residual.result c.from_residual.ensures.1)
     (same_fault c.in_err-read_named-in-Some-after_name.field-0.0 (values_taken (named_read (shape_of (get_or fs i first).kind) others (drop 1 block.0) c.in-Some-after_name.value.now) block c.loop-field.draft c.loop-field.cursor) whole
     (λ n e. sym c.loop-field.invariant.so_far ∙ there fs i c.args.depth c.in-Some.line.now c.in-Some-after_name.value.now c.loop-field.draft c.loop-field.cursor c.loop-field-test.true c.in-Some.ensures c.in-Some-after_name.ensures ∙ e)
     (c.in_err-read_named-in-Some-after_name.ensures.err others))
@@ -166,20 +166,20 @@ read_fields-loop-field-preserved t c =
     let left = λ (d : DraftState) (p : CursorState). values_taken (others (block_at c.args.depth p.lines).0) (block_at c.args.depth p.lines) d p in
     elim c.match-after_name.branch [
       | read_fields-in-Some-after_name+in_ok-read_named-in-Some-after_name w ↦ record {
-          within = subst (λ (p : CursorState). p.levels ≤ c.args.depth) (sym w.cursor-is) (omega (arith, w.in_ok-read_named-in-Some-after_name.ensures.begun));
-          so_far =
-              ap (λ (d : DraftState). left d c.match-after_name.cursor) w.draft-is ∙ ap (λ (p : CursorState). left w.read_named.new.draft p) w.cursor-is
-              ∙ sym (w.in_ok-read_named-in-Some-after_name.ensures.ok others)
-              ∙ sym (there fs i c.args.depth c.in-Some.line.now w.in-Some-after_name.value.now c.loop-field.draft c.loop-field.cursor c.loop-field-test.true c.in-Some.ensures w.in-Some-after_name.ensures)
-              ∙ c.loop-field.invariant.so_far;
-        }
+        within = subst (λ (p : CursorState). p.levels ≤ c.args.depth) (sym w.cursor-is) (omega (arith, w.in_ok-read_named-in-Some-after_name.ensures.begun));
+        so_far =
+            ap (λ (d : DraftState). left d c.match-after_name.cursor) w.draft-is ∙ ap (λ (p : CursorState). left w.read_named.new.draft p) w.cursor-is
+            ∙ sym (w.in_ok-read_named-in-Some-after_name.ensures.ok others)
+            ∙ sym (there fs i c.args.depth c.in-Some.line.now w.in-Some-after_name.value.now c.loop-field.draft c.loop-field.cursor c.loop-field-test.true c.in-Some.ensures w.in-Some-after_name.ensures)
+            ∙ c.loop-field.invariant.so_far;
+      }
       | read_fields-in-None+in_ok-null-in-None w ↦ record {
-          within = subst (λ (p : CursorState). p.levels ≤ c.args.depth) (sym w.cursor-is) c.loop-field.invariant.within;
-          so_far =
-              ap (λ (d : DraftState). left d c.match-after_name.cursor) (w.draft-is ∙ w.in_ok-null-in-None.ensures.ok) ∙ ap (λ (p : CursorState). left (draft_with null c.loop-field.draft) p) w.cursor-is
-              ∙ absent fs i c.args.depth c.in-Some.line.now c.loop-field.draft c.loop-field.cursor c.loop-field-test.true c.in-Some.ensures w.in-None.ensures
-              ∙ c.loop-field.invariant.so_far;
-        }
+        within = subst (λ (p : CursorState). p.levels ≤ c.args.depth) (sym w.cursor-is) c.loop-field.invariant.within;
+        so_far =
+            ap (λ (d : DraftState). left d c.match-after_name.cursor) (w.draft-is ∙ w.in_ok-null-in-None.ensures.ok) ∙ ap (λ (p : CursorState). left (draft_with null c.loop-field.draft) p) w.cursor-is
+            ∙ absent fs i c.args.depth c.in-Some.line.now c.loop-field.draft c.loop-field.cursor c.loop-field-test.true c.in-Some.ensures w.in-None.ensures
+            ∙ c.loop-field.invariant.so_far;
+      }
     ]
 
 pub read_fields-returns-clause-ok : goal.read_fields-returns-clause-ok
@@ -194,7 +194,7 @@ read_fields-returns-clause-err t c =
     let block = block_at c.args.depth c.loop-field.cursor.lines in
     let over : shapes_of (drop c.loop-field.field-index c.args.fields.now) ≡ shapes_of [] = ap shapes_of (drop_all c.loop-field.field-index c.args.fields.now c.loop-field-test.false) in
     let whole = sym c.loop-field.invariant.so_far ∙ ap (λ (fs : Fields). values_taken (fields_read fs block.0) block c.loop-field.draft c.loop-field.cursor) over in
-    subst (λ (read : Read). IfErr c.end_block.result (λ fault. IsReadFault fault read)) (sym whole) (fields_end c.args.depth c.loop-field.draft c.loop-field.cursor c.end_block.result c.end_block.ensures).err
+    subst (λ (read : Read). IfErr c.end_block.result (λ fault. IsTextFault fault read)) (sym whole) (fields_end c.args.depth c.loop-field.draft c.loop-field.cursor c.end_block.result c.end_block.ensures).err
 
 -- ---- the value of a field
 
@@ -219,7 +219,7 @@ read_named-returns-then-has_one_line-clause-err t c =
     let h = on_line c.args.kind (sym c.has_one_line.ensures ∙ c.if-has_one_line.true) in
     let block = block_at c.args.depth c.args.cursor.now.lines in
     let line = line_taken (line_read s c.in-Some.line.now) c.args.draft.now c.args.cursor.now in
-    if_err c.read_line.result (λ fault. IsReadFault fault line) (λ fault. (others : List Line → LinesRead Plains) → IsReadFault fault (values_taken (named_read s others (drop 1 block.0) c.args.value.now) block c.args.draft.now c.args.cursor.now))
+    if_err c.read_line.result (λ fault. IsTextFault fault line) (λ fault. (others : List Line → LinesRead Plains) → IsTextFault fault (values_taken (named_read s others (drop 1 block.0) c.args.value.now) block c.args.draft.now c.args.cursor.now))
     (λ fault bad others. same_fault fault line (values_taken (named_read s others (drop 1 block.0) c.args.value.now) block c.args.draft.now c.args.cursor.now)
     (λ n e. line_bad s h others (drop 1 block.0) c.args.value.now c.in-Some.line.now block c.args.draft.now c.args.cursor.now n c.in-Some.ensures e) bad) c.read_line.ensures.err
 
@@ -242,7 +242,7 @@ read_named-returns-clause-err t c =
     let block = block_at c.args.depth c.args.cursor.now.lines in
     let inner = block_at (c.args.depth + 1) c.turn.new.self.lines in
     let read = block_taken (block_read s inner.0) inner c.args.draft.now c.turn.new.self in
-    if_err c.read_block.result (λ fault. IsReadFault fault read) (λ fault. (others : List Line → LinesRead Plains) → IsReadFault fault (values_taken (named_read s others (drop 1 block.0) c.args.value.now) block c.args.draft.now c.args.cursor.now))
+    if_err c.read_block.result (λ fault. IsTextFault fault read) (λ fault. (others : List Line → LinesRead Plains) → IsTextFault fault (values_taken (named_read s others (drop 1 block.0) c.args.value.now) block c.args.draft.now c.args.cursor.now))
     (λ fault bad others. same_fault fault read (values_taken (named_read s others (drop 1 block.0) c.args.value.now) block c.args.draft.now c.args.cursor.now)
     (λ n e. below_bad s h c.args.depth c.args.value.now c.args.draft.now c.args.cursor.now c.requires.some (empty_line c.args.value.now c.if-not-is_empty.ensures) n
     (subst (λ (p : CursorState). block_taken (block_read s (block_at (c.args.depth + 1) p.lines).0) (block_at (c.args.depth + 1) p.lines) c.args.draft.now p ≡ Err n) c.turn.ensures e) others) bad) c.read_block.ensures.err
@@ -258,7 +258,7 @@ read_object-returns-in_err-read_fields-clause-err t c =
     let block = block_at c.args.depth c.args.cursor.now.lines in
     let whole = block_taken (block_read (shape_of (Obj c.args.which)) block.0) block c.args.draft.now c.args.cursor.now in
     let read = fields_read (shapes_of c.fields_of.result.now) block.0 in
-    handed_on c.from_residual-in_err-read_fields.result c.in_err-read_fields.field-0.0 (λ (fault : GenFault). IsReadFault fault whole) (err_from_is_err_and c.from_residual-in_err-read_fields.result c.from_residual-in_err-read_fields.ensures.1)
+    handed_on c.from_residual-in_err-read_fields.result c.in_err-read_fields.field-0.0 (λ (fault : GenFault). IsTextFault fault whole) (err_from_is_err_and c.from_residual-in_err-read_fields.result c.from_residual-in_err-read_fields.ensures.1)
     (same_fault c.in_err-read_fields.field-0.0 (values_taken read block c.open_list.new.self c.args.cursor.now) whole
     (λ n e. ap (λ (r : LinesRead Plain). block_taken r block c.args.draft.now c.args.cursor.now) (table_read c.args.which block.0)
     ∙ list_bad (fields_read (shapes_of (table c.args.which)) block.0) obj_read block c.args.draft.now c.open_list.new.self c.args.cursor.now n (subst (λ (fs : List Field). values_taken (fields_read (shapes_of fs) block.0) block c.open_list.new.self c.args.cursor.now ≡ Err n) c.fields_of.ensures e))

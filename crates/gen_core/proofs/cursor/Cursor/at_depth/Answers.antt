@@ -3,7 +3,7 @@ use Rattle.std.specs.Borrow.{Bor}
 use Rattle.std.specs.Prelude.{option_copied}
 use Rattle.adb_dump.specs.Dump.{Line}
 use Rattle.adb_dump.specs.Margin.{margin}
-use Rattle.gen_core.specs.Cursors.{CursorState, block_at, first_of, lines_from}
+use Rattle.gen_core.specs.Cursors.{CursorState, block_at, line_of_block, lines_from}
 use Rattle.gen_core.specs.Generated.{text_lines}
 use Rattle.gen_core.proofs.TextLines.{levels_read}
 use Rattle.gen_core.proofs.Blocks.{first_of_block}
@@ -19,4 +19,4 @@ returns-in-Some c =
     let within : levels ≤ c.args.depth = subst (λ (s : CursorState). s.levels ≤ c.args.depth) (sym c.self.view_is) c.requires in
     c.without_levels.ensures ∙ sym (levels_read levels c.args.depth line within)
     ∙ sym (first_of_block c.args.depth (margin levels ++ line) (text_lines rest).0)
-    ∙ sym (ap (λ (ls : List Line). first_of (block_at c.args.depth ls).0) lines)
+    ∙ sym (ap (λ (ls : List Line). line_of_block (block_at c.args.depth ls).0) lines)

@@ -1,0 +1,232 @@
+-- Why words are a usage error, and the line that tells a person so.
+-- The texts are listed in `docs/commands.md`, "Help".
+use Rattle.std.specs.Prelude.{ℕ, ◌+◌, ◌-◌, ◌/◌, ◌%◌, ◌==◌, nat_lt, Bool, not, ◌&&◌, ◌||◌, List, [], ◌∷◌, ◌++◌, length, take, codes, Option, Some, None, Result, Ok, Err, if◌then◌else◌}
+use Rattle.std.specs.Char.{is_ascii_graphic}
+use Rattle.std.specs.Fmt.{decimal}
+use Rattle.std.specs.List.{slice_get}
+use Rattle.command_core.specs.declared.command.Applet.{Applet}
+use Rattle.command_core.specs.declared.operands.OperandKind.{OperandKind}
+use Rattle.command_core.specs.declared.operands.OperandKind.TheVariants.{File, Any, Dependency, DependencyName, PackageName, Path, Number, Pattern}
+use Rattle.command_core.specs.declared.operands.OperandRule.{OperandRule}
+use Rattle.command_core.specs.declared.values.ValueKind.{ValueKind}
+use Rattle.command_core.specs.declared.values.ValueKind.TheVariants.{Any as AnyText, Nonempty, File as FileValue, Output, Uncompressed, Script}
+use Rattle.command_core.specs.declared.values.ValueRule.{ValueRule}
+use Rattle.command_core.specs.Applets.{needed_option, operand_rule}
+use Rattle.command_core.specs.Operands.{is_of_kind}
+use Rattle.command_core.specs.Values.{is_value}
+use Rattle.words_core.specs.declared.next.NextWord.{NextWord}
+use Rattle.words_core.specs.declared.next.NextWord.TheVariants.{OptionOrCommand, Command as CommandAlone, OptionOrOperand, Value as NextValue, Operand as OperandAlone, Nothing}
+use Rattle.words_core.specs.declared.options.Meaning.{Meaning}
+use Rattle.words_core.specs.declared.options.Meaning.TheVariants.{Flag as Plain, Kind, Value}
+use Rattle.words_core.specs.declared.reading.AppletSite.{AppletSite}
+use Rattle.words_core.specs.declared.reading.Start.{Start}
+use Rattle.words_core.specs.declared.usage.UsageReason.{UsageReason}
+use Rattle.words_core.specs.declared.usage.UsageReason.TheVariants.{CommandMissing, CommandUnknown, OptionEarly, OptionUnknown, OptionRepeated, SecondKind, ValueGiven, ValueMissing, ValueBad, ScriptRepeated, TooManyOperands, OperandBad, OperandMissing, KindMissing, OptionMissing}
+use Rattle.words_core.specs.Grammar.{applet_site, held_value, is_end, is_option, line_start, next_after, option_name, reading_behind}
+use Rattle.words_core.specs.HelpTexts.{program_usage}
+use Rattle.words_core.specs.Options.{OptionSpec, applet_word, option_spelled, options_of}
+
+-- ---- the reason
+
+-- why a text is no value of an option that is a value of its kind: one was given before
+abbrev pub repeated_by : ValueRule → UsageReason
+repeated_by rule = if rule.single then OptionRepeated else ScriptRepeated
+
+-- why a text is no value of an option
+abbrev pub value_reason : ValueRule → List ℕ → UsageReason
+value_reason rule text =
+    if is_value rule.kind text then repeated_by rule else ValueBad rule.kind
+
+-- why an option of the command cannot be given, by what it means and the value in its word
+abbrev pub meaning_reason : Option (List ℕ) → Meaning → UsageReason
+meaning_reason (Some text) (Plain flag) = ValueGiven
+meaning_reason (Some text) (Kind flag) = ValueGiven
+meaning_reason (Some text) (Value rule) = value_reason rule text
+meaning_reason None (Plain flag) = OptionRepeated
+meaning_reason None (Kind flag) = SecondKind
+meaning_reason None (Value rule) = OptionRepeated
+
+-- why a word is no option of the command, by the option that it spells, if it spells one
+abbrev pub option_reason : List ℕ → Option OptionSpec → UsageReason
+option_reason word None = OptionUnknown
+option_reason word (Some option) = meaning_reason (held_value word) option.meaning
+
+-- why a word is no operand: it is none of the kind that the command takes, or one too many
+abbrev pub operand_reason : List ℕ → Option OperandRule → UsageReason
+operand_reason word None = TooManyOperands
+operand_reason word (Some rule) =
+    if is_of_kind rule.kind word then TooManyOperands else OperandBad rule.kind
+
+-- why a word after the command offends, by what it could have been
+abbrev pub word_reason : Option OperandRule → List ℕ → NextWord → UsageReason
+word_reason rule word OptionOrCommand = OptionUnknown
+word_reason rule word CommandAlone = CommandUnknown
+word_reason rule word (OptionOrOperand applet) =
+    if is_option word && not (is_end word) then
+    option_reason word (option_spelled (options_of applet) (option_name word)) else
+    operand_reason word rule
+word_reason rule word (NextValue applet value) = value_reason value word
+word_reason rule word (OperandAlone applet) = operand_reason word rule
+word_reason rule word Nothing = CommandUnknown
+
+-- which word is missing after the last one, where no value is awaited: the option that the command
+-- needs, the option that says its kind, or an operand
+abbrev pub missing_reason : Option ℕ → Option OperandRule → UsageReason
+missing_reason (Some letter) rule = OptionMissing
+missing_reason None None = KindMissing
+missing_reason None (Some rule) = OperandMissing rule.kind
+
+-- which word is missing after the last one, by what it could be
+abbrev pub end_reason : Applet → Option OperandRule → NextWord → UsageReason
+end_reason applet rule (NextValue other value) = ValueMissing
+end_reason applet rule next = missing_reason (needed_option applet) rule
+
+-- why the place after a command that was found offends, by the word there, if there is one
+abbrev pub line_reason : Applet → Option OperandRule → NextWord → Option (List ℕ) → UsageReason
+line_reason applet rule next None = end_reason applet rule next
+line_reason applet rule next (Some word) = word_reason rule word next
+
+-- why the place of the command offends, by the word there, if there is one
+abbrev pub command_reason : NextWord → Option (List ℕ) → UsageReason
+command_reason next None = CommandMissing
+command_reason OptionOrCommand (Some word) = if is_option word then OptionEarly else CommandUnknown
+command_reason next (Some word) = CommandUnknown
+
+-- why a place before the command offends: no command is found, or the option there is none of it
+abbrev pub early_reason : Result AppletSite ℕ → NextWord → Option (List ℕ) → UsageReason
+early_reason (Err place) next word = command_reason next word
+early_reason (Ok site) next word = OptionUnknown
+
+-- the operands of the command that was found, under all flags that are read
+abbrev pub line_rule : List (List ℕ) → Start → Option OperandRule
+line_rule words start = operand_rule start.applet (reading_behind start words).state.flags
+
+-- why a place offends, by the start that was found in the words
+abbrev pub reason_from : List (List ℕ) → ℕ → Result Start ℕ → UsageReason
+reason_from words place (Err at) =
+    early_reason (applet_site 1 words) (next_after (take (place - 1) words))
+    (slice_get words (place - 1))
+reason_from words place (Ok start) =
+    line_reason start.applet (line_rule words start) (next_after (take (place - 1) words))
+    (slice_get words (place - 1))
+
+-- why the words are a usage error at a place
+unfoldable pub usage_reason : List (List ℕ) → ℕ → UsageReason
+usage_reason words place = reason_from words place (line_start words)
+
+-- ---- its text
+
+-- what a value of an option is
+abbrev pub value_kind_text : ValueKind → List ℕ
+value_kind_text AnyText = codes "a text"
+value_kind_text Nonempty = codes "a text that is not empty"
+value_kind_text FileValue = codes "a path below this folder"
+value_kind_text Output = codes "a path of at most 1016 bytes below this folder"
+value_kind_text Uncompressed = codes "none"
+value_kind_text Script = codes "TYPE:FILE with the type of a script"
+
+-- what an operand is
+abbrev pub operand_kind_text : OperandKind → List ℕ
+operand_kind_text File = codes "a path below this folder"
+operand_kind_text Any = codes "a text"
+operand_kind_text Dependency = codes "a dependency"
+operand_kind_text DependencyName = codes "the name of a dependency"
+operand_kind_text PackageName = codes "the name of a package"
+operand_kind_text Path = codes "a path"
+operand_kind_text Number = codes "a number from 1 to 20000"
+operand_kind_text Pattern = codes "a pattern"
+
+-- the text of a reason
+abbrev pub reason_text : UsageReason → List ℕ
+reason_text CommandMissing = codes "a command is missing"
+reason_text CommandUnknown = codes "unknown command"
+reason_text OptionEarly = codes "no option that can be before the command"
+reason_text OptionUnknown = codes "no option of this command"
+reason_text OptionRepeated = codes "this option was given before"
+reason_text SecondKind = codes "only one such option can be given"
+reason_text ValueGiven = codes "this option has no value"
+reason_text ValueMissing = codes "the value of the last option is missing"
+reason_text (ValueBad kind) = codes "the value must be "
+reason_text ScriptRepeated = codes "a script of this type was given before"
+reason_text TooManyOperands = codes "too many operands"
+reason_text (OperandBad kind) = codes "an operand must be "
+reason_text (OperandMissing kind) = codes "an operand is missing: "
+reason_text KindMissing = codes "an option is missing: --test or --check"
+reason_text OptionMissing = codes "an option is missing: --output"
+
+-- what ends the text of a reason: the kind of the value or operand, if it is about one
+abbrev pub reason_kind : UsageReason → List ℕ
+reason_kind (ValueBad kind) = value_kind_text kind
+reason_kind (OperandBad kind) = operand_kind_text kind
+reason_kind (OperandMissing kind) = operand_kind_text kind
+reason_kind reason = []
+
+-- ---- the line
+
+-- texts, one after another
+abbrev pub texts_joined : List (List ℕ) → List ℕ
+texts_joined [] = []
+texts_joined (text ∷ texts) = text ++ texts_joined texts
+
+-- how many bytes of a word are shown
+abbrev pub longest_shown : ℕ
+longest_shown = 64
+
+-- a hexadecimal digit, in lower case
+abbrev pub hex_digit : ℕ → ℕ
+hex_digit n = if nat_lt n 10 then 48 + n else 87 + n
+
+-- whether a byte is shown as it is: a space or a visible ASCII character, but no quote (34) or backslash
+abbrev pub is_plain_byte : ℕ → Bool
+is_plain_byte byte = ((byte == 32) || is_ascii_graphic byte) && not ((byte == 34) || (byte == 92))
+
+-- a byte as it is shown: as it is, or as `\xNN`
+abbrev pub shown_byte : ℕ → List ℕ
+shown_byte byte =
+    if is_plain_byte byte then byte ∷ [] else
+    92 ∷ (120 ∷ (hex_digit (byte / 16) ∷ (hex_digit (byte % 16) ∷ [])))
+
+-- bytes as they are shown
+abbrev pub shown_bytes : List ℕ → List ℕ
+shown_bytes [] = []
+shown_bytes (byte ∷ bytes) = shown_byte byte ++ shown_bytes bytes
+
+-- what precedes a word that is shown: its place
+abbrev pub word_front : ℕ → List ℕ
+word_front place = texts_joined (codes "word " ∷ (decimal place ∷ (codes ", \"" ∷ [])))
+
+-- what follows a word that is shown; two dots say that it is longer
+abbrev pub word_end : List ℕ → List ℕ
+word_end word = if nat_lt longest_shown (length word) then codes "..\": " else codes "\": "
+
+-- the word that offends, with its place; nothing where a word is missing
+abbrev pub place_text : ℕ → Option (List ℕ) → List ℕ
+place_text place None = []
+place_text place (Some word) =
+    word_front place ++ shown_bytes (take longest_shown word) ++ word_end word
+
+-- the word of the command whose help is named, after a space; nothing where none was found
+abbrev pub asked_space : Result AppletSite ℕ → List ℕ
+asked_space (Err place) = []
+asked_space (Ok site) = codes " "
+
+abbrev pub asked_word : Result AppletSite ℕ → List ℕ
+asked_word (Err place) = []
+asked_word (Ok site) = applet_word site.applet
+
+-- how the program is called, where there are no words
+abbrev pub usage_after : List (List ℕ) → List ℕ
+usage_after [] = program_usage
+usage_after (word ∷ words) = []
+
+-- the end of the line: the reason, and whose help to read
+abbrev pub hint_end : List (List ℕ) → UsageReason → List (List ℕ)
+hint_end words reason =
+    reason_text reason ∷ (reason_kind reason ∷ (codes "; see apk" ∷ (asked_space (applet_site 1 words)
+    ∷ (asked_word (applet_site 1 words) ∷ (codes " --help\n" ∷ (usage_after words ∷ []))))))
+
+-- the line that says why the words are a usage error at a place
+abbrev pub hint_text : List (List ℕ) → ℕ → List ℕ
+hint_text words place =
+    codes "apk: " ++ place_text place (slice_get words (place - 1))
+    ++ texts_joined (hint_end words (usage_reason words place))

@@ -1,0 +1,535 @@
+//! Why words are a usage error, and the line that tells a person so. It takes no memory.
+//! The texts are listed in `docs/commands.md`, "Help".
+ghost use Rattle.std.specs.Prelude.{◌≡◌, ◌-◌, ◌+◌, ◌<◌, ◌≤◌, Some, IsTrue, drop, length, map, slice_get, take};
+ghost use Rattle.std.specs.Option.{option_map};
+ghost use Rattle.base_core.specs.Sink.{sink_change};
+ghost use Rattle.base_core.specs.Write.{Writes};
+ghost use Rattle.words_core.specs.Grammar.{applet_site, first_state, is_option, line_start, next_after, option_reading, reading_behind};
+ghost use Rattle.words_core.specs.Options.{options_of};
+ghost use Rattle.words_core.specs.Rows.{option_spec};
+ghost use Rattle.words_core.specs.Steps.{asks_flags, flags_spelled, has_no_values};
+ghost use Rattle.words_core.specs.declared.next.NextWord.TheVariants.{OptionOrOperand};
+ghost use Rattle.words_core.specs.Usage.{asked_space, asked_word, command_reason, early_reason, end_reason, hex_digit, hint_end, hint_text, is_plain_byte, line_reason, line_rule, longest_shown, meaning_reason, missing_reason, operand_kind_text, operand_reason, option_reason, place_text, reason_kind, reason_text, repeated_by, shown_byte, shown_bytes, texts_joined, usage_after, usage_reason, value_kind_text, value_reason, word_end, word_front, word_reason};
+
+use crate::help_rows::PROGRAM_USAGE;
+use crate::next::{NextWord, next_after};
+use crate::options::{Meaning, OptionRow, applet_word, option_spelled, with_option};
+use crate::reading::{Start, find_applet, read_start};
+use crate::word::{held_value, is_end, is_option, option_name};
+use base_core::{Sink, SinkFault, Words, write_all};
+use command_core::{Applet, Flags, OperandKind, OperandRule, ValueKind, ValueRule};
+use itoa::Buffer;
+
+// How many bytes of a word are shown.
+const LONGEST_SHOWN: usize = 64;
+
+/// Why words are a usage error at a place.
+#[derive(Clone, Copy)]
+pub enum UsageReason {
+    /// No command is named.
+    CommandMissing,
+    /// The word names no command.
+    CommandUnknown,
+    /// The word is no option that can be before the command.
+    OptionEarly,
+    /// The word is no option of the command.
+    OptionUnknown,
+    /// The option was given before, and can be given once.
+    OptionRepeated,
+    /// Another option was given of which at most one can be.
+    SecondKind,
+    /// The option has no value, and its word holds one.
+    ValueGiven,
+    /// The words end where the value of an option is awaited.
+    ValueMissing,
+    /// The value is none of its kind.
+    ValueBad(ValueKind),
+    /// A script of the same type was given before.
+    ScriptRepeated,
+    /// The command takes no further operand.
+    TooManyOperands,
+    /// The operand is none of its kind.
+    OperandBad(OperandKind),
+    /// An operand of this kind is missing.
+    OperandMissing(OperandKind),
+    /// The option that says the kind of the command is missing.
+    KindMissing,
+    /// The option that the command needs is missing.
+    OptionMissing,
+}
+
+// ---- the reason
+
+// Why words are a usage error at a place.
+#[tactic(auto, unfolding(crate::specs::Usage::usage_reason))]
+fn usage_reason(words: &Words, place: u32) -> UsageReason
+    ensures { result ≡ usage_reason words.now place }
+{
+    let next = next_before(words, place);
+    match read_start(words) {
+        Ok(start) => line_reason(words, place, &start, next),
+        Err(_) => early_reason(words, place, next),
+    }
+}
+
+// What the word at a place could have been.
+fn next_before(words: &Words, place: u32) -> NextWord
+    ensures { result ≡ next_after (take (place - 1) words.now) }
+{
+    let before = (place as usize).saturating_sub(1);
+    if before < words.len() {
+        next_after(words, before)
+    } else {
+        next_after(words, words.len())
+    }
+}
+
+// The word at a place, if there is one.
+fn word_at(words: &Words, place: u32) -> Option<&[u8]>
+    ensures { option_map (λ word. word.now) result ≡ slice_get words.now (place - 1) }
+{
+    let before = (place as usize).saturating_sub(1);
+    if before < words.len() {
+        return Some(words.word(before));
+    }
+    None
+}
+
+// Why a place before the command offends.
+fn early_reason(words: &Words, place: u32, next: NextWord) -> UsageReason
+    ensures { result ≡ early_reason (applet_site 1 words.now) next
+        (slice_get words.now (place - 1)) }
+{
+    match find_applet(words) {
+        Ok(_) => UsageReason::OptionUnknown,
+        Err(_) => command_reason(next, word_at(words, place)),
+    }
+}
+
+// Why the place of the command offends.
+fn command_reason(next: NextWord, word: Option<&[u8]>) -> UsageReason
+    ensures { result ≡ command_reason next (option_map (λ w. w.now) word.entry) }
+{
+    let Some(word) = word else {
+        return UsageReason::CommandMissing;
+    };
+    match next {
+        NextWord::OptionOrCommand if is_option(word) => UsageReason::OptionEarly,
+        _ => UsageReason::CommandUnknown,
+    }
+}
+
+// Why the place after a command that was found offends.
+fn line_reason(words: &Words, place: u32, start: &Start, next: NextWord) -> UsageReason
+    requires { line_start words.now ≡ Ok start.now }
+    ensures { result ≡ line_reason start.now.applet (line_rule words.now start.now) next
+        (slice_get words.now (place - 1)) }
+{
+    let rule = line_rule(words, start);
+    match word_at(words, place) {
+        Some(word) => word_reason(rule, word, next),
+        None => end_reason(start.applet, rule, next),
+    }
+}
+
+// Which word is missing after the last one.
+fn end_reason(applet: Applet, rule: Option<OperandRule>, next: NextWord) -> UsageReason
+    ensures { result ≡ end_reason applet rule next }
+{
+    match next {
+        NextWord::Value(_, _) => UsageReason::ValueMissing,
+        _ => missing_reason(applet.needed_option(), rule),
+    }
+}
+
+// Which word is missing after the last one, where no value is awaited.
+fn missing_reason(needed: Option<u8>, rule: Option<OperandRule>) -> UsageReason
+    ensures { result ≡ missing_reason needed rule }
+{
+    if needed.is_some() {
+        return UsageReason::OptionMissing;
+    }
+    match rule {
+        Some(rule) => UsageReason::OperandMissing(rule.kind),
+        None => UsageReason::KindMissing,
+    }
+}
+
+// Why a word after the command offends.
+fn word_reason(rule: Option<OperandRule>, word: &[u8], next: NextWord) -> UsageReason
+    ensures { result ≡ word_reason rule word.now next }
+{
+    match next {
+        NextWord::OptionOrCommand => UsageReason::OptionUnknown,
+        NextWord::Command | NextWord::Nothing => UsageReason::CommandUnknown,
+        NextWord::Value(_, value) => value_reason(value, word),
+        NextWord::Operand(_) => operand_reason(word, rule),
+        NextWord::OptionOrOperand(applet) => free_reason(applet, rule, word),
+    }
+}
+
+// Why a word after the command offends that is an option or an operand.
+fn free_reason(applet: Applet, rule: Option<OperandRule>, word: &[u8]) -> UsageReason
+    ensures { result ≡ word_reason rule word.now (OptionOrOperand applet) }
+{
+    if !is_option(word) {
+        return operand_reason(word, rule);
+    }
+    if is_end(word) {
+        return operand_reason(word, rule);
+    }
+    option_reason(word, option_spelled(applet, option_name(word)))
+}
+
+// Why a word is no option of the command.
+fn option_reason(word: &[u8], option: Option<OptionRow>) -> UsageReason
+    ensures { result ≡ option_reason word.now (option_map option_spec option) }
+{
+    match option {
+        Some(option) => meaning_reason(held_value(word), option.meaning),
+        None => UsageReason::OptionUnknown,
+    }
+}
+
+// Why an option of the command cannot be given.
+fn meaning_reason(held: Option<&[u8]>, meaning: Meaning) -> UsageReason
+    ensures { result ≡ meaning_reason (option_map (λ text. text.now) held.entry) meaning }
+{
+    match held {
+        Some(text) => match meaning {
+            Meaning::Value(rule) => value_reason(rule, text),
+            Meaning::Flag(_) | Meaning::Kind(_) => UsageReason::ValueGiven,
+        },
+        None => match meaning {
+            Meaning::Kind(_) => UsageReason::SecondKind,
+            Meaning::Flag(_) | Meaning::Value(_) => UsageReason::OptionRepeated,
+        },
+    }
+}
+
+// Why a text is no value of an option.
+fn value_reason(rule: ValueRule, text: &[u8]) -> UsageReason
+    ensures { result ≡ value_reason rule text.now }
+{
+    if !rule.kind.has(text) {
+        return UsageReason::ValueBad(rule.kind);
+    }
+    if rule.single {
+        UsageReason::OptionRepeated
+    } else {
+        UsageReason::ScriptRepeated
+    }
+}
+
+// Why a word is no operand.
+fn operand_reason(word: &[u8], rule: Option<OperandRule>) -> UsageReason
+    ensures { result ≡ operand_reason word.now rule }
+{
+    match rule {
+        Some(rule) if !rule.kind.has(word) => UsageReason::OperandBad(rule.kind),
+        _ => UsageReason::TooManyOperands,
+    }
+}
+
+// ---- the operands of the command
+
+// The operands of the command that was found, under all flags that are read.
+fn line_rule(words: &Words, start: &Start) -> Option<OperandRule>
+    requires { line_start words.now ≡ Ok start.now }
+    ensures { result ≡ line_rule words.now start.now }
+{
+    if asks_flags(start.applet) {
+        return start.applet.operands(read_flags(words, start));
+    }
+    start.applet.operands(Flags::none())
+}
+
+// Whether the operands of an applet are others under other flags.
+fn asks_flags(applet: Applet) -> bool
+    ensures { result ≡ asks_flags applet }
+{
+    matches!(applet, Applet::Info | Applet::Version)
+}
+
+// The flags that are read, where no option of the command has values.
+#[tactic(auto, unfolding(crate::specs::Grammar::reading_behind))]
+fn read_flags(words: &Words, start: &Start) -> Flags
+    requires read { start.now.read ≤ length words.now }
+    requires plain { IsTrue (has_no_values start.now.applet) }
+    ensures { result ≡ (reading_behind start.now words.now).state.flags }
+{
+    if start.ended {
+        return start.flags;
+    }
+    flags_behind(words, start)
+}
+
+// The flags that are read, where options can follow the command.
+fn flags_behind(words: &Words, start: &Start) -> Flags
+    requires read { start.now.read ≤ length words.now }
+    requires plain { IsTrue (has_no_values start.now.applet) }
+    ensures { result ≡ (option_reading (options_of start.now.applet)
+        (first_state start.now.flags) (start.now.read + 1)
+        (drop start.now.read words.now)).state.flags }
+{
+    let mut flags = start.flags;
+    for i in start.read..words.len() {
+        let word = words.word(i);
+        if is_end(word) {
+            return flags;
+        }
+        if !is_option(word) {
+            continue;
+        }
+        match flags_with(start.applet, flags, word) {
+            Some(more) => flags = more,
+            None => return flags,
+        }
+    }
+    flags
+}
+
+// Flags with the option that a word is. None: it is none of the command, has a value, or is a second
+// kind.
+fn flags_with(applet: Applet, flags: Flags, word: &[u8]) -> Option<Flags>
+    requires { IsTrue (is_option word.now) }
+    ensures { result ≡ flags_spelled (options_of applet) flags word.now }
+{
+    if held_value(word).is_some() {
+        return None;
+    }
+    with_option(flags, option_spelled(applet, option_name(word)))
+}
+
+// ---- the line
+
+/// Writes the line that says to a person why words are a usage error at a place: which word it is, why
+/// it is none, and whose help to read. It takes no memory. After a fault a front of it was written.
+pub fn explain_usage<S: Sink>(words: &Words, place: u32, sink: &mut S) -> Result<(), SinkFault>
+    ensures { Writes (hint_text words.now place)
+        (sink_change S.bytes S.counts sink.old sink.new) result }
+{
+    write_all(sink, b"apk: ")?;
+    write_place(words, place, sink)?;
+    write_texts(&hint_end(words, usage_reason(words, place)), sink)
+}
+
+// Writes the word at a place, if there is one, and its place.
+fn write_place<S: Sink>(words: &Words, place: u32, sink: &mut S) -> Result<(), SinkFault>
+    ensures { Writes (place_text place (slice_get words.now (place - 1)))
+        (sink_change S.bytes S.counts sink.old sink.new) result }
+{
+    match word_at(words, place) {
+        Some(word) => write_word(place, word, sink),
+        None => Ok(()),
+    }
+}
+
+// Writes a word that offends, and its place.
+fn write_word<S: Sink>(place: u32, word: &[u8], sink: &mut S) -> Result<(), SinkFault>
+    ensures { Writes (place_text place (Some word.now))
+        (sink_change S.bytes S.counts sink.old sink.new) result }
+{
+    write_front(place, sink)?;
+    write_shown(shown_part(word), sink)?;
+    write_all(sink, word_end(word))
+}
+
+// Writes what precedes a word that is shown.
+fn write_front<S: Sink>(place: u32, sink: &mut S) -> Result<(), SinkFault>
+    ensures { Writes (word_front place) (sink_change S.bytes S.counts sink.old sink.new) result }
+{
+    let mut digits = Buffer::new();
+    write_texts(&[b"word ", digits.format(place).as_bytes(), b", \""], sink)
+}
+
+// The bytes of a word that are shown.
+#[tactic(auto, using(crate::proofs::Hints::take_within))]
+fn shown_part(word: &[u8]) -> &[u8]
+    ensures { result.now ≡ take longest_shown word.now }
+{
+    if word.len() > LONGEST_SHOWN {
+        &word[..LONGEST_SHOWN]
+    } else {
+        word
+    }
+}
+
+// What follows a word that is shown.
+fn word_end(word: &[u8]) -> &'static [u8]
+    ensures { result.now ≡ word_end word.now }
+{
+    if word.len() > LONGEST_SHOWN {
+        b"..\": "
+    } else {
+        b"\": "
+    }
+}
+
+// Writes bytes as they are shown.
+fn write_shown<S: Sink>(bytes: &[u8], sink: &mut S) -> Result<(), SinkFault>
+    ensures { Writes (shown_bytes bytes.now)
+        (sink_change S.bytes S.counts sink.old sink.new) result }
+{
+    for byte in bytes {
+        write_byte(*byte, sink)?;
+    }
+    Ok(())
+}
+
+// Writes a byte as it is shown.
+fn write_byte<S: Sink>(byte: u8, sink: &mut S) -> Result<(), SinkFault>
+    ensures { Writes (shown_byte byte) (sink_change S.bytes S.counts sink.old sink.new) result }
+{
+    if is_plain_byte(byte) {
+        return write_all(sink, &[byte]);
+    }
+    write_all(
+        sink,
+        &[b'\\', b'x', hex_digit(byte / 16), hex_digit(byte % 16)],
+    )
+}
+
+// Whether a byte is shown as it is.
+fn is_plain_byte(byte: u8) -> bool
+    ensures { result ≡ is_plain_byte byte }
+{
+    if byte == b'"' || byte == b'\\' {
+        return false;
+    }
+    byte == b' ' || byte.is_ascii_graphic()
+}
+
+// The hexadecimal digit of a number below 16.
+fn hex_digit(number: u8) -> u8
+    requires { number < 16 }
+    ensures { result ≡ hex_digit number }
+{
+    if number < 10 {
+        b'0' + number
+    } else {
+        b'a' - 10 + number
+    }
+}
+
+// Writes texts, one after another.
+fn write_texts<S: Sink>(texts: &[&[u8]], sink: &mut S) -> Result<(), SinkFault>
+    ensures { Writes (texts_joined (map (λ text. text.now) texts.now))
+        (sink_change S.bytes S.counts sink.old sink.new) result }
+{
+    for text in texts {
+        write_all(sink, *text)?;
+    }
+    Ok(())
+}
+
+// The end of the line: the reason, and whose help to read.
+fn hint_end(words: &Words, reason: UsageReason) -> [&'static [u8]; 7]
+    ensures { map (λ text. text.now) result ≡ hint_end words.now reason }
+{
+    [
+        reason_text(reason),
+        reason_kind(reason),
+        b"; see apk",
+        asked_space(words),
+        asked_word(words),
+        b" --help\n",
+        usage_after(words),
+    ]
+}
+
+// A space, where a command was found.
+fn asked_space(words: &Words) -> &'static [u8]
+    ensures { result.now ≡ asked_space (applet_site 1 words.now) }
+{
+    match find_applet(words) {
+        Ok(_) => b" ",
+        Err(_) => b"",
+    }
+}
+
+// The word of the command whose help is named, or nothing where none was found.
+fn asked_word(words: &Words) -> &'static [u8]
+    ensures { result.now ≡ asked_word (applet_site 1 words.now) }
+{
+    match find_applet(words) {
+        Ok(site) => applet_word(site.applet),
+        Err(_) => b"",
+    }
+}
+
+// How the program is called, where there are no words.
+#[tactic(auto, unfolding(crate::specs::HelpTexts::program_usage))]
+fn usage_after(words: &Words) -> &'static [u8]
+    ensures { result.now ≡ usage_after words.now }
+{
+    if words.is_empty() { PROGRAM_USAGE } else { b"" }
+}
+
+// ---- texts
+
+// The text of a reason.
+fn reason_text(reason: UsageReason) -> &'static [u8]
+    ensures { result.now ≡ reason_text reason }
+{
+    match reason {
+        UsageReason::CommandMissing => b"a command is missing",
+        UsageReason::CommandUnknown => b"unknown command",
+        UsageReason::OptionEarly => b"no option that can be before the command",
+        UsageReason::OptionUnknown => b"no option of this command",
+        UsageReason::OptionRepeated => b"this option was given before",
+        UsageReason::SecondKind => b"only one such option can be given",
+        UsageReason::ValueGiven => b"this option has no value",
+        UsageReason::ValueMissing => b"the value of the last option is missing",
+        UsageReason::ValueBad(_) => b"the value must be ",
+        UsageReason::ScriptRepeated => b"a script of this type was given before",
+        UsageReason::TooManyOperands => b"too many operands",
+        UsageReason::OperandBad(_) => b"an operand must be ",
+        UsageReason::OperandMissing(_) => b"an operand is missing: ",
+        UsageReason::KindMissing => b"an option is missing: --test or --check",
+        UsageReason::OptionMissing => b"an option is missing: --output",
+    }
+}
+
+// What ends the text of a reason: the kind of the value or operand, if it is about one.
+fn reason_kind(reason: UsageReason) -> &'static [u8]
+    ensures { result.now ≡ reason_kind reason }
+{
+    match reason {
+        UsageReason::ValueBad(kind) => value_kind_text(kind),
+        UsageReason::OperandBad(kind) | UsageReason::OperandMissing(kind) => {
+            operand_kind_text(kind)
+        }
+        _ => b"",
+    }
+}
+
+// What a value of an option is.
+fn value_kind_text(kind: ValueKind) -> &'static [u8]
+    ensures { result.now ≡ value_kind_text kind }
+{
+    match kind {
+        ValueKind::Any => b"a text",
+        ValueKind::Nonempty => b"a text that is not empty",
+        ValueKind::File => b"a path below this folder",
+        ValueKind::Output => b"a path of at most 1016 bytes below this folder",
+        ValueKind::Uncompressed => b"none",
+        ValueKind::Script => b"TYPE:FILE with the type of a script",
+    }
+}
+
+// What an operand is.
+fn operand_kind_text(kind: OperandKind) -> &'static [u8]
+    ensures { result.now ≡ operand_kind_text kind }
+{
+    match kind {
+        OperandKind::File => b"a path below this folder",
+        OperandKind::Any => b"a text",
+        OperandKind::Dependency => b"a dependency",
+        OperandKind::DependencyName => b"the name of a dependency",
+        OperandKind::PackageName => b"the name of a package",
+        OperandKind::Path => b"a path",
+        OperandKind::Number => b"a number from 1 to 20000",
+        OperandKind::Pattern => b"a pattern",
+    }
+}
