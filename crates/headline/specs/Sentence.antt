@@ -1,6 +1,6 @@
 -- The sentence with which the README of the repository begins, as one statement. What it cites is
--- defined in `run_lists` (runs, and what a root has seen), `apk_front` (answers), `journal_core` (states),
--- `outcome` (what a command comes to) and `refusal_laws` (what a refusal says).
+-- defined in `run_lists` (runs, and what a root has seen), `apk_front` (answers), `journal_core`
+-- (states), `outcome` (what a command comes to) and `refusal_laws` (what a refusal says).
 use Rattle.std.specs.Prelude.{◌≡◌, ◌⊎◌, ℕ, Bool, true, false, List, Some, None, Ok}
 use Rattle.apk_front.specs.Answers.{IsAnswerTo, LeavesFiles}
 use Rattle.apk_front.specs.Moments.{AnswersOutcome, IsAtRest, Settles}
@@ -52,15 +52,15 @@ pub record EndsAsStated (command : CommandLine) (files : Files) (o : Outcome) : 
 
 -- what is promised of a run that begins in the state v, apart from the ignored names
 pub record IsAsPromised (ignored : List ℕ → Bool) (v : TreeState) (run : Run) : Type 0 where
-  -- ended, or stopped at any moment, also inside a call, it recovers to a state from before it, or to that
-  -- of its outcome, which commits
+  -- ended, or stopped at any moment, also inside a call, it recovers to a state from before it, or to
+  -- that of its outcome, which commits
   pub moments : (m : TreeState) → IsStopOf run m
       → RecoversTo (HasStateBeforeOrOutcome ignored v run) m
   -- the state from before is one, if each crash left the state of the files as read
   pub one : IsSettled ignored (files_of v) v → (m : TreeState) → IsStopOf run m
       → RecoversTo (HasOldOrOutcome ignored v run) m
-  -- to its outcome's state, once that is answered (Ok, a refusal, or a fault of an output stream), if it
-  -- settles: it commits, or each crash left the state as read before, or an intent was found
+  -- to its outcome's state, once that is answered (Ok, a refusal, or a fault of an output stream), if
+  -- it settles: it commits, or each crash left the state as read before, or an intent was found
   pub answered : AnswersOutcome run.answer → (o : Outcome) → IsOutcomeFrom v run o
       → Settles (effect_by (command_of run.words)) ignored v o
       → HasNow run.now (RecoversTo (HasStateOf ignored o.files))
@@ -76,8 +76,8 @@ pub record IsAsPromised (ignored : List ℕ → Bool) (v : TreeState) (run : Run
       → effect_of command.applet ≡ Changes → IsOutcomeFrom v run o
       → EndsAsStated command (files_of v) o
 
--- The sentence: whatever list a root has seen, the run is as promised. If a root had one state at first,
--- it has one when the run begins, unless a run that might commit was stopped, or failed by the tree.
+-- The sentence: whatever list a root has seen, the run is as promised. If a root had one state at
+-- first, it has one when the run begins, unless a run that might commit was stopped or the tree failed.
 -- Even then it has one again after a crash, or after an event that *HasSeenToOneState* names.
 abbrev pub IsAsPromisedBehindAll : TreeState → Run → Type 0
 IsAsPromisedBehindAll v run =

@@ -14,7 +14,7 @@ use Rattle.outcome.specs.Effect.{reads_only}
 use Rattle.outcome.specs.Outcome.{Outcome}
 use Rattle.outcome.specs.Words.{IsOutcome}
 use Rattle.words_core.specs.Grammar.{command_of}
-use Rattle.run_lists.specs.Events.{Crashes, Edits, Ends, Event, HasSeenIdly, IsIdle, IsIdleRun, LeadsOn, Run, Stops}
+use Rattle.run_lists.specs.Events.{Crashes, Edits, Ends, Event, HasSeenIdly, IsIdle, IsIdleRun, LeadsOn, Run, Stops, Touches}
 use Rattle.run_lists.proofs.Facts.{Ignored}
 use Rattle.run_lists.proofs.Names.{reader_output}
 use Rattle.run_lists.proofs.OneRun.{idle_end, idle_moment, settled_on}
@@ -33,6 +33,7 @@ module _ (crash_orderly : (ignored : Ignored) (v w : TreeState) → IsCrashOf v 
   led_idle ignored files v Crashes w rest idle crash =
       record { orderly = crash_orderly ignored v w crash; settled = settled_on ignored files v w rest.settled (crash_quiet ignored v w crash) }
   led_idle ignored files v Edits w rest idle synced = absurd idle
+  led_idle ignored files v (Touches theirs) w rest idle touch = absurd idle
 
   idle_from : (ignored : Ignored) (files : Files) (v w : TreeState) (events : List Event) → IsAtRest ignored files v → HasSeenIdly v events w → IsAtRest ignored files w
   idle_from ignored files v w [] rest is = subst (IsAtRest ignored files) (sym is) rest

@@ -23,7 +23,7 @@ use Rattle.outcome.specs.Work.{fault_of_intent, recovery_fault}
 use Rattle.report_core.specs.declared.refusal.Refusal.{Refusal}
 use Rattle.report_core.specs.declared.refusal.Refusal.TheVariants.{IntentBad}
 use Rattle.words_core.specs.Grammar.{command_of}
-use Rattle.run_lists.specs.Events.{Crashes, Edits, Ends, Event, HasSeen, HasSeenIdly, IsIdle, IsMomentOf, IsOutcomeFrom, IsRunFrom, IsStopOf, LeadsOn, Run, Stops, ignored_behind, ignored_in, nothing_ignored}
+use Rattle.run_lists.specs.Events.{Crashes, Edits, Ends, Event, HasSeen, HasSeenIdly, IsIdle, IsMomentOf, IsOutcomeFrom, IsRunFrom, IsStopOf, LeadsOn, Run, Stops, Touches, ignored_behind, ignored_in, nothing_ignored, with_touched}
 use Rattle.run_lists.specs.Reading.{HasBadIntent}
 use Rattle.run_lists.specs.Recovered.{HasSeenNoBadIntent, HasStateBeforeOrOutcome, HasStateOf, IsRecoveredBy, IsUnrefused, LeavesNoBadIntent, PutsNoBadIntent}
 use Rattle.run_lists.specs.Safety.{HasOldOrOutcome, IsOldOrOutcome}
@@ -32,9 +32,10 @@ use Rattle.run_lists.proofs.Committed.{CommitsNoIntent, ReadSound, absent_now}
 use Rattle.run_lists.proofs.Facts.{Facts, Ignored}
 use Rattle.run_lists.proofs.Idle.{state_read}
 use Rattle.run_lists.proofs.Moments.{last_moment}
-use Rattle.run_lists.proofs.Names.{behind_hides, scratch_hides}
+use Rattle.run_lists.proofs.Names.{behind_hides, scratch_hides, touched_hides}
 use Rattle.run_lists.proofs.OneRun.{Told, idle_end, idle_moment, now_hides, now_orderly, orderly_at, quiet_self, safe, told}
 use Rattle.run_lists.proofs.Torn.{torn_good, torn_image, torn_orderly, torn_quiet}
+use Rattle.run_lists.proofs.Touched.{touch_quiet}
 use Rattle.run_lists.proofs.Unstaged.{again_at}
 
 -- ---- laws of the crates below
@@ -103,6 +104,7 @@ module _ (same : HasSameBadIntent) where
           good (files_of w) crash.left (bad_both nothing_ignored image (files_of w) refl (facts.crash_settled nothing_ignored v w crash image is) bad)
       led_good names Edits v w shown orderly good synced puts = λ image is bad.
           puts (bad_both nothing_ignored image (files_of w) refl (facts.crash_settled nothing_ignored w w (as_crash facts w synced) image is) bad)
+      led_good names (Touches theirs) v w shown orderly good touch puts = quiet_good (with_touched theirs names) v w (touched_hides theirs names shown) (touch_quiet theirs v w touch names) good
 
       module _ (start : Ignored) (off : start intent_name ≡ false) (first : TreeState) (orderly : IsOrderly (RestsOn start) first) (good : LeavesNoBadIntent first) where
         pub seen_good : (v : TreeState) (events : List Event) → HasSeenNoBadIntent first events v → LeavesNoBadIntent v
@@ -193,6 +195,7 @@ module _ (facts : Facts) (crash_quiet : (ignored : Ignored) (v w : TreeState) �
   led_quiet m v Crashes w on idle crash =
       record { quiet = quiet_on names m v w on.quiet (crash_quiet names v w crash); orderly = facts.crash_orderly names v w crash }
   led_quiet m v Edits w on idle synced = absurd idle
+  led_quiet m v (Touches theirs) w on idle touch = absurd idle
 
   seen_quiet : (m w : TreeState) (later : List Event) → IsOrderly (RestsOn names) m → HasSeenIdly m later w → QuietOn names m w
   seen_quiet m w [] orderly is = subst (QuietOn names m) (sym is) (record { quiet = quiet_self names m; orderly = orderly })
