@@ -1,13 +1,14 @@
 //! The program `apk`: the top call over the folder that it runs in and the two standard streams.
-//! The rules stand in `docs/commands.md`, "Answers and statuses" and "A fault of the tree".
+//! The rules are in `docs/commands.md`, "Answers and statuses" and "A fault of the tree".
 //!
-//! This crate is trusted, as is `host_tree`: its tree and its sinks meet their traits, and what the
-//! host did of it is not seen by a proof. All else is decided below it.
+//! This crate is trusted, as is `host_tree`: its tree and its sinks obey their traits, but no proof
+//! can see what the host did. Everything else is decided in the crates below it.
 #![tactic(auto)]
 
 mod process;
 
-use apk_front::{Answer, Refusal, RootAccess, access_for, apk, status};
+use apk_front::{Answer, Refusal, RootAccess, access_for, status};
+use headline::apk_as_promised;
 use host_files::{Lock, write_path};
 use host_tree::HostTree;
 use process::{HostSink, WordsFault, words_of};
@@ -20,7 +21,7 @@ use words_core::explain_usage;
 /// "Answers and statuses").
 const NO_MEMORY: u8 = 4;
 
-/// The status of a run that has too many words, which is told before anything else is done (the
+/// The status of a run with too many arguments, which is reported before anything else is done (the
 /// same table).
 const TOO_MANY_WORDS: u8 = 5;
 
@@ -28,8 +29,8 @@ const TOO_MANY_WORDS: u8 = 5;
 const UNFINISHED: &[u8] =
     b"apk: the change is committed: once the cause is gone, the next command finishes it\n";
 
-/// Runs the command line over the folder that the program is in, and ends with the answer's status.
-/// The root is locked as the command asks for.
+/// Runs the command line over the folder that the program is in, and exits with the answer's
+/// status. The root is locked as the command needs it.
 fn main(rt: HostRuntime) -> ExitCode {
     let words = match words_of(&rt, rt.alloc()) {
         Ok(words) => words,
@@ -45,7 +46,7 @@ fn main(rt: HostRuntime) -> ExitCode {
     let mut tree = HostTree::new(&rt, rt.alloc(), lock_for(access));
     let mut out = HostSink::new(rt.stdout());
     let mut err = HostSink::new(rt.stderr());
-    let answer = apk(rt.alloc(), &words, &mut tree, &mut out, &mut err);
+    let answer = apk_as_promised(rt.alloc(), &words, &mut tree, &mut out, &mut err);
     match &answer {
         Answer::TreeFault => {
             let _ = tell_why(&rt, &tree);
@@ -59,13 +60,13 @@ fn main(rt: HostRuntime) -> ExitCode {
     ExitCode::from(status(&answer))
 }
 
-/// Ends where not even the words found memory.
+/// Exits if there is no memory even for the arguments.
 fn out_of_memory(rt: &HostRuntime) -> ExitCode {
     let _ = rt.stderr().write_all(b"ERROR: out of memory\n");
     ExitCode::from(NO_MEMORY)
 }
 
-/// The lock that a run takes of its root: one that writes has the root alone, and any number may
+/// The lock that a run takes on its root: one that writes has the root alone, and any number may
 /// read.
 fn lock_for(access: RootAccess) -> Lock {
     match access {
@@ -74,8 +75,8 @@ fn lock_for(access: RootAccess) -> Lock {
     }
 }
 
-/// Prints what failed first on the host, whether the new file may be there already, and whether a
-/// change is committed, so that the next command goes on with it.
+/// Prints the first failure on the host, whether the new file may be there already, and whether a
+/// change is committed, so that the next command completes it.
 fn tell_why(rt: &HostRuntime, tree: &HostTree<'_, HostRuntime>) -> io::Result<()> {
     let mut to = rt.stderr();
     if let Some(failure) = tree.failure() {

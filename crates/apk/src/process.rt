@@ -1,5 +1,5 @@
-//! What the process gives a run: the words of its command line, and its standard streams as sinks.
-//! The rules stand in `docs/commands.md`, "Answers and statuses".
+//! What the process gives a run: the arguments of its command line, and its standard streams as
+//! sinks. The rules are in `docs/commands.md`, "Answers and statuses".
 
 ghost use Rattle.std.specs.Prelude.{◌≤◌, IfOk, IfSome, ◌≡◌, ◌<◌, None, length};
 ghost use Rattle.std.specs.Vec.{vec_len};
@@ -14,8 +14,8 @@ use std::io::{ErrorKind, Write};
 /// The most words that a command line may have: 2^32 - 2.
 const MOST_WORDS: usize = 4294967294;
 
-/// How often the buffer for a word is doubled before it counts as want of memory. It begins with
-/// 4,096 bytes, so a word may have about two gigabytes.
+/// How often the buffer for an argument is doubled before it counts as out of memory. It begins
+/// with 4,096 bytes, so an argument may have about two gigabytes.
 const MOST_DOUBLINGS: u32 = 20;
 
 /// Why the words are not read.
@@ -28,7 +28,7 @@ pub enum WordsFault {
 }
 
 impl From<AllocError> for WordsFault {
-    // Want of memory, as the reading of words tells it.
+    // Out of memory, as an error of the parser of arguments.
     fn from(_: AllocError) -> WordsFault {
         WordsFault::Memory
     }
@@ -51,8 +51,8 @@ pub fn words_of(rt: &impl Env, alloc: Global) -> Result<Words, WordsFault> {
     Err(WordsFault::TooMany)
 }
 
-// Reads a word into the buffer, which grows until it fits, and tells its length, or None where
-// there is no such word.
+// Reads an argument into the buffer, which grows until it fits, and returns its length, or None if
+// there is no such argument.
 fn read_word(rt: &impl Env, i: usize, buffer: &mut Vec<u8>) -> Result<Option<usize>, AllocError>
     ensures { IfOk result (λ found. IfSome found (λ len. len ≤ vec_len buffer.new)) }
 {
@@ -66,7 +66,7 @@ fn read_word(rt: &impl Env, i: usize, buffer: &mut Vec<u8>) -> Result<Option<usi
     Err(AllocError)
 }
 
-/// A stream of the host. It tells nothing of its bytes; each write that answers a fault counts it.
+/// A stream of the host. Its bytes are not observable; each write that returns a fault counts it.
 #[derive(Drop)]
 pub struct HostSink<W: Write + Drop> {
     /// The stream of the host.
@@ -83,7 +83,7 @@ impl<W: Write + Drop> HostSink<W> {
         HostSink { inner, faults: 0 }
     }
 
-    /// Counts a fault; the count stays at its largest value.
+    /// Counts a fault; the count saturates at its largest value.
     fn fault(&mut self) -> SinkFault
         ensures faults { self.new.faults ≡ next_count self.old.faults }
         ensures later { self.old.faults ≤ self.new.faults }
@@ -94,13 +94,13 @@ impl<W: Write + Drop> HostSink<W> {
 }
 
 impl<W: Write + Drop> Sink for HostSink<W> {
-    // What a host's stream got is not seen by a contract.
+    // The bytes of a host's stream are not seen by a contract.
     ghost bytes = { λ sink. None };
 
-    // The counts are those of a host's sink with so many faults.
+    // The counts are those of a host's sink with this many faults.
     ghost counts = { λ sink. host_counts sink.faults };
 
-    /// Writes as many bytes as the stream takes at once. No bytes are no call of the host.
+    /// Writes as many bytes as the stream takes at once. Without bytes the host is not called.
     fn write(&mut self, piece: &[u8]) -> Result<usize, SinkFault> {
         if piece.is_empty() {
             return Ok(0);
@@ -112,8 +112,8 @@ impl<W: Write + Drop> Sink for HostSink<W> {
     }
 }
 
-/// How much of a piece the host took, at least one byte, or None where it failed. A write that a
-/// signal interrupts is tried again.
+/// The length of the part of a piece that the host took, at least one byte, or None if it failed. A
+/// write that a signal interrupts is tried again.
 fn write_some<W: Write>(inner: &mut W, piece: &[u8]) -> Option<usize>
     ensures { IfSome result (λ n. (0 < n) × (n ≤ length piece.now)) }
 {

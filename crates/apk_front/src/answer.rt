@@ -137,7 +137,7 @@ fn print_verdict<O: Sink, E: Sink>(verdict: Verdict, out: &mut O, err: &mut E) -
     }
 }
 
-// Prints a report. Where it has no bytes no call is made on the sink, so that does not fail.
+// Prints a report. An empty one makes no call on the sink, so it cannot fail.
 fn print_report<O: Sink>(bytes: &[u8], out: &mut O) -> Result<(), SinkFault>
     ensures written { Writes bytes.now (sink_change O.bytes O.counts out.old out.new) result }
     ensures some { OnErr result (bytes.now ≢ []) }

@@ -110,7 +110,7 @@ pub fn apk<T: Tree, O: Sink, E: Sink>(
 
     // ---- effect on the tree
 
-    // Where the outcome rests on the words alone, no call is made on the tree.
+    // If the outcome depends on the arguments alone, no call is made on the tree.
     ensures untouched { IsTrue (rests_on_words (command_of words.now)) → tree.new ≡ tree.old }
 
     // A command that only reads leaves the tree as it is.

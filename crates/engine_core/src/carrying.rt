@@ -10,6 +10,7 @@ ghost use Rattle.engine_core.specs.ChangeRun.{ComesTo};
 ghost use Rattle.engine_core.specs.Finishing.{AreRecordsOf, IsPlanned, inputs_arrived, replacement_arrived};
 ghost use Rattle.engine_core.specs.Runs.{IsRunCounted};
 ghost use Rattle.engine_core.specs.Wishes.{wishes_of};
+ghost use Rattle.stage_run.specs.Asked.{IsAskedRun};
 ghost use Rattle.std.specs.Prelude.{◌≡◌, List, Ok};
 
 use crate::finishing::{
@@ -25,6 +26,7 @@ use change_inputs::Refused;
 use command_core::Command;
 use piece_reader::Piece;
 use stage_files::{StageFault, carry_out};
+use stage_run::asked_runs_begin_with_reads;
 use std::alloc::Global;
 
 /// Carries a change through whose triggers are tested. All memory is allocated first. If there is
@@ -50,9 +52,11 @@ fn carry_change<T: Tree>(
         (T.counts tree.new) result }
     // How the tree's counts explain the answer.
     ensures counts { IsRunCounted (T.counts tree.old) (T.counts tree.new) result }
+    ensures promised { IsAskedRun T.accepts (T.history tree.old) (T.history tree.new) }
 {
-    // A law that the proof needs; it has no effect at run time.
+    // Laws that the proof needs; they have no effect at run time.
     a_package_that_was_read_is_that_of_its_file();
+    asked_runs_begin_with_reads::<T>();
     let Planned { arrived, plan } = *planned;
     let loaded = arrived.selection.loaded;
     let record_writes = record_writes_of(loaded, records);
@@ -108,7 +112,10 @@ pub(crate) fn finish_change<T: Tree>(
         (replacement_arrived planned.now.arrived.now) (wishes_of command.now) found files))
         (T.history tree.old) (T.history tree.new) (T.counts tree.old) (T.counts tree.new) result }
     ensures counts { IsRunCounted (T.counts tree.old) (T.counts tree.new) result }
+    ensures promised { IsAskedRun T.accepts (T.history tree.old) (T.history tree.new) }
 {
+    // A law that the proof needs; it has no effect at run time.
+    asked_runs_begin_with_reads::<T>();
     let no_scripts = command.flags().no_scripts;
     test_triggers(alloc, no_scripts, planned.arrived.members, planned.plan)?;
     let records = new_records(alloc, planned)?;

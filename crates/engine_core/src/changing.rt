@@ -9,6 +9,7 @@ ghost use Rattle.engine_core.specs.Runs.{IsRunBy, IsRunCounted, IsSelectedRun};
 ghost use Rattle.engine_core.specs.Selecting.{pool_by};
 ghost use Rattle.engine_core.specs.SelectionSeen.{HasItsDatabase, inputs_of_selection, selection_seen, replacement_seen};
 ghost use Rattle.engine_core.specs.Wishes.{names_to_reinstall, names_to_go};
+ghost use Rattle.stage_run.specs.Asked.{IsAskedRun};
 ghost use Rattle.std.specs.Prelude.{◌≡◌, Ok, IfOk};
 ghost use Rattle.package_changes.specs.Report.{simulated_report};
 
@@ -25,6 +26,7 @@ use command_core::Command;
 use package_changes::{Changes, simulated_report};
 use pool_core::Sealed;
 use report_core::Refusal;
+use stage_run::asked_runs_begin_with_reads;
 use std::alloc::{AllocError, Global};
 
 /// Changes what is installed, as `add`, `del`, `upgrade` or `fix` asks for, and reports it; with
@@ -45,10 +47,13 @@ pub fn change<T: Tree>(alloc: Global, command: &Command, tree: &mut T) -> Result
     // How the tree's counts explain the answer: no count falls, an I/O error has its cause, and any
     // other answer hides none.
     ensures counts { IsRunCounted (T.counts tree.old) (T.counts tree.new) result }
+    // At each moment the tree accepts each name to which a recovery gives other bytes than it had.
+    ensures promised { IsAskedRun T.accepts (T.history tree.old) (T.history tree.new) }
 {
     // Laws that the proof needs; they have no effect at run time.
     a_choice_exists();
     a_change_has_a_first_clash_or_none();
+    asked_runs_begin_with_reads::<T>();
     inputs_rest_on_their_own_reads();
     packages_after_a_change_rest_on_later_reads();
     what_is_read_of_a_root_stands_there();
@@ -67,10 +72,12 @@ fn change_loaded<T: Tree>(
     ensures run { IsRunBy command.now (inputs_seen loaded.now) (T.history tree.old)
         (T.history tree.new) (T.counts tree.old) (T.counts tree.new) result }
     ensures counts { IsRunCounted (T.counts tree.old) (T.counts tree.new) result }
+    ensures promised { IsAskedRun T.accepts (T.history tree.old) (T.history tree.new) }
 {
     // Laws that the proof needs; they have no effect at run time.
     a_choice_exists();
     a_change_has_a_first_clash_or_none();
+    asked_runs_begin_with_reads::<T>();
     let again = names_to_reinstall(alloc, command)?;
     let names = operand_texts(alloc, command.operands())?;
     match loaded.pool(alloc, names_to_upgrade(command, &names)) {
@@ -97,10 +104,12 @@ fn change_in_pool<'a, T: Tree>(
     ensures run { IsRunBy command.now (inputs_seen loaded.now) (T.history tree.old)
         (T.history tree.new) (T.counts tree.old) (T.counts tree.new) result }
     ensures counts { IsRunCounted (T.counts tree.old) (T.counts tree.new) result }
+    ensures promised { IsAskedRun T.accepts (T.history tree.old) (T.history tree.new) }
 {
     // Laws that the proof needs; they have no effect at run time.
     a_choice_exists();
     a_change_has_a_first_clash_or_none();
+    asked_runs_begin_with_reads::<T>();
     let db = loaded.db(alloc)?;
     if let Some(place) = unknown_operand(command, loaded, &db) {
         return Err(Refused::Refusal(Refusal::NotInstalled { place }));
@@ -133,9 +142,11 @@ fn change_selected<T: Tree>(
     ensures run { IsSelectedRun command.now (Ok (selection_seen selection.now))
         (T.history tree.old) (T.history tree.new) (T.counts tree.old) (T.counts tree.new) result }
     ensures counts { IsRunCounted (T.counts tree.old) (T.counts tree.new) result }
+    ensures promised { IsAskedRun T.accepts (T.history tree.old) (T.history tree.new) }
 {
-    // A law that the proof needs; it has no effect at run time.
+    // Laws that the proof needs; they have no effect at run time.
     a_change_has_a_first_clash_or_none();
+    asked_runs_begin_with_reads::<T>();
     if command.flags().simulate {
         let report = simulate(alloc, command, selection)?;
         return Ok(report);

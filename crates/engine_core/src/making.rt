@@ -13,6 +13,7 @@ ghost use Rattle.engine_core.specs.Selecting.{pool_by};
 ghost use Rattle.engine_core.specs.SelectionSeen.{HasItsDatabase, inputs_of_selection, replacement_seen, selection_seen};
 ghost use Rattle.engine_core.specs.Wishes.{wishes_of};
 ghost use Rattle.make_info.specs.Reads.{Reads};
+ghost use Rattle.stage_run.specs.Asked.{IsAskedRun};
 ghost use Rattle.std.specs.Prelude.{◌≡◌, List, false, Ok};
 
 use crate::carrying::finish_change;
@@ -27,6 +28,7 @@ use change_outcome::a_change_has_a_first_clash_or_none;
 use command_core::Command;
 use own_core::plan;
 use package_changes::PlacedNames;
+use stage_run::asked_runs_begin_with_reads;
 use std::alloc::Global;
 
 /// Makes the change of a selection: reads the added packages, and continues with them.
@@ -51,9 +53,11 @@ pub(crate) fn make_change<T: Tree>(
     ensures run { IsSelectedRun command.now (Ok (selection_seen selection.now))
         (T.history tree.old) (T.history tree.new) (T.counts tree.old) (T.counts tree.new) result }
     ensures counts { IsRunCounted (T.counts tree.old) (T.counts tree.new) result }
+    ensures promised { IsAskedRun T.accepts (T.history tree.old) (T.history tree.new) }
 {
-    // A law that the proof needs; it has no effect at run time.
+    // Laws that the proof needs; they have no effect at run time.
     a_change_has_a_first_clash_or_none();
+    asked_runs_begin_with_reads::<T>();
     let Selection {
         db,
         pool,
@@ -98,9 +102,11 @@ fn change_members<'a, 'm, T: Tree>(
         (replacement_seen selection.entry.now) (wishes_of command.now) read found
         (T.history tree.old) (T.history tree.new) (T.counts tree.old) (T.counts tree.new) result }
     ensures counts { IsRunCounted (T.counts tree.old) (T.counts tree.new) result }
+    ensures promised { IsAskedRun T.accepts (T.history tree.old) (T.history tree.new) }
 {
     // Laws that the proof needs; they have no effect at run time.
     a_change_has_a_first_clash_or_none();
+    asked_runs_begin_with_reads::<T>();
     packages_that_were_read_are_those_found();
     let members = members_of_change(alloc, selection.db, arrivals)?;
     let arrived = Arrived {
@@ -128,9 +134,11 @@ fn plan_change<T: Tree>(
         (wishes_of command.now) read found (T.history tree.old) (T.history tree.new)
         (T.counts tree.old) (T.counts tree.new) result }
     ensures counts { IsRunCounted (T.counts tree.old) (T.counts tree.new) result }
+    ensures promised { IsAskedRun T.accepts (T.history tree.old) (T.history tree.new) }
 {
     // Laws that the proof needs; they have no effect at run time.
     a_change_has_a_first_clash_or_none();
+    asked_runs_begin_with_reads::<T>();
     counts_of_calls_in_a_row_join();
     let purge = command.flags().purge;
     let selection = arrived.selection;

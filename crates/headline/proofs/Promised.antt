@@ -21,7 +21,7 @@ use Rattle.run_lists.proofs.Names.{scratch_more}
 use Rattle.run_lists.proofs.OneRun.{idle_moment}
 use Rattle.run_lists.proofs.Recoverable.{left_state, recovered_as, seen_plainly, state_on}
 use Rattle.run_lists.proofs.Torn.{torn_image, torn_self}
-use Rattle.headline.specs.Sentence.{EndsAsStated, HasGoodPast, IsAsPromised, IsAsPromisedBehindAll, RecoversTo}
+use Rattle.headline.specs.Sentence.{EndsAsStated, HasGoodPast, IsAsPromised, IsAsPromisedBehindAll, RootRecoversTo}
 
 -- ---- from one moment on
 
@@ -29,7 +29,7 @@ abbrev IsLeftAt : Ignored → TreeState → Type 0
 IsLeftAt names m = (w : TreeState) (later : List Event) (next : Run) → HasSeenIdly m later w → IsRunFrom w next → does_recover (effect_by (command_of next.words)) ≡ true
     → (image : Files) × IsImage m image × IsRecoveredBy (HasStateOf names image) w next
 
-recovers_to : (names : Ignored) (m : TreeState) → IsLeftAt names m → (HasState : Files → Type 0) → ((a b : Files) → HasStateOf names b a → HasState b → HasState a) → ((image : Files) → IsImage m image → HasState image) → RecoversTo HasState m
+recovers_to : (names : Ignored) (m : TreeState) → IsLeftAt names m → (HasState : Files → Type 0) → ((a b : Files) → HasStateOf names b a → HasState b → HasState a) → ((image : Files) → IsImage m image → HasState image) → RootRecoversTo HasState m
 recovers_to names m left HasState same crash = record {
   crash = crash;
   next = λ later w next seen is_run recovers.
@@ -81,13 +81,13 @@ module _ (begins : (ignored : Ignored) (first v : TreeState) (events : List Even
   either : (m : TreeState) → IsStopOf run m → (image : Files) → IsImage m image → HasStateBeforeOrOutcome Names v run image
   either m (at, moment, torn) image is = left_state Names v run at (here.moments at moment) image (torn_image at m torn image is)
 
-  moments : (m : TreeState) → IsStopOf run m → RecoversTo (HasStateBeforeOrOutcome Names v run) m
+  moments : (m : TreeState) → IsStopOf run m → RootRecoversTo (HasStateBeforeOrOutcome Names v run) m
   moments m stop = recovers_to Names m (left_at m stop) (HasStateBeforeOrOutcome Names v run) (state_on Names v run) (either m stop)
 
-  one : IsSettled Names (files_of v) v → (m : TreeState) → IsStopOf run m → RecoversTo (HasOldOrOutcome Names v run) m
+  one : IsSettled Names (files_of v) v → (m : TreeState) → IsStopOf run m → RootRecoversTo (HasOldOrOutcome Names v run) m
   one settled m stop = recovers_to Names m (left_at m stop) (HasOldOrOutcome Names v run) (old_on Names v run) (λ image is. two Names v run image settled (either m stop image is))
 
-  kept : IsIdleRun v run → (m : TreeState) → IsStopOf run m → RecoversTo (HasStateBefore Names v) m
+  kept : IsIdleRun v run → (m : TreeState) → IsStopOf run m → RootRecoversTo (HasStateBefore Names v) m
   kept idle m (at, moment, torn) =
       recovers_to Names m (left_at m (at, moment, torn)) (HasStateBefore Names v) (before_on Names v)
       (λ image is. (idle_moment Names v run is_run durable idle at moment).quiet image (torn_image at m torn image is))
@@ -96,9 +96,9 @@ module _ (begins : (ignored : Ignored) (first v : TreeState) (events : List Even
   ends_settled o is settles w leaves =
       subst (λ (p : Outcome). (Settles (effect_by (command_of run.words)) Names v p → IsSettled Names p.files w)) (unique run.words (files_of v) leaves.outcome o leaves.is_outcome is) leaves.settled settles
 
-  answered : AnswersOutcome run.answer → (o : Outcome) → IsOutcomeFrom v run o → Settles (effect_by (command_of run.words)) Names v o → HasNow run.now (RecoversTo (HasStateOf Names o.files))
+  answered : AnswersOutcome run.answer → (o : Outcome) → IsOutcomeFrom v run o → Settles (effect_by (command_of run.words)) Names v o → HasNow run.now (RootRecoversTo (HasStateOf Names o.files))
   answered answers o is settles =
-      now_last run.now (LeavesOutcome (ignored_behind ignored events) v run) (RecoversTo (HasStateOf Names o.files))
+      now_last run.now (LeavesOutcome (ignored_behind ignored events) v run) (RootRecoversTo (HasStateOf Names o.files))
       (λ w ends leaves. recovers_to Names w (left_at w (w, last_moment run v w is_run ends, torn_self w)) (HasStateOf Names o.files) (λ a b same has. same ∙ has) (ends_settled o is settles w leaves))
       (here.answered answers)
 

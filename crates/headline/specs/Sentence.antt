@@ -34,7 +34,7 @@ pub record HasGoodPast (ignored : List ℕ → Bool) (first : TreeState) (events
 
 -- From a moment on a root recovers to such files. Each crash then leaves such files. The next run that
 -- recovers works on such files, after any crashes and any runs, ended or stopped, that commit nothing.
-pub record RecoversTo (HasState : Files → Type 0) (m : TreeState) : Type 0 where
+pub record RootRecoversTo (HasState : Files → Type 0) (m : TreeState) : Type 0 where
   pub crash : (image : Files) → IsImage m image → HasState image
   pub next : (later : List Event) (w : TreeState) (next : Run) → HasSeenIdly m later w
       → IsRunFrom w next → does_recover (effect_by (command_of next.words)) ≡ true
@@ -55,18 +55,18 @@ pub record IsAsPromised (ignored : List ℕ → Bool) (v : TreeState) (run : Run
   -- ended, or stopped at any moment, also inside a call, it recovers to a state from before it, or to
   -- that of its outcome, which commits
   pub moments : (m : TreeState) → IsStopOf run m
-      → RecoversTo (HasStateBeforeOrOutcome ignored v run) m
+      → RootRecoversTo (HasStateBeforeOrOutcome ignored v run) m
   -- the state from before is one, if each crash left the state of the files as read
   pub one : IsSettled ignored (files_of v) v → (m : TreeState) → IsStopOf run m
-      → RecoversTo (HasOldOrOutcome ignored v run) m
+      → RootRecoversTo (HasOldOrOutcome ignored v run) m
   -- to its outcome's state, once that is answered (Ok, a refusal, or a fault of an output stream), if
   -- it settles: it commits, or each crash left the state as read before, or an intent was found
   pub answered : AnswersOutcome run.answer → (o : Outcome) → IsOutcomeFrom v run o
       → Settles (effect_by (command_of run.words)) ignored v o
-      → HasNow run.now (RecoversTo (HasStateOf ignored o.files))
+      → HasNow run.now (RootRecoversTo (HasStateOf ignored o.files))
   -- to a state from before it, if it is refused, is out of memory, or commits nothing
   pub left : IsIdleRun v run → (m : TreeState) → IsStopOf run m
-      → RecoversTo (HasStateBefore ignored v) m
+      → RootRecoversTo (HasStateBefore ignored v) m
   -- the answer, the printed bytes and the files left are the outcome's; or it reports a fault of the
   -- tree or of an output stream, with its cause, or that it is out of memory
   pub answer : IsAnswerTo run.words (files_of v) (LeavesFiles run.now)

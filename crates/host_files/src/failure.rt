@@ -1,5 +1,5 @@
-//! Why a call on the host fails, and what of it the program tells.
-//! The rules are in `docs/commands.md`, "A fault of the tree".
+//! Why a call on the host fails, and what the program prints of it. The rules are in
+//! `docs/commands.md`, "A fault of the tree".
 
 use std::alloc::{AllocError, Global};
 use std::io;
@@ -12,15 +12,15 @@ pub enum Reason {
     Link,
     /// A path is a pipe, a device or a socket.
     Special,
-    /// A folder stands where a file is to be.
+    /// There is a folder in the place of a file.
     Folder,
-    /// A file stands where a folder is to be.
+    /// There is a file in the place of a folder.
     NoFolder,
-    /// Nothing stands at a path.
+    /// There is nothing at a path.
     Nothing,
-    /// A file is not as long as what is read of it.
+    /// A file is shorter than what is read of it.
     EndsEarly,
-    /// What was opened is not the file that was looked at.
+    /// The opened file is not the one that was found before.
     Swapped,
     /// A path is no name of a file.
     NoName,
@@ -37,7 +37,7 @@ pub enum Reason {
 }
 
 impl Reason {
-    /// The reason as it is told.
+    /// The reason as it is printed.
     pub fn text(self) -> &'static str {
         match self {
             Reason::Link => "Is a symbolic link",
@@ -64,18 +64,17 @@ pub enum HostFault {
     Memory,
     /// The host's own reason.
     Host(io::Error),
-    /// A reason of this program, and the path that it holds of, if that is not the call's own.
+    /// A reason of this program, and its path, if that is not the call's own.
     Own { reason: Reason, at: Option<Vec<u8>> },
 }
 
 impl HostFault {
-    /// A reason of this program that holds of the call's own path.
+    /// A reason of this program that concerns the call's own path.
     pub fn own(reason: Reason) -> HostFault {
         HostFault::Own { reason, at: None }
     }
 
-    /// A reason of this program that holds of a path. If there is no memory for the path it goes
-    /// untold.
+    /// A reason of this program that concerns a path. Without memory for the path it is left out.
     pub fn at(alloc: Global, reason: Reason, path: &[u8]) -> HostFault {
         HostFault::Own {
             reason,
@@ -85,14 +84,14 @@ impl HostFault {
 }
 
 impl From<AllocError> for HostFault {
-    /// Lack of memory is a fault of its own.
+    /// Out of memory is a fault of its own.
     fn from(_: AllocError) -> HostFault {
         HostFault::Memory
     }
 }
 
 impl From<io::Error> for HostFault {
-    /// The host's error; that it has no memory is told as lack of memory.
+    /// The host's error; if the host is out of memory, this is reported as out of memory.
     fn from(error: io::Error) -> HostFault {
         if error.kind() == ErrorKind::OutOfMemory {
             return HostFault::Memory;
@@ -106,7 +105,7 @@ impl From<io::Error> for HostFault {
 pub struct Failure {
     // The call in words, as `rename`.
     call: &'static str,
-    // The path that it was given; empty if there is none to tell.
+    // The path that it was given; empty if there is none to print.
     path: Vec<u8>,
     // The second path of a rename; empty for other calls.
     target: Vec<u8>,
@@ -114,8 +113,8 @@ pub struct Failure {
 }
 
 impl Failure {
-    /// The failure of a call on a path, and on a second path or none (empty). If there is no
-    /// memory for a path it goes untold.
+    /// The failure of a call on a path, and on a second path or none (empty). Without memory for a
+    /// path it is left out.
     pub fn new(
         alloc: Global,
         call: &'static str,
@@ -149,8 +148,7 @@ impl Failure {
         to.write_all(b"\n")
     }
 
-    /// Prints why the call failed; a path of which the call's line did not tell stands before the
-    /// reason.
+    /// Prints why the call failed; a path that the call's line does not have precedes the reason.
     fn print_reason<W: Write>(&self, alloc: Global, to: &mut W) -> io::Result<()> {
         match &self.fault {
             HostFault::Memory => to.write_all(b"Cannot allocate memory"),
@@ -213,8 +211,8 @@ fn print_host_reason<W: Write>(alloc: Global, error: &io::Error, to: &mut W) -> 
     }
 }
 
-/// A copy of a path. What a failure tells is worth no further failure, so that it is empty where
-/// there is no memory.
+/// A copy of a path. A failure report must not fail itself, so the copy is empty if there is no
+/// memory.
 fn copy_or_empty(alloc: Global, path: &[u8]) -> Vec<u8> {
     match Vec::from_slice(alloc, path) {
         Ok(copy) => copy,

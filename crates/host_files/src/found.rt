@@ -21,8 +21,8 @@ pub enum Found {
     File(LookedAt),
 }
 
-/// A regular file as it was looked at: its length in bytes, its mode and owner, and what tells it
-/// from every other file of the host.
+/// A regular file as it was found: its length in bytes, its mode and owner, and its identity on the
+/// host.
 #[derive(Clone, Copy)]
 pub struct LookedAt {
     /// Its length in bytes.
@@ -36,7 +36,7 @@ pub struct LookedAt {
 }
 
 impl LookedAt {
-    /// The file of which the host tells this.
+    /// The file with this metadata of the host.
     fn of(data: &Metadata) -> LookedAt {
         LookedAt {
             len: data.len(),
@@ -46,21 +46,21 @@ impl LookedAt {
         }
     }
 
-    /// Whether what the host tells of an open file is that regular file.
+    /// Whether the host's metadata of an open file is that of this regular file.
     pub fn is(&self, data: &Metadata) -> bool {
         data.is_file() && data.dev() == self.device && data.ino() == self.number
     }
 }
 
 impl Found {
-    /// Whether a folder stands at the path.
+    /// Whether there is a folder at the path.
     pub fn is_folder(&self) -> bool {
         matches!(self, Found::Folder)
     }
 }
 
-/// What stands at a path itself, which the host takes as `host_path`. A symbolic link is not
-/// followed: it is a fault, as is all else that is neither a regular file nor a folder.
+/// What is at a path itself, for the host as `host_path`. A symbolic link is not followed: it is a
+/// fault, as is all else that is neither a regular file nor a folder.
 pub fn look<R: Files>(
     rt: &R,
     alloc: Global,
@@ -86,13 +86,13 @@ pub fn look<R: Files>(
     Err(HostFault::at(alloc, reason, path))
 }
 
-/// Whether what the host tells twice is of the same file or folder.
+/// Whether two metadata of the host are of the same file or folder.
 pub fn is_same(a: &Metadata, b: &Metadata) -> bool {
     a.dev() == b.dev() && a.ino() == b.ino()
 }
 
-/// Whether an error says that there is nothing at a path; no file has a name that is too long for
-/// the host.
+/// Whether an error says that there is nothing at a path; a name that is too long for the host has
+/// no file.
 fn is_absence(kind: ErrorKind) -> bool {
     matches!(
         kind,
@@ -100,7 +100,7 @@ fn is_absence(kind: ErrorKind) -> bool {
     )
 }
 
-/// A path as the host takes one: as text.
+/// A path in the host's form: as text.
 pub fn path_text(path: &[u8]) -> Result<&str, HostFault> {
     match str::from_utf8(path) {
         Ok(text) => Ok(text),
@@ -108,7 +108,7 @@ pub fn path_text(path: &[u8]) -> Result<&str, HostFault> {
     }
 }
 
-/// The folder that a path stands in. The root is the empty path.
+/// The folder of a path. The root is the empty path.
 pub fn parent_of(path: &[u8]) -> &[u8] {
     match path.iter().rposition(|byte| *byte == b'/') {
         Some(end) => &path[..end],
@@ -116,7 +116,7 @@ pub fn parent_of(path: &[u8]) -> &[u8] {
     }
 }
 
-/// The last part of a path, behind the folder that it stands in.
+/// The last part of a path, after its folder.
 pub fn last_part_of(path: &[u8]) -> &[u8] {
     match path.iter().rposition(|byte| *byte == b'/') {
         Some(end) => &path[end + 1..],

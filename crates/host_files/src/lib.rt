@@ -1,9 +1,8 @@
-//! Files of the host: what stands at a path, files that stay open, their mode and owner, the lock on the
-//! folder that the program runs in, and why a call fails.
+//! Files of the host: what is at a path, files that stay open, their mode and owner, the lock on
+//! the folder that the program runs in, and why a call fails.
 //!
-//! This crate is trusted: no contract can say what a host does. It is to be read with `host_tree`,
-//! which stands on it.
-//! The rules are in `docs/crash-safety.md`, "What the host's tree does".
+//! This crate is trusted: no contract can say what a host does. Read it with `host_tree`, which
+//! uses it. The rules are in `docs/crash-safety.md`, "What the host's tree does".
 #![tactic(auto)]
 
 mod failure;
@@ -23,7 +22,7 @@ use std::fs::{File, Files};
 use std::io::Eprint;
 use std::time::Clock;
 
-/// What is needed of a runtime: files, a clock, standard error, and memory.
+/// The required parts of a runtime: files, a clock, standard error, and memory.
 pub trait Host: Files<File = File> + Clock + Eprint + AllocGlobal + Clone + Drop {}
 
 impl<R: Files<File = File> + Clock + Eprint + AllocGlobal + Clone + Drop> Host for R {}

@@ -23,16 +23,16 @@ pub enum Lock {
     Exclusive,
 }
 
-/// How long one sleep is, in milliseconds, while another run holds the lock.
+/// The length of one sleep, in milliseconds, while another run holds the lock.
 const SLEEP_MILLISECONDS: u64 = 50;
 
 /// How long a run waits for another one, in seconds.
 const MOST_SECONDS: u64 = 60;
 
-/// After how many seconds the run says on standard error that it waits.
+/// The number of seconds after which the run prints on standard error that it waits.
 const SILENT_SECONDS: u64 = 1;
 
-/// How a try to take the lock ended.
+/// The result of a try to take the lock.
 #[derive(Drop)]
 enum Try {
     /// The lock is held, until this file is closed.
@@ -43,8 +43,8 @@ enum Try {
     Changed,
 }
 
-/// Waits until no other run stands in the way, 60 seconds of the clock at most, and says once that
-/// it waits. The lock holds until the file that is returned is closed.
+/// Waits until no other run holds a conflicting lock, 60 seconds at most, and prints once that it
+/// waits. The lock holds until the returned file is closed.
 pub fn lock_root<R: Host>(rt: &R, lock: Lock) -> Result<File, HostFault> {
     let start = Instant::now(rt)?;
     let mut says = true;
@@ -67,8 +67,8 @@ pub fn lock_root<R: Host>(rt: &R, lock: Lock) -> Result<File, HostFault> {
     Err(HostFault::own(Reason::Locked))
 }
 
-/// Tries to take the lock. A user who may not have the lock's folder locks the root itself, which
-/// keeps out only others like him.
+/// Tries to take the lock. A user without access to the lock's folder locks the root itself, which
+/// excludes only other such users.
 fn try_lock_root<R: Host>(rt: &R, lock: Lock) -> Result<Try, HostFault> {
     match fs::open(rt, LOCK_FOLDER) {
         Ok(folder) => try_lock_folder(rt, folder, lock),
@@ -107,7 +107,7 @@ fn try_lock(folder: File, lock: Lock) -> Result<Try, HostFault> {
     }
 }
 
-/// Whether an error says that this user may not have the lock's folder.
+/// Whether an error says that this user has no access to the lock's folder.
 fn is_barred(kind: ErrorKind) -> bool {
     matches!(
         kind,
@@ -115,13 +115,13 @@ fn is_barred(kind: ErrorKind) -> bool {
     )
 }
 
-/// Makes the lock's folder, which just those can open who may change the root: it belongs to the
-/// root's owner, and whoever may write in the root may read in it.
+/// Makes the lock's folder so that exactly those users can open it who may change the root: it
+/// belongs to the root's owner, and whoever may write in the root may read in it.
 fn make_lock_folder<R: Host>(rt: &R) -> io::Result<()> {
     let root = fs::symlink_metadata(rt, ".")?;
     let mode = lock_mode(root.mode());
     DirBuilder::new().mode(mode).create(rt, LOCK_FOLDER)?;
-    // What this user may not set stays as the host has made it.
+    // What this user may not set is left as the host has made it.
     let _ = lchown(rt, LOCK_FOLDER, None, Some(root.gid()));
     let _ = lchown(rt, LOCK_FOLDER, Some(root.uid()), None);
     let _ = fs::set_permissions(rt, LOCK_FOLDER, Permissions::from_mode(mode));
@@ -136,13 +136,13 @@ fn lock_mode(root: u32) -> u32 {
     0o700 | group | others
 }
 
-/// Gives the lock back. The last run that holds it removes the lock's folder; a run that is killed
-/// leaves it, and the next one takes it.
+/// Releases the lock. The last run that holds it removes the lock's folder; a run that is killed
+/// leaves it, and the next one uses it.
 pub fn unlock_root<R: Host>(rt: &R, held: &File) {
     let (Ok(found), Ok(opened)) = (fs::symlink_metadata(rt, LOCK_FOLDER), held.metadata()) else {
         return;
     };
-    // A shared lock becomes one for this run alone, if nobody else holds it.
+    // A shared lock becomes exclusive, if nobody else holds it.
     if is_same(&found, &opened) && held.try_lock().is_ok() {
         let _ = fs::remove_dir(rt, LOCK_FOLDER);
     }

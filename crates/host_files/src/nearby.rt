@@ -1,6 +1,5 @@
-//! The folder that the last paths stood in, and a shorter way to its files if it is deep.
-//! The rules are in `docs/crash-safety.md`, "What the host's tree does", the point of a deep
-//! folder.
+//! The folder of the last paths, and a shorter way to its files if it is deep. The rules are in
+//! `docs/crash-safety.md`, "What the host's tree does", the point of a deep folder.
 
 use super::Host;
 use super::failure::HostFault;
@@ -14,22 +13,22 @@ use std::os::fd::AsRawFd;
 /// a shorter path as fast as that detour.
 const DEEP: usize = 32;
 
-/// How many paths in a row stand in a folder until it is opened.
+/// How many paths in a row must be in a folder before it is opened.
 const PATHS_IN_A_ROW: u32 = 4;
 
-/// The folder that the last paths stood in. The root is the empty path.
+/// The folder of the last paths. The root is the empty path.
 #[derive(Drop)]
 pub struct LastFolder {
     // Its path.
     path: Vec<u8>,
-    // How many paths in a row stood in it.
+    // How many paths in a row were in it.
     paths: u32,
-    // The folder held open, if it is deep and was asked for often enough.
+    // The open folder, if it is deep and was used often enough.
     opened: Option<OpenFolder>,
 }
 
 impl LastFolder {
-    /// The folder at a path, in which no path stood so far.
+    /// The folder at a path, without a path in it so far.
     pub fn new(path: Vec<u8>) -> LastFolder {
         LastFolder {
             path,
@@ -43,7 +42,7 @@ impl LastFolder {
         self.path.as_slice() == path
     }
 
-    /// A path in this folder as the host takes it, which counts as one more path in a row.
+    /// The host's form of a path in this folder, which counts as one more path in a row.
     pub fn host_path<'b, R: Host>(
         &'b mut self,
         rt: &R,
@@ -78,8 +77,8 @@ struct OpenFolder {
 }
 
 impl OpenFolder {
-    /// Opens a folder, or nothing where the host has no such path or shows something else there:
-    /// the plain path serves too.
+    /// Opens a folder, or nothing if the host has no such path or shows something else there: the
+    /// plain path works too.
     fn open<R: Host>(
         rt: &R,
         alloc: Global,
@@ -101,7 +100,7 @@ impl OpenFolder {
         }))
     }
 
-    /// The path by which the host takes a file or a folder in the open folder, by its last part.
+    /// The host's form of the path of a file or a folder in the open folder, by its last part.
     fn path_to(&mut self, part: &[u8]) -> Result<&str, HostFault> {
         self.path.truncate(self.folder_len);
         self.path.extend_from_slice(part)?;
@@ -109,7 +108,7 @@ impl OpenFolder {
     }
 }
 
-/// Whether an open file is what stands at a path itself.
+/// Whether an open file is the one at a path itself.
 fn leads_to<R: Host>(rt: &R, path: &str, file: &File) -> bool {
     match (fs::symlink_metadata(rt, path), file.metadata()) {
         (Ok(found), Ok(opened)) => is_same(&found, &opened),

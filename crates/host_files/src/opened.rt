@@ -11,20 +11,20 @@ use std::fs::{File, OpenOptions};
 use std::io::{Read, Seek, SeekFrom, Write};
 use std::os::unix::fs::OpenOptionsExt;
 
-/// An open file, with the path under which it was opened, its length, and where the next read goes
-/// on, if that is known.
+/// An open file, with the path under which it was opened, its length, and the offset of the next
+/// read, if that is known.
 #[derive(Drop)]
 pub struct Opened {
     path: Vec<u8>,
     file: File,
-    // How many bytes it has, as far as this run knows.
+    // Its number of bytes, as far as this run knows.
     len: u64,
-    // The offset at which the next read goes on; None if that is not known.
+    // The offset of the next read; None if that is not known.
     at: Option<u64>,
 }
 
 impl Opened {
-    /// The file that was opened at a path. It is the regular file that was looked at there.
+    /// The file that was opened at a path. It is the regular file that was found there before.
     pub fn of(
         alloc: Global,
         path: &[u8],
@@ -43,7 +43,7 @@ impl Opened {
         })
     }
 
-    /// Makes a file at a path where nothing stands, to append to it.
+    /// Makes a file at a path where there is nothing, to append to it.
     pub fn make<R: Host>(rt: &R, alloc: Global, path: &[u8]) -> Result<Opened, HostFault> {
         let copy = Vec::from_slice(alloc, path)?;
         let mut how = OpenOptions::new();
@@ -74,14 +74,14 @@ impl Opened {
         Ok(())
     }
 
-    /// Adds a piece at the end of the file. After a fault a front of it may be there.
+    /// Appends a piece to the file. After a fault a prefix of it may be there.
     pub fn add(&mut self, piece: &[u8]) -> Result<(), HostFault> {
         self.file.write_all(piece)?;
         self.len = self.len.saturating_add(piece.len() as u64);
         Ok(())
     }
 
-    /// Cuts off what a failed `add` has written. It answers whether that is done.
+    /// Cuts off what a failed `add` has written. Returns whether that is done.
     pub fn cut_back(&mut self) -> bool {
         self.file.set_len(self.len).is_ok()
     }

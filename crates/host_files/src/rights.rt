@@ -1,7 +1,6 @@
-//! Mode and owner of files: those of new files and folders, and those that a replaced file leaves to
-//! the new one.
-//! The rules are in `docs/crash-safety.md`, "What the host's tree does", the point of mode and
-//! owner.
+//! Mode and owner of files: those of new files and folders, and those that a new file takes over
+//! from the file that it replaces. The rules are in `docs/crash-safety.md`, "What the host's tree
+//! does", the point of mode and owner.
 
 use super::failure::HostFault;
 use super::found::path_text;
@@ -43,14 +42,14 @@ impl Rights {
         }
     }
 
-    /// Whether user and group are the same.
+    /// Whether user and group are equal.
     fn has_owner_of(&self, other: Rights) -> bool {
         self.user == other.user && self.group == other.group
     }
 
     /// Gives the file at a path, which has these rights, other ones, as far as the caller may, and
-    /// writes them through. If it may not give the file away, then the bits that let a program run
-    /// with the owner's rights are left out.
+    /// syncs them. If the caller may not change the owner, the bits are left out that let a program
+    /// run with the owner's rights.
     ///
     /// # Errors
     ///
@@ -69,7 +68,7 @@ impl Rights {
         let opened = fs::open(rt, path);
         let is_given = self.has_owner_of(wanted) || give_away(rt, path, wanted);
         let kept = if is_given { ALL_BITS } else { RIGHTS_BITS };
-        // A host without modes refuses this, and then has nothing to keep.
+        // A host without modes refuses this, and then has none to keep.
         let _ = fs::set_permissions(rt, path, Permissions::from_mode(wanted.mode & kept));
         match opened {
             Ok(file) => Ok(file.sync_all()?),
@@ -78,7 +77,7 @@ impl Rights {
     }
 }
 
-/// Gives a file to another owner, or to its group alone, if the caller may not do more. It answers
+/// Gives a file to another owner, or to its group alone, if the caller may not do more. Returns
 /// whether both are set.
 fn give_away<R: Files>(rt: &R, path: &str, wanted: Rights) -> bool {
     if lchown(rt, path, Some(wanted.user), Some(wanted.group)).is_ok() {

@@ -1,4 +1,4 @@
-//! Folders: those on the way to a file, those that hold nothing, and those whose names changed. The
+//! Folders: those on the way to a file, those without files, and those whose names changed. The
 //! rules are in `docs/crash-safety.md`, "What the host's tree does".
 
 use host_files::{
@@ -11,16 +11,16 @@ use std::fs::{DirBuilder, Files, OpenFile};
 use std::io::ErrorKind;
 use std::os::unix::fs::DirBuilderExt;
 
-/// What is known of the folders below the root. Only this run writes there, so what was looked at
-/// once stays so.
+/// The known folders below the root. Only this run writes there, so what it has found once remains
+/// true.
 #[derive(Drop)]
 pub struct Folders {
     alloc: Global,
-    // The folders that this run has looked at or made.
+    // The folders that this run has found or made.
     known: BTreeSet<Vec<u8>>,
-    // The folder of the path before, which is a known one, or the root: a deep one is held open.
+    // The folder of the previous path, which is a known one, or the root: a deep one is held open.
     last: LastFolder,
-    // The folders whose names changed since they were last written through.
+    // The folders whose names changed since they were last synced.
     changed: BTreeSet<Vec<u8>>,
 }
 
@@ -35,7 +35,7 @@ impl Folders {
         }
     }
 
-    /// Whether all that stands on the way to a path are folders.
+    /// Whether everything on the way to a path is a folder.
     pub fn have_way<R: Files>(&mut self, rt: &R, path: &[u8]) -> Result<bool, HostFault> {
         if self.knows_way(path)? {
             return Ok(true);
@@ -48,8 +48,8 @@ impl Folders {
         Ok(true)
     }
 
-    /// The deepest folder on the way to a path that is there, as a front of the path; the root is
-    /// the empty one. What is on the way and is no folder ends it.
+    /// The deepest existing folder on the way to a path, as a prefix of the path; the root is the
+    /// empty one. The search ends at anything on the way that is no folder.
     pub fn deepest_on_way<'p, R: Files>(
         &mut self,
         rt: &R,
@@ -70,7 +70,7 @@ impl Folders {
         Ok(folder)
     }
 
-    /// What a path leads to: nothing where something on the way is no folder.
+    /// What a path leads to: nothing if something on the way is no folder.
     pub fn find<R: Host>(&mut self, rt: &R, path: &[u8]) -> Result<Found, HostFault> {
         if !self.have_way(rt, path)? {
             return Ok(Found::Nothing);
@@ -79,8 +79,7 @@ impl Folders {
         look(rt, alloc, path, self.host_path(rt, path)?)
     }
 
-    /// A path as the host takes it: the shorter way, where the folder that it stands in is the last
-    /// one, and deep.
+    /// A path in the host's form: the shorter way, if its folder is the last one, and deep.
     pub fn host_path<'b, R: Host>(
         &'b mut self,
         rt: &R,
@@ -106,21 +105,21 @@ impl Folders {
         Ok(())
     }
 
-    /// Keeps that a folder stands at a path.
+    /// Remembers that there is a folder at a path.
     pub fn keep_known(&mut self, folder: &[u8]) -> Result<(), HostFault> {
         let folder = Vec::from_slice(self.alloc, folder)?;
         keep(&mut self.known, folder)
     }
 
-    /// Notes a folder whose names are to change. It is noted before they do, so that none is
+    /// Notes a folder whose names will change. It is noted before they do, so that none is
     /// forgotten.
     pub fn note(&mut self, folder: &[u8]) -> Result<(), HostFault> {
         let folder = Vec::from_slice(self.alloc, folder)?;
         keep(&mut self.changed, folder)
     }
 
-    /// Makes room for a file: the folders on the way to its path, with no folder at the path. It
-    /// returns what was found at the path.
+    /// Makes the path of a file free: creates the folders on the way to it, and removes an empty
+    /// folder at it. Returns what was found at the path.
     pub fn make_room<R: Host>(&mut self, rt: &R, path: &[u8]) -> Result<Found, HostFault> {
         self.make_way(rt, path)?;
         let found = look_at(rt, self.alloc, path)?;
@@ -130,8 +129,8 @@ impl Folders {
         Ok(found)
     }
 
-    /// Takes folders away that hold nothing and stand where a file is to be. Where a file or
-    /// anything else is below them it is a fault, and nothing changes.
+    /// Removes folders without files that are in the place of a new file. A file or anything else
+    /// below them is a fault, and then nothing changes.
     fn clear<R: Host>(&mut self, rt: &R, path: &[u8]) -> Result<(), HostFault> {
         let folders = empty_tree(rt, self.alloc, path)?;
         for folder in folders.iter().rev() {
@@ -140,7 +139,7 @@ impl Folders {
         Ok(())
     }
 
-    /// Takes a folder away that holds nothing.
+    /// Removes an empty folder.
     fn remove_empty<R: Files>(&mut self, rt: &R, folder: &[u8]) -> Result<(), HostFault> {
         self.note(parent_of(folder))?;
         fs::remove_dir(rt, path_text(folder)?)?;
@@ -148,8 +147,7 @@ impl Folders {
         Ok(())
     }
 
-    /// Takes the folders away that a file was the last to stand in, the deepest first. The root
-    /// stays.
+    /// Removes the folders whose last file was removed, the deepest first, and never the root.
     pub fn prune<R: Files>(&mut self, rt: &R, path: &[u8]) -> Result<(), HostFault> {
         for i in (0..path.len()).rev() {
             if path[i] == b'/' && !self.take_away(rt, &path[..i])? {
@@ -159,7 +157,7 @@ impl Folders {
         Ok(())
     }
 
-    /// Lets the host write each folder through, once, whose names changed.
+    /// Syncs each folder, once, whose names changed.
     pub fn write_through<R: Files>(&mut self, rt: &R) -> Result<(), HostFault> {
         for folder in &self.changed {
             write_folder(rt, folder)?;
@@ -181,12 +179,12 @@ impl Folders {
         Ok(true)
     }
 
-    /// Whether this run has looked at the folder or made it.
+    /// Whether this run has found the folder or made it.
     fn is_known(&self, folder: &[u8]) -> bool {
         self.known.contains(folder)
     }
 
-    /// Whether a folder stands at a path.
+    /// Whether there is a folder at a path.
     fn has<R: Files>(&mut self, rt: &R, path: &[u8]) -> Result<bool, HostFault> {
         if self.is_known(path) {
             return Ok(true);
@@ -198,7 +196,7 @@ impl Folders {
         Ok(true)
     }
 
-    /// Makes a folder that is absent, and notes the one in which its name is new.
+    /// Makes an absent folder, and notes the folder that gets its name.
     fn make<R: Files>(&mut self, rt: &R, folder: &[u8]) -> Result<(), HostFault> {
         if self.is_known(folder) {
             return Ok(());
@@ -216,7 +214,7 @@ impl Folders {
         self.keep_known(folder)
     }
 
-    /// Takes a folder away if it is empty. It answers whether it is gone.
+    /// Removes a folder if it is empty. Returns whether it is removed.
     fn take_away<R: Files>(&mut self, rt: &R, folder: &[u8]) -> Result<bool, HostFault> {
         let around = parent_of(folder);
         let was_noted = self.changed.contains(around);
@@ -236,7 +234,7 @@ impl Folders {
         Ok(is_gone)
     }
 
-    /// Forgets a folder that is gone: it is neither known nor to be written through.
+    /// Forgets a removed folder: it is neither known nor to be synced.
     fn forget(&mut self, folder: &[u8]) {
         self.known.remove(folder);
         self.changed.remove(folder);
@@ -246,12 +244,12 @@ impl Folders {
     }
 }
 
-/// What stands at a path itself, found by the plain path; a symbolic link is a fault.
+/// What is at a path itself, found by the plain path; a symbolic link is a fault.
 pub fn look_at<R: Files>(rt: &R, alloc: Global, path: &[u8]) -> Result<Found, HostFault> {
     look(rt, alloc, path, path_text(path)?)
 }
 
-/// Puts a folder among others. If there is no memory they stay as they are.
+/// Adds a folder to a set. Without memory the set is unchanged.
 fn keep(folders: &mut BTreeSet<Vec<u8>>, folder: Vec<u8>) -> Result<(), HostFault> {
     match folders.insert(folder) {
         Ok(_) => Ok(()),
@@ -259,8 +257,7 @@ fn keep(folders: &mut BTreeSet<Vec<u8>>, folder: Vec<u8>) -> Result<(), HostFaul
     }
 }
 
-/// The folders of a tree of folders that hold no file and nothing else, each behind the one that it
-/// stands in.
+/// The folders of a tree of folders without files and anything else, each after its parent.
 fn empty_tree<R: Host>(rt: &R, alloc: Global, root: &[u8]) -> Result<Vec<Vec<u8>>, HostFault> {
     let mut folders = Vec::new(alloc);
     push(alloc, &mut folders, root)?;
@@ -276,7 +273,7 @@ fn empty_tree<R: Host>(rt: &R, alloc: Global, root: &[u8]) -> Result<Vec<Vec<u8>
     Ok(folders)
 }
 
-/// Adds the folders in a folder that holds nothing else.
+/// Adds the folders in a folder that has nothing else in it.
 fn push_folders<R: Host>(
     rt: &R,
     alloc: Global,
@@ -290,7 +287,7 @@ fn push_folders<R: Host>(
     Ok(())
 }
 
-/// Adds the folder at a path. Where something else stands it is a fault.
+/// Adds the folder at a path. Anything else there is a fault.
 fn push_folder<R: Files>(
     rt: &R,
     alloc: Global,
@@ -303,7 +300,7 @@ fn push_folder<R: Files>(
     push(alloc, folders, path)
 }
 
-/// Puts a path behind others.
+/// Appends a path.
 fn push(alloc: Global, list: &mut Vec<Vec<u8>>, path: &[u8]) -> Result<(), HostFault> {
     match list.push(Vec::from_slice(alloc, path)?) {
         Ok(()) => Ok(()),
@@ -322,9 +319,8 @@ fn is_absent(kind: ErrorKind) -> bool {
     matches!(kind, ErrorKind::NotFound | ErrorKind::NotADirectory)
 }
 
-/// Whether an error says that a folder is not empty, that another file system stands on it, or that
-/// the one around it may not be written, which the host may say before it looks whether the folder
-/// is empty.
+/// Whether an error says that a folder is not empty, that it is a mount point, or that its parent
+/// may not be written, which the host may say before it tests whether the folder is empty.
 fn stays(kind: ErrorKind) -> bool {
     matches!(
         kind,

@@ -2,8 +2,8 @@
 //! that stay open, the folders on the way to a file, those whose names changed, and what the host
 //! would refuse later.
 //!
-//! This crate is trusted: no contract can say what a host does. It is to be read with `host_tree`,
-//! which stands on it, against the table in `docs/crash-safety.md`, "What the host's tree does".
+//! This crate is trusted: no contract can say what a host does. Read it with `host_tree`, which
+//! uses it, against the table in `docs/crash-safety.md`, "What the host's tree does".
 #![tactic(auto)]
 
 mod folders;

@@ -29,23 +29,23 @@ pub struct Root<'a, R: Host> {
     alloc: Global,
     // Which lock the first call takes: shared, or for this run alone.
     lock: Lock,
-    // The folder that is locked, open while this run holds the lock.
+    // The locked folder, open while this run holds the lock.
     held: Option<File>,
     // The file that was read last.
     reader: Option<Opened>,
     // The file that is being written.
     writer: Option<Opened>,
-    // The file that was looked at last, unless something was written since.
+    // The file that was found last, unless something was written since.
     seen: Option<(Vec<u8>, LookedAt)>,
-    // What is known of the folders below the root.
+    // The known folders below the root.
     folders: Folders,
-    // Where files can be renamed to, as far as this run has asked.
+    // The names to which files can be renamed, as far as this run has asked.
     targets: Targets,
     // Whether this run finishes what an earlier one committed.
     recovers: bool,
-    // Whether the host once failed to write something through, or to cut off the front of a piece.
-    // It may have dropped what it could not write, so that a second try would succeed for nothing:
-    // it is not believed again.
+    // Whether the host once failed to sync something, or to cut off the beginning of a piece. The
+    // host may have dropped what it could not write, and a second sync would then succeed without
+    // writing it: so no later sync is trusted.
     has_lost: bool,
     // The target of a rename that is not written through yet.
     unsynced_target: Option<Vec<u8>>,
@@ -87,7 +87,7 @@ impl<'a, R: Host> Root<'a, R> {
         }
     }
 
-    /// Gives the lock back, if it is held. No call comes after this one.
+    /// Releases the lock, if it is held. No call follows this one.
     pub fn leave(&mut self) {
         if let Some(held) = &self.held {
             unlock_root(self.rt, held);
@@ -105,7 +105,7 @@ impl<'a, R: Host> Root<'a, R> {
         self.folders.find(self.rt, path)
     }
 
-    /// Keeps that a folder stands at a path.
+    /// Remembers that there is a folder at a path.
     pub fn keep_known(&mut self, folder: &[u8]) -> Result<(), HostFault> {
         self.folders.keep_known(folder)
     }
@@ -131,7 +131,7 @@ impl<'a, R: Host> Root<'a, R> {
         }
     }
 
-    /// The regular file at a path, as it was looked at just before, or as it is now.
+    /// The regular file at a path, as it was found just before, or as it is now.
     fn look_at(&mut self, path: &[u8]) -> Result<LookedAt, HostFault> {
         if let Some((seen, looked_at)) = &self.seen
             && seen.as_slice() == path
@@ -166,7 +166,7 @@ impl<'a, R: Host> Root<'a, R> {
     }
 
     /// Makes an empty file at a path, which stays open, with the folders on the way to it. Folders
-    /// that hold nothing give way; what else stands there stays, and is a fault.
+    /// without files are removed; anything else there is kept, and is a fault.
     pub fn begin(&mut self, path: &[u8]) -> Result<(), HostFault> {
         self.enter()?;
         self.seen = None;
@@ -202,8 +202,8 @@ impl<'a, R: Host> Root<'a, R> {
         Ok(())
     }
 
-    /// Adds a piece to the file at a path. Where that fails, the front of the piece that was
-    /// written is cut off again.
+    /// Appends a piece to the file at a path. If that fails, the written beginning of the piece is
+    /// cut off again.
     pub fn add(&mut self, path: &[u8], piece: &[u8]) -> Result<(), HostFault> {
         self.enter()?;
         let writer = self.open_to_write(path)?;
@@ -223,8 +223,8 @@ impl<'a, R: Host> Root<'a, R> {
         written
     }
 
-    /// Lets `to` lead to the file of `from`, in one step of the host. Folders at `to` that hold
-    /// nothing give way. The file gets mode and owner of the one that it replaces first.
+    /// Renames the file of `from` to `to`, in one step of the host. Folders without files at `to`
+    /// are removed. The file first gets mode and owner of the one that it replaces.
     pub fn move_file(&mut self, from: &[u8], to: &[u8]) -> Result<(), HostFault> {
         self.enter()?;
         self.forget(from);
@@ -244,7 +244,7 @@ impl<'a, R: Host> Root<'a, R> {
     }
 
     /// Gives a file that is to be renamed mode and owner of the file that it replaces, or beside
-    /// which it is laid.
+    /// which it is written.
     fn keep_rights(
         &mut self,
         from: &[u8],
@@ -276,9 +276,9 @@ impl<'a, R: Host> Root<'a, R> {
         }
     }
 
-    /// Takes the file at a path away, if there is one, and the folders that held nothing else. In a
-    /// recovery these folders are removed also if the file is gone: the run that was killed had no
-    /// time for them.
+    /// Removes the file at a path, if there is one, and the folders that then have no file. In a
+    /// recovery these folders are removed even if the file is gone already: the run that was killed
+    /// may not have removed them.
     pub fn take_off(&mut self, path: &[u8]) -> Result<(), HostFault> {
         if self.length_of(path)?.is_none() {
             if self.recovers {
@@ -293,7 +293,7 @@ impl<'a, R: Host> Root<'a, R> {
         self.folders.prune(self.rt, path)
     }
 
-    /// Lets the host write through the folders whose names changed.
+    /// Syncs the folders whose names changed.
     pub fn write_names_through(&mut self) -> Result<(), HostFault> {
         self.enter()?;
         if self.has_lost {
@@ -307,7 +307,7 @@ impl<'a, R: Host> Root<'a, R> {
         written
     }
 
-    /// Forgets the file at a path, since the path is to lead elsewhere.
+    /// Forgets the file at a path, since the path will lead elsewhere.
     fn forget(&mut self, path: &[u8]) {
         self.seen = None;
         close(&mut self.reader, path);

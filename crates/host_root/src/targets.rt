@@ -10,14 +10,14 @@ use std::fs::Files;
 use std::io::ErrorKind;
 use std::os::unix::fs::MetadataExt;
 
-/// The last part of the folder that is made, renamed and removed to learn what the host allows.
+/// The last part of the folder that is made, renamed and removed to test what the host allows.
 const PROBE: &[u8] = b".apk-probe";
 
 /// The folders to which a file can be renamed, as far as this run has asked.
 #[derive(Drop)]
 pub struct Targets {
     alloc: Global,
-    // The folder that the files come from.
+    // The source folder of the files.
     source: Vec<u8>,
     // The folders to which the host renamed something from there.
     asked: BTreeSet<Vec<u8>>,
@@ -33,8 +33,8 @@ impl Targets {
         }
     }
 
-    /// Asks whether a file can be renamed to a path, from a source, which need not be there yet.
-    /// Folders that are absent are not made: the deepest one that is there is asked for.
+    /// Asks whether a file can be renamed to a path, from a source, which need not exist yet.
+    /// Absent folders are not made: the deepest existing one is tested.
     pub fn check_write<R: Host>(
         &mut self,
         rt: &R,
@@ -55,8 +55,8 @@ impl Targets {
         self.check_folder(rt, folder, source)
     }
 
-    /// Asks, once a run, whether a file can be renamed from one folder to another: a folder is made
-    /// in the one, renamed to the other, and removed there. To the model it is nothing.
+    /// Asks, once per run, whether a file can be renamed from one folder to another: a folder is
+    /// made in the one, renamed to the other, and removed there. The model does not see this.
     fn check_folder<R: Files>(
         &mut self,
         rt: &R,
@@ -84,8 +84,8 @@ impl Targets {
     }
 }
 
-/// Whether a path is one of the program's own, or below one: the lock's folder, or the folder by
-/// which the host is asked.
+/// Whether a path is one of the program's own, or below one: the lock's folder, or the folder with
+/// which the host is tested.
 fn is_reserved(path: &[u8]) -> bool {
     let first = match path.iter().position(|byte| *byte == b'/') {
         Some(end) => &path[..end],
@@ -94,8 +94,8 @@ fn is_reserved(path: &[u8]) -> bool {
     first == LOCK_FOLDER.as_bytes() || path.split(|byte| *byte == b'/').any(|part| part == PROBE)
 }
 
-/// Asks whether the host has names as long as the parts of a path that are not looked at yet, in
-/// the folder that they begin in.
+/// Asks whether the host has names as long as the untested parts of a path, in the folder that they
+/// begin in.
 fn check_parts<R: Files>(
     rt: &R,
     alloc: Global,
@@ -114,8 +114,8 @@ fn check_parts<R: Files>(
     Ok(())
 }
 
-/// Asks whether what is at a path can give way to a file: a regular file that may be removed, or
-/// folders, below which regular files are a question of the model.
+/// Asks whether a file can replace what is at a path: a regular file that may be removed, or
+/// folders. Regular files below these are a question of the model.
 fn check_place<R: Host>(rt: &R, alloc: Global, path: &[u8]) -> Result<(), HostFault> {
     match look_at(rt, alloc, path)? {
         Found::Nothing => Ok(()),
@@ -140,9 +140,9 @@ pub fn check_remove<R: Host>(
     }
 }
 
-/// Asks whether the regular file at a path may be removed or replaced. The host is told to remove
-/// a folder there: it looks at the rights of the file and of the folder around it first, and then
-/// finds that there is no folder.
+/// Asks whether the regular file at a path may be removed or replaced. The host is called to remove
+/// a folder there: it checks the rights of the file and of its folder first, and then finds that
+/// there is no folder.
 fn check_removal<R: Files>(rt: &R, path: &[u8]) -> Result<(), HostFault> {
     match fs::remove_dir(rt, path_text(path)?) {
         Ok(()) => Ok(()),
@@ -151,8 +151,8 @@ fn check_removal<R: Files>(rt: &R, path: &[u8]) -> Result<(), HostFault> {
     }
 }
 
-/// Asks whether folders can give way to a file: all on one file system, that of the folder around,
-/// and with nothing below them but folders and regular files.
+/// Asks whether a file can replace folders: all on one file system, that of their parent, and with
+/// nothing below them except folders and regular files.
 fn check_folders_below<R: Host>(rt: &R, alloc: Global, path: &[u8]) -> Result<(), HostFault> {
     let around = device_of(rt, parent_of(path))?;
     let mut folders = Vec::new(alloc);
@@ -182,7 +182,7 @@ fn device_of<R: Files>(rt: &R, folder: &[u8]) -> Result<u64, HostFault> {
     Ok(fs::symlink_metadata(rt, path_text(folder)?)?.dev())
 }
 
-/// Makes the folder by which the host is asked. One that a killed run has left is removed first.
+/// Makes the folder with which the host is tested. One that a killed run has left is removed first.
 fn make_probe<R: Files>(rt: &R, probe: &[u8]) -> Result<(), HostFault> {
     let path = path_text(probe)?;
     match fs::create_dir(rt, path) {
@@ -216,7 +216,7 @@ fn below(alloc: Global, folder: &[u8], part: &[u8]) -> Result<Vec<u8>, HostFault
     Ok(path)
 }
 
-/// Puts a path behind others.
+/// Appends a path.
 fn push(alloc: Global, list: &mut Vec<Vec<u8>>, path: &[u8]) -> Result<(), HostFault> {
     match list.push(Vec::from_slice(alloc, path)?) {
         Ok(()) => Ok(()),

@@ -15,17 +15,17 @@ use std::{fs, io, str};
 /// The most bytes that a row reads.
 const MOST_BYTES: u128 = 1_000_000;
 
-/// The folder that the program runs in, and the tree that stands for it.
+/// The folder that the program runs in, and its tree.
 #[derive(Drop)]
 struct HostFolder<'a, R: Host> {
     /// The runtime that the host is asked by.
     rt: &'a R,
-    /// The tree that stands for the folder.
+    /// The tree of the folder.
     tree: HostTree<'a, R>,
 }
 
 impl<'a, R: Host> Subject for HostFolder<'a, R> {
-    /// Answers a question by its first word, on what the questions before have left.
+    /// Answers a question by its first word, on the state that earlier questions have left.
     fn answer(
         &mut self,
         alloc: Global,
@@ -78,7 +78,7 @@ impl<'a, R: Host> HostFolder<'a, R> {
     }
 
     /// Asks whether a file can be renamed to a name later, from a source, or whether the name can
-    /// be removed later, if the source is empty, and adds how that ended.
+    /// be removed later, if the source is empty. Adds the result.
     fn add_check(
         &mut self,
         alloc: Global,
@@ -106,7 +106,7 @@ impl<'a, R: Host> HostFolder<'a, R> {
         }
     }
 
-    /// Adds the bytes of a file, from an offset on, so many as the row says.
+    /// Adds the bytes of a file, from an offset on, as many as the row says.
     fn add_read(
         &mut self,
         alloc: Global,
@@ -147,8 +147,8 @@ impl<'a, R: Host> HostFolder<'a, R> {
         }
     }
 
-    /// Asks the host itself: whether a path leads to something, to make a symbolic link there, or
-    /// to take a file away.
+    /// Calls the host itself: to see whether a path leads to something, to make a symbolic link
+    /// there, or to remove a file.
     fn add_host_answer(
         &self,
         question: &[u8],

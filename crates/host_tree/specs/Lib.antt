@@ -1,2 +1,2 @@
--- what the contracts of this crate's calls say
+-- cited by the contracts of this crate's calls
 pub mod Host

@@ -1,7 +1,7 @@
 //! The folder that a program runs in, as a tree.
 //!
-//! This crate is trusted: no contract can say what a host does. It is to be read against the table
-//! in `docs/crash-safety.md`, "What the host's tree does".
+//! This crate is trusted: no contract can say what a host does. Read it against the table in
+//! `docs/crash-safety.md`, "What the host's tree does".
 #![tactic(auto)]
 
 ghost use Rattle.std.specs.Prelude.{◌≡◌, ◌≤◌, [], OnOk, OnErr, true};
@@ -16,26 +16,26 @@ use host_root::Root;
 use listing::list_below;
 use std::alloc::Global;
 
-/// The folder that the program runs in. It tells nothing of its files; each call that answers a
+/// The folder that the program runs in. Its files are not observable; each call that returns a
 /// fault counts it.
 ///
 /// A symbolic link, as a name or on the way to it, is never followed and is a fault, and so is what
 /// is neither a regular file nor a folder.
 #[derive(Drop)]
 pub struct HostTree<'a, R: Host> {
-    /// Where memory is taken.
+    /// The allocator.
     alloc: Global,
     /// The folder, with the files that stay open.
     root: Root<'a, R>,
-    /// How many calls have failed.
+    /// The number of calls that failed.
     faults: u64,
-    /// What failed first, for the line behind `ERROR: the tree failed`.
+    /// The first failure, for the line after `ERROR: the tree failed`.
     failure: Option<Failure>,
 }
 
 impl<'a, R: Host> HostTree<'a, R> {
-    /// The tree of the folder that the program runs in. The host is asked at the first call on a
-    /// file, and gives this lock then.
+    /// The tree of the folder that the program runs in. The host is called at the first call on a
+    /// file, and then takes this lock.
     pub fn new(rt: &'a R, alloc: Global, lock: Lock) -> HostTree<'a, R>
         ensures { result.faults ≡ 0 }
     {
@@ -47,31 +47,31 @@ impl<'a, R: Host> HostTree<'a, R> {
         }
     }
 
-    /// What failed first, if anything did (`docs/commands.md`, "A fault of the tree").
+    /// The first failure, if there is one (`docs/commands.md`, "A fault of the tree").
     pub fn failure(&self) -> Option<&Failure> {
         self.failure.as_ref()
     }
 
     /// The name that may have its new file although the run failed: it was renamed, and that was
-    /// not written through.
+    /// not synced.
     pub fn unsynced_target(&self) -> Option<&[u8]> {
         self.root.unsynced_target()
     }
 
-    /// Whether a change is committed and not done yet: the next command finishes it.
+    /// Whether a change is committed and not done yet: the next command completes it.
     pub fn has_unfinished_change(&self) -> bool {
         self.root.has_unfinished_change()
     }
 
-    /// Gives the lock on the root back. No call comes after this one.
+    /// Releases the lock on the root. No call follows this one.
     pub fn leave(&mut self)
         ensures faults { self.new.faults ≡ self.old.faults }
     {
         self.root.leave();
     }
 
-    /// Counts a fault, and keeps what failed, if it is the first: the call, its path, and the other
-    /// path of a rename.
+    /// Counts a fault, and remembers the failure, if it is the first: the call, its path, and the
+    /// other path of a rename.
     fn note_failure(
         &mut self,
         call: &'static str,
@@ -89,7 +89,7 @@ impl<'a, R: Host> HostTree<'a, R> {
         Disk
     }
 
-    /// What a call on a name answers, with its fault counted. Lack of memory is a fault too.
+    /// The result of a call on a name, with its fault counted. Out of memory is a fault too.
     fn note_answer<T>(
         &mut self,
         call: &'static str,
@@ -115,16 +115,16 @@ impl<'a, R: Host> Tree for HostTree<'a, R> {
     // The history is not observable: no contract sees the host's files.
     ghost history = { λ tree. [] };
 
-    // The counts are those of a host's tree with so many faults.
+    // The counts are those of a host's tree with this many faults.
     ghost counts = { λ tree. host_counts tree.faults };
 
     // Each state of the history is whole, as there is none.
     ghost whole = { λ tree. All-nil IsWhole };
 
-    // What the host answered is known to nobody else.
+    // Nobody else knows what the host answered.
     ghost accepts = { λ source name. Unit {0} };
 
-    // How many bytes the file under a name has, or None if there is none.
+    // The number of bytes of the file under a name, or None if there is none.
     fn size(&mut self, name: &Name) -> Result<Option<u64>, Disk> {
         let answer = self.root.length_of(name.as_bytes());
         self.note_answer("look at", name, answer)
@@ -142,19 +142,19 @@ impl<'a, R: Host> Tree for HostTree<'a, R> {
         self.note_answer("create", name, answer)
     }
 
-    // Adds a piece at the end of a file.
+    // Appends a piece to a file.
     fn append(&mut self, name: &Name, piece: &[u8]) -> Result<(), Disk> {
         let answer = self.root.add(name.as_bytes(), piece);
         self.note_answer("write", name, answer)
     }
 
-    // Lets the host write a file through.
+    // Syncs a file.
     fn sync(&mut self, name: &Name) -> Result<(), Disk> {
         let answer = self.root.write_file_through(name.as_bytes());
         self.note_answer("sync", name, answer)
     }
 
-    // Lets `to` lead to the file of `from`, in one step.
+    // Renames the file of `from` to `to`, in one step.
     fn rename(&mut self, from: &Name, to: &Name) -> Result<(), Disk> {
         match self.root.move_file(from.as_bytes(), to.as_bytes()) {
             Ok(()) => Ok(()),
@@ -164,13 +164,13 @@ impl<'a, R: Host> Tree for HostTree<'a, R> {
         }
     }
 
-    // Takes a name away; an absent one changes nothing.
+    // Removes a name; an absent one changes nothing.
     fn remove(&mut self, name: &Name) -> Result<(), Disk> {
         let answer = self.root.take_off(name.as_bytes());
         self.note_answer("remove", name, answer)
     }
 
-    // Lets the host write the folders through whose names changed.
+    // Syncs the folders whose names changed.
     fn sync_names(&mut self) -> Result<(), Disk> {
         match self.root.write_names_through() {
             Ok(()) => Ok(()),
@@ -178,8 +178,8 @@ impl<'a, R: Host> Tree for HostTree<'a, R> {
         }
     }
 
-    // The files below a folder, by their names; lack of memory for the answer is no fault of the
-    // tree.
+    // The files below a folder, by their names; running out of memory for the result is no fault of
+    // the tree.
     fn list(&mut self, alloc: Global, folder: &Name) -> Result<Names, TreeFault> {
         match list_below(&mut self.root, alloc, folder) {
             Ok(names) => Ok(names),

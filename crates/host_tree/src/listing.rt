@@ -52,7 +52,7 @@ struct Walk {
 }
 
 impl Walk {
-    /// Finds what stands in a folder, which is the top one or below it.
+    /// Finds what is in a folder, which is the top one or below it.
     fn visit<R: Host>(
         &mut self,
         root: &mut Root<'_, R>,
@@ -69,8 +69,8 @@ impl Walk {
         Ok(())
     }
 
-    /// Keeps what stands at a path. A path that is no name is a fault, so the walk is as deep as a
-    /// name at most, and so is a path that is not below the top folder.
+    /// Adds what is at a path. A path that is no name is a fault, so the walk is at most as deep as
+    /// a name; so is a path that is not below the top folder.
     fn meet<R: Host>(
         &mut self,
         root: &mut Root<'_, R>,
@@ -106,7 +106,7 @@ impl Walk {
     }
 }
 
-/// Names in byte order, each once: of equal ones that stand side by side one is left.
+/// Names in byte order, each once: of adjacent equal ones one is left.
 fn each_once(alloc: Global, sorted: Vec<Name>) -> Result<Names, AllocError>
     requires { IsSorted (slice_cmp nat_cmp) sorted.items }
     ensures rising { IfOk result IsRising }
@@ -132,7 +132,7 @@ fn is_last(names: &Names, name: &Name) -> bool
     names.get(names.len() - 1).as_bytes() == name.as_bytes()
 }
 
-/// Puts a name behind others; if there is no memory they stay as they are.
+/// Appends a name; without memory the list is unchanged.
 fn keep(list: &mut Vec<Name>, name: Name) -> Result<(), AllocError>
     ensures ok { OnOk result (list.new.items ≡ list.old.items ++ name ∷ []) }
     ensures err { OnErr result (list.new.items ≡ list.old.items) }

@@ -2,7 +2,7 @@
 //! (`docs/formats.md`, "Dump text"); how a row writes a package is in the README of this crate.
 
 use base_core::Words;
-use row_dump::{DumpFault, container_of};
+use gen_core::{GenFault, gen_};
 use row_lines::word_at;
 use std::alloc::{AllocError, Global};
 
@@ -17,10 +17,10 @@ pub(crate) fn package_of(alloc: Global, words: &Words) -> Result<Option<Vec<u8>>
     add_replaces(&mut dump, words)?;
     add_files(&mut dump, word_at(words, 4))?;
     add_field(&mut dump, b"replaces-priority: ", word_at(words, 3))?;
-    match container_of(alloc, &dump) {
+    match gen_(alloc, &dump) {
         Ok(container) => Ok(Some(container)),
-        Err(DumpFault::NoDump) => Ok(None),
-        Err(DumpFault::Memory) => Err(AllocError),
+        Err(GenFault::Memory) => Err(AllocError),
+        Err(_) => Ok(None),
     }
 }
 

@@ -1,12 +1,12 @@
-//! Runs the rows that stand on standard input through `apk`, and prints a line for each.
-//! `tests/rows.md` describes their form.
+//! Runs the rows on standard input through `apk`, and prints a line for each. `tests/rows.md`
+//! describes their form.
 //!
-//! Its stored run has all rows. It ends with 0 where no row failed, else with 1.
+//! Its stored run has all rows. It ends with 0 if no row failed, and with 1 otherwise.
 #![tactic(auto)]
 
 use apk_front::{apk, status};
 use base_core::Words;
-use row_dump::{DumpFault, container_of};
+use gen_core::{GenFault, gen_};
 use row_run::{Program, run_text};
 use std::alloc::{AllocError, Global};
 use std::io;
@@ -14,15 +14,15 @@ use std::io::{Read, Write};
 use std::process::ExitCode;
 use tree_memory::{MemorySink, MemoryTree};
 
-/// The status of a run that was refused (`docs/commands.md`, "Answers and statuses"): `info` is
-/// where a root has no database, or a bad one or a bad intent.
+/// The status of a run that was refused (`docs/commands.md`, "Answers and statuses"), as `info` is
+/// if a root has no database, a bad one, or a bad intent.
 const REFUSED: u8 = 1;
 
 /// The package keeper.
 struct Apk;
 
 impl Program for Apk {
-    /// Runs a command line, and answers its exit status.
+    /// Runs a command line, and returns its exit status.
     fn run(
         &self,
         alloc: Global,
@@ -35,7 +35,7 @@ impl Program for Apk {
     }
 
     /// Recovers a tree by `apk info`, which recovers and then only reads. A refusal is no failure
-    /// of that: there may be no database.
+    /// here: there may be no database.
     fn recover(&self, alloc: Global, tree: &mut MemoryTree) -> bool {
         let mut words = Words::new(alloc);
         if words.push(b"info").is_err() {
@@ -46,17 +46,17 @@ impl Program for Apk {
         self.run(alloc, &words, tree, &mut out, &mut err) <= REFUSED
     }
 
-    /// The container of a dump text; none where the text is no dump.
+    /// The container of a dump text; none if the text is no dump.
     fn container_of(&self, alloc: Global, text: &[u8]) -> Result<Option<Vec<u8>>, AllocError> {
-        match container_of(alloc, text) {
+        match gen_(alloc, text) {
             Ok(bytes) => Ok(Some(bytes)),
-            Err(DumpFault::NoDump) => Ok(None),
-            Err(DumpFault::Memory) => Err(AllocError),
+            Err(GenFault::Memory) => Err(AllocError),
+            Err(_) => Ok(None),
         }
     }
 }
 
-/// Runs the rows of standard input; the status is 1 where one fails.
+/// Runs the rows of standard input; the status is 1 if one fails.
 fn main(rt: HostRuntime) -> io::Result<ExitCode> {
     let alloc = rt.alloc();
     let mut text = Vec::new(alloc);

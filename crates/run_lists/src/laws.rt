@@ -232,8 +232,7 @@ pub fn a_stopped_run_is_recovered()
         → (image : Files) × IsImage m image × IsRecoveredBy
         (HasStateOf (ignored_in run (ignored_behind ignored events)) image) w next }
 
-    // Where the root had one state when the run began, these are two: the old one and the
-    // outcome's.
+    // If the root had one state when the run began, these are two: the old one and the outcome's.
     ensures two { (ignored : List ℕ → Bool) (v : TreeState) (run : Run) (files : Files)
         → IsSettled ignored (files_of v) v → HasStateBeforeOrOutcome ignored v run files
         → HasOldOrOutcome ignored v run files }

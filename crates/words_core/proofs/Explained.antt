@@ -2,15 +2,15 @@
 use Rattle.std.proofs.Common.{true, refl, ◌++◌, ◌≡◌}
 use Rattle.command_core.specs.declared.command.Applet.{Applet}
 use Rattle.command_core.specs.declared.command.Applet.TheVariants.{Add}
-use Rattle.words_core.specs.Explained.{are_listed, asking_options, explain}
+use Rattle.words_core.specs.Explained.{are_help_of, are_listed, asking_options}
 use Rattle.words_core.specs.HelpTexts.{common_help, option_help}
 use Rattle.words_core.specs.Options.{applets, common_options, own_options}
 
-pub own_explained : (applet : Applet) → explain (option_help applet) (own_options applet) ≡ true
+pub own_explained : (applet : Applet) → are_help_of (option_help applet) (own_options applet) ≡ true
 own_explained Add = refl
 own_explained applet = refl
 
-pub common_explained : explain common_help (common_options ++ asking_options) ≡ true
+pub common_explained : are_help_of common_help (common_options ++ asking_options) ≡ true
 unfolding common_options
 common_explained = refl
 

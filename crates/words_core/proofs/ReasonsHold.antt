@@ -29,7 +29,7 @@ use Rattle.words_core.specs.declared.usage.UsageReason.{UsageReason}
 use Rattle.words_core.specs.declared.usage.UsageReason.TheVariants.{OptionRepeated, OperandBad, ScriptRepeated, SecondKind, TooManyOperands, ValueBad}
 use Rattle.words_core.specs.Grammar.{applet_site, command_from, command_of, command_read, first_state, held_value, is_end, is_option, lacks_operand, lacks_word, line_command, line_start, next_after, next_by_rule, next_words, operands_of, option_name, option_reading, reading_behind, reading_by, refused_operand, rule_in, state_by, verdict, with_flags, with_meaning_at, with_value, with_word_by}
 use Rattle.words_core.specs.Options.{OptionSpec, option_spelled, options_of}
-use Rattle.words_core.specs.Reasons.{IsUsageReason, IsRuleAt, OfValue}
+use Rattle.words_core.specs.Reasons.{IsUsageReason, IsRuleAt, HasValue}
 use Rattle.words_core.specs.Usage.{early_reason, end_reason, line_reason, line_rule, meaning_reason, missing_reason, operand_reason, option_reason, reason_from, repeated_by, usage_reason, value_reason, word_reason}
 use Rattle.words_core.proofs.Asked.{found_next, next_append, operand_stays}
 use Rattle.words_core.proofs.AskedLaws.{offends_unasked}
@@ -205,7 +205,7 @@ module _ (words : List (List ℕ)) (start : Start) (s : line_start words ≡ Ok 
 
   -- a text that is no value of an option
   value_why : (place : ℕ) (word : List ℕ) (rule : ValueRule) (text : List ℕ) → slice_get words (place - 1) ≡ Some word → IsRuleAt start (reading_behind start words) word rule
-      → ((P : ValueRule → List ℕ → Type 0) → P rule text → OfValue start (reading_behind start words) word P)
+      → ((P : ValueRule → List ℕ → Type 0) → P rule text → HasValue start (reading_behind start words) word P)
       → ((is_value rule.kind text && not (is_excluded rule text (reading_behind start words).state.values)) ≡ false) ⊎ (is_spent rule (reading_behind start words).state.values ≡ true)
       → IsUsageReason (value_reason rule text) words place
   value_why place word rule text at own as_value bad =

@@ -14,15 +14,15 @@ spelled_option option =
     (if bytes_eq option.short [] then codes "    " else option.short ++ codes ", ") ++ option.long
 
 -- whether a line of help is about an option
-abbrev pub explains : HelpLine → OptionSpec → Bool
-explains line option =
+abbrev pub is_help_of : HelpLine → OptionSpec → Bool
+is_help_of line option =
     bytes_eq (take (length (spelled_option option)) line.subject) (spelled_option option)
 
 -- whether lines of help are about options, one each in the same order
-abbrev pub explain : List HelpLine → List OptionSpec → Bool
-explain [] [] = true
-explain (line ∷ lines) (option ∷ options) = explains line option && explain lines options
-explain lines options = false
+abbrev pub are_help_of : List HelpLine → List OptionSpec → Bool
+are_help_of [] [] = true
+are_help_of (line ∷ lines) (option ∷ options) = is_help_of line option && are_help_of lines options
+are_help_of lines options = false
 
 -- the options that ask, as lines of help spell them; what they say is not looked at
 abbrev pub asking_options : List OptionSpec
@@ -33,5 +33,5 @@ asking_options =
 -- whether the word of each of some applets is that of a command that help lists
 abbrev pub are_listed : List Applet → Bool
 are_listed applets =
-    list_all (λ applet. list_any (λ one. bytes_eq (applet_word one) (applet_word applet)) listed_commands)
-    applets
+    list_all (λ applet.
+    list_any (λ one. bytes_eq (applet_word one) (applet_word applet)) listed_commands) applets

@@ -25,8 +25,8 @@ use Rattle.words_core.specs.Usage.{line_rule}
 -- ---- the words
 
 -- P holds of the word at the place
-abbrev pub OfWord : List (List ℕ) → ℕ → (List ℕ → Type 0) → Type 0
-OfWord words place P = (word : List ℕ) × (slice_get words (place - 1) ≡ Some word) × P word
+abbrev pub HasWordAt : List (List ℕ) → ℕ → (List ℕ → Type 0) → Type 0
+HasWordAt words place P = (word : List ℕ) × (slice_get words (place - 1) ≡ Some word) × P word
 
 -- the place is the one after the last word
 abbrev pub IsEnd : List (List ℕ) → ℕ → Type 0
@@ -35,77 +35,82 @@ IsEnd words place = place ≡ length words + 1
 -- ---- the command that was found
 
 -- P holds of the applet that was found
-abbrev pub OfApplet : List (List ℕ) → (Applet → Type 0) → Type 0
-OfApplet words P = (site : AppletSite) × (applet_site 1 words ≡ Ok site) × P site.applet
+abbrev pub HasApplet : List (List ℕ) → (Applet → Type 0) → Type 0
+HasApplet words P = (site : AppletSite) × (applet_site 1 words ≡ Ok site) × P site.applet
 
 -- P holds of the start that was found, and of what was read behind it
-abbrev pub OfReading : List (List ℕ) → (Start → Reading → Type 0) → Type 0
-OfReading words P = (start : Start) × (line_start words ≡ Ok start) × P start (reading_behind start words)
+abbrev pub HasReading : List (List ℕ) → (Start → Reading → Type 0) → Type 0
+HasReading words P =
+    (start : Start) × (line_start words ≡ Ok start) × P start (reading_behind start words)
 
 -- P holds of what the option that a word spells means
-abbrev pub OfMeaning : Applet → List ℕ → (Meaning → Type 0) → Type 0
-OfMeaning applet word P =
+abbrev pub HasMeaning : Applet → List ℕ → (Meaning → Type 0) → Type 0
+HasMeaning applet word P =
     (option : OptionSpec) × (option_spelled (options_of applet) (option_name word) ≡ Some option)
     × P option.meaning
 
 -- a rule is that of the option whose value is awaited, or that a word spells
 abbrev pub IsRuleAt : Start → Reading → List ℕ → ValueRule → Type 0
 IsRuleAt start reading word rule =
-    (reading.state.awaiting ≡ Some rule) ⊎ OfMeaning start.applet word (λ meaning. meaning ≡ Value rule)
+    (reading.state.awaiting ≡ Some rule)
+    ⊎ HasMeaning start.applet word (λ meaning. meaning ≡ Value rule)
 
 -- P holds of the rule of an option with values, and of a text that a word gives as its value: the word
 -- is the value that is awaited, or holds it
-abbrev pub OfValue : Start → Reading → List ℕ → (ValueRule → List ℕ → Type 0) → Type 0
-OfValue start reading word P =
+abbrev pub HasValue : Start → Reading → List ℕ → (ValueRule → List ℕ → Type 0) → Type 0
+HasValue start reading word P =
     ((rule : ValueRule) × (reading.state.awaiting ≡ Some rule) × P rule word)
-    ⊎ OfMeaning start.applet word (λ meaning. (rule : ValueRule) × (text : List ℕ)
+    ⊎ HasMeaning start.applet word (λ meaning. (rule : ValueRule) × (text : List ℕ)
     × (meaning ≡ Value rule) × (held_value word ≡ Some text) × P rule text)
 
 -- P holds of the rule of the operands
-abbrev pub OfRule : List (List ℕ) → Start → (OperandRule → Type 0) → Type 0
-OfRule words start P = (rule : OperandRule) × (line_rule words start ≡ Some rule) × P rule
+abbrev pub HasOperandRule : List (List ℕ) → Start → (OperandRule → Type 0) → Type 0
+HasOperandRule words start P =
+    (rule : OperandRule) × (line_rule words start ≡ Some rule) × P rule
 
 -- ---- the reasons
 
 -- a reason that words are a usage error at a place is so
 abbrev pub IsUsageReason : UsageReason → List (List ℕ) → ℕ → Type 0
-IsUsageReason CommandMissing words place = IsEnd words place × IsTrue (not (is_ok (applet_site 1 words)))
-IsUsageReason CommandUnknown words place = OfWord words place (λ word. applet_of word ≡ None)
+IsUsageReason CommandMissing words place =
+    IsEnd words place × IsTrue (not (is_ok (applet_site 1 words)))
+IsUsageReason CommandUnknown words place = HasWordAt words place (λ word. applet_of word ≡ None)
 IsUsageReason OptionEarly words place =
-    OfWord words place (λ word. IsTrue (is_option word) × IsTrue (not (is_early word)))
+    HasWordAt words place (λ word. IsTrue (is_option word) × IsTrue (not (is_early word)))
 IsUsageReason OptionUnknown words place =
-    OfWord words place (λ word. OfApplet words (λ applet.
+    HasWordAt words place (λ word. HasApplet words (λ applet.
     option_spelled (options_of applet) (option_name word) ≡ None))
 IsUsageReason ValueGiven words place =
-    OfWord words place (λ word. OfReading words (λ start reading.
-    OfMeaning start.applet word (λ meaning. rule_in meaning ≡ None) × IsTrue (is_some (held_value word))))
+    HasWordAt words place (λ word. HasReading words (λ start reading.
+    HasMeaning start.applet word (λ meaning. rule_in meaning ≡ None)
+    × IsTrue (is_some (held_value word))))
 IsUsageReason OptionRepeated words place =
-    OfWord words place (λ word. OfReading words (λ start reading. (rule : ValueRule)
+    HasWordAt words place (λ word. HasReading words (λ start reading. (rule : ValueRule)
     × IsTrue rule.single × IsTrue (is_given rule.letter reading.state.values)
     × IsRuleAt start reading word rule))
 IsUsageReason SecondKind words place =
-    OfWord words place (λ word. OfReading words (λ start reading. (flag : Flag)
+    HasWordAt words place (λ word. HasReading words (λ start reading. (flag : Flag)
     × IsTrue (has_kind reading.state.flags) × (has_flag flag reading.state.flags ≡ false)
-    × OfMeaning start.applet word (λ meaning. meaning ≡ Kind flag)))
+    × HasMeaning start.applet word (λ meaning. meaning ≡ Kind flag)))
 IsUsageReason ValueMissing words place =
-    IsEnd words place × OfReading words (λ start reading. IsTrue (is_some reading.state.awaiting))
+    IsEnd words place × HasReading words (λ start reading. IsTrue (is_some reading.state.awaiting))
 IsUsageReason (ValueBad kind) words place =
-    OfWord words place (λ word. OfReading words (λ start reading.
-    OfValue start reading word (λ rule text. (rule.kind ≡ kind) × (is_value kind text ≡ false))))
+    HasWordAt words place (λ word. HasReading words (λ start reading.
+    HasValue start reading word (λ rule text. (rule.kind ≡ kind) × (is_value kind text ≡ false))))
 IsUsageReason ScriptRepeated words place =
-    OfWord words place (λ word. OfReading words (λ start reading.
-    OfValue start reading word (λ rule text. IsTrue (is_excluded rule text reading.state.values))))
+    HasWordAt words place (λ word. HasReading words (λ start reading.
+    HasValue start reading word (λ rule text. IsTrue (is_excluded rule text reading.state.values))))
 IsUsageReason TooManyOperands words place =
-    OfReading words (λ start reading. OfRule words start (λ rule. (most : ℕ) × (rule.most ≡ Some most)
-    × (most < length reading.operands)))
+    HasReading words (λ start reading. HasOperandRule words start (λ rule. (most : ℕ)
+    × (rule.most ≡ Some most) × (most < length reading.operands)))
 IsUsageReason (OperandBad kind) words place =
-    OfWord words place (λ word. OfReading words (λ start reading. OfRule words start (λ rule.
-    (rule.kind ≡ kind) × (is_of_kind kind word ≡ false))))
+    HasWordAt words place (λ word. HasReading words (λ start reading.
+    HasOperandRule words start (λ rule. (rule.kind ≡ kind) × (is_of_kind kind word ≡ false))))
 IsUsageReason (OperandMissing kind) words place =
-    IsEnd words place × OfReading words (λ start reading. OfRule words start (λ rule.
+    IsEnd words place × HasReading words (λ start reading. HasOperandRule words start (λ rule.
     (rule.kind ≡ kind) × (length reading.operands < rule.least)))
 IsUsageReason KindMissing words place =
-    IsEnd words place × OfReading words (λ start reading. line_rule words start ≡ None)
+    IsEnd words place × HasReading words (λ start reading. line_rule words start ≡ None)
 IsUsageReason OptionMissing words place =
-    IsEnd words place × OfReading words (λ start reading. (letter : ℕ)
+    IsEnd words place × HasReading words (λ start reading. (letter : ℕ)
     × (needed_option start.applet ≡ Some letter) × (is_given letter reading.state.values ≡ false))

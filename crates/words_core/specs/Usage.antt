@@ -176,7 +176,7 @@ longest_shown = 64
 abbrev pub hex_digit : ℕ → ℕ
 hex_digit n = if nat_lt n 10 then 48 + n else 87 + n
 
--- whether a byte is shown as it is: a space or a visible ASCII character, but no quote (34) or backslash
+-- whether a byte is shown as it is: a space or a visible ASCII character, but no quote or backslash
 abbrev pub is_plain_byte : ℕ → Bool
 is_plain_byte byte = ((byte == 32) || is_ascii_graphic byte) && not ((byte == 34) || (byte == 92))
 

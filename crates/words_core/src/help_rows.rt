@@ -69,7 +69,10 @@ const PATTERN_HELP: HelpRow =
 // The options of every command.
 #[rattlefmt::skip]
 static COMMON_OPTIONS: [HelpRow; 4] = [
-    HelpRow { subject: b"    --allow-untrusted", text: b"use repositories; no signature is checked" },
+    HelpRow {
+        subject: b"    --allow-untrusted",
+        text: b"use repositories; no signature is checked",
+    },
     HelpRow { subject: b"    --no-scripts", text: b"make changes; run no scripts, no triggers" },
     HelpRow { subject: b"-h, --help", text: b"print this help, or that of a command" },
     HelpRow { subject: b"-V, --version", text: b"print the version of apk" },

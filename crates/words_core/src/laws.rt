@@ -9,7 +9,7 @@ ghost use Rattle.words_core.specs.Grammar.{command_of};
 ghost use Rattle.words_core.specs.Kinds.{can_get_kind};
 ghost use Rattle.words_core.specs.Lines.{IsLineOf};
 ghost use Rattle.words_core.specs.Options.{applets, common_options, own_options};
-ghost use Rattle.words_core.specs.Explained.{are_listed, asking_options, explain};
+ghost use Rattle.words_core.specs.Explained.{are_help_of, are_listed, asking_options};
 ghost use Rattle.words_core.specs.HelpTexts.{common_help, option_help};
 ghost use Rattle.words_core.specs.Reasons.{IsUsageReason};
 ghost use Rattle.words_core.specs.Rows.{has_its_letter};
@@ -85,7 +85,7 @@ pub fn a_reason_is_so()
 /// The help of a command explains each option of it, in the order of the table of options, and nothing
 /// else.
 pub fn help_explains_each_option()
-    ensures own { (applet : Applet) → IsTrue (explain (option_help applet) (own_options applet)) }
-    ensures common { IsTrue (explain common_help (common_options ++ asking_options)) }
+    ensures own { (applet : Applet) → IsTrue (are_help_of (option_help applet) (own_options applet)) }
+    ensures common { IsTrue (are_help_of common_help (common_options ++ asking_options)) }
     ensures listed { IsTrue (are_listed applets) }
 {}

@@ -1,5 +1,5 @@
-//! Command lines: which are a command, what such a command has, and which word offends first where
-//! they are none. The rules stand in `docs/commands.md`, "Words".
+//! Command lines: which are a command, the parts of such a command, and the first wrong word
+//! otherwise. The rules are in `docs/commands.md`, "Words".
 use base_core::Words;
 use command_core::{Applet, Command, Flag, OperandKind, OptionValue, ValueKind};
 use row_lines::{add_number, add_word, number_of, value_named, word_at};
@@ -10,8 +10,8 @@ use words_core::{WordsFault, explain_usage, help, read_words, version_line};
 /// The most words that a row's line may have.
 const MOST_WORDS: usize = 100_000;
 
-/// Adds 0 if the words are a command, and else the place of the first word that offends, and the line
-/// that says why.
+/// Adds 0 if the words are a command, and otherwise the place of the first wrong word, and the line
+/// with the reason.
 pub(crate) fn add_place(
     alloc: Global,
     line: &Words,
@@ -27,7 +27,7 @@ pub(crate) fn add_place(
     }
 }
 
-/// Adds the line that says why the words are a usage error at a place.
+/// Adds the line with the reason of a usage error at a place.
 fn add_reason(
     alloc: Global,
     line: &Words,
@@ -41,7 +41,7 @@ fn add_reason(
     add_word(answer, page.bytes())
 }
 
-/// Adds what is printed where the words ask for help or for the version of the program.
+/// Adds what is printed if the words ask for help or for the version of the program.
 pub(crate) fn add_asked(
     alloc: Global,
     line: &Words,
@@ -57,8 +57,8 @@ pub(crate) fn add_asked(
     }
 }
 
-/// Adds the place that offends in the words behind the number of `N WORD WORD ..`, of which the
-/// second stands so many times, and how many operands a command of them has.
+/// Adds the first wrong place in the words after the number of `N WORD WORD ..`, of which the
+/// second is repeated that many times, and how many operands a command of them has.
 pub(crate) fn add_many(
     alloc: Global,
     words: &Words,
@@ -72,7 +72,7 @@ pub(crate) fn add_many(
     }
 }
 
-/// The words behind the first one, of which the second stands as often as the first one says.
+/// The words after the first one, of which the second is repeated as often as the first one says.
 fn many_words(alloc: Global, words: &Words) -> Result<Words, AllocError> {
     let times = number_of(word_at(words, 0)).and_then(|times| usize::try_from(times).ok());
     let mut many = Words::new(alloc);
@@ -86,7 +86,7 @@ fn many_words(alloc: Global, words: &Words) -> Result<Words, AllocError> {
     Ok(many)
 }
 
-/// Adds a word so often, as far as a command line has room.
+/// Adds a word this many times, as far as they fit into a command line.
 fn push_times(words: &mut Words, word: &[u8], times: usize) -> Result<(), AllocError> {
     for _ in 0..times {
         if words.len() < MOST_WORDS {
@@ -96,7 +96,7 @@ fn push_times(words: &mut Words, word: &[u8], times: usize) -> Result<(), AllocE
     Ok(())
 }
 
-/// The command of a line; none where it is none.
+/// The command of a line; none if it is no command.
 fn command_of(alloc: Global, line: &Words) -> Result<Option<Command>, AllocError> {
     match read_words(alloc, line) {
         Ok(command) => Ok(Some(command)),
@@ -105,7 +105,7 @@ fn command_of(alloc: Global, line: &Words) -> Result<Option<Command>, AllocError
     }
 }
 
-/// Adds the applet of a command, its options without a value, the place behind its words, how many
+/// Adds the applet of a command, its options without a value, the place after its words, how many
 /// operands it has, and the place and the text of each up to a hundred.
 pub(crate) fn add_command(
     alloc: Global,

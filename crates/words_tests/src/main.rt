@@ -1,4 +1,4 @@
-//! Answers questions to `command_core`, `words_core` and `report_core`: command lines, kinds of
+//! Answers questions about `command_core`, `words_core` and `report_core`: command lines, kinds of
 //! operands and values, the lines of refusals, and reports. Its stored run has all rows;
 //! `tests/lines.md` describes their form. The README of this crate has a row for each question.
 #![tactic(auto)]
@@ -16,7 +16,7 @@ use std::io;
 use std::process::ExitCode;
 use texts::{add_refusal, add_report};
 
-/// What is asked; the README of this crate says what each question answers.
+/// The questions; the README of this crate has the answer to each.
 #[derive(Clone, Copy)]
 enum Question {
     /// `line WORD ..`.
@@ -56,12 +56,12 @@ const QUESTIONS: [(&[u8], Question); 10] = [
     (b"report", Question::Report),
 ];
 
-/// What the three crates answer.
+/// The answers of the three crates.
 #[derive(Drop)]
 struct CommandLines;
 
 impl Subject for CommandLines {
-    // Answers a question by its first word. No question rests on one before it.
+    // Answers a question by its first word. No question depends on an earlier one.
     fn answer(
         &mut self,
         alloc: Global,

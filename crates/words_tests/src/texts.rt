@@ -1,12 +1,12 @@
-//! The lines of refusals and causes, and reports. The lines stand in `docs/commands.md`,
-//! "Error lines".
+//! The lines of refusals and causes, and reports. The lines are in `docs/commands.md`, "Error
+//! lines".
 use base_core::{Cause, Digest, Name, Text, Words};
 use report_core::{Refusal, Report, write_error};
 use row_lines::{number_of, value_named, word_at, words_behind};
 use std::alloc::{AllocError, Global};
 use tree_memory::MemorySink;
 
-/// Adds the pieces of a report, one behind another: a word of digits is a number, another is text.
+/// Adds the pieces of a report, one after another: a word of digits is a number, another is text.
 pub(crate) fn add_report(
     alloc: Global,
     words: &Words,
@@ -98,7 +98,7 @@ const REFUSALS: [(&[u8], Named); 25] = [
     (b"owned", Named::Owned),
 ];
 
-/// The refusal that the words of a row name; none where they name none.
+/// The refusal that the words of a row name; none if they name none.
 fn refusal_of(alloc: Global, words: &Words) -> Result<Option<Refusal>, AllocError> {
     let Some(named) = value_named(&REFUSALS, word_at(words, 0)) else {
         return Ok(None);
@@ -166,7 +166,7 @@ fn refusal_with_cause(
     }))
 }
 
-/// The refusal of a package's file, by its words; none where its cause is none.
+/// The refusal of a package's file, by its words; none if its cause is none.
 fn refusal_of_package(
     alloc: Global,
     named: Named,
@@ -206,7 +206,7 @@ fn refusal_without_leave(
     }))
 }
 
-/// The refusal of a path: a reserved one, a folder of another, or one that two packages have.
+/// The refusal of a path: a reserved one, a folder of another file, or one that two packages have.
 fn refusal_of_path(
     alloc: Global,
     named: Named,
@@ -312,9 +312,9 @@ fn hashes_differ(wanted: &[u8], found: &[u8]) -> Option<Cause> {
     })
 }
 
-/// The digest that these bytes are, by their length: SHA-1 of 20, SHA-256 of 32 and SHA-512 of 64
-/// (`docs/formats.md`, "The other blocks"); None of another length, so that the row is
-/// `no refusal`.
+/// The digest of these bytes, by their length: SHA-1 of 20, SHA-256 of 32 and SHA-512 of 64
+/// (`docs/formats.md`, "The other blocks"); None for another length, so that the row is `no
+/// refusal`.
 fn digest_of(bytes: &[u8]) -> Option<Digest> {
     if let Ok(bytes) = bytes.try_into() {
         return Some(Digest::Sha1(bytes));
@@ -328,19 +328,19 @@ fn digest_of(bytes: &[u8]) -> Option<Digest> {
     }
 }
 
-/// The number that the word at a place is; 0 where it is none.
+/// The number of the word at a place; 0 if it is none.
 fn long_at(words: &Words, i: usize) -> u64 {
     number_of(word_at(words, i))
         .and_then(|number| u64::try_from(number).ok())
         .unwrap_or(0)
 }
 
-/// The number of 32 bits that the word at a place is; 0 where it is none.
+/// The number of 32 bits of the word at a place; 0 if it is none.
 fn int_at(words: &Words, i: usize) -> u32 {
     u32::try_from(long_at(words, i)).unwrap_or(0)
 }
 
-/// The number of 16 bits that the word at a place is; 0 where it is none.
+/// The number of 16 bits of the word at a place; 0 if it is none.
 fn short_at(words: &Words, i: usize) -> u16 {
     u16::try_from(long_at(words, i)).unwrap_or(0)
 }

@@ -1,0 +1,110 @@
+-- The container of a value is printed as the value's text.
+use Rattle.std.proofs.Common.{◌≡◌, ◌≢◌, ℕ, ◌+◌, ◌^◌, ◌<◌, ◌≤◌, ◌↔◌, Bool, true, false, ltb, List, [], ◌∷◌, length, Option, Some, None, Result, Ok, Err, refl, ap, sym, subst, ◌∙◌, arith, lit<}
+use Rattle.std.specs.Prelude.{is_some, ◌||◌, IsSome, unwrap_or}
+use Rattle.std.specs.Option.{option_or}
+use Rattle.std.proofs.lemmas.Bool.{le-ltb, ltb-false}
+use Rattle.base_core.specs.declared.cause.Cause.{Cause}
+use Rattle.adb_block.specs.Piece.{Piece}
+use Rattle.adb_block.specs.Header.{header_of}
+use Rattle.adb_block.specs.Standing.{start_of}
+use Rattle.adb_block.specs.Reading.{Reading, done, more, reading_of}
+use Rattle.adb_view.specs.Plain.{Plain, null, IsNormal}
+use Rattle.adb_view.specs.Head.{head_fault, root_of}
+use Rattle.adb_view.specs.Shaped.{HasShape}
+use Rattle.adb_view.specs.Schema.{shape_of}
+use Rattle.adb_view.specs.Values.{value_at}
+use Rattle.adb_view.specs.Walk.{shape_fault}
+use Rattle.adb_view.specs.Visits.{MOST_VALUES}
+use Rattle.adb_view.specs.declared.tables.Which.{Which}
+use Rattle.adb_view.specs.declared.tables.Kind.TheVariants.{Obj}
+use Rattle.adb_schema.specs.Soundness.{first_payload, root_value, schema_word}
+use Rattle.adb_write.specs.Canonical.{Layout, MOST_BYTES, PayloadCounts, canonical, empty_layout, or_overflow, overflow_of, passes, payload_with_root, write, written_of}
+use Rattle.adb_write.specs.Size.{size_of, value_count}
+use Rattle.adb_write.specs.File.{adb_piece, file_of}
+use Rattle.pkg_core.specs.Whole.{root_of_schema}
+use Rattle.adb_sound.proofs.ContentsBlocks.{contents_stand, first_of, none_of_blocks}
+use Rattle.adb_sound.proofs.Lower.{Lower}
+use Rattle.adb_sound.proofs.Payloads.{none_of, payload_long}
+use Rattle.adb_sound.proofs.SoundFiles.{IsWord, reading_is, word_is}
+use Rattle.adb_dump.specs.Dump.{dump_text}
+use Rattle.outcome.specs.Dump.{dump_fault, dump_of, dump_of_blocks, dump_with_root, dump_with_schema, form_fault, framing_fault, or_text}
+
+-- a value within both limits, of a table
+pub record IsWithin (which : Which) (v : Plain) : Type 0 where
+  pub normal : IsNormal v
+  pub shaped : HasShape (shape_of (Obj which)) v
+  pub fits : size_of v ≤ MOST_BYTES
+  pub few : value_count v ≤ MOST_VALUES
+
+-- ---- what is written is within the limits
+
+-- what the layer below says of a value that overflows
+abbrev pub Overflows : Type 0
+Overflows = (v : Plain) → IsNormal v → is_some (overflow_of v) ≡ passes (size_of v, value_count v)
+
+-- a value that was written
+record IsWritten (v : Plain) (payload : List ℕ) : Type 0 where
+  none : overflow_of v ≡ None
+  payload_is : canonical v ≡ payload
+
+written : (v : Plain) (payload : List ℕ) → written_of v ≡ Ok payload → IsWritten v payload
+unfolding written_of
+written v payload e = go (overflow_of v) refl e
+  where
+    go : (o : Option PayloadCounts) → overflow_of v ≡ o → or_overflow (canonical v) o ≡ Ok payload → IsWritten v payload
+    go None is e = record { none = is; payload_is = cc }
+    go (Some counts) is e = absurd cc
+
+neither : (a b : Bool) → false ≡ (a || b) → (a ≡ false) × (b ≡ false)
+neither true b e = absurd cc
+neither false b e = (refl, sym e)
+
+pub within : Overflows → (which : Which) (v : Plain) (payload : List ℕ) → IsNormal v → HasShape (shape_of (Obj which)) v → written_of v ≡ Ok payload → IsWithin which v × (canonical v ≡ payload)
+within law which v payload n h e =
+    let w = written v payload e in
+    let passed = sym (ap is_some w.none) ∙ law v n in
+    let t = neither (ltb MOST_BYTES (size_of v)) (ltb MOST_VALUES (value_count v)) passed in
+    (record { normal = n; shaped = h; fits = ltb-false _ _ t.0; few = ltb-false _ _ t.1 }, w.payload_is)
+
+-- ---- the payload
+
+head_good : (root : ℕ) (out : Layout) → head_fault (payload_with_root root out) ≡ None
+head_good root out = let t : ltb (length (payload_with_root root out)) 8 ≡ false = le-ltb _ _ (payload_long root out) in rw t refl
+
+shape_good : Lower → (which : Which) (v : Plain) → IsWithin which v → shape_fault (canonical v) (shape_of (Obj which)) (root_of (canonical v)) ≡ None
+shape_good laws which v g =
+    let visits_are = laws.visited (shape_of (Obj which)) v g.normal g.shaped g.fits in
+    let few = g.few in
+    (laws.faultless (canonical v) (shape_of (Obj which)) (root_of (canonical v))).1
+    (ap is_some (laws.back (shape_of (Obj which)) v g.normal g.shaped g.fits), omega arith)
+
+form_good : Lower → (which : Which) (v : Plain) → IsWithin which v → form_fault which (canonical v) ≡ None
+form_good laws which v g = none_of _ _ (head_good (write v empty_layout).0 (write v empty_layout).1) (shape_good laws which v g)
+
+value_is : Lower → (which : Which) (v : Plain) → IsWithin which v → root_value which (canonical v) ≡ v
+unfolding value_at
+value_is laws which v g = ap (λ (o : Option Plain). unwrap_or o null) (laws.back (shape_of (Obj which)) v g.normal g.shaped g.fits)
+
+-- ---- the file
+
+blocks_printed : Lower → (which : Which) (v : Plain) → IsWithin which v → (r : Reading) (at : ℕ) → r ≡ more (adb_piece (canonical v)) at done → dump_of_blocks which r ≡ Ok (dump_text which v)
+blocks_printed laws which v g r at is =
+    ap (dump_of_blocks which) is
+    ∙ ap (λ (o : Option Cause). or_text o (dump_text which (root_value which (canonical v)))) (none_of _ _ (form_good laws which v g) refl)
+    ∙ ap (λ (u : Plain). let text : Result (List ℕ) Cause = Ok (dump_text which u) in text) (value_is laws which v g)
+
+pub printed : Lower → (which : Which) (schema : ℕ) (v : Plain) → schema_word which ≡ Some schema → IsWithin which v → dump_of (file_of schema (canonical v)) ≡ Ok (dump_text which v)
+unfolding dump_of
+printed laws which schema v word g =
+    let w = word_is which schema word in
+    let file : List ℕ = file_of schema (canonical v) in
+    let pieces : List Piece = adb_piece (canonical v) ∷ [] in
+    let long = payload_long (write v empty_layout).0 (write v empty_layout).1 in
+    let fits = g.fits in
+    let spelled = laws.written schema pieces w.small (record { order = refl; long = long }, omega arith, contents_stand [] tt) in
+    let read = laws.read file schema pieces spelled in
+    let first = first_of (reading_of (start_of schema file)) (adb_piece (canonical v)) [] (reading_is file schema pieces read.0 read.1) in
+    let alone : reading_of (start_of schema file) ≡ more (adb_piece (canonical v)) first.at done = first.is ∙ ap (λ (r : Reading). more (adb_piece (canonical v)) first.at r) (none_of_blocks first.later first.others) in
+    ap (dump_with_schema file) read.0
+    ∙ ap (dump_with_root schema (reading_of (start_of schema file))) w.root
+    ∙ blocks_printed laws which v g (reading_of (start_of schema file)) first.at alone

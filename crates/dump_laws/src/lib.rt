@@ -1,0 +1,64 @@
+//! `adbdump` and `adbgen` undo each other: laws about the definitions of the two commands.
+//!
+//! They cite *dump_of* of `outcome` and *generated_file* of `gen_core`. The rules are in
+//! `docs/formats.md`, "Dump text" and "Canonical layout". The body of a law calls the laws that its
+//! proof needs, and has no effect at run time.
+#![tactic(auto)]
+
+ghost use Rattle.std.specs.Prelude.{◌≡◌, ◌<◌, ℕ, All, List, Some, Ok};
+ghost use Rattle.adb_block.specs.Header.{header_of};
+ghost use Rattle.adb_view.specs.declared.tables.Which.{Which};
+ghost use Rattle.adb_view.specs.Plain.{Plain};
+ghost use Rattle.adb_schema.specs.Soundness.{payload_in, root_value, schema_word};
+ghost use Rattle.adb_write.specs.Canonical.{written_of};
+ghost use Rattle.adb_write.specs.File.{file_of};
+ghost use Rattle.pkg_core.specs.Whole.{root_of_schema};
+ghost use Rattle.gen_core.specs.Dumps.{IsRootValue};
+ghost use Rattle.gen_core.specs.Generated.{file_unless_too_large, generated_file};
+ghost use Rattle.outcome.specs.Dump.{dump_of};
+
+use adb_block::{what_is_spelled_is_read, what_is_written_is_spelled};
+use adb_dump::values_found_in_bytes_are_of_their_table;
+use adb_view::values_of_few_visits_have_no_fault;
+use adb_write::{
+    a_canonical_payload_is_read_back, a_canonical_payload_is_visited_once,
+    a_value_overflows_exactly_past_a_limit,
+};
+use gen_core::a_text_is_accepted_exactly_if_a_root_has_it;
+
+/// A container that is generated from a text is printed as that text again.
+pub fn what_is_generated_is_printed_again()
+    ensures { (text file : List ℕ) → generated_file text ≡ Ok file → dump_of file ≡ Ok text }
+{
+    what_is_written_is_spelled();
+    what_is_spelled_is_read();
+    a_canonical_payload_is_read_back();
+    a_canonical_payload_is_visited_once();
+    a_value_overflows_exactly_past_a_limit();
+    values_of_few_visits_have_no_fault();
+    a_text_is_accepted_exactly_if_a_root_has_it();
+}
+
+/// A text that was printed of a container is generated as the canonical container of the
+/// container's value, without contents of files, or refused for the counts at which that is too
+/// large. So a canonical container without contents is generated from its own dump.
+pub fn what_is_printed_is_generated_again()
+    ensures value { (file text : List ℕ) (schema : ℕ) (which : Which)
+        → All (λ b. b < 256) (payload_in file) → dump_of file ≡ Ok text
+        → header_of file ≡ Ok schema → root_of_schema schema ≡ Some which
+        → generated_file text
+        ≡ file_unless_too_large schema (written_of (root_value which (payload_in file))) }
+    ensures canonical { (which : Which) (value : Plain) (schema : ℕ) (payload text : List ℕ)
+        → IsRootValue which value → schema_word which ≡ Some schema
+        → written_of value ≡ Ok payload → dump_of (file_of schema payload) ≡ Ok text
+        → generated_file text ≡ Ok (file_of schema payload) }
+{
+    what_is_written_is_spelled();
+    what_is_spelled_is_read();
+    a_canonical_payload_is_read_back();
+    a_canonical_payload_is_visited_once();
+    a_value_overflows_exactly_past_a_limit();
+    values_of_few_visits_have_no_fault();
+    values_found_in_bytes_are_of_their_table();
+    a_text_is_accepted_exactly_if_a_root_has_it();
+}
