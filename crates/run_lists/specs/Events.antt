@@ -154,13 +154,13 @@ IsIdleRun v run =
     CommitsNothing (IsOutcomeFrom v run) run.answer
     ⊎ ((output run.words ≡ None) × (HasCommit v run → ⊥))
 
--- an event is a crash, or a run that commits nothing
+-- an event is a crash, a run that commits nothing, or a touch by others
 abbrev pub IsIdle : TreeState → Event → Type 0
 IsIdle v (Ends run) = IsIdleRun v run
 IsIdle v (Stops run) = IsIdleRun v run
 IsIdle v Crashes = Unit {0}
 IsIdle v Edits = ⊥
-IsIdle v (Touches theirs) = ⊥
+IsIdle v (Touches theirs) = Unit {0}
 
 -- a root has seen events, and none committed anything
 abbrev pub HasSeenIdly : TreeState → List Event → TreeState → Type 0
@@ -231,9 +231,23 @@ ignored_by Ok run ignored = ignored_but (output run.words) ignored
 ignored_by TreeFault run ignored = ignored_in run ignored
 ignored_by other run ignored = ignored
 
+-- names are among others
+abbrev pub AreAmong : (List ℕ → Bool) → (List ℕ → Bool) → Type 0
+AreAmong few many = (q : List ℕ) → few q ≡ true → many q ≡ true
+
 -- ignored names, and names that others touched
 abbrev pub with_touched : (List ℕ → Bool) → (List ℕ → Bool) → List ℕ → Bool
 with_touched theirs ignored q = names_of_others theirs q || ignored q
+
+-- ignored names, and all names that others touched along a list
+abbrev pub with_all_touched : List Event → (List ℕ → Bool) → List ℕ → Bool
+with_all_touched [] ignored = ignored
+with_all_touched (Ends run ∷ earlier) ignored = with_all_touched earlier ignored
+with_all_touched (Stops run ∷ earlier) ignored = with_all_touched earlier ignored
+with_all_touched (Crashes ∷ earlier) ignored = with_all_touched earlier ignored
+with_all_touched (Edits ∷ earlier) ignored = with_all_touched earlier ignored
+with_all_touched (Touches theirs ∷ earlier) ignored =
+    with_touched theirs (with_all_touched earlier ignored)
 
 -- The names that are ignored after a list. A run with an output adds its scratch name if it is stopped
 -- or the tree fails. The name is no longer ignored once the output is written, or all was synced. Names
