@@ -93,7 +93,8 @@ class Maker:
             dependencies([self.one(*self.names), self.one("", "", "!") + self.one(*self.names)]
                          if self.some(0.15) else []),
             scripts, triggers, self.one(0, 0, 1), self.one(0, 0, 1, 2),
-            self.one(32, 32, 32, 20))
+            self.one(32, 32, 32, 20),
+            {path: [0o644, b"root", b"root"] for path in files if self.some(0.2)})
 
     def repository_packages(self):
         count = self.one(*range(2, 9))

@@ -29,7 +29,7 @@ import sys
 from dataclasses import dataclass, field
 
 from packages import SCRIPTS, Package, are_same, bytes_of, file_of
-from questions import DATABASE, WORLD
+from questions import DATABASE, TEXT_DATABASE, WORLD
 from versions import dependencies, greater_first, is_match, version_order
 
 # ---------------------------------------------------------------------------------------------
@@ -139,23 +139,28 @@ class Refused(Exception):
 
 @dataclass
 class Root:
-    """Files apart from the database and world, and the installed packages in the order of their
-    names, each with the paths that it owns."""
+    """Files apart from the database and world, and the installed packages in the order of the
+    database, each with the paths that it owns. `text` is a database of version 2, if it is one."""
     files: dict = field(default_factory=dict)
     installed: list = field(default_factory=list)
     world: list = field(default_factory=list)
     has_database: bool = False
     has_world: bool = False
+    text: bytes = None
 
     def copy(self):
         return Root(dict(self.files), list(self.installed), list(self.world), self.has_database,
-                    self.has_world)
+                    self.has_world, self.text)
 
-    def all_files(self):
+    def all_files(self, is_converted=False):
+        """All files. If `is_converted` a database of version 2 is shown as the one that it stands
+        for."""
         found = dict(self.files)
         if self.has_world:
             found[WORLD] = "".join(each.text() + "\n" for each in self.world).encode()
-        if self.has_database:
+        if self.text is not None and not is_converted:
+            found[TEXT_DATABASE] = self.text
+        elif self.has_database:
             packages = [package.value(package.id, paths) for package, paths in self.installed]
             found[DATABASE] = file_of(0x00626469, [packages or None], 9)
         return found

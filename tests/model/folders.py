@@ -15,7 +15,7 @@ import questions
 from cases import APPLETS, NAMES, VERSIONS, Maker
 from changes import Change, Refused, Repository, Root, TooLong
 from packages import file_of
-from questions import DATABASE, INTENT, REPOSITORIES, STAGE, WORLD
+from questions import DATABASE, INTENT, REPOSITORIES, STAGE, TEXT_DATABASE, WORLD
 
 LISTED = ["usr/x", "usr/y", "bin/z", "etc/c", "etc/d/e", "f", "usr/share/m", "usr/share/n", "bin/l"]
 FAULTS = [b"", b"x", b"ADB.", b"ADBd", b"ADB.pckg", b"ADB.indx\x0c\x00\x00\x00\x00\x00\x00\x00"]
@@ -180,23 +180,20 @@ class Runner(Maker):
     def ask_of_others(self, root, repositories):
         """Asks on a database and indexes that another program may have written."""
         self.steps["other databases"] += 1
+        root = foreign.installed(self, root)
         files = root.all_files()
-        files[DATABASE] = foreign.database(self, root)
+        if self.some(0.8):
+            files[DATABASE] = foreign.database(self, root)
         for repository in repositories:
             files[f"{repository.folder}/index.adb"] = foreign.index(self, repository)
         self.ask(root, files, APPLETS + ["info", "manifest"])
 
-    def ask_of_text(self, root):
-        """Asks on a root whose database is a text of version 2."""
-        self.steps["databases of version 2"] += 1
-        files = root.all_files()
-        text, files[DATABASE] = foreign.text_database(self, root)
-        found = {**files, foreign.TEXT_DATABASE: text}
-        del found[DATABASE]
-        self.ask(root, found, APPLETS + ["info"], told=files)
-        lines = text.split(b"\n")
+    def ask_of_bad_text(self, root):
+        """Asks on a root whose database is a text of version 2 with a bad line."""
+        self.steps["bad databases of version 2"] += 1
+        found, lines = root.all_files(), root.text.split(b"\n")
         at = self.random.randrange(len(lines))
-        found[foreign.TEXT_DATABASE] = b"\n".join(
+        found[TEXT_DATABASE] = b"\n".join(
             lines[:at] + [self.one(b"P", b"Xx", b"I:01", b"V:x", b"C:Q1", b"F:/", b"D:a@b", b"k:x")]
             + lines[at:])
         self.folder.put(found)
@@ -344,15 +341,23 @@ class Runner(Maker):
             for _ in range(self.one(1, 1, 2)):
                 root = self.change(root, repositories, packages)
                 if self.some(0.4):
-                    self.ask(root, root.all_files(), APPLETS)
+                    self.ask(root, root.all_files(), APPLETS, root.all_files(is_converted=True))
             root = self.user_files(root)
+            if root.text is None and self.some(0.15):
+                self.steps["databases of version 2"] += 1
+                root = foreign.with_text_database(self, root)
+            elif root.text is None and self.some(0.15):
+                self.steps["changed databases"] += 1
+                root = foreign.installed(self, root)
             self.folder.put(root.all_files())
             self.put_empty_folders(root)
-            self.ask(root, root.all_files(), APPLETS + ["audit", "list", "search", "policy"])
+            self.ask(root, root.all_files(), APPLETS + ["audit", "list", "search", "policy"],
+                     root.all_files(is_converted=True))
+            if root.text is not None:
+                self.ask_of_bad_text(root)
+                continue
             if self.some(0.25):
                 self.ask_of_others(root, repositories)
-            if self.some(0.15):
-                self.ask_of_text(root)
             if self.some(0.3):
                 self.ask_of_link(root)
             if self.some(0.4):
@@ -400,7 +405,7 @@ def run(program, seed, commands, parent="/tmp", until=None):
             break
         cases += 1
         try:
-            runner.large_case() if cases == 2 else runner.case()
+            runner.large_case() if cases == 20 else runner.case()
         except Different:
             pass
     shutil.rmtree(runner.folder.path)

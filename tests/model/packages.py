@@ -71,7 +71,8 @@ def are_same(one, other):
 
 @dataclass
 class Package:
-    """`files` are in the order of its folders; `digests` are those of the files that have one."""
+    """`files` are in the order of its folders; `digests` are those of the files that have one.
+    `acls` are those of files, by their paths, and of folders, by their names and a slash."""
     name: str
     version: str
     files: dict = field(default_factory=dict)
@@ -86,6 +87,7 @@ class Package:
     replaces_priority: int = 0
     provider_priority: int = 0
     id_length: int = 32
+    acls: dict = field(default_factory=dict)
 
     def __post_init__(self):
         self.size = sum(len(c) for c in self.files.values() if not isinstance(c, Link))
@@ -117,7 +119,7 @@ class Package:
 
     def value(self, identity, owned):
         """As a table: with its identity in a database, and of its files the owned ones."""
-        paths = [[name.encode() or None, None,
+        paths = [[name.encode() or None, self.acls.get(name + "/"),
                   [self.file_value(path) for path in paths if path in owned] or None]
                  for name, paths in self.folders()]
         paths = [entry if any(entry) else None for entry in paths]
@@ -129,7 +131,8 @@ class Package:
 
     def file_value(self, path):
         entry, name = self.entries[path], path.rpartition("/")[2].encode()
-        return [name, None, entry.size or None, None, entry.digest or None, entry.target or None]
+        return [name, self.acls.get(path), entry.size or None, None, entry.digest or None,
+                entry.target or None]
 
     def container(self):
         blocks = [block(ADB_BLOCK, self.payload)]

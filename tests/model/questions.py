@@ -15,6 +15,7 @@ from versions import greater_first, is_match
 DATABASE, WORLD, REPOSITORIES, INTENT, STAGE = (
     "lib/apk/db/installed.adb", "etc/apk/world", "etc/apk/repositories", "lib/apk/intent",
     "lib/apk/stage/")
+TEXT_DATABASE = "lib/apk/db/installed"
 OPERATORS = {1: b"=", 2: b"<", 3: b"<=", 4: b">", 5: b">=", 9: b"~", 11: b"<~", 13: b">~"}
 
 
