@@ -11,18 +11,26 @@ call, and meet a fault at each.
 
     python3 tests/model/changes.py run PROGRAM SEED COMMANDS [FOLDER [UNTIL]]
 
-runs PROGRAM on a folder of the host, on random cases of more kinds, until it has run COMMANDS command
-lines, or until the time UNTIL (HH:MM). It compares standard output, standard error, the status and all
-files with its own, prints each difference, and last how many command lines of each kind it ran. The
-status is 1 if there is a difference. Cases are made in a new folder below FOLDER (/tmp, if not given);
-a folder in memory is faster. A case with a difference is copied beside it, and its path is printed.
+runs PROGRAM on a folder of the host, on random cases of more kinds, until it has run COMMANDS
+command lines, or until the time UNTIL (HH:MM). It compares standard output, standard error, the
+status and all files with its own. It prints each difference, and last how many command lines of
+each kind it ran. The status is 1 if there is a difference. Cases are made in a new folder below
+FOLDER (/tmp, if not given); a folder in memory is faster. The files before a difference are kept
+in FOLDER/different-SEED-NUMBER. tests/rows.md, "The second program", lists what is covered.
 
-The files here: versions.py (versions, dependencies, patterns), packages.py (packages and their
-containers), changes.py (selection and changes), questions.py (`info`, `audit`, `manifest`, `list`,
-`search`, `policy`), cases.py (random cases), folders.py (the program on a folder), verify.py (a reader
-of containers). One seed gives the same cases each time.
+The modules:
 
-They share no code with the program: where the two differ, one of them is wrong.
+    versions.py   versions, dependencies and patterns
+    packages.py   packages and their containers
+    changes.py    selection and changes
+    questions.py  `info`, `audit`, `manifest`, `list`, `search` and `policy`, from the files alone
+    cases.py      random packages, repositories and command lines, and rows of them
+    foreign.py    databases and indexes of other programs, and of version 2
+    folders.py    the program on a folder
+    verify.py     a reader of containers
+
+They share no code with the program: where the two differ, one of them is wrong. One seed gives the
+same cases each time.
 """
 
 import sys

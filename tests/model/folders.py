@@ -1,5 +1,5 @@
-"""Runs a program on a folder of the host, on random cases, and compares what it prints and leaves with
-what changes.py and questions.py work out."""
+"""Runs a program on a folder of the host, on random cases. What it prints and leaves is compared
+with what changes.py and questions.py expect."""
 
 import hashlib
 import os
@@ -21,12 +21,12 @@ LISTED = ["usr/x", "usr/y", "bin/z", "etc/c", "etc/d/e", "f", "usr/share/m", "us
 FAULTS = [b"", b"x", b"ADB.", b"ADBd", b"ADB.pckg", b"ADB.indx\x0c\x00\x00\x00\x00\x00\x00\x00"]
 BAD_WORLDS = [b"a\nb\na\n", b"!\n", b"\n\na b a\n", b"a=\n", b"a@\n", b"a\r\n", b"a><1\n", b"a=x"]
 GOOD_WORLDS = [b"", b"\n", b"zz\t!yy  xx@none>=1\n\n", b"a>=1@edge", b"a=~1 b~=1"]
-BAD_LISTS = [b"../x\n", b"@edge\n", b"\n#x\n@ repo\n", b"/\n", b"a//b\n", b"@e/dge repo/index.adb\n",
-             b"\xff\n"]
+BAD_LISTS = [b"../x\n", b"@edge\n", b"\n#x\n@ repo\n", b"/\n", b"a//b\n", b"\xff\n",
+             b"@e/dge repo/index.adb\n"]
 
 
 class Different(Exception):
-    """An end of a case: what is printed or left is not what was worked out."""
+    """The end of a case: what is printed or left is not what was expected."""
 
 
 class Folder:
@@ -97,7 +97,7 @@ class Runner(Maker):
     # -- what is compared
 
     def run(self, applet, words, wanted, files):
-        """Runs a command line; behind it the folder has these files."""
+        """Runs a command line. After it the folder has these files."""
         self.ran[applet] += 1
         self.answers[applet, wanted[0], bool(wanted[1])] += 1
         if wanted[2]:
@@ -106,7 +106,7 @@ class Runner(Maker):
         before = dict(self.folder.files)
         found = self.folder.run(words)
         if wanted[0] == 2 or b"ERROR: usage error" in wanted[2]:
-            # what follows is a text for a reader, of the host or of the help
+            # the further lines are texts for a reader, of the host or of the help
             found = found[0], found[1], found[2].split(b"\n")[0] + b"\n"
         for name, one, other in zip(("status", "standard output", "standard error"), found, wanted):
             if one != other:
@@ -144,15 +144,15 @@ class Runner(Maker):
         return after
 
     def ask(self, root, files, applets, told=None):
-        """Asks on a folder that has these files. `told` are the files from which the answers are worked
-        out, if these are others."""
+        """Asks on a folder that has these files. The answers are worked out from the files `told`,
+        if they are given."""
         told = files if told is None else told
         self.folder.put(files)
         for applet in applets:
             words, question = self.question(root, applet)
             wanted = questions.answer(question, told)
             if self.some(0.03):
-                # what an earlier run left in the staging area is removed, but beside a bad intent
+                # a file that was left in the staging area is removed, unless the intent is bad
                 self.steps["staged files"] += 1
                 self.folder.put({**files, STAGE + self.one("7", "x/y"): b"staged"})
             is_kept = f"ERROR: {INTENT}".encode() in wanted[2]
@@ -382,7 +382,8 @@ class Runner(Maker):
 
 def reason(text):
     """The text of a refusal without its numbers, names and paths."""
-    if text.startswith(("ERROR: package database: ", "ERROR: repository ", "ERROR: lib/apk/intent")):
+    whole = ("ERROR: package database: ", "ERROR: repository ", f"ERROR: {INTENT}: ")
+    if text.startswith(whole):
         text = re.sub(r"\b[0-9a-f]{8}\b", "W", text)
         return re.sub(r"\d+", "N", text).strip()
     text = re.sub(r"\b(word|line) \d+", r"\1 N", text)

@@ -63,12 +63,17 @@ def database(maker, root):
 
 
 def index(maker, repository):
-    """The packages of a repository with other ids and match numbers, in another order."""
+    """The packages of a repository with other ids, versions and match numbers, in another order."""
     infos = [package.information(maker.one(package.id, package.id, package.id[:20]))
              for package in repository.packages]
     for info in infos:
         change_dependencies(maker, info)
         info[4] = maker.one(info[4], b"arch of the index")
+        if maker.some(0.15):
+            # the id of one package, and the version or the name of another
+            info[1] = maker.one(*maker.versions).encode()
+        if maker.some(0.05):
+            info[0] = maker.one(*maker.names).encode()
     maker.random.shuffle(infos)
     return file_of(0x78646E69, [maker.one(None, b"an index"), infos or None], 8)
 

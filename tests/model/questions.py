@@ -88,8 +88,9 @@ def dependency_text(value):
     return text + OPERATORS[{0: 1, 8: 9, 10: 11, 12: 13}.get(bits, bits)] + version
 
 
-WORLD_TEXT = re.compile(rb"!?([^\x00-\x20\x7f-\xff!<=>@~]{1,255})(@[A-Za-z0-9_.-]+)?"
-                        rb"((>=|<=|<~|>~|=~|~=|[<>=~])(?P<version>[^@]*))?(?P<tag>@[A-Za-z0-9_.-]+)?")
+TAG = rb"@[A-Za-z0-9_.-]+"
+WORLD_TEXT = re.compile(rb"!?([^\x00-\x20\x7f-\xff!<=>@~]{1,255})(" + TAG + rb")?"
+                        rb"((>=|<=|<~|>~|=~|~=|[<>=~])(?P<version>[^@]*))?(?P<tag>" + TAG + rb")?")
 
 
 def test_world(text):
