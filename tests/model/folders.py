@@ -13,7 +13,7 @@ from collections import Counter
 import foreign
 import questions
 from cases import APPLETS, NAMES, VERSIONS, Maker
-from changes import Change, Refused, Repository, Root, TooLong
+from changes import Change, Refused, Repository, Root, TooLong, is_at_or_below
 from packages import file_of
 from questions import DATABASE, INTENT, REPOSITORIES, STAGE, TEXT_DATABASE, WORLD
 
@@ -140,6 +140,8 @@ class Runner(Maker):
             return root
         except Refused as refusal:
             after, wanted = root, (1, b"", f"ERROR: {refusal}\n".encode())
+        if self.some(0.05):
+            self.folder.put(self.interrupted(root.all_files()))
         self.run(command.applet, command.line(), wanted, after.all_files())
         return after
 
@@ -154,13 +156,35 @@ class Runner(Maker):
             if self.some(0.03):
                 # a file that was left in the staging area is removed, unless the intent is bad
                 self.steps["staged files"] += 1
-                self.folder.put({**files, STAGE + self.one("7", "x/y"): b"staged"})
+                self.folder.put({**files, STAGE + self.one("0", "7", "x/y"): b"staged"})
+            elif INTENT not in files and self.some(0.03):
+                self.folder.put(self.interrupted(files))
             is_kept = f"ERROR: {INTENT}".encode() in wanted[2]
             self.run(applet, words, wanted, self.folder.files if is_kept else files)
         if self.some(0.2):
             words, place = self.usage_error()
             wanted = 1, b"", f"ERROR: usage error at word {place}\n".encode()
             self.run(words[0], words, wanted, self.folder.files)
+
+    def interrupted(self, files):
+        """A moment in a change that leaves these files (crash-safety.md, "What files stand for")."""
+        self.steps["interrupted changes"] += 1
+        found = dict(files)
+        writes = sorted(self.random.sample(sorted(files), min(len(files), self.one(0, 1, 2, 4))))
+        removals = sorted(path for path in self.random.sample(LISTED + ["usr/old", "new/x"], 3)
+                          if not any(is_at_or_below(path, (each,)) or is_at_or_below(each, (path,))
+                                     for each in list(files)))
+        done = self.random.randrange(len(removals) + len(writes) + 1)
+        for path in removals[done:]:
+            found[path] = b"old"
+        for i, path in list(enumerate(writes, 1))[max(done - len(removals), 0):]:
+            found[f"{STAGE}{i}"] = found.pop(path)
+            if self.some(0.5):
+                found[path] = b"old"
+        found[INTENT] = file_of(
+            0x74746E69, [[path.encode() for path in removals] or None,
+                         [path.encode() for path in writes] or None], 10)
+        return found
 
     def usage_error(self):
         """A wrong command line, and the place of its first wrong word."""
