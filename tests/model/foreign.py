@@ -91,7 +91,8 @@ def with_text_database(maker, root):
     for i, (package, paths) in enumerate(root.installed):
         package = copy.copy(package)
         package.id = maker.one(None, hashlib.sha1(package.payload).digest(), package.payload[-20:])
-        package.texts = {name: text for name, text in package.texts.items() if maker.some(0.8)}
+        package.texts = {name: text.replace(b"\n", b" ") for name, text in package.texts.items()
+                         if text and maker.some(0.8)}
         package.scripts, package.triggers, package.acls = {}, [], {}
         package.entries = {path: text_entry(maker, content)
                            for path, content in package.files.items()}
