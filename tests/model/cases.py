@@ -24,7 +24,8 @@ NAMES = [PLAIN_NAMES, PLAIN_NAMES, ["lib", "lib-a", "lib-b", "so:lib", "b"],
 PLAIN_VERSIONS = ["1", "2", "3"]
 VERSIONS = [PLAIN_VERSIONS, ["1", "01", "2", "3"], ["1", "01", "001", "2"],
             ["1.0-r0", "1.0-r00", "1.0-r1", "1.1"], ["1_p1", "1_p01", "1_rc1", "1"],
-            ["1.02", "1.2", "1.025", "1.2a"], ["2~ab", "2~b", "2", "2-r1"],
+            ["1.02", "1.2", "1.025", "1.2a"], ["1.02", "1.025", "1.0250", "1.25"],
+            ["2~ab", "2~b", "2", "2-r1"],
             ["1_alpha", "1_alpha1", "1_p", "1.0"], ["10", "9", "1", "1.10"]]
 DIGESTS = [hashlib.sha256, hashlib.sha256, hashlib.sha256, hashlib.sha1, hashlib.sha512]
 
@@ -48,7 +49,7 @@ class Maker:
     def dependency(self, conflicts, tags, versions):
         name = self.one(*self.known) if self.some(0.9) else self.one("v", "w", *self.names)
         tag = self.one("@edge", "@edge", "@b-1.x") if self.some(tags) else ""
-        version = (self.one(">=", ">=", "<=", "~", "=", ">", "<", "<~", ">~")
+        version = (self.one(">=", ">=", "<=", "~", "~", "=", ">", "<", "<~", ">~")
                    + self.one(*self.versions) if self.some(versions) else "")
         return ("!" if self.some(conflicts) else "") + name + tag + version
 
@@ -112,8 +113,8 @@ class Maker:
         return sorted(kept, key=lambda package: (package.name, package.version))
 
     def package_files(self, repositories):
-        """Nearly all packages stand where their index says, and nearly all as it says. Of two of
-        one name and version the later one stands there."""
+        """Nearly all packages have a file, and nearly all of these are as their index says. Of two
+        packages of one name and version the later one has it."""
         return {(repository.folder, package.name, package.version):
                 package if self.some(0.98) else self.package(package.name, package.version)
                 for repository in repositories for package in repository.packages
@@ -152,7 +153,7 @@ class Maker:
         if applet == "add":
             count = self.one(1, 2, 2, 3) if not root.has_database else self.one(0, 1, 1, 2)
             return Command(applet, options,
-                           [self.dependency(0.08, 0.2, 0.15) for _ in range(count)])
+                           [self.dependency(0.08, 0.2, 0.2) for _ in range(count)])
         if applet == "del":
             names += [each.name for each in root.world]
             options += ["--purge"] if self.some(0.3) else []

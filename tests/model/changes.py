@@ -125,9 +125,9 @@ class Search:
             return list(chosen)
         options = [each for each in self.candidates if each.meets(need)]
         for option in sorted(options, key=lambda each: self.rank(need, each)):
-            stands = option not in passed_over and not any(
+            is_free = option not in passed_over and not any(
                 option.is_apart_from(m) or m.is_apart_from(option) for m in chosen)
-            found = self.walk(chosen + (option,), passed_over) if stands else None
+            found = self.walk(chosen + (option,), passed_over) if is_free else None
             if found is not None:
                 return found
             passed_over = passed_over | {option}
@@ -161,8 +161,8 @@ class Root:
                     self.has_world, self.text)
 
     def all_files(self, is_converted=False):
-        """All files. If `is_converted` a database of version 2 is shown as the one that it stands
-        for."""
+        """All files. If `is_converted` a database of version 2 is replaced by the one to which
+        it is converted."""
         found = dict(self.files)
         if self.has_world:
             found[WORLD] = "".join(each.text() + "\n" for each in self.world).encode()
@@ -229,7 +229,7 @@ class Change:
         self.old_paths = {package.name: paths for package, paths in root.installed}
 
     def run(self):
-        """The report and the root behind it."""
+        """The report, and the root after the change."""
         world = self.new_world()
         selection = Search(self.candidates(), world, self.is_upgraded).walk()
         if selection is None:
@@ -361,7 +361,7 @@ class Change:
                 raise Refused(f"{path}: {first} and {second} both have it")
 
     def paths_of(self, name):
-        """The paths that a package owns behind the change."""
+        """The paths that a package owns after the change."""
         listed = self.after[name].files if name in self.coming else self.old_paths[name]
         return [path for path in listed if self.owner.get(path) == name]
 
@@ -438,7 +438,7 @@ def is_folder_of(pattern, folder):
 
 
 def main():
-    # These modules use this one, so they are read when it is whole.
+    # both import this module
     import cases
     import folders
     if sys.argv[1] == "run":

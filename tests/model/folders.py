@@ -93,7 +93,6 @@ class Runner(Maker):
         self.folder = Folder(program, parent)
         self.ran, self.answers, self.reasons, self.steps = (Counter() for _ in range(4))
         self.differences = 0
-        self.history = []
 
     # -- what is compared
 
@@ -103,7 +102,6 @@ class Runner(Maker):
         self.answers[applet, wanted[0], bool(wanted[1])] += 1
         if wanted[2]:
             self.reasons[reason(wanted[2].decode())] += 1
-        self.history.append(words)
         before = dict(self.folder.files)
         found = self.folder.run(words)
         if found[2].startswith(WAITS):
@@ -115,13 +113,13 @@ class Runner(Maker):
             found = found[0], found[1], found[2].split(b"\n")[0] + b"\n"
         for name, one, other in zip(("status", "standard output", "standard error"), found, wanted):
             if one != other:
-                self.differ(words, before, f"{name}: found {one!r}\n  where {other!r} was expected")
+                self.differ(words, before, f"{name}: found {one!r}\n  instead of {other!r}")
         left = self.folder.found()
         if left != files:
             paths = sorted(path for path in set(left) | set(files)
                            if left.get(path) != files.get(path))
             self.differ(words, before, "files: " + "\n  ".join(
-                f"{path}: found {left.get(path)!r}\n  where {files.get(path)!r} was expected"
+                f"{path}: found {left.get(path)!r}\n  instead of {files.get(path)!r}"
                 for path in paths))
         self.folder.files = left
 
@@ -150,14 +148,14 @@ class Runner(Maker):
         self.run(command.applet, command.line(), wanted, after.all_files())
         return after
 
-    def ask(self, root, files, applets, told=None):
-        """Asks on a folder that has these files. The answers are worked out from the files `told`,
-        if they are given."""
-        told = files if told is None else told
+    def ask(self, root, files, applets, converted=None):
+        """Asks on a folder that has these files. The answers are worked out from the files
+        `converted`, if they are given."""
+        converted = files if converted is None else converted
         self.folder.put(files)
         for applet in applets:
             words, question = self.question(root, applet)
-            wanted = questions.answer(question, told)
+            wanted = questions.answer(question, converted)
             if self.some(0.03):
                 # a file that was left in the staging area is removed, unless the intent is bad
                 self.steps["staged files"] += 1
@@ -172,7 +170,7 @@ class Runner(Maker):
             self.run(words[0], words, wanted, self.folder.files)
 
     def interrupted(self, files):
-        """A moment in a change that leaves these files (crash-safety.md, "What files stand for")."""
+        """A moment in a change that leaves these files, after its journal entry was made."""
         self.steps["interrupted changes"] += 1
         found = dict(files)
         writes = sorted(self.random.sample(sorted(files), min(len(files), self.one(0, 1, 2, 4))))
@@ -328,8 +326,8 @@ class Runner(Maker):
         """Some of the files that are read are absent, folders, or no good ones."""
         files = dict(files)
         indexes = [f"{each.folder}/index.adb" for each in repositories]
-        for path in [INTENT, DATABASE, WORLD, REPOSITORIES] + indexes:
-            if not self.some(0.06 if path in (INTENT, DATABASE) else 0.25):
+        for path in dict.fromkeys([INTENT, DATABASE, WORLD, REPOSITORIES] + indexes):
+            if not self.some(0.06 if path in (INTENT, DATABASE) else 0.35):
                 continue
             data = files.pop(path, None)
             kind = self.random.randrange(4)
@@ -352,7 +350,6 @@ class Runner(Maker):
         return files
 
     def case(self):
-        self.history = []
         self.folder.clear()
         self.names, self.versions = self.one(*NAMES), self.one(*VERSIONS)
         repositories = self.repositories()

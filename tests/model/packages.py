@@ -16,13 +16,13 @@ class Link:
 
 
 def bytes_of(content):
-    """What stands in the tree for a file or a link of a package."""
+    """What is in the tree for a file or a link of a package."""
     return b"!<symlink>" + content.target.encode() if isinstance(content, Link) else content
 
 
 @dataclass(frozen=True)
 class Entry:
-    """What a package or a database says of the bytes of a file. `digest` and `target` are empty
+    """What a package or a database lists for the bytes of a file. `digest` and `target` are empty
     if there is none."""
     size: int
     digest: bytes
