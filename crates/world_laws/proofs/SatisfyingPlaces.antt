@@ -15,7 +15,7 @@ use Rattle.world_laws.specs.SatisfiedWorld.{AreSamePackages, HasInstallIf, IsMet
 use Rattle.world_laws.proofs.InstalledCounted.{in_any, no_any}
 use Rattle.world_laws.proofs.InstalledCounted as Lists
 use Rattle.world_laws.proofs.NextNeeds.{all_in}
-use Rattle.world_laws.proofs.SatisfiedWorlds.{IsLedTo, at_in, at_test, in_at, satisfied, test_at}
+use Rattle.world_laws.proofs.SatisfiedWorlds.{IsLedTo, at_in, in_at, test_at}
 
 -- the place of a candidate in a list
 place_in : (cs : List Candidate) (c : Candidate) → IsIn c cs → (place : ℕ) × (slice_get cs place ≡ Some c)
@@ -61,12 +61,15 @@ module _ (pool : SealedPool) (packages : List Candidate) (are : SatisfyWorld poo
 
   -- a package that is one of some has their places
   with_known : (c : Candidate) (some : List Candidate) → IsIn c some → HasPlaces some → HasPlaces (c ∷ some)
-  with_known c some here p = (p.0, record {
-    once = p.1.once;
-    each = λ place at. (let q = p.1.each place at in (q.0, inr q.1, q.2));
-    all = λ x at. elim at [ inl is ↦ p.1.all x (subst (λ (y : Candidate). IsIn y some) (sym is) here) | inr more ↦ p.1.all x more ];
-    one = p.1.one;
-  })
+  with_known c some here p = (
+    p.0,
+    record {
+      once = p.1.once;
+      each = λ place at. (let q = p.1.each place at in (q.0, inr q.1, q.2));
+      all = λ x at. elim at [ inl is ↦ p.1.all x (subst (λ (y : Candidate). IsIn y some) (sym is) here) | inr more ↦ p.1.all x more ];
+      one = p.1.one;
+    },
+  )
 
   -- a package that is none of them has a further one
   with_new : (c : Candidate) (some : List Candidate) (place : ℕ) → (IsIn c some → ⊥) → candidate_at pool place ≡ Some c → HasPlaces some → HasPlaces (c ∷ some)

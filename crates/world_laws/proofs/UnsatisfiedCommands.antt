@@ -2,7 +2,6 @@
 use Rattle.std.proofs.Common.{◌≡◌, ◌↔◌, ℕ, Bool, true, false, List, [], ◌∷◌, Option, Some, None, Result, Ok, Err, refl, ap, sym, subst, ◌∙◌}
 use Rattle.std.specs.Prelude.{◌+◌, nat_lt, length, if◌then◌else◌}
 use Rattle.base_core.specs.declared.cause.Cause.{Cause}
-use Rattle.candidate_core.specs.Candidates.{Candidate}
 use Rattle.candidate_core.specs.Rank.{SealedPool, UpgradedNames, sealed_pool_by}
 use Rattle.candidate_core.specs.declared.candidate_list.TheConstants.{MOST_CANDIDATES}
 use Rattle.adb_schema.specs.Soundness.{first_fault, payload_in, root_value}
@@ -15,7 +14,6 @@ use Rattle.change_inputs.specs.Inputs.{Inputs, database_read, first_index_read, 
 use Rattle.change_inputs.specs.Repositories.{if_trusted, root_repositories}
 use Rattle.change_inputs.specs.World.{root_world, text_found}
 use Rattle.command_core.specs.Command.{CommandLine}
-use Rattle.dep_core.specs.Dependency.{Dependency}
 use Rattle.dep_core.specs.Repositories.{Repository, repositories_of}
 use Rattle.dep_core.specs.World.{world_of}
 use Rattle.engine_core.specs.Changed.{selected_by, selected_for, selected_of_inputs}
@@ -30,19 +28,18 @@ use Rattle.root_names.specs.RootNames.{database_name, repositories_name, text_da
 use Rattle.v2_core.specs.Payload.{payload_of_text}
 use Rattle.v2_core.specs.declared.read.V2Fault.{V2Fault}
 use Rattle.v2_core.specs.declared.read.V2Fault.TheVariants.{Bad, Memory, TooLarge}
-use Rattle.search_tables.specs.Selection.{IsSatisfying}
-use Rattle.world_laws.specs.SatisfiedWorld.{IsUnsatisfiable, SatisfyWorld}
+use Rattle.world_laws.specs.SatisfiedWorld.{IsUnsatisfiable}
 use Rattle.world_laws.proofs.CommandPools.{root_pool_is}
-use Rattle.world_laws.proofs.ReadWorlds.{and_then_ok}
 use Rattle.world_laws.proofs.SatisfiedWorlds.{satisfied}
 use Rattle.world_laws.proofs.SatisfyingPlaces.{selection_of}
 
 -- ---- a pool
 
 pub none_of_pool : (pool : SealedPool) → IsChoice pool None ↔ IsUnsatisfiable pool.candidates pool.world
-none_of_pool pool =
-    (λ none packages are. (let found = selection_of pool packages are in none found.0 found.1),
-    λ unsatisfiable selection is. unsatisfiable (candidates_at pool selection) (satisfied pool selection is))
+none_of_pool pool = (
+  λ none packages are. (let found = selection_of pool packages are in none found.0 found.1),
+  λ unsatisfiable selection is. unsatisfiable (candidates_at pool selection) (satisfied pool selection is),
+)
 
 none_of_inputs : (inputs : Inputs) (upgraded : UpgradedNames) (pool : SealedPool) → root_pool inputs upgraded ≡ Ok pool → IsChoice pool None ↔ IsUnsatisfiable (candidates_of inputs) inputs.root.new_world
 none_of_inputs inputs upgraded pool e =

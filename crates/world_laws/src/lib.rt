@@ -1,5 +1,6 @@
 //! What a command asks of world, what it chooses from, which dependency it satisfies next, what
-//! holds of the selected packages, and what a simulation reports of a change, in a reader's words.
+//! holds of the selected packages, when there are none that satisfy world, and what a simulation
+//! reports of a change, in a reader's words.
 //! The rules are in `docs/formats.md`, "World", in `docs/selection.md`, and in `docs/commands.md`,
 //! "`add` and `del`".
 //!
@@ -38,7 +39,8 @@ ghost use Rattle.dep_core.specs.Dependency.{Dependency};
 ghost use Rattle.dep_core.specs.World.{IsWorld};
 ghost use Rattle.world_laws.specs.CommandPool.{IsCommandPool};
 ghost use Rattle.world_laws.specs.NewWorld.{HoldsWhatWasAsked, IsReadWorld};
-ghost use Rattle.world_laws.specs.SatisfiedWorld.{AreSamePackages, IsNeeded, IsUnsatisfiable, SatisfyWorld};
+ghost use Rattle.world_laws.specs.SatisfiedWorld.{AreSamePackages, IsNeeded, SatisfyWorld};
+ghost use Rattle.world_laws.specs.SatisfiedWorld.{IsUnsatisfiable};
 
 use change_outcome::a_change_that_is_made_passes_each_test;
 use engine_core::a_choice_is_unique;
