@@ -7,19 +7,20 @@ use Rattle.base_core.specs.Files.{Files}
 use Rattle.base_core.specs.Tree.{TreeState, files_of}
 use Rattle.command_core.specs.Command.{CommandLine}
 use Rattle.journal_core.specs.Recovery.{IsSettled, RestsOn, intent_name}
+use Rattle.journal_core.proofs.More.{states_same}
 use Rattle.outcome.specs.Effect.{Changes, does_recover, effect_by, effect_of, output}
 use Rattle.outcome.specs.Outcome.{Outcome}
 use Rattle.outcome.specs.Words.{IsOutcome}
 use Rattle.words_core.specs.Grammar.{command_of}
-use Rattle.run_lists.specs.Events.{Event, HasNoPendingRun, HasSeen, HasSeenIdly, HasSeenToOneState, IsIdleRun, IsOutcomeFrom, IsRunFrom, IsStopOf, Run, ignored_behind, ignored_in, with_scratch}
+use Rattle.run_lists.specs.Events.{Event, HasNoPendingRun, HasSeen, HasSeenIdly, HasSeenToOneState, IsIdleRun, IsOutcomeFrom, IsRunFrom, IsStopOf, Run, ignored_behind, ignored_in, with_all_touched, with_scratch}
 use Rattle.run_lists.specs.Recovered.{HasSeenNoBadIntent, HasStateBefore, HasStateBeforeOrOutcome, HasStateOf, IsRecoveredBy, LeavesNoBadIntent}
 use Rattle.run_lists.specs.Safety.{HasOldOrOutcome, IsAtomicBehindAll, IsSafe, IsSafeBehindAll, LeavesOutcome}
 use Rattle.run_lists.proofs.AtMoments.{History}
 use Rattle.run_lists.proofs.Facts.{AreMore, Ignored}
 use Rattle.run_lists.proofs.Moments.{last_moment}
-use Rattle.run_lists.proofs.Names.{scratch_more}
+use Rattle.run_lists.proofs.Names.{all_touched_more, scratch_more}
 use Rattle.run_lists.proofs.OneRun.{idle_moment}
-use Rattle.run_lists.proofs.Recoverable.{left_state, recovered_as, seen_plainly, state_on}
+use Rattle.run_lists.proofs.Recoverable.{before_more, before_or_outcome_more, left_state, recovered_as, seen_plainly, state_on}
 use Rattle.run_lists.proofs.Torn.{torn_image, torn_self}
 use Rattle.headline.specs.Sentence.{EndsAsStated, HasGoodPast, IsAsPromised, IsAsPromisedBehindAll, RootRecoversTo}
 
@@ -27,22 +28,42 @@ use Rattle.headline.specs.Sentence.{EndsAsStated, HasGoodPast, IsAsPromised, IsA
 
 abbrev IsLeftAt : Ignored → TreeState → Type 0
 IsLeftAt names m = (w : TreeState) (later : List Event) (next : Run) → HasSeenIdly m later w → IsRunFrom w next → does_recover (effect_by (command_of next.words)) ≡ true
-    → (image : Files) × IsImage m image × IsRecoveredBy (HasStateOf names image) w next
+    → (image : Files) × IsImage m image × IsRecoveredBy (HasStateOf (with_all_touched later names) image) w next
 
-recovers_to : (names : Ignored) (m : TreeState) → IsLeftAt names m → (HasState : Files → Type 0) → ((a b : Files) → HasStateOf names b a → HasState b → HasState a) → ((image : Files) → IsImage m image → HasState image) → RootRecoversTo HasState m
-recovers_to names m left HasState same crash = record {
+-- a property of files that rests on their state alone, apart from some names
+record RestsOnState (HasState : Ignored → Files → Type 0) : Type 0 where
+  same : (names : Ignored) (a b : Files) → HasStateOf names b a → HasState names b → HasState names a
+  more : (few many : Ignored) → AreMore few many → (files : Files) → HasState few files → HasState many files
+
+recovers_to : (names : Ignored) (m : TreeState) → IsLeftAt names m → (HasState : Ignored → Files → Type 0) → RestsOnState HasState → ((image : Files) → IsImage m image → HasState names image) → RootRecoversTo HasState names m
+recovers_to names m left HasState rests crash = record {
   crash = crash;
   next = λ later w next seen is_run recovers.
       let at = left w later next seen is_run recovers in
-      recovered_as (HasStateOf names at.0) HasState (λ files is. same files at.0 is (crash at.0 at.1)) w next at.2;
+      let many = with_all_touched later names in
+      recovered_as (HasStateOf many at.0) (HasState many)
+      (λ files is. rests.same many files at.0 is (rests.more names many (all_touched_more later names) at.0 (crash at.0 at.1))) w next at.2;
 }
 
-before_on : (names : Ignored) (v : TreeState) (a b : Files) → HasStateOf names b a → HasStateBefore names v b → HasStateBefore names v a
-before_on names v a b is (was, image, same) = (was, image, is ∙ same)
+state_rests : (files : Files) → RestsOnState (λ names. HasStateOf names files)
+state_rests files = record { same = λ names a b is has. is ∙ has; more = λ few many more a has. states_same few many more a files has }
 
-old_on : (names : Ignored) (v : TreeState) (run : Run) (a b : Files) → HasStateOf names b a → HasOldOrOutcome names v run b → HasOldOrOutcome names v run a
-old_on names v run a b is (inl same) = inl (is ∙ same)
-old_on names v run a b is (inr (o, one, commits, same)) = inr (o, one, commits, is ∙ same)
+before_rests : (v : TreeState) → RestsOnState (λ names. HasStateBefore names v)
+before_rests v = record { same = λ names a b is has. (has.0, has.1, is ∙ has.2); more = λ few many more. before_more few many v more }
+
+either_rests : (v : TreeState) (run : Run) → RestsOnState (λ names. HasStateBeforeOrOutcome names v run)
+either_rests v run = record { same = λ names. state_on names v run; more = λ few many more. before_or_outcome_more few many v run more }
+
+old_rests : (v : TreeState) (run : Run) → RestsOnState (λ names. HasOldOrOutcome names v run)
+old_rests v run = record { same = same; more = more }
+  where
+    same : (names : Ignored) (a b : Files) → HasStateOf names b a → HasOldOrOutcome names v run b → HasOldOrOutcome names v run a
+    same names a b is (inl old) = inl (is ∙ old)
+    same names a b is (inr (o, one, commits, new)) = inr (o, one, commits, is ∙ new)
+
+    more : (few many : Ignored) → AreMore few many → (files : Files) → HasOldOrOutcome few v run files → HasOldOrOutcome many v run files
+    more few many up files (inl old) = inl (states_same few many up files (files_of v) old)
+    more few many up files (inr (o, one, commits, new)) = inr (o, one, commits, states_same few many up files o.files new)
 
 now_last : (h : History) (A B : TreeState → Type 0) → ((w : TreeState) → HasNow h (λ u. u ≡ w) → A w → B w) → HasNow h A → HasNow h B
 now_last [] A B f a = a
@@ -57,7 +78,7 @@ module _ (begins : (ignored : Ignored) (first v : TreeState) (events : List Even
     (unbroken : (first v : TreeState) (events : List Event) → HasSeen first events v → HasNoPendingRun events → HasSeenToOneState first events v)
     (left : (ignored : Ignored) (first v m w : TreeState) (events later : List Event) (run next : Run) → ignored intent_name ≡ false → IsOrderly (RestsOn ignored) first → LeavesNoBadIntent first
     → HasSeenNoBadIntent first events v → IsRunFrom v run → IsStopOf run m → HasSeenIdly m later w → IsRunFrom w next → does_recover (effect_by (command_of next.words)) ≡ true
-    → (image : Files) × IsImage m image × IsRecoveredBy (HasStateOf (ignored_in run (ignored_behind ignored events)) image) w next)
+    → (image : Files) × IsImage m image × IsRecoveredBy (HasStateOf (with_all_touched later (ignored_in run (ignored_behind ignored events))) image) w next)
     (two : (ignored : Ignored) (v : TreeState) (run : Run) (files : Files) → IsSettled ignored (files_of v) v → HasStateBeforeOrOutcome ignored v run files → HasOldOrOutcome ignored v run files)
     (more_settled : (few many : Ignored) (files : Files) (v : TreeState) → AreMore few many → IsSettled few files v → IsSettled many files v)
     (unique : (words : List (List ℕ)) (files : Files) (a b : Outcome) → IsOutcome words files a → IsOutcome words files b → a ≡ b)
@@ -81,25 +102,25 @@ module _ (begins : (ignored : Ignored) (first v : TreeState) (events : List Even
   either : (m : TreeState) → IsStopOf run m → (image : Files) → IsImage m image → HasStateBeforeOrOutcome Names v run image
   either m (at, moment, torn) image is = left_state Names v run at (here.moments at moment) image (torn_image at m torn image is)
 
-  moments : (m : TreeState) → IsStopOf run m → RootRecoversTo (HasStateBeforeOrOutcome Names v run) m
-  moments m stop = recovers_to Names m (left_at m stop) (HasStateBeforeOrOutcome Names v run) (state_on Names v run) (either m stop)
+  moments : (m : TreeState) → IsStopOf run m → RootRecoversTo (λ names. HasStateBeforeOrOutcome names v run) Names m
+  moments m stop = recovers_to Names m (left_at m stop) (λ names. HasStateBeforeOrOutcome names v run) (either_rests v run) (either m stop)
 
-  one : IsSettled Names (files_of v) v → (m : TreeState) → IsStopOf run m → RootRecoversTo (HasOldOrOutcome Names v run) m
-  one settled m stop = recovers_to Names m (left_at m stop) (HasOldOrOutcome Names v run) (old_on Names v run) (λ image is. two Names v run image settled (either m stop image is))
+  one : IsSettled Names (files_of v) v → (m : TreeState) → IsStopOf run m → RootRecoversTo (λ names. HasOldOrOutcome names v run) Names m
+  one settled m stop = recovers_to Names m (left_at m stop) (λ names. HasOldOrOutcome names v run) (old_rests v run) (λ image is. two Names v run image settled (either m stop image is))
 
-  kept : IsIdleRun v run → (m : TreeState) → IsStopOf run m → RootRecoversTo (HasStateBefore Names v) m
+  kept : IsIdleRun v run → (m : TreeState) → IsStopOf run m → RootRecoversTo (λ names. HasStateBefore names v) Names m
   kept idle m (at, moment, torn) =
-      recovers_to Names m (left_at m (at, moment, torn)) (HasStateBefore Names v) (before_on Names v)
+      recovers_to Names m (left_at m (at, moment, torn)) (λ names. HasStateBefore names v) (before_rests v)
       (λ image is. (idle_moment Names v run is_run durable idle at moment).quiet image (torn_image at m torn image is))
 
   ends_settled : (o : Outcome) → IsOutcomeFrom v run o → Settles (effect_by (command_of run.words)) Names v o → (w : TreeState) → LeavesOutcome (ignored_behind ignored events) v run w → IsSettled Names o.files w
   ends_settled o is settles w leaves =
       subst (λ (p : Outcome). (Settles (effect_by (command_of run.words)) Names v p → IsSettled Names p.files w)) (unique run.words (files_of v) leaves.outcome o leaves.is_outcome is) leaves.settled settles
 
-  answered : AnswersOutcome run.answer → (o : Outcome) → IsOutcomeFrom v run o → Settles (effect_by (command_of run.words)) Names v o → HasNow run.now (RootRecoversTo (HasStateOf Names o.files))
+  answered : AnswersOutcome run.answer → (o : Outcome) → IsOutcomeFrom v run o → Settles (effect_by (command_of run.words)) Names v o → HasNow run.now (RootRecoversTo (λ names. HasStateOf names o.files) Names)
   answered answers o is settles =
-      now_last run.now (LeavesOutcome (ignored_behind ignored events) v run) (RootRecoversTo (HasStateOf Names o.files))
-      (λ w ends leaves. recovers_to Names w (left_at w (w, last_moment run v w is_run ends, torn_self w)) (HasStateOf Names o.files) (λ a b same has. same ∙ has) (ends_settled o is settles w leaves))
+      now_last run.now (LeavesOutcome (ignored_behind ignored events) v run) (RootRecoversTo (λ names. HasStateOf names o.files) Names)
+      (λ w ends leaves. recovers_to Names w (left_at w (w, last_moment run v w is_run ends, torn_self w)) (λ names. HasStateOf names o.files) (state_rests o.files) (ends_settled o is settles w leaves))
       (here.answered answers)
 
   to_one : HasSeenToOneState first events v ⊎ HasNoPendingRun events → HasSeenToOneState first events v

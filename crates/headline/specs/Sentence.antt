@@ -1,6 +1,6 @@
 -- The sentence with which the README of the repository begins, as one statement. What it cites is
--- defined in `run_lists` (runs, and what a root has seen), `apk_front` (answers), `journal_core` (states),
--- `outcome` (what a command comes to) and `refusal_laws` (what a refusal says).
+-- defined in `run_lists` (runs, and what a root has seen), `apk_front` (answers), `journal_core`
+-- (states), `outcome` (what a command comes to) and `refusal_laws` (what a refusal says).
 use Rattle.std.specs.Prelude.{◌≡◌, ◌⊎◌, ℕ, Bool, true, false, List, Some, None, Ok}
 use Rattle.apk_front.specs.Answers.{IsAnswerTo, LeavesFiles}
 use Rattle.apk_front.specs.Moments.{AnswersOutcome, IsAtRest, Settles}
@@ -18,7 +18,7 @@ use Rattle.outcome.specs.Outcome.{Outcome}
 use Rattle.refusal_laws.specs.RunFaults.{IsFaultOfRun}
 use Rattle.refusal_laws.specs.RunMade.{HasFirstSelection}
 use Rattle.report_core.specs.declared.refusal.Refusal.{Refusal}
-use Rattle.run_lists.specs.Events.{Event, HasNoPendingRun, HasSeenIdly, HasSeenToOneState, IsIdleRun, IsOutcomeFrom, IsRunFrom, IsStopOf, Run, ignored_behind, ignored_in}
+use Rattle.run_lists.specs.Events.{Event, HasNoPendingRun, HasSeenIdly, HasSeenToOneState, IsIdleRun, IsOutcomeFrom, IsRunFrom, IsStopOf, Run, ignored_behind, ignored_in, with_all_touched}
 use Rattle.run_lists.specs.Recovered.{HasSeenNoBadIntent, HasStateBefore, HasStateBeforeOrOutcome, HasStateOf, IsRecoveredBy, LeavesNoBadIntent}
 use Rattle.run_lists.specs.Safety.{HasOldOrOutcome}
 use Rattle.words_core.specs.Grammar.{command_of}
@@ -32,13 +32,15 @@ pub record HasGoodPast (ignored : List ℕ → Bool) (first : TreeState) (events
   pub good : LeavesNoBadIntent first
   pub seen : HasSeenNoBadIntent first events v
 
--- From a moment on a root recovers to such files. Each crash then leaves such files. The next run that
--- recovers works on such files, after any crashes and any runs, ended or stopped, that commit nothing.
-pub record RootRecoversTo (HasState : Files → Type 0) (m : TreeState) : Type 0 where
-  pub crash : (image : Files) → IsImage m image → HasState image
+-- From a moment on a root recovers to such files, apart from the ignored names. Each crash then leaves
+-- such files. The next run that recovers works on such files, after any crashes, any touches by others,
+-- and any runs, ended or stopped, that commit nothing; what others touched is then ignored too.
+pub record RootRecoversTo (HasState : (List ℕ → Bool) → Files → Type 0) (ignored : List ℕ → Bool)
+    (m : TreeState) : Type 0 where
+  pub crash : (image : Files) → IsImage m image → HasState ignored image
   pub next : (later : List Event) (w : TreeState) (next : Run) → HasSeenIdly m later w
       → IsRunFrom w next → does_recover (effect_by (command_of next.words)) ≡ true
-      → IsRecoveredBy HasState w next
+      → IsRecoveredBy (HasState (with_all_touched later ignored)) w next
 
 -- A change is refused only for what is so, or because no selection satisfies the new world. Else the
 -- first preferred selection is carried out and reported. The packages are then just the selected ones,
@@ -52,21 +54,21 @@ pub record EndsAsStated (command : CommandLine) (files : Files) (o : Outcome) : 
 
 -- what is promised of a run that begins in the state v, apart from the ignored names
 pub record IsAsPromised (ignored : List ℕ → Bool) (v : TreeState) (run : Run) : Type 0 where
-  -- ended, or stopped at any moment, also inside a call, it recovers to a state from before it, or to that
-  -- of its outcome, which commits
+  -- ended, or stopped at any moment, also inside a call, it recovers to a state from before it, or to
+  -- that of its outcome, which commits
   pub moments : (m : TreeState) → IsStopOf run m
-      → RootRecoversTo (HasStateBeforeOrOutcome ignored v run) m
+      → RootRecoversTo (λ names. HasStateBeforeOrOutcome names v run) ignored m
   -- the state from before is one, if each crash left the state of the files as read
   pub one : IsSettled ignored (files_of v) v → (m : TreeState) → IsStopOf run m
-      → RootRecoversTo (HasOldOrOutcome ignored v run) m
-  -- to its outcome's state, once that is answered (Ok, a refusal, or a fault of an output stream), if it
-  -- settles: it commits, or each crash left the state as read before, or an intent was found
+      → RootRecoversTo (λ names. HasOldOrOutcome names v run) ignored m
+  -- to its outcome's state, once that is answered (Ok, a refusal, or a fault of an output stream), if
+  -- it settles: it commits, or each crash left the state as read before, or an intent was found
   pub answered : AnswersOutcome run.answer → (o : Outcome) → IsOutcomeFrom v run o
       → Settles (effect_by (command_of run.words)) ignored v o
-      → HasNow run.now (RootRecoversTo (HasStateOf ignored o.files))
+      → HasNow run.now (RootRecoversTo (λ names. HasStateOf names o.files) ignored)
   -- to a state from before it, if it is refused, is out of memory, or commits nothing
   pub left : IsIdleRun v run → (m : TreeState) → IsStopOf run m
-      → RootRecoversTo (HasStateBefore ignored v) m
+      → RootRecoversTo (λ names. HasStateBefore names v) ignored m
   -- the answer, the printed bytes and the files left are the outcome's; or it reports a fault of the
   -- tree or of an output stream, with its cause, or that it is out of memory
   pub answer : IsAnswerTo run.words (files_of v) (LeavesFiles run.now)
@@ -76,8 +78,8 @@ pub record IsAsPromised (ignored : List ℕ → Bool) (v : TreeState) (run : Run
       → effect_of command.applet ≡ Changes → IsOutcomeFrom v run o
       → EndsAsStated command (files_of v) o
 
--- The sentence: whatever list a root has seen, the run is as promised. If a root had one state at first,
--- it has one when the run begins, unless a run that might commit was stopped, or failed by the tree.
+-- The sentence: whatever list a root has seen, the run is as promised. If a root had one state at
+-- first, it has one when the run begins, unless a run that might commit was stopped or the tree failed.
 -- Even then it has one again after a crash, or after an event that *HasSeenToOneState* names.
 abbrev pub IsAsPromisedBehindAll : TreeState → Run → Type 0
 IsAsPromisedBehindAll v run =

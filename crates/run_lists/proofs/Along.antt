@@ -11,14 +11,15 @@ use Rattle.base_core.specs.Tree.{TreeState, files_of}
 use Rattle.journal_core.specs.Quiet.{IsQuiet}
 use Rattle.journal_core.specs.Recovery.{IsSettled, RestsOn, intent_name}
 use Rattle.outcome.specs.Effect.{output}
-use Rattle.run_lists.specs.Events.{Crashes, Edits, Ends, Event, HasNoPendingRun, HasSeen, HasSeenToOneState, IsAllSynced, IsIdleRun, IsMomentOf, IsRunFrom, IsTornFrom, KeepsOneState, LeadsOn, MakesOneState, Run, Stops, ignored_behind, ignored_by, ignored_in, nothing_ignored, with_scratch}
+use Rattle.run_lists.specs.Events.{Crashes, Edits, Ends, Event, HasNoPendingRun, HasSeen, HasSeenToOneState, IsAllSynced, IsIdleRun, IsMomentOf, IsRunFrom, IsTornFrom, KeepsOneState, LeadsOn, MakesOneState, Run, Stops, Touches, ignored_behind, ignored_by, ignored_in, nothing_ignored, with_scratch, with_touched}
 use Rattle.run_lists.specs.Safety.{IsAtomic, IsSafe, LeavesOutcome}
 use Rattle.run_lists.proofs.AtMoments.{now_at}
 use Rattle.run_lists.proofs.Ending.{Resting, ends_at_rest, ends_so}
 use Rattle.run_lists.proofs.Facts.{Facts, Ignored}
-use Rattle.run_lists.proofs.Names.{behind_hides, hides, scratch_more}
+use Rattle.run_lists.proofs.Names.{behind_hides, hides, scratch_more, touched_more}
 use Rattle.run_lists.proofs.OneRun.{answered, atomic, idle_end, idle_moment, more_orderly, now_hides, now_orderly, orderly_at, safe, settled_on}
 use Rattle.run_lists.proofs.Torn.{torn_orderly, torn_quiet}
+use Rattle.run_lists.proofs.Touched.{touch_orderly, touch_quiet}
 
 -- ---- the order
 
@@ -51,6 +52,7 @@ module _ (facts : Facts) (start : Ignored) (off : start intent_name ≡ false) w
       (is_run.crash (ignored_in run names) (now_orderly facts names v run is_run hidden orderly) (now_hides facts names v run is_run hidden orderly)) m moment)
   led_orderly Crashes earlier v w orderly crash = facts.crash_orderly nothing_ignored v w crash
   led_orderly Edits earlier v w orderly synced = facts.crash_orderly nothing_ignored w w (as_crash facts w synced)
+  led_orderly (Touches theirs) earlier v w orderly touch = touch_orderly theirs v w touch (ignored_behind start earlier) orderly
 
   pub seen_orderly : (first v : TreeState) (events : List Event) → IsOrderly (RestsOn start) first → HasSeen first events v → IsOrderly (RestsOn (ignored_behind start events)) v
   seen_orderly first v [] orderly is = subst (IsOrderly (RestsOn start)) (sym is) orderly
@@ -130,6 +132,7 @@ module _ (facts : Facts) (start : Ignored) (off : start intent_name ≡ false) (
   led_made (Stops run) earlier v w orderly makes leads = absurd makes
   led_made Crashes earlier v w orderly makes crash = facts.crash_settled nothing_ignored v w crash
   led_made Edits earlier v w orderly makes synced = facts.crash_settled nothing_ignored w w (as_crash facts w synced)
+  led_made (Touches theirs) earlier v w orderly makes touch = absurd makes
 
   led_kept : (event : Event) (earlier : List Event) (v w : TreeState) → IsOrderly (RestsOn (ignored_behind start earlier)) v → IsSettled (ignored_behind start earlier) (files_of v) v → KeepsOneState v event → LeadsOn v event w
       → IsSettled (ignored_behind start (event ∷ earlier)) (files_of w) w
@@ -139,6 +142,11 @@ module _ (facts : Facts) (start : Ignored) (off : start intent_name ≡ false) (
       stopped_one facts (ignored_behind start earlier) v run is_run (behind_hides start off earlier) orderly w one m moment torn keeps
   led_kept Crashes earlier v w orderly one keeps crash = facts.crash_settled nothing_ignored v w crash
   led_kept Edits earlier v w orderly one keeps synced = facts.crash_settled nothing_ignored w w (as_crash facts w synced)
+  led_kept (Touches theirs) earlier v w orderly one keeps touch =
+      let before = ignored_behind start earlier in
+      let names = with_touched theirs before in
+      own_settled facts names (files_of v) w
+      (settled_on names (files_of v) v w (facts.more_settled before names (files_of v) v (touched_more theirs before) one) (touch_quiet theirs v w touch before))
 
   order_of : (v : TreeState) (events : List Event) → HasSeen first events v → IsOrderly (RestsOn (ignored_behind start events)) v
   order_of v events seen = seen_orderly facts start off first v events rest.orderly seen
@@ -164,3 +172,4 @@ unbroken first v (Ends run ∷ earlier) (u, seen, leads) (fault, before) = (u, l
 unbroken first v (Stops run ∷ earlier) seen none = absurd none
 unbroken first v (Crashes ∷ earlier) (u, seen, leads) none = (u, leads, inl (seen, tt))
 unbroken first v (Edits ∷ earlier) (u, seen, leads) none = (u, leads, inl (seen, tt))
+unbroken first v (Touches theirs ∷ earlier) (u, seen, leads) none = (u, leads, inr (unbroken first u earlier seen none, tt))

@@ -11,7 +11,7 @@ use Rattle.journal_core.specs.Recovery.{intent_name}
 use Rattle.outcome.specs.Effect.{Effect, Computes, Reads, Tells, Makes, Changes, does_only_read, effect_by, reads_only}
 use Rattle.outcome.specs.Work.{fault_of_intent, recovery_fault}
 use Rattle.words_core.specs.Grammar.{command_of}
-use Rattle.run_lists.specs.Events.{Crashes, Edits, Ends, Event, IsRunFrom, LeadsOn, Run, Stops}
+use Rattle.run_lists.specs.Events.{Crashes, Edits, Ends, Event, IsRunFrom, LeadsOn, Run, Stops, Touches}
 use Rattle.run_lists.specs.Reading.{HasBadIntent, HasSeenRuns, IsAnyRun, IsRunWith}
 use Rattle.run_lists.proofs.AtMoments.{at_last, at_moment, now_at}
 
@@ -49,6 +49,7 @@ led_same v w (Stops run) bad (any, moment) (is_run, stop) =
     at_moment (Is v) run v w is_run.begins refl (none_made v run (nothing_written v run is_run bad)) moment
 led_same v w Crashes bad any leads = absurd any
 led_same v w Edits bad any leads = absurd any
+led_same v w (Touches theirs) bad any leads = absurd any
 
 pub seen_same : (first w : TreeState) (events : List Event) → HasBadIntent (files_of first) → HasSeenRuns IsAnyRun first events w → w ≡ first
 seen_same first w [] bad is = is

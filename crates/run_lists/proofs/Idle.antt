@@ -10,46 +10,58 @@ use Rattle.base_core.specs.Tree.{TreeState, files_of}
 use Rattle.journal_core.specs.Quiet.{IsQuiet, IsStill}
 use Rattle.journal_core.specs.Recovery.{RestsOn, is_staged, recovered_files, state_of}
 use Rattle.journal_core.specs.Staged.{unstaged_files}
+use Rattle.journal_core.proofs.More.{settled_more, states_same}
 use Rattle.outcome.specs.Effect.{reads_only}
 use Rattle.outcome.specs.Outcome.{Outcome}
 use Rattle.outcome.specs.Words.{IsOutcome}
 use Rattle.words_core.specs.Grammar.{command_of}
-use Rattle.run_lists.specs.Events.{Crashes, Edits, Ends, Event, HasSeenIdly, IsIdle, IsIdleRun, LeadsOn, Run, Stops}
-use Rattle.run_lists.proofs.Facts.{Ignored}
-use Rattle.run_lists.proofs.Names.{reader_output}
+use Rattle.run_lists.specs.Events.{Crashes, Edits, Ends, Event, HasSeenIdly, IsIdle, IsIdleRun, LeadsOn, Run, Stops, Touches, with_all_touched, with_touched}
+use Rattle.run_lists.proofs.Facts.{AreMore, Ignored}
+use Rattle.run_lists.proofs.Names.{reader_output, touched_more}
 use Rattle.run_lists.proofs.OneRun.{idle_end, idle_moment, settled_on}
 use Rattle.run_lists.proofs.Torn.{torn_orderly, torn_quiet}
+use Rattle.run_lists.proofs.Touched.{touch_orderly, touch_quiet}
 
 still_rest : (ignored : Ignored) (files : Files) (v w : TreeState) → IsAtRest ignored files v → IsStill ignored v w → IsAtRest ignored files w
 still_rest ignored files v w rest still = record { orderly = still.orderly; settled = settled_on ignored files v w rest.settled still.quiet }
 
 module _ (crash_orderly : (ignored : Ignored) (v w : TreeState) → IsCrashOf v w → IsOrderly (RestsOn ignored) w) (crash_quiet : (ignored : Ignored) (v w : TreeState) → IsCrashOf v w → IsQuiet ignored v w) where
-  led_idle : (ignored : Ignored) (files : Files) (v : TreeState) (event : Event) (w : TreeState) → IsAtRest ignored files v → IsIdle v event → LeadsOn v event w → IsAtRest ignored files w
-  led_idle ignored files v (Ends run) w rest idle (is_run, ends) =
-      still_rest ignored files v w rest (idle_end ignored v run is_run rest.orderly idle w ends)
-  led_idle ignored files v (Stops run) w rest idle (is_run, (m, moment, torn)) =
-      let still = idle_moment ignored v run is_run rest.orderly idle m moment in
-      record { orderly = torn_orderly m w torn ignored still.orderly; settled = settled_on ignored files v w rest.settled (torn_quiet m w torn ignored v still.quiet) }
-  led_idle ignored files v Crashes w rest idle crash =
-      record { orderly = crash_orderly ignored v w crash; settled = settled_on ignored files v w rest.settled (crash_quiet ignored v w crash) }
-  led_idle ignored files v Edits w rest idle synced = absurd idle
+  led_idle : (start : Ignored) (files : Files) (earlier : List Event) (v : TreeState) (event : Event) (w : TreeState) → IsAtRest (with_all_touched earlier start) files v → IsIdle v event → LeadsOn v event w → IsAtRest (with_all_touched (event ∷ earlier) start) files w
+  led_idle start files earlier v (Ends run) w rest idle (is_run, ends) =
+      let names = with_all_touched earlier start in
+      still_rest names files v w rest (idle_end names v run is_run rest.orderly idle w ends)
+  led_idle start files earlier v (Stops run) w rest idle (is_run, (m, moment, torn)) =
+      let names = with_all_touched earlier start in
+      let still = idle_moment names v run is_run rest.orderly idle m moment in
+      record { orderly = torn_orderly m w torn names still.orderly; settled = settled_on names files v w rest.settled (torn_quiet m w torn names v still.quiet) }
+  led_idle start files earlier v Crashes w rest idle crash =
+      let names = with_all_touched earlier start in
+      record { orderly = crash_orderly names v w crash; settled = settled_on names files v w rest.settled (crash_quiet names v w crash) }
+  led_idle start files earlier v Edits w rest idle synced = absurd idle
+  led_idle start files earlier v (Touches theirs) w rest idle touch =
+      let few = with_all_touched earlier start in
+      let names = with_touched theirs few in
+      record {
+        orderly = touch_orderly theirs v w touch few rest.orderly;
+        settled = settled_on names files v w (settled_more few names (touched_more theirs few) files v rest.settled) (touch_quiet theirs v w touch few);
+      }
 
-  idle_from : (ignored : Ignored) (files : Files) (v w : TreeState) (events : List Event) → IsAtRest ignored files v → HasSeenIdly v events w → IsAtRest ignored files w
-  idle_from ignored files v w [] rest is = subst (IsAtRest ignored files) (sym is) rest
-  idle_from ignored files v w (event ∷ earlier) rest (u, seen, idle, leads) =
-      led_idle ignored files u event w (idle_from ignored files v u earlier rest seen) idle leads
+  idle_from : (start : Ignored) (files : Files) (v w : TreeState) (events : List Event) → IsAtRest start files v → HasSeenIdly v events w → IsAtRest (with_all_touched events start) files w
+  idle_from start files v w [] rest is = subst (IsAtRest start files) (sym is) rest
+  idle_from start files v w (event ∷ earlier) rest (u, seen, idle, leads) =
+      led_idle start files earlier u event w (idle_from start files v u earlier rest seen) idle leads
 
-  pub seen_idly : (ignored : Ignored) (v w : TreeState) (events : List Event) → IsAtRest ignored (files_of v) v → HasSeenIdly v events w → IsAtRest ignored (files_of v) w
+  pub seen_idly : (ignored : Ignored) (v w : TreeState) (events : List Event) → IsAtRest ignored (files_of v) v → HasSeenIdly v events w → IsAtRest (with_all_touched events ignored) (files_of v) w
   seen_idly ignored v w events = idle_from ignored (files_of v) v w events
 
-  same_state : (ignored : Ignored) (files : Files) (w : TreeState) → IsImage w (files_of w) → IsAtRest ignored files w → state_of ignored (files_of w) ≡ state_of ignored files
-  same_state ignored files w left rest = rest.settled (files_of w) left
+  same_state : (few many : Ignored) (files : Files) (w : TreeState) → AreMore few many → IsImage w (files_of w) → IsAtRest few files w → state_of many (files_of w) ≡ state_of many files
+  same_state few many files w more left rest = states_same few many more (files_of w) files (rest.settled (files_of w) left)
 
-  pub idly_agree : ((v : TreeState) → IsImage v (files_of v)) → (ignored : Ignored) (v w u : TreeState) (events others : List Event) → IsAtRest ignored (files_of v) v → HasSeenIdly v events w → HasSeenIdly v others u
-      → state_of ignored (files_of w) ≡ state_of ignored (files_of u)
-  idly_agree left ignored v w u events others rest first second =
-      same_state ignored (files_of v) w (left w) (seen_idly ignored v w events rest first)
-      ∙ sym (same_state ignored (files_of v) u (left u) (seen_idly ignored v u others rest second))
+  pub idly_agree : ((v : TreeState) → IsImage v (files_of v)) → (ignored names : Ignored) (v w u : TreeState) (events others : List Event) → IsAtRest ignored (files_of v) v → HasSeenIdly v events w → HasSeenIdly v others u
+      → AreMore (with_all_touched events ignored) names → AreMore (with_all_touched others ignored) names → state_of names (files_of w) ≡ state_of names (files_of u)
+  idly_agree left ignored names v w u events others rest first second more others_more =
+      same_state (with_all_touched events ignored) names (files_of v) w more (left w) (seen_idly ignored v w events rest first)
+      ∙ sym (same_state (with_all_touched others ignored) names (files_of v) u others_more (left u) (seen_idly ignored v u others rest second))
 
 -- ---- a command that only reads
 

@@ -12,4 +12,5 @@ pub mod OneRun
 pub mod Recoverable
 pub mod Recovered
 pub mod Torn
+pub mod Touched
 pub mod Unstaged

@@ -18,7 +18,7 @@ use Rattle.outcome.specs.Effect.{Effect, Computes, Reads, Tells, Makes, Changes,
 use Rattle.outcome.specs.Outcome.{Outcome}
 use Rattle.outcome.specs.Work.{work_files}
 use Rattle.words_core.specs.Grammar.{command_of}
-use Rattle.run_lists.specs.Events.{Crashes, Edits, Ends, Event, HasSeen, IsMomentOf, IsOutcomeFrom, IsRunFrom, LeadsOn, Run, Stops, ignored_behind, ignored_in, with_scratch}
+use Rattle.run_lists.specs.Events.{Crashes, Edits, Ends, Event, HasSeen, IsMomentOf, IsOutcomeFrom, IsRunFrom, LeadsOn, Run, Stops, Touches, ignored_behind, ignored_in, with_scratch}
 use Rattle.run_lists.specs.Reading.{HasBytesOfRun, HasOutcomeBytes, HasSeenRuns, IsDoneForGood, IsLastingName, IsNoDraft, IsRunWith, IsTrueAt, LeavesTrueAt}
 use Rattle.run_lists.proofs.Along.{seen_orderly}
 use Rattle.run_lists.proofs.AtMoments.{History, now_map, start_or_made}
@@ -177,6 +177,7 @@ led_true no_intent test q stays v w (Ends run) at leaves (is_run, ends) = stands
 led_true no_intent test q stays v w (Stops run) at (leaves, moment) (is_run, stop) = stands_true no_intent test q stays v run w leaves at (stands v run w is_run moment)
 led_true no_intent test q stays v w Crashes at leaves leads = absurd leaves
 led_true no_intent test q stays v w Edits at leaves leads = absurd leaves
+led_true no_intent test q stays v w (Touches theirs) at leaves leads = absurd leaves
 
 pub seen_true : CommitsNoIntent → (test : Option (List ℕ) → Bool) (q : List ℕ) → (IsWaitingName q → ⊥) → (first w : TreeState) (events : List Event) → IsTrueAt test q (files_of first) → HasSeenRuns (LeavesTrueAt test q) first events w → IsTrueAt test q (files_of w)
 seen_true no_intent test q stays first w [] at is = subst (λ (u : TreeState). IsTrueAt test q (files_of u)) (sym is) at

@@ -11,8 +11,9 @@ use Rattle.command_core.specs.Command.{CommandLine}
 use Rattle.journal_core.specs.Recovery.{intent_name}
 use Rattle.journal_core.specs.Replacing.{scratch_of}
 use Rattle.outcome.specs.Effect.{Effect, Computes, Reads, Tells, Makes, Changes, does_only_read, effect_by, effect_of, output, output_by, output_if, reads_only}
-use Rattle.run_lists.specs.Events.{Crashes, Edits, Ends, Event, HasNoPendingOutput, Run, Stops, ignored_behind, ignored_by, nothing_ignored, with_scratch}
+use Rattle.run_lists.specs.Events.{Crashes, Edits, Ends, Event, HasNoPendingOutput, Run, Stops, Touches, ignored_behind, ignored_by, names_of_others, nothing_ignored, with_all_touched, with_scratch, with_touched}
 use Rattle.run_lists.proofs.Facts.{AreMore, Ignored}
+use Rattle.run_lists.proofs.Touched.{intent_off}
 
 -- ---- the intent is never ignored
 
@@ -70,18 +71,41 @@ by_hides TreeFault run ignored off = scratch_hides (output run.words) ignored of
 by_hides OutFault run ignored off = off
 by_hides Memory run ignored off = off
 
+pub touched_hides : (theirs ignored : Ignored) → ignored intent_name ≡ false → with_touched theirs ignored intent_name ≡ false
+touched_hides theirs ignored off = neither (names_of_others theirs intent_name) (ignored intent_name) (λ is. false≢true (sym (intent_off theirs) ∙ is)) off
+
+pub all_touched_hides : (events : List Event) (ignored : Ignored) → ignored intent_name ≡ false → with_all_touched events ignored intent_name ≡ false
+all_touched_hides [] ignored off = off
+all_touched_hides (Ends run ∷ earlier) ignored off = all_touched_hides earlier ignored off
+all_touched_hides (Stops run ∷ earlier) ignored off = all_touched_hides earlier ignored off
+all_touched_hides (Crashes ∷ earlier) ignored off = all_touched_hides earlier ignored off
+all_touched_hides (Edits ∷ earlier) ignored off = all_touched_hides earlier ignored off
+all_touched_hides (Touches theirs ∷ earlier) ignored off = touched_hides theirs (with_all_touched earlier ignored) (all_touched_hides earlier ignored off)
+
 pub behind_hides : (ignored : Ignored) → ignored intent_name ≡ false → (events : List Event) → ignored_behind ignored events intent_name ≡ false
 behind_hides ignored off [] = off
 behind_hides ignored off (Ends run ∷ earlier) = by_hides run.answer run (ignored_behind ignored earlier) (behind_hides ignored off earlier)
 behind_hides ignored off (Stops run ∷ earlier) = scratch_hides (output run.words) (ignored_behind ignored earlier) (behind_hides ignored off earlier)
 behind_hides ignored off (Crashes ∷ earlier) = refl
 behind_hides ignored off (Edits ∷ earlier) = refl
+behind_hides ignored off (Touches theirs ∷ earlier) = touched_hides theirs (ignored_behind ignored earlier) (behind_hides ignored off earlier)
 
 -- ---- more and fewer
 
 second_true : (a b : Bool) → b ≡ true → (a || b) ≡ true
 second_true true b is = refl
 second_true false b is = is
+
+pub touched_more : (theirs ignored : Ignored) → AreMore ignored (with_touched theirs ignored)
+touched_more theirs ignored q is = second_true (names_of_others theirs q) (ignored q) is
+
+pub all_touched_more : (events : List Event) (ignored : Ignored) → AreMore ignored (with_all_touched events ignored)
+all_touched_more [] ignored q is = is
+all_touched_more (Ends run ∷ earlier) ignored q is = all_touched_more earlier ignored q is
+all_touched_more (Stops run ∷ earlier) ignored q is = all_touched_more earlier ignored q is
+all_touched_more (Crashes ∷ earlier) ignored q is = all_touched_more earlier ignored q is
+all_touched_more (Edits ∷ earlier) ignored q is = all_touched_more earlier ignored q is
+all_touched_more (Touches theirs ∷ earlier) ignored q is = touched_more theirs (with_all_touched earlier ignored) q (all_touched_more earlier ignored q is)
 
 pub scratch_more : (o : Option (List ℕ)) (ignored : Ignored) → AreMore ignored (with_scratch o ignored)
 scratch_more None ignored q is = is
@@ -126,6 +150,7 @@ none_ignored (Ends run ∷ earlier) q (fault, before) = by_off run.answer run (i
 none_ignored (Stops run ∷ earlier) q (none, before) = scratch_off (output run.words) (ignored_behind nothing_ignored earlier) q none (none_ignored earlier q before)
 none_ignored (Crashes ∷ earlier) q written = refl
 none_ignored (Edits ∷ earlier) q written = refl
+none_ignored (Touches theirs ∷ earlier) q none = absurd none
 
 -- ---- commands with an output make
 

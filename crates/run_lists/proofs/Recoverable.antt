@@ -16,6 +16,7 @@ use Rattle.base_core.specs.declared.cause.Cause.{Cause}
 use Rattle.journal_core.specs.Quiet.{IsQuiet}
 use Rattle.journal_core.specs.Recovery.{IsSettled, RestsOn, intent_name, is_staged, recovered_files, state_of}
 use Rattle.journal_core.specs.Staged.{IsIntentFault, unstaged_files}
+use Rattle.journal_core.proofs.More.{quiet_more, states_same}
 use Rattle.outcome.specs.Effect.{Effect, Computes, Reads, Tells, Makes, Changes, does_recover, effect_by, output}
 use Rattle.outcome.specs.Outcome.{Outcome}
 use Rattle.outcome.specs.Words.{IsOutcome}
@@ -23,18 +24,19 @@ use Rattle.outcome.specs.Work.{fault_of_intent, recovery_fault}
 use Rattle.report_core.specs.declared.refusal.Refusal.{Refusal}
 use Rattle.report_core.specs.declared.refusal.Refusal.TheVariants.{IntentBad}
 use Rattle.words_core.specs.Grammar.{command_of}
-use Rattle.run_lists.specs.Events.{Crashes, Edits, Ends, Event, HasSeen, HasSeenIdly, IsIdle, IsMomentOf, IsOutcomeFrom, IsRunFrom, IsStopOf, LeadsOn, Run, Stops, ignored_behind, ignored_in, nothing_ignored}
+use Rattle.run_lists.specs.Events.{Crashes, Edits, Ends, Event, HasSeen, HasSeenIdly, IsIdle, IsMomentOf, IsOutcomeFrom, IsRunFrom, IsStopOf, LeadsOn, Run, Stops, Touches, ignored_behind, ignored_in, nothing_ignored, with_all_touched, with_touched}
 use Rattle.run_lists.specs.Reading.{HasBadIntent}
-use Rattle.run_lists.specs.Recovered.{HasSeenNoBadIntent, HasStateBeforeOrOutcome, HasStateOf, IsRecoveredBy, IsUnrefused, LeavesNoBadIntent, PutsNoBadIntent}
+use Rattle.run_lists.specs.Recovered.{HasSeenNoBadIntent, HasStateBefore, HasStateBeforeOrOutcome, HasStateOf, IsRecoveredBy, IsUnrefused, LeavesNoBadIntent, PutsNoBadIntent}
 use Rattle.run_lists.specs.Safety.{HasOldOrOutcome, IsOldOrOutcome}
 use Rattle.run_lists.proofs.Along.{as_crash, seen_orderly}
 use Rattle.run_lists.proofs.Committed.{CommitsNoIntent, ReadSound, absent_now}
-use Rattle.run_lists.proofs.Facts.{Facts, Ignored}
+use Rattle.run_lists.proofs.Facts.{AreMore, Facts, Ignored}
 use Rattle.run_lists.proofs.Idle.{state_read}
 use Rattle.run_lists.proofs.Moments.{last_moment}
-use Rattle.run_lists.proofs.Names.{behind_hides, scratch_hides}
+use Rattle.run_lists.proofs.Names.{all_touched_hides, all_touched_more, behind_hides, scratch_hides, touched_hides, touched_more}
 use Rattle.run_lists.proofs.OneRun.{Told, idle_end, idle_moment, now_hides, now_orderly, orderly_at, quiet_self, safe, told}
 use Rattle.run_lists.proofs.Torn.{torn_good, torn_image, torn_orderly, torn_quiet}
+use Rattle.run_lists.proofs.Touched.{touch_orderly, touch_quiet}
 use Rattle.run_lists.proofs.Unstaged.{again_at}
 
 -- ---- laws of the crates below
@@ -103,6 +105,7 @@ module _ (same : HasSameBadIntent) where
           good (files_of w) crash.left (bad_both nothing_ignored image (files_of w) refl (facts.crash_settled nothing_ignored v w crash image is) bad)
       led_good names Edits v w shown orderly good synced puts = λ image is bad.
           puts (bad_both nothing_ignored image (files_of w) refl (facts.crash_settled nothing_ignored w w (as_crash facts w synced) image is) bad)
+      led_good names (Touches theirs) v w shown orderly good touch puts = quiet_good (with_touched theirs names) v w (touched_hides theirs names shown) (touch_quiet theirs v w touch names) good
 
       module _ (start : Ignored) (off : start intent_name ≡ false) (first : TreeState) (orderly : IsOrderly (RestsOn start) first) (good : LeavesNoBadIntent first) where
         pub seen_good : (v : TreeState) (events : List Event) → HasSeenNoBadIntent first events v → LeavesNoBadIntent v
@@ -168,6 +171,14 @@ module _ (names : Ignored) (v : TreeState) (run : Run) where
   left_state m (inr (o, one, commits, old_or_new)) image is =
       ⊎_elim (λ was. inl (was.0, was.1, was.2)) (λ new. inr (o, one, commits, new)) (old_or_new image is)
 
+-- what holds of a state without some names holds without more of them
+pub before_more : (few many : Ignored) (v : TreeState) → AreMore few many → (files : Files) → HasStateBefore few v files → HasStateBefore many v files
+before_more few many v more files (was, left, same) = (was, left, states_same few many more files was same)
+
+pub before_or_outcome_more : (few many : Ignored) (v : TreeState) (run : Run) → AreMore few many → (files : Files) → HasStateBeforeOrOutcome few v run files → HasStateBeforeOrOutcome many v run files
+before_or_outcome_more few many v run more files (inl before) = inl (before_more few many v more files before)
+before_or_outcome_more few many v run more files (inr (o, one, commits, same)) = inr (o, one, commits, states_same few many more files o.files same)
+
 pub one_of_two : (names : Ignored) (v : TreeState) (run : Run) (files : Files) → IsSettled names (files_of v) v → HasStateBeforeOrOutcome names v run files → HasOldOrOutcome names v run files
 one_of_two names v run files settled (inl (was, left, same)) = inl (same ∙ settled was left)
 one_of_two names v run files settled (inr (o, one, commits, same)) = inr (o, one, commits, same)
@@ -182,31 +193,42 @@ record QuietOn (ignored : Ignored) (m w : TreeState) : Type 0 where
   quiet : IsQuiet ignored m w
   orderly : IsOrderly (RestsOn ignored) w
 
-module _ (facts : Facts) (crash_quiet : (ignored : Ignored) (v w : TreeState) → IsCrashOf v w → IsQuiet ignored v w) (names : Ignored) where
-  led_quiet : (m v : TreeState) (event : Event) (w : TreeState) → QuietOn names m v → IsIdle v event → LeadsOn v event w → QuietOn names m w
-  led_quiet m v (Ends run) w on idle (is_run, ends) =
+module _ (facts : Facts) (crash_quiet : (ignored : Ignored) (v w : TreeState) → IsCrashOf v w → IsQuiet ignored v w) (start : Ignored) where
+  led_quiet : (earlier : List Event) (m v : TreeState) (event : Event) (w : TreeState) → QuietOn (with_all_touched earlier start) m v → IsIdle v event → LeadsOn v event w → QuietOn (with_all_touched (event ∷ earlier) start) m w
+  led_quiet earlier m v (Ends run) w on idle (is_run, ends) =
+      let names = with_all_touched earlier start in
       let still = idle_end names v run is_run on.orderly idle w ends in
       record { quiet = quiet_on names m v w on.quiet still.quiet; orderly = still.orderly }
-  led_quiet m v (Stops run) w on idle (is_run, (at, moment, torn)) =
+  led_quiet earlier m v (Stops run) w on idle (is_run, (at, moment, torn)) =
+      let names = with_all_touched earlier start in
       let still = idle_moment names v run is_run on.orderly idle at moment in
       record { quiet = quiet_on names m v w on.quiet (torn_quiet at w torn names v still.quiet); orderly = torn_orderly at w torn names still.orderly }
-  led_quiet m v Crashes w on idle crash =
+  led_quiet earlier m v Crashes w on idle crash =
+      let names = with_all_touched earlier start in
       record { quiet = quiet_on names m v w on.quiet (crash_quiet names v w crash); orderly = facts.crash_orderly names v w crash }
-  led_quiet m v Edits w on idle synced = absurd idle
+  led_quiet earlier m v Edits w on idle synced = absurd idle
+  led_quiet earlier m v (Touches theirs) w on idle touch =
+      let few = with_all_touched earlier start in
+      let names = with_touched theirs few in
+      record {
+        quiet = quiet_on names m v w (quiet_more few names (touched_more theirs few) m v on.quiet) (touch_quiet theirs v w touch few);
+        orderly = touch_orderly theirs v w touch few on.orderly;
+      }
 
-  seen_quiet : (m w : TreeState) (later : List Event) → IsOrderly (RestsOn names) m → HasSeenIdly m later w → QuietOn names m w
-  seen_quiet m w [] orderly is = subst (QuietOn names m) (sym is) (record { quiet = quiet_self names m; orderly = orderly })
-  seen_quiet m w (event ∷ earlier) orderly (v, seen, idle, leads) = led_quiet m v event w (seen_quiet m v earlier orderly seen) idle leads
+  seen_quiet : (m w : TreeState) (later : List Event) → IsOrderly (RestsOn start) m → HasSeenIdly m later w → QuietOn (with_all_touched later start) m w
+  seen_quiet m w [] orderly is = subst (QuietOn start m) (sym is) (record { quiet = quiet_self start m; orderly = orderly })
+  seen_quiet m w (event ∷ earlier) orderly (v, seen, idle, leads) = led_quiet earlier m v event w (seen_quiet m v earlier orderly seen) idle leads
 
-  module _ (same : HasSameBadIntent) (shown : names intent_name ≡ false) (only : OnlyBadRefused) (sound : ReadSound)
+  module _ (same : HasSameBadIntent) (shown : start intent_name ≡ false) (only : OnlyBadRefused) (sound : ReadSound)
       (recovered : (v : TreeState) (run : Run) → IsRunFrom v run → does_recover (effect_by (command_of run.words)) ≡ true → recovery_fault (effect_by (command_of run.words)) (files_of v) ≡ None
       → AnswersOutcome run.answer → HasIdleOutcome (IsOutcomeFrom v run) → HasNow run.now (λ w. files_of w ≡ unstaged_files (files_of v))) where
     -- from a moment of a run on, over what crashes and idle runs leave
-    pub next_recovers : (m w : TreeState) (later : List Event) (next : Run) → IsOrderly (RestsOn names) m → LeavesNoBadIntent m
-        → HasSeenIdly m later w → IsRunFrom w next → does_recover (effect_by (command_of next.words)) ≡ true → (image : Files) × IsImage m image × IsRecoveredBy (HasStateOf names image) w next
+    pub next_recovers : (m w : TreeState) (later : List Event) (next : Run) → IsOrderly (RestsOn start) m → LeavesNoBadIntent m
+        → HasSeenIdly m later w → IsRunFrom w next → does_recover (effect_by (command_of next.words)) ≡ true → (image : Files) × IsImage m image × IsRecoveredBy (HasStateOf (with_all_touched later start) image) w next
     next_recovers m w later next orderly good seen is_next recovers =
+        let names = with_all_touched later start in
         let on = seen_quiet m w later orderly seen in
-        let here : LeavesNoBadIntent w = quiet_good same names m w shown on.quiet good in
+        let here : LeavesNoBadIntent w = quiet_good same names m w (all_touched_hides later start shown) on.quiet good in
         let fault = good_recovers facts w next.words here in
         let was = on.quiet (files_of w) (facts.read_left w) in (
           was.0,
@@ -237,7 +259,7 @@ module _ (facts : Facts) (same : HasSameBadIntent) (committed : CommitsNoIntent)
     → AnswersOutcome run.answer → HasIdleOutcome (IsOutcomeFrom v run) → HasNow run.now (λ w. files_of w ≡ unstaged_files (files_of v)))
     (start : Ignored) (off : start intent_name ≡ false) (first : TreeState) (orderly : IsOrderly (RestsOn start) first) (good : LeavesNoBadIntent first) where
   pub stopped_left : (v m w : TreeState) (events later : List Event) (run next : Run) → HasSeenNoBadIntent first events v → IsRunFrom v run → IsStopOf run m → HasSeenIdly m later w
-      → IsRunFrom w next → does_recover (effect_by (command_of next.words)) ≡ true → (image : Files) × IsImage m image × IsRecoveredBy (HasStateOf (ignored_in run (ignored_behind start events)) image) w next
+      → IsRunFrom w next → does_recover (effect_by (command_of next.words)) ≡ true → (image : Files) × IsImage m image × IsRecoveredBy (HasStateOf (with_all_touched later (ignored_in run (ignored_behind start events))) image) w next
   stopped_left v m w events later run next seen is_run (at, moment, torn) idly is_next recovers =
       let names = ignored_behind start events in
       let shown = behind_hides start off events in
@@ -248,10 +270,12 @@ module _ (facts : Facts) (same : HasSameBadIntent) (committed : CommitsNoIntent)
       (torn_orderly at m torn (ignored_in run names) order) (torn_good at m torn is_good) idly is_next recovers
 
   pub stopped_recovers : (v m w : TreeState) (events later : List Event) (run next : Run) → HasSeenNoBadIntent first events v → IsRunFrom v run → IsStopOf run m → HasSeenIdly m later w
-      → IsRunFrom w next → does_recover (effect_by (command_of next.words)) ≡ true → IsRecoveredBy (HasStateBeforeOrOutcome (ignored_in run (ignored_behind start events)) v run) w next
+      → IsRunFrom w next → does_recover (effect_by (command_of next.words)) ≡ true → IsRecoveredBy (HasStateBeforeOrOutcome (with_all_touched later (ignored_in run (ignored_behind start events))) v run) w next
   stopped_recovers v m w events later run next seen is_run (at, moment, torn) idly is_next recovers =
-      let names = ignored_in run (ignored_behind start events) in
+      let few = ignored_in run (ignored_behind start events) in
+      let names = with_all_touched later few in
       let left = stopped_left v m w events later run next seen is_run (at, moment, torn) idly is_next recovers in
       let either = (safe facts (ignored_behind start events) v run is_run (behind_hides start off events) (seen_orderly facts start off first v events orderly (seen_plainly first v events seen))).moments at moment in
+      let had = left_state few v run at either left.0 (torn_image at m torn left.0 left.1) in
       recovered_as (HasStateOf names left.0) (HasStateBeforeOrOutcome names v run)
-      (λ files same. state_on names v run files left.0 same (left_state names v run at either left.0 (torn_image at m torn left.0 left.1))) w next left.2
+      (λ files same. state_on names v run files left.0 same (before_or_outcome_more few names v run (all_touched_more later few) left.0 had)) w next left.2

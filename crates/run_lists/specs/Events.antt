@@ -1,7 +1,7 @@
 -- Events of a root: runs, stops, crashes and changes by others, and lists of them. The rules are in
 -- `docs/crash-safety.md`, "Recovery", its last two paragraphs, and the terms in `docs/names.md`, under
 -- *event*.
-use Rattle.std.specs.Prelude.{◌≡◌, ◌≢◌, ◌⊎◌, ◌++◌, ◌||◌, ℕ, Bool, true, false, List, [], ◌∷◌, Option, Some, None, Contains, IsSome, IsTrue, is_some}
+use Rattle.std.specs.Prelude.{◌≡◌, ◌≢◌, ◌⊎◌, ◌++◌, ◌||◌, ℕ, Bool, true, false, if◌then◌else◌, List, [], ◌∷◌, Option, Some, None, Contains, IsSome, IsTrue, is_some}
 use Rattle.std.specs.Str.{bytes_eq}
 use Rattle.apk_front.specs.Answers.{IsAnswerTo, LeavesFiles}
 use Rattle.apk_front.specs.Moments.{AnswersOutcome, AreReadOnTheWay, AreSafe, CanRecover, CommitsNothing, HasNothingToRecover, HidesScratchOf, LeavesAtRest, LeavesLasting, UnreadNamesLast, ignored_but}
@@ -12,9 +12,10 @@ use Rattle.base_core.specs.Crash.{IsOrderly, Since}
 use Rattle.base_core.specs.Faults.{Counts, HasCause}
 use Rattle.base_core.specs.Restart.{IsCrashOf}
 use Rattle.base_core.specs.Sink.{SinkChange}
-use Rattle.base_core.specs.Tree.{TreeState, files_of}
+use Rattle.base_core.specs.Files.{NameMap}
+use Rattle.base_core.specs.Tree.{IsMapOf, TreeState, files_of}
 use Rattle.journal_core.specs.Quiet.{IsStill}
-use Rattle.journal_core.specs.Recovery.{RestsOn, intent_name}
+use Rattle.journal_core.specs.Recovery.{RestsOn, intent_name, is_staged}
 use Rattle.journal_core.specs.Replacing.{scratch_of}
 use Rattle.outcome.specs.Effect.{effect_by, output, reads_only}
 use Rattle.outcome.specs.Outcome.{Outcome}
@@ -87,12 +88,14 @@ IsMomentOf run m =
 -- ---- events
 
 -- An event is a run that ends, a run that is stopped, a crash, or a change of files by others while
--- nothing runs. A run that a crash cuts off is a stop, and then a crash.
+-- nothing runs: of any files, which they then sync, or of files under these names, which they do not
+-- sync. A run that a crash cuts off is a stop, and then a crash.
 pub data Event : Type 0 where
   Ends : Run → Event
   Stops : Run → Event
   Crashes : Event
   Edits : Event
+  Touches : (List ℕ → Bool) → Event
 
 -- all of a tree is synced: a crash leaves just the files as read
 pub record IsAllSynced (v : TreeState) : Type 0 where
@@ -112,6 +115,21 @@ pub record IsTornFrom (v w : TreeState) : Type 0 where
 abbrev pub IsStopOf : Run → TreeState → Type 0
 IsStopOf run w = (m : TreeState) × IsMomentOf run m × IsTornFrom m w
 
+-- of these names, those that others may touch: neither the intent's, nor one below the staging area
+abbrev pub names_of_others : (List ℕ → Bool) → List ℕ → Bool
+names_of_others theirs q = if bytes_eq q intent_name || is_staged q then false else theirs q
+
+-- two maps of names agree, but for the names of others, and each other name leads to the same file
+abbrev pub IsSameBut : (List ℕ → Bool) → TreeState → NameMap → TreeState → NameMap → Type 0
+IsSameBut theirs v was w map =
+    (q : List ℕ) → names_of_others theirs q ≡ false
+    → (map q ≡ was q) × ((n : ℕ) → was q ≡ Some n → w.files n ≡ v.files n)
+
+-- others have changed only files under their names: each map of names is one from before but for these
+abbrev pub IsTouchOf : (List ℕ → Bool) → TreeState → TreeState → Type 0
+IsTouchOf theirs v w =
+    (map : NameMap) → IsMapOf w map → (was : NameMap) × IsMapOf v was × IsSameBut theirs v was w map
+
 -- an event finds a tree in the state v, and leaves it in the state w
 abbrev pub LeadsOn : TreeState → Event → TreeState → Type 0
 LeadsOn v (Ends run) w = IsRunFrom v run × HasNow run.now (λ u. u ≡ w)
@@ -119,6 +137,7 @@ LeadsOn v (Stops run) w = IsRunFrom v run × IsStopOf run w
 LeadsOn v Crashes w = IsCrashOf v w
 -- others may lead to any files of the tree, once these are synced
 LeadsOn v Edits w = IsAllSynced w
+LeadsOn v (Touches theirs) w = IsTouchOf theirs v w
 
 -- a root that was in the state `first` has seen these events, the newest first, and is in state w
 abbrev pub HasSeen : TreeState → List Event → TreeState → Type 0
@@ -135,12 +154,13 @@ IsIdleRun v run =
     CommitsNothing (IsOutcomeFrom v run) run.answer
     ⊎ ((output run.words ≡ None) × (HasCommit v run → ⊥))
 
--- an event is a crash, or a run that commits nothing
+-- an event is a crash, a run that commits nothing, or a touch by others
 abbrev pub IsIdle : TreeState → Event → Type 0
 IsIdle v (Ends run) = IsIdleRun v run
 IsIdle v (Stops run) = IsIdleRun v run
 IsIdle v Crashes = Unit {0}
 IsIdle v Edits = ⊥
+IsIdle v (Touches theirs) = Unit {0}
 
 -- a root has seen events, and none committed anything
 abbrev pub HasSeenIdly : TreeState → List Event → TreeState → Type 0
@@ -160,6 +180,7 @@ MakesOneState v (Ends run) =
 MakesOneState v (Stops run) = ⊥
 MakesOneState v Crashes = Unit {0}
 MakesOneState v Edits = Unit {0}
+MakesOneState v (Touches theirs) = ⊥
 
 -- after the event each crash leaves one state if it did before: it is no run; or a run that commits
 -- nothing, or that ends without an I/O error of the tree
@@ -168,6 +189,7 @@ KeepsOneState v (Ends run) = (run.answer ≢ TreeFault) ⊎ IsIdleRun v run
 KeepsOneState v (Stops run) = IsIdleRun v run
 KeepsOneState v Crashes = Unit {0}
 KeepsOneState v Edits = Unit {0}
+KeepsOneState v (Touches theirs) = Unit {0}
 
 -- a root has seen events, and each crash leaves one state: an event made it so, or it was so at first,
 -- and the events after that kept it
@@ -186,6 +208,7 @@ HasNoPendingRun (Ends run ∷ earlier) = (run.answer ≢ TreeFault) × HasNoPend
 HasNoPendingRun (Stops run ∷ earlier) = ⊥
 HasNoPendingRun (Crashes ∷ earlier) = Unit {0}
 HasNoPendingRun (Edits ∷ earlier) = Unit {0}
+HasNoPendingRun (Touches theirs ∷ earlier) = HasNoPendingRun earlier
 
 -- ---- the names that are ignored
 
@@ -208,8 +231,27 @@ ignored_by Ok run ignored = ignored_but (output run.words) ignored
 ignored_by TreeFault run ignored = ignored_in run ignored
 ignored_by other run ignored = ignored
 
+-- names are among others
+abbrev pub AreAmong : (List ℕ → Bool) → (List ℕ → Bool) → Type 0
+AreAmong few many = (q : List ℕ) → few q ≡ true → many q ≡ true
+
+-- ignored names, and names that others touched
+abbrev pub with_touched : (List ℕ → Bool) → (List ℕ → Bool) → List ℕ → Bool
+with_touched theirs ignored q = names_of_others theirs q || ignored q
+
+-- ignored names, and all names that others touched along a list
+abbrev pub with_all_touched : List Event → (List ℕ → Bool) → List ℕ → Bool
+with_all_touched [] ignored = ignored
+with_all_touched (Ends run ∷ earlier) ignored = with_all_touched earlier ignored
+with_all_touched (Stops run ∷ earlier) ignored = with_all_touched earlier ignored
+with_all_touched (Crashes ∷ earlier) ignored = with_all_touched earlier ignored
+with_all_touched (Edits ∷ earlier) ignored = with_all_touched earlier ignored
+with_all_touched (Touches theirs ∷ earlier) ignored =
+    with_touched theirs (with_all_touched earlier ignored)
+
 -- The names that are ignored after a list. A run with an output adds its scratch name if it is stopped
--- or the tree fails. The name is no longer ignored once the output is written, or all was synced.
+-- or the tree fails. The name is no longer ignored once the output is written, or all was synced. Names
+-- that others touched are ignored until all was synced.
 abbrev pub ignored_behind : (List ℕ → Bool) → List Event → List ℕ → Bool
 ignored_behind ignored [] = ignored
 ignored_behind ignored (Ends run ∷ earlier) =
@@ -217,8 +259,11 @@ ignored_behind ignored (Ends run ∷ earlier) =
 ignored_behind ignored (Stops run ∷ earlier) = ignored_in run (ignored_behind ignored earlier)
 ignored_behind ignored (Crashes ∷ earlier) = nothing_ignored
 ignored_behind ignored (Edits ∷ earlier) = nothing_ignored
+ignored_behind ignored (Touches theirs ∷ earlier) =
+    with_touched theirs (ignored_behind ignored earlier)
 
--- since all was synced no run with an output was stopped, or ended by a fault of the tree
+-- since all was synced no run with an output was stopped, or ended by a fault of the tree, and others
+-- touched nothing
 abbrev pub HasNoPendingOutput : List Event → Type 0
 HasNoPendingOutput [] = Unit {0}
 HasNoPendingOutput (Ends run ∷ earlier) =
@@ -227,3 +272,4 @@ HasNoPendingOutput (Stops run ∷ earlier) =
     (output run.words ≡ None) × HasNoPendingOutput earlier
 HasNoPendingOutput (Crashes ∷ earlier) = Unit {0}
 HasNoPendingOutput (Edits ∷ earlier) = Unit {0}
+HasNoPendingOutput (Touches theirs ∷ earlier) = ⊥

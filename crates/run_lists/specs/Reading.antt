@@ -12,7 +12,7 @@ use Rattle.journal_intent.specs.FreeNames.{IsNoneOf}
 use Rattle.outcome.specs.Effect.{does_recover, effect_by, output}
 use Rattle.outcome.specs.Outcome.{Outcome}
 use Rattle.words_core.specs.Grammar.{command_of}
-use Rattle.run_lists.specs.Events.{Crashes, Edits, Ends, Event, IsMomentOf, IsOutcomeFrom, LeadsOn, Run, Stops}
+use Rattle.run_lists.specs.Events.{Crashes, Edits, Ends, Event, IsMomentOf, IsOutcomeFrom, LeadsOn, Run, Stops, Touches}
 
 -- ---- at each moment of a run
 
@@ -47,6 +47,7 @@ IsRunWith Holds v (Ends run) w = Holds v run
 IsRunWith Holds v (Stops run) w = Holds v run × IsMomentOf run w
 IsRunWith Holds v Crashes w = ⊥
 IsRunWith Holds v Edits w = ⊥
+IsRunWith Holds v (Touches theirs) w = ⊥
 
 -- a root has seen only runs, ended or stopped, each with this property
 abbrev pub HasSeenRuns :

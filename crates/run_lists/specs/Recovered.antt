@@ -15,7 +15,7 @@ use Rattle.outcome.specs.Outcome.{Outcome}
 use Rattle.outcome.specs.Work.{recovery_fault}
 use Rattle.report_core.specs.declared.refusal.Refusal.TheVariants.{IntentBad}
 use Rattle.words_core.specs.Grammar.{command_of}
-use Rattle.run_lists.specs.Events.{Crashes, Edits, Ends, Event, IsOutcomeFrom, LeadsOn, Run, Stops}
+use Rattle.run_lists.specs.Events.{Crashes, Edits, Ends, Event, IsOutcomeFrom, LeadsOn, Run, Stops, Touches}
 use Rattle.run_lists.specs.Reading.{HasBadIntent}
 
 -- ---- no bad intent
@@ -30,6 +30,7 @@ PutsNoBadIntent (Ends run) w = Unit {0}
 PutsNoBadIntent (Stops run) w = Unit {0}
 PutsNoBadIntent Crashes w = Unit {0}
 PutsNoBadIntent Edits w = HasBadIntent (files_of w) → ⊥
+PutsNoBadIntent (Touches theirs) w = Unit {0}
 
 -- a root has seen events, and others put no bad intent there
 abbrev pub HasSeenNoBadIntent : TreeState → List Event → TreeState → Type 0

@@ -13,7 +13,7 @@ ghost use Rattle.outcome.specs.Effect.{does_recover, effect_by, output, reads_on
 ghost use Rattle.outcome.specs.Outcome.{Outcome};
 ghost use Rattle.outcome.specs.Words.{IsOutcome};
 ghost use Rattle.outcome.specs.Work.{recovery_fault};
-ghost use Rattle.run_lists.specs.Events.{Event, HasNoPendingOutput, HasNoPendingRun, HasSeen, HasSeenIdly, HasSeenToOneState, IsIdleRun, IsMomentOf, IsOutcomeFrom, IsRunFrom, IsStopOf, Run, ignored_behind, ignored_in, nothing_ignored, with_scratch};
+ghost use Rattle.run_lists.specs.Events.{AreAmong, Event, HasNoPendingOutput, HasNoPendingRun, HasSeen, HasSeenIdly, HasSeenToOneState, IsIdleRun, IsMomentOf, IsOutcomeFrom, IsRunFrom, IsStopOf, Run, ignored_behind, ignored_in, nothing_ignored, with_all_touched, with_scratch};
 ghost use Rattle.run_lists.specs.Reading.{HasBadIntent, HasBytesOfRun, HasSeenRuns, IsAnyRun, IsDoneForGood, IsLastingName, IsNoDraft, IsTrueAt, LeavesTrueAt};
 ghost use Rattle.run_lists.specs.Recovered.{HasSeenNoBadIntent, HasStateBeforeOrOutcome, HasStateOf, IsRecoveredBy, IsUnrefused, LeavesNoBadIntent};
 ghost use Rattle.run_lists.specs.Safety.{HasOldOrOutcome, IsAtomicBehindAll, IsSafeBehindAll};
@@ -90,16 +90,19 @@ pub fn whatever_a_root_has_seen_a_run_is_safe()
 /// A root keeps one and the same state, however often it is recovered, stopped in its recovery and
 /// recovered again.
 pub fn a_root_that_commits_nothing_keeps_its_state()
-    // Crashes, and runs that commit nothing, ended or stopped, leave the state unchanged.
+    // Crashes, and runs that commit nothing, ended or stopped, leave the state unchanged, apart
+    // from names that others touched.
     ensures again { (ignored : List ℕ → Bool) (v w : TreeState) (events : List Event)
         → IsAtRest ignored (files_of v) v → HasSeenIdly v events w
-        → IsAtRest ignored (files_of v) w }
+        → IsAtRest (with_all_touched events ignored) (files_of v) w }
 
     // So two recoveries of a root agree, whatever happened between them.
-    ensures agree { (ignored : List ℕ → Bool) (v w u : TreeState) (events others : List Event)
-        → IsAtRest ignored (files_of v) v
+    ensures agree { (ignored names : List ℕ → Bool) (v w u : TreeState)
+        (events others : List Event) → IsAtRest ignored (files_of v) v
         → HasSeenIdly v events w → HasSeenIdly v others u
-        → state_of ignored (files_of w) ≡ state_of ignored (files_of u) }
+        → AreAmong (with_all_touched events ignored) names
+        → AreAmong (with_all_touched others ignored) names
+        → state_of names (files_of w) ≡ state_of names (files_of u) }
 
     // A run commits nothing if its command only reads.
     ensures readers { (v : TreeState) (run : Run) → IsTrue (reads_only (command_of run.words))
@@ -219,8 +222,8 @@ pub fn a_stopped_run_is_recovered()
         → LeavesNoBadIntent first → HasSeenNoBadIntent first events v
         → IsRunFrom v run → IsStopOf run m → HasSeenIdly m later w
         → IsRunFrom w next → does_recover (effect_by (command_of next.words)) ≡ true
-        → IsRecoveredBy
-        (HasStateBeforeOrOutcome (ignored_in run (ignored_behind ignored events)) v run) w next }
+        → let names = ignored_in run (ignored_behind ignored events) in
+        IsRecoveredBy (HasStateBeforeOrOutcome (with_all_touched later names) v run) w next }
 
     // These have the state of files that a crash might have left at that moment.
     ensures left { (ignored : List ℕ → Bool) (first v m w : TreeState)
@@ -229,8 +232,9 @@ pub fn a_stopped_run_is_recovered()
         → LeavesNoBadIntent first → HasSeenNoBadIntent first events v
         → IsRunFrom v run → IsStopOf run m → HasSeenIdly m later w
         → IsRunFrom w next → does_recover (effect_by (command_of next.words)) ≡ true
-        → (image : Files) × IsImage m image × IsRecoveredBy
-        (HasStateOf (ignored_in run (ignored_behind ignored events)) image) w next }
+        → let names = ignored_in run (ignored_behind ignored events) in
+        (image : Files) × IsImage m image
+        × IsRecoveredBy (HasStateOf (with_all_touched later names) image) w next }
 
     // If the root had one state when the run began, these are two: the old one and the outcome's.
     ensures two { (ignored : List ℕ → Bool) (v : TreeState) (run : Run) (files : Files)

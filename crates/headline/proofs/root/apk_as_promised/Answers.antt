@@ -1,8 +1,9 @@
+use Rattle.run_lists.proofs.Called.{called}
 use Rattle.headline.proofs.Promised.{of_call}
 use Rattle.headline.proofs.root.apk_as_promised.Goals as goal
 
-pub returns : goal.returns
-returns g c =
+pub returns-clause-promised : goal.returns-clause-promised
+returns-clause-promised g c =
     of_call c.the_sentence_holds.ensures (record {
       words = c.args.words.now;
       old = _;
@@ -11,5 +12,6 @@ returns g c =
       after = _;
       out = _;
       err = _;
-      answer = c.run_on_a_root.result;
-    }) c.run_on_a_root.ensures
+      answer = c.apk.result;
+    }) (called c.whatever_a_root_has_seen_a_run_is_safe.ensures.safe c.whatever_a_root_has_seen_a_run_is_safe.ensures.atomic _
+    c.apk.ensures.same c.apk.ensures.stated c.apk.ensures.idle c.apk.ensures.bad_intent c.apk.ensures.reads c.apk.ensures.last c.apk.ensures.left c.apk.ensures.crash c.apk.ensures.orderly c.apk.ensures.settled c.apk.ensures.at_rest)

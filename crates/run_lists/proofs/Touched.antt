@@ -1,0 +1,104 @@
+-- What others leave who change files under their names and do not sync them.
+use Rattle.std.proofs.Common.{◌≡◌, inl, inr, ℕ, Bool, true, false, ◌||◌, List, Option, Some, None, refl, sym, ap, subst, ◌∙◌}
+use Rattle.std.specs.Prelude.{if◌then◌else◌}
+use Rattle.std.specs.Str.{bytes_eq}
+use Rattle.std.proofs.lemmas.Bool.{false≢true}
+use Rattle.std.proofs.lemmas.Slice.Eq.{bytes_eq-Decides}
+use Rattle.base_core.specs.Crash.{IsOrderly, MayLeave}
+use Rattle.base_core.specs.Files.{Files, NameMap}
+use Rattle.base_core.specs.Tree.{File, TreeState, bytes_at, files_by}
+use Rattle.journal_intent.proofs.StageNames.{stage_name_staged}
+use Rattle.journal_core.specs.Quiet.{IsQuiet}
+use Rattle.journal_core.specs.Recovery.{Intent, IsPlaceOf, RestsOn, intent_at, intent_name, intent_of, is_staged}
+use Rattle.journal_core.proofs.Agree.{state_agree}
+use Rattle.run_lists.specs.Events.{IsSameBut, IsTouchOf, names_of_others, with_touched}
+use Rattle.run_lists.proofs.Facts.{Ignored}
+
+-- ---- the names
+
+off_first : (a b c : Bool) → a ≡ true → (if a || b then false else c) ≡ false
+off_first true b c is = refl
+off_first false b c is = absurd (false≢true is)
+
+off_second : (a b c : Bool) → b ≡ true → (if a || b then false else c) ≡ false
+off_second true b c is = refl
+off_second false true c is = refl
+off_second false false c is = absurd (false≢true is)
+
+pub intent_off : (theirs : Ignored) → names_of_others theirs intent_name ≡ false
+intent_off theirs = off_first (bytes_eq intent_name intent_name) (is_staged intent_name) (theirs intent_name) ((bytes_eq-Decides intent_name intent_name).1 refl)
+
+staged_off : (theirs : Ignored) (q : List ℕ) → is_staged q ≡ true → names_of_others theirs q ≡ false
+staged_off theirs q is = off_second (bytes_eq q intent_name) (is_staged q) (theirs q) is
+
+parts : (a b c : Bool) → (a || (b || c)) ≡ false → (b ≡ false) × ((a || c) ≡ false)
+parts true b c is = absurd (false≢true (sym is))
+parts false true c is = absurd (false≢true (sym is))
+parts false false c is = (refl, is)
+
+place_staged : (o : Option Intent) (q : List ℕ) → IsPlaceOf o q → is_staged q ≡ true
+place_staged None q at = absurd at
+place_staged (Some intent) q (k, low, high, is) = ap is_staged is ∙ stage_name_staged k
+
+-- ---- the files
+
+same_left : (f g : ℕ → File) (o : Option ℕ) (bytes : Option (List ℕ)) → ((n : ℕ) → o ≡ Some n → g n ≡ f n) → MayLeave g o bytes → MayLeave f o bytes
+same_left f g None bytes same is = is
+same_left f g (Some n) None same is = is
+same_left f g (Some n) (Some bytes) same is = subst (λ (file : File). (file.synced ≡ true → bytes ≡ file.bytes)) (same n refl) is
+
+read_left : (f : ℕ → File) (o : Option ℕ) → MayLeave f o (bytes_at f o)
+read_left f None = refl
+read_left f (Some n) = λ synced. refl
+
+same_bytes : (f g : ℕ → File) (o : Option ℕ) → ((n : ℕ) → o ≡ Some n → g n ≡ f n) → bytes_at g o ≡ bytes_at f o
+same_bytes f g None same = refl
+same_bytes f g (Some n) same = ap (λ (file : File). Some file.bytes) (same n refl)
+
+module _ (theirs : Ignored) (v w : TreeState) (touch : IsTouchOf theirs v w) (ignored : Ignored) where
+  abbrev Names : Ignored
+  Names = with_touched theirs ignored
+
+  counts : (files : Files) (q : List ℕ) → RestsOn Names files q → names_of_others theirs q ≡ false
+  counts files q (inl is) = ap (names_of_others theirs) is ∙ intent_off theirs
+  counts files q (inr (inl shown)) = (parts (is_staged q) (names_of_others theirs q) (ignored q) shown).0
+  counts files q (inr (inr place)) = staged_off theirs q (place_staged (intent_of files) q place)
+
+  -- the files that a crash might have left before
+  abbrev old_files : NameMap → Files → Files
+  old_files was image q = if names_of_others theirs q then bytes_at v.files (was q) else image q
+
+  old_left : (was map : NameMap) (image : Files) → IsSameBut theirs v was w map → ((q : List ℕ) → MayLeave w.files (map q) (image q)) → (q : List ℕ) → MayLeave v.files (was q) (old_files was image q)
+  old_left was map image same by q = at (names_of_others theirs q) refl
+    where
+      at : (b : Bool) → names_of_others theirs q ≡ b → MayLeave v.files (was q) (if b then bytes_at v.files (was q) else image q)
+      at true is = read_left v.files (was q)
+      at false is =
+          let both = same q is in
+          same_left v.files w.files (was q) (image q) both.1 (subst (λ (o : Option ℕ). MayLeave w.files o (image q)) both.0 (by q))
+
+  pub touch_quiet : IsQuiet Names v w
+  touch_quiet image (map, among, by) =
+      let at = touch map among in (
+        old_files at.0 image,
+        (at.0, at.1, old_left at.0 map image at.2 by),
+        state_agree Names image (old_files at.0 image)
+            (λ q rests. sym (ap (λ (b : Bool). (if b then bytes_at v.files (at.0 q) else image q)) (counts image q rests))),
+      )
+
+  rested : (was map : NameMap) → IsSameBut theirs v was w map → (q : List ℕ) → RestsOn Names (files_by w map) q → RestsOn ignored (files_by v was) q
+  rested was map same q (inl is) = inl is
+  rested was map same q (inr (inl shown)) = inr (inl (parts (is_staged q) (names_of_others theirs q) (ignored q) shown).1)
+  rested was map same q (inr (inr place)) =
+      let both = same intent_name (intent_off theirs) in
+      let at : files_by w map intent_name ≡ files_by v was intent_name = ap (bytes_at w.files) both.0 ∙ same_bytes v.files w.files (was intent_name) both.1 in
+      inr (inr (subst (λ (o : Option Intent). IsPlaceOf o q) (ap intent_at at) place))
+
+  pub touch_orderly : IsOrderly (RestsOn ignored) v → IsOrderly (RestsOn Names) w
+  touch_orderly orderly = record {
+    each = λ map among q n rests is.
+        let at = touch map among in
+        let both = at.2 q (counts (files_by w map) q rests) in
+        let was : at.0 q ≡ Some n = sym both.0 ∙ is in
+        ap (λ (file : File). file.synced) (both.1 n was) ∙ orderly.each at.0 at.1 q n (rested at.0 map at.2 q rests) was;
+  }
