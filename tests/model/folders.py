@@ -213,7 +213,7 @@ class Runner(Maker):
             files[DATABASE] = foreign.database(self, root)
         for repository in repositories:
             files[f"{repository.folder}/index.adb"] = foreign.index(self, repository)
-        self.ask(root, files, APPLETS + ["info", "manifest"])
+        self.ask(root, files, APPLETS + ["info", "info", "info", "manifest"])
 
     def ask_of_bad_text(self, root):
         """Asks on a root whose database is a text of version 2 with a bad line."""

@@ -6,6 +6,7 @@ import copy
 import hashlib
 
 from packages import Entry, file_of
+from versions import dependencies
 
 MATCHES = [number for number in range(32) if number % 16 not in (6, 14)]
 
@@ -53,6 +54,8 @@ def database(maker, root):
         other = maker.package(maker.one(*maker.names) + "-own", maker.one(*maker.versions))
         values.append(other.value(other.id, [path for path in other.files if maker.some(0.2)]))
     for info, folders, *_ in values:
+        more = dependencies(maker.dependency(0.3, 0, 0.7) for _ in range(maker.one(0, 2, 4)))
+        info[14] = (info[14] or []) + [each.value() for each in more] or None
         change_dependencies(maker, info)
         for folder in folders or []:
             for file in (folder[2] if folder else None) or []:
