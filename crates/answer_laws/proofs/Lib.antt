@@ -1,0 +1,5 @@
+-- Lemmas of this crate.
+mod Deciding
+mod Members
+mod Numbered
+mod Reported

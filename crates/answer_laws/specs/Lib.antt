@@ -1,0 +1,2 @@
+-- what the laws say
+pub mod WhichChange

@@ -1,0 +1,7 @@
+//! Laws above the definitions of what a user is answered.
+//!
+//! Each is a function that does nothing; its contract is what it says. The rules are in
+//! `docs/commands.md`, "`add` and `del`" and "`upgrade` and `fix`".
+#![tactic(auto)]
+
+pub mod changes;
