@@ -85,3 +85,8 @@ missing_name {X} name_of name (y ∷ xs) e at = go (bytes_eq (name_of y) name) r
     go true is later e at = absurd cc
     go false is later e (inl same) = true≢false (sym ((bytes_eq-Decides (name_of y) name).1 (sym same)) ∙ is)
     go false is later e (inr more) = later e more
+
+pub risen : (q : List ℕ) (xs : List (List ℕ)) → IsIn q xs → rising.IsIn q xs
+risen q [] at = absurd at
+risen q (x ∷ xs) (inl is) = inl is
+risen q (x ∷ xs) (inr more) = inr (risen q xs more)

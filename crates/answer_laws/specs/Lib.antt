@@ -1,2 +1,5 @@
 -- what the laws say
 pub mod WhichChange
+pub mod KeptNames
+pub mod FirstScripts
+pub mod DueTriggers

@@ -5,3 +5,6 @@
 #![tactic(auto)]
 
 pub mod changes;
+pub mod kept;
+pub mod scripts;
+pub mod triggers;

@@ -1,0 +1,32 @@
+//! Which triggers are due.
+//! The rules are in `docs/commands.md`, "`add` and `del`", which triggers are due.
+
+ghost use Rattle.std.specs.Prelude.{◌≡◌, ◌↔◌, ℕ, List, [], true, codes};
+ghost use Rattle.adb_view.specs.Plain.{Plain};
+ghost use Rattle.answer_laws.specs.DueTriggers.{HasFileIn, IsFilledByParts, IsTriggered};
+ghost use Rattle.base_core.specs.Listed.{IsRising};
+ghost use Rattle.base_core.specs.Lists.{IsIn};
+ghost use Rattle.change_outcome.specs.Triggers.{folders_of_paths, is_due, is_folder_matched};
+
+use star_patterns::a_pattern_matches_what_its_stars_are_filled_to;
+
+/// A pattern matches a folder exactly if both have as many parts and the stars of each part of the
+/// pattern can be filled to the folder's part. The root is matched by `/` alone.
+pub fn a_pattern_matches_a_folder_part_by_part()
+    ensures below { (folder pattern : List ℕ) → (folder ≡ [] → ⊥)
+        → (is_folder_matched folder pattern ≡ true) ↔ IsFilledByParts pattern folder }
+    ensures root { (pattern : List ℕ)
+        → (is_folder_matched [] pattern ≡ true) ↔ (pattern ≡ codes "/") }
+{
+    a_pattern_matches_what_its_stars_are_filled_to();
+}
+
+/// A trigger is due for a folder exactly if the package has a trigger script and one of its
+/// patterns matches the folder. The folders are exactly those that have a changed file right in
+/// them, each once, in byte order.
+pub fn a_trigger_is_due_for_a_changed_folder()
+    ensures due { (pkg : Plain) (folder : List ℕ) → (is_due pkg folder ≡ true) ↔ IsTriggered pkg folder }
+    ensures folders { (paths : List (List ℕ)) (folder : List ℕ)
+        → IsIn folder (folders_of_paths paths) ↔ HasFileIn paths folder }
+    ensures order { (paths : List (List ℕ)) → IsRising (folders_of_paths paths) }
+{}
