@@ -1,6 +1,8 @@
 -- Lemmas of this crate.
 mod Deciding
+mod DueLines
 mod FirstNumbers
+mod InfoSteps
 mod Members
 mod Needing
 mod Numbered

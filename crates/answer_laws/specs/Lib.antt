@@ -3,3 +3,4 @@ pub mod WhichChange
 pub mod KeptNames
 pub mod FirstScripts
 pub mod DueTriggers
+pub mod InfoAnswers
