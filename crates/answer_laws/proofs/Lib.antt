@@ -7,5 +7,7 @@ mod Members
 mod Needing
 mod Numbered
 mod Reported
+mod Replacing
+mod Sections
 mod Tests
 mod Watched

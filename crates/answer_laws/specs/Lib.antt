@@ -4,3 +4,4 @@ pub mod KeptNames
 pub mod FirstScripts
 pub mod DueTriggers
 pub mod InfoAnswers
+pub mod ReplacesEntries
