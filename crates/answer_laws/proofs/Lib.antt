@@ -7,6 +7,7 @@ mod Members
 mod Needing
 mod Numbered
 mod Reported
+mod Places
 mod Replacing
 mod Sections
 mod Tests

@@ -5,3 +5,4 @@ pub mod FirstScripts
 pub mod DueTriggers
 pub mod InfoAnswers
 pub mod ReplacesEntries
+pub mod FoundFiles

@@ -6,6 +6,7 @@
 #![tactic(auto)]
 
 pub mod changes;
+pub mod found;
 pub mod info;
 pub mod kept;
 pub mod replaces;
