@@ -47,21 +47,22 @@ enum Try {
 /// waits. The lock holds until the returned file is closed.
 pub fn lock_root<R: Host>(rt: &R, lock: Lock) -> Result<File, HostFault> {
     let start = Instant::now(rt)?;
-    let mut says = true;
+    let mut silent = true;
     // The clock ends this; the bound shows the checker that it ends.
     for _ in 0..u64::MAX {
         match try_lock_root(rt, lock)? {
             Try::Held(file) => return Ok(file),
-            Try::Taken => thread::sleep(rt, Duration::from_millis(SLEEP_MILLISECONDS)),
+            Try::Taken => {
+                if silent && start.elapsed(rt)?.as_secs() >= SILENT_SECONDS {
+                    silent = false;
+                    let _ = rt.eprintln("apk: waits for another run in this folder");
+                }
+                thread::sleep(rt, Duration::from_millis(SLEEP_MILLISECONDS));
+            }
             Try::Changed => {}
         }
-        let waited = start.elapsed(rt)?.as_secs();
-        if waited >= MOST_SECONDS {
+        if start.elapsed(rt)?.as_secs() >= MOST_SECONDS {
             break;
-        }
-        if says && waited >= SILENT_SECONDS {
-            says = false;
-            let _ = rt.eprintln("apk: waits for another run in this folder");
         }
     }
     Err(HostFault::own(Reason::Locked))
