@@ -67,18 +67,18 @@ pub fn lock_root<R: Host>(rt: &R, lock: Lock) -> Result<File, HostFault> {
     Err(HostFault::own(Reason::Locked))
 }
 
-/// Tries to take the lock. A user without access to the lock's folder locks the root itself, which
-/// excludes only other such users.
+/// Tries to take the lock. A run that may not open the lock's folder, or cannot make it, locks the
+/// root itself, which excludes only other such runs.
 fn try_lock_root<R: Host>(rt: &R, lock: Lock) -> Result<Try, HostFault> {
     match fs::open(rt, LOCK_FOLDER) {
         Ok(folder) => try_lock_folder(rt, folder, lock),
         Err(e) if e.kind() == ErrorKind::NotFound => match make_lock_folder(rt) {
             Ok(()) => Ok(Try::Changed),
             Err(e) if e.kind() == ErrorKind::AlreadyExists => Ok(Try::Changed),
-            Err(e) if is_barred(e.kind()) => try_lock(fs::open(rt, ".")?, lock),
-            Err(e) => Err(e.into()),
+            // A full or read-only file system is read too.
+            Err(_) => try_lock(fs::open(rt, ".")?, lock),
         },
-        Err(e) if is_barred(e.kind()) => try_lock(fs::open(rt, ".")?, lock),
+        Err(e) if e.kind() == ErrorKind::PermissionDenied => try_lock(fs::open(rt, ".")?, lock),
         Err(e) => Err(e.into()),
     }
 }
@@ -105,14 +105,6 @@ fn try_lock(folder: File, lock: Lock) -> Result<Try, HostFault> {
         Err(TryLockError::WouldBlock) => Ok(Try::Taken),
         Err(TryLockError::Error(e)) => Err(e.into()),
     }
-}
-
-/// Whether an error says that this user has no access to the lock's folder.
-fn is_barred(kind: ErrorKind) -> bool {
-    matches!(
-        kind,
-        ErrorKind::PermissionDenied | ErrorKind::ReadOnlyFilesystem
-    )
 }
 
 /// Makes the lock's folder so that exactly those users can open it who may change the root: it
