@@ -11,4 +11,5 @@ mod Places
 mod Replacing
 mod Sections
 mod Tests
+mod Unindexed
 mod Watched

@@ -21,7 +21,7 @@ use Rattle.report_core.specs.Reports.{name_version}
 use Rattle.v2_core.specs.Payload.{payload_of_text}
 use Rattle.v2_core.specs.declared.read.V2Fault.{V2Fault}
 use Rattle.v2_core.specs.declared.read.V2Fault.TheVariants.{Bad, Memory, TooLarge}
-use Rattle.answer_laws.specs.FoundFiles.{HasNoSlash, IsOfIndex, package_file_name}
+use Rattle.answer_laws.specs.FoundFiles.{HasNoSlash, IsCandidateOfIndex, candidate_file_name}
 use Rattle.std.proofs.lemmas.List.{append_assoc}
 
 -- ---- the folder of an index
@@ -50,7 +50,7 @@ named_path : (path : List ℕ) → is_name path ≡ true → if_name path ≡ So
 named_path path e = ap (λ (t : Bool). let o : Option (List ℕ) = if t then Some path else None in o) e
 
 -- the name of the file beside an index, given the candidate's repository
-beside : (repositories : List Repository) (c : Candidate) (path : List ℕ) → IsOfIndex repositories c path
+beside : (repositories : List Repository) (c : Candidate) (path : List ℕ) → IsCandidateOfIndex repositories c path
     → package_file_of repositories c ≡ if_name (package_path path c.name (selected_version c))
 beside repositories c path of =
     let at : (of.place + 1) - 1 ≡ of.place = omega arith in
@@ -62,20 +62,20 @@ beside repositories c path of =
     by_number : c.repository ≡ Some (of.place + 1) → package_file_of repositories c ≡ path_beside_index c.name (selected_version c) (slice_get repositories ((of.place + 1) - 1))
     by_number e = ap (λ (o : Option ℕ). package_file_of repositories (record c { repository = o })) e
 
-pub below : (repositories : List Repository) (c : Candidate) (folder index : List ℕ) → HasNoSlash index → IsOfIndex repositories c (folder ++ codes "/" ++ index)
-    → is_name (folder ++ codes "/" ++ package_file_name c) ≡ true → package_file_of repositories c ≡ Some (folder ++ codes "/" ++ package_file_name c)
+pub below : (repositories : List Repository) (c : Candidate) (folder index : List ℕ) → HasNoSlash index → IsCandidateOfIndex repositories c (folder ++ codes "/" ++ index)
+    → is_name (folder ++ codes "/" ++ candidate_file_name c) ≡ true → package_file_of repositories c ≡ Some (folder ++ codes "/" ++ candidate_file_name c)
 below repositories c folder index none of named =
     beside repositories c (folder ++ codes "/" ++ index) of
     ∙ ap (λ (t : List ℕ). if_name (t ++ name_version c.name (selected_version c) ++ codes ".apk")) (prefix_is folder index none)
     ∙ ap if_name (append_assoc (folder ++ codes "/") (name_version c.name (selected_version c)) (codes ".apk"))
-    ∙ named_path (folder ++ codes "/" ++ package_file_name c) named
+    ∙ named_path (folder ++ codes "/" ++ candidate_file_name c) named
 
-pub top : (repositories : List Repository) (c : Candidate) (index : List ℕ) → HasNoSlash index → IsOfIndex repositories c index
-    → is_name (package_file_name c) ≡ true → package_file_of repositories c ≡ Some (package_file_name c)
+pub top : (repositories : List Repository) (c : Candidate) (index : List ℕ) → HasNoSlash index → IsCandidateOfIndex repositories c index
+    → is_name (candidate_file_name c) ≡ true → package_file_of repositories c ≡ Some (candidate_file_name c)
 top repositories c index none of named =
     beside repositories c index of
     ∙ ap (λ (t : List ℕ). if_name (t ++ name_version c.name (selected_version c) ++ codes ".apk")) (no_prefix index none)
-    ∙ named_path (package_file_name c) named
+    ∙ named_path (candidate_file_name c) named
 
 -- ---- the two databases
 

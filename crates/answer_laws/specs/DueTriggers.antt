@@ -48,7 +48,8 @@ pub record IsDueAmong (paths : List (List ℕ)) (members : List Member) (due : D
   pub triggered : IsTriggered due.member.pkg due.folder
 
 -- a text with a line for each package and each folder for which its trigger is due, and no other
-pub record HasTriggerLines (paths : List (List ℕ)) (members : List Member) (text : List ℕ) : Type 0 where
+pub record HasTriggerLines (paths : List (List ℕ)) (members : List Member) (text : List ℕ)
+    : Type 0 where
   pub dues : List DueFolder
   pub each : (due : DueFolder) → IsIn due dues ↔ IsDueAmong paths members due
   pub text_is : text

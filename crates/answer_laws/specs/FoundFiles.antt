@@ -9,11 +9,12 @@ use Rattle.package_files.specs.Folders.{is_slash}
 use Rattle.report_core.specs.Reports.{name_version}
 
 -- the file name of a candidate's package
-abbrev pub package_file_name : Candidate → List ℕ
-package_file_name c = name_version c.name (selected_version c) ++ codes ".apk"
+abbrev pub candidate_file_name : Candidate → List ℕ
+candidate_file_name c = name_version c.name (selected_version c) ++ codes ".apk"
 
 -- a candidate is of the repository at a place, counted from 0, whose index has this path
-pub record IsOfIndex (repositories : List Repository) (c : Candidate) (path : List ℕ) : Type 0 where
+pub record IsCandidateOfIndex (repositories : List Repository) (c : Candidate) (path : List ℕ)
+    : Type 0 where
   pub place : ℕ
   pub numbered : c.repository ≡ Some (place + 1)
   pub repository : Repository

@@ -1,6 +1,6 @@
 -- What decides the change of a package. The rules are in `docs/commands.md`, "`add` and `del`" and
 -- "`upgrade` and `fix`", what is reported. Serves the laws of `src/changes.rt`.
-use Rattle.std.specs.Prelude.{◌≡◌, ℕ, ◌+◌, true, List, Some, is_some, length, map, slice_get}
+use Rattle.std.specs.Prelude.{◌≡◌, ℕ, ◌+◌, true, List, None, Some, is_some, length, map, slice_get}
 use Rattle.std.specs.List.{find}
 use Rattle.adb_fields.specs.Repeated.{package_name}
 use Rattle.adb_view.specs.Plain.{Plain}
@@ -13,12 +13,20 @@ use Rattle.report_core.specs.Reports.{Change, Downgrade, Install, Purge, Reinsta
 use Rattle.version_core.specs.Order.{is_version}
 
 -- a name with a package before and a selected candidate of a repository, both of which have versions
-pub record HasBothVersions (r : Replacement) (name : List ℕ) (pkg : Plain) (c : Candidate) : Type 0 where
+pub record HasBothVersions (r : Replacement) (name : List ℕ) (pkg : Plain) (c : Candidate)
+    : Type 0 where
   pub before : find (is_package_named name) r.before ≡ Some pkg
   pub selected : find (is_selected_named name) r.selected ≡ Some c
   pub repository : is_some c.repository ≡ true
   pub old : is_version (version_text pkg) ≡ true
   pub new : is_version (selected_version c) ≡ true
+
+-- a name with a package before and a selected candidate of no repository, which is that package
+pub record IsSelectedItself (r : Replacement) (name : List ℕ) (c : Candidate) : Type 0 where
+  pub installed : Plain
+  pub before : find (is_package_named name) r.before ≡ Some installed
+  pub selected : find (is_selected_named name) r.selected ≡ Some c
+  pub repository : c.repository ≡ None
 
 -- a candidate with the text of a package's version and with its id
 abbrev pub IsVeryPackage : Plain → Candidate → Type 0

@@ -5,7 +5,7 @@
 ghost use Rattle.std.specs.Prelude.{◌≡◌, ◌↔◌, ℕ, List, Some, None, map};
 ghost use Rattle.std.specs.declared.cmp.Ordering.TheVariants.{Less, Equal, Greater};
 ghost use Rattle.adb_view.specs.Plain.{Plain};
-ghost use Rattle.answer_laws.specs.WhichChange.{HasBothVersions, HasNumberedLines, IsInstalled, IsPurged, IsSelected, IsVeryPackage, WasInstalled, changed_name};
+ghost use Rattle.answer_laws.specs.WhichChange.{HasBothVersions, HasNumberedLines, IsInstalled, IsPurged, IsSelected, IsSelectedItself, IsVeryPackage, WasInstalled, changed_name};
 ghost use Rattle.base_core.specs.Listed.{IsRising};
 ghost use Rattle.base_core.specs.Lists.{IsIn};
 ghost use Rattle.candidate_core.specs.Candidates.{Candidate};
@@ -43,6 +43,18 @@ pub fn the_order_of_versions_decides_the_change()
         → HasBothVersions r name pkg c
         → (change_of_name r name ≡ None)
         ↔ (IsVeryPackage pkg c × (IsIn name r.again → ⊥)) }
+{}
+
+/// A package that no index has is selected as it is installed: it is installed again exactly if its
+/// name is asked for again, and otherwise kept.
+pub fn a_package_of_no_index_is_kept()
+    ensures reinstall { (r : Replacement) (name : List ℕ) (c : Candidate)
+        → IsSelectedItself r name c
+        → (change_of_name r name ≡ Some (Reinstall name (selected_version c)))
+        ↔ IsIn name r.again }
+    ensures kept { (r : Replacement) (name : List ℕ) (c : Candidate)
+        → IsSelectedItself r name c
+        → (change_of_name r name ≡ None) ↔ (IsIn name r.again → ⊥) }
 {}
 
 /// The changes of a report are exactly those of the names, one for each name whose package

@@ -2,7 +2,7 @@
 //! The rules are in `docs/commands.md`, "`add` and `del`", what is read.
 
 ghost use Rattle.std.specs.Prelude.{◌≡◌, ◌++◌, ℕ, List, Option, Bool, Some, None, Ok, Err, [], true, false, codes};
-ghost use Rattle.answer_laws.specs.FoundFiles.{HasNoSlash, IsOfIndex, package_file_name};
+ghost use Rattle.answer_laws.specs.FoundFiles.{HasNoSlash, IsCandidateOfIndex, candidate_file_name};
 ghost use Rattle.base_core.specs.Name.{is_name};
 ghost use Rattle.candidate_core.specs.Candidates.{Candidate};
 ghost use Rattle.change_inputs.specs.Database.{Database, root_database};
@@ -13,13 +13,13 @@ ghost use Rattle.report_core.specs.declared.refusal.Refusal.TheVariants.{NoDatab
 /// A package's file is in the folder of its index, at whatever depth that is.
 pub fn a_package_is_found_in_the_folder_of_its_index()
     ensures below { (repositories : List Repository) (c : Candidate) (folder index : List ℕ)
-        → HasNoSlash index → IsOfIndex repositories c (folder ++ codes "/" ++ index)
-        → is_name (folder ++ codes "/" ++ package_file_name c) ≡ true
-        → package_file_of repositories c ≡ Some (folder ++ codes "/" ++ package_file_name c) }
+        → HasNoSlash index → IsCandidateOfIndex repositories c (folder ++ codes "/" ++ index)
+        → is_name (folder ++ codes "/" ++ candidate_file_name c) ≡ true
+        → package_file_of repositories c ≡ Some (folder ++ codes "/" ++ candidate_file_name c) }
     ensures top { (repositories : List Repository) (c : Candidate) (index : List ℕ)
-        → HasNoSlash index → IsOfIndex repositories c index
-        → is_name (package_file_name c) ≡ true
-        → package_file_of repositories c ≡ Some (package_file_name c) }
+        → HasNoSlash index → IsCandidateOfIndex repositories c index
+        → is_name (candidate_file_name c) ≡ true
+        → package_file_of repositories c ≡ Some (candidate_file_name c) }
 {}
 
 /// A container decides what is installed, whatever the text database has; without a container the

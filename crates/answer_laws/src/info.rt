@@ -32,8 +32,8 @@ pub fn info_refuses_the_first_absent_operand()
         ↔ IsFirstAbsent flags packages operands place }
 {}
 
-/// `info -e` prints exactly those of its operands that are names of installed packages, in the order
-/// given.
+/// `info -e` prints exactly those of its operands that are names of installed packages, in the
+/// order given.
 pub fn info_prints_the_installed_operands()
     ensures { (flags : Flags) (packages : List Plain) (operands : List Operand)
         → flags.who_owns ≡ false → flags.installed ≡ true

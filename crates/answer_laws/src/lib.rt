@@ -1,8 +1,8 @@
 //! Laws above the definitions of what a user is answered.
 //!
 //! Each is a function that does nothing; its contract is what it says. The rules are in
-//! `docs/commands.md`, "`add` and `del`", "`upgrade` and `fix`", "Files that several packages list" and
-//! "`info`".
+//! `docs/commands.md`, "`add` and `del`", "`upgrade` and `fix`", "Files that several packages list"
+//! and "`info`".
 #![tactic(auto)]
 
 pub mod changes;

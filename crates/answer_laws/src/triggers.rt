@@ -27,7 +27,8 @@ pub fn a_pattern_matches_a_folder_part_by_part()
 /// patterns matches the folder. The folders are exactly those that have a changed file right in
 /// them, each once, in byte order.
 pub fn a_trigger_is_due_for_a_changed_folder()
-    ensures due { (pkg : Plain) (folder : List ℕ) → (is_due pkg folder ≡ true) ↔ IsTriggered pkg folder }
+    ensures due { (pkg : Plain) (folder : List ℕ)
+        → (is_due pkg folder ≡ true) ↔ IsTriggered pkg folder }
     ensures folders { (paths : List (List ℕ)) (folder : List ℕ)
         → IsIn folder (folders_of_paths paths) ↔ HasFileIn paths folder }
     ensures order { (paths : List (List ℕ)) → IsRising (folders_of_paths paths) }
