@@ -47,38 +47,39 @@ enum Try {
 /// waits. The lock holds until the returned file is closed.
 pub fn lock_root<R: Host>(rt: &R, lock: Lock) -> Result<File, HostFault> {
     let start = Instant::now(rt)?;
-    let mut says = true;
+    let mut silent = true;
     // The clock ends this; the bound shows the checker that it ends.
     for _ in 0..u64::MAX {
         match try_lock_root(rt, lock)? {
             Try::Held(file) => return Ok(file),
-            Try::Taken => thread::sleep(rt, Duration::from_millis(SLEEP_MILLISECONDS)),
+            Try::Taken => {
+                if silent && start.elapsed(rt)?.as_secs() >= SILENT_SECONDS {
+                    silent = false;
+                    let _ = rt.eprintln("apk: waits for another run in this folder");
+                }
+                thread::sleep(rt, Duration::from_millis(SLEEP_MILLISECONDS));
+            }
             Try::Changed => {}
         }
-        let waited = start.elapsed(rt)?.as_secs();
-        if waited >= MOST_SECONDS {
+        if start.elapsed(rt)?.as_secs() >= MOST_SECONDS {
             break;
-        }
-        if says && waited >= SILENT_SECONDS {
-            says = false;
-            let _ = rt.eprintln("apk: waits for another run in this folder");
         }
     }
     Err(HostFault::own(Reason::Locked))
 }
 
-/// Tries to take the lock. A user without access to the lock's folder locks the root itself, which
-/// excludes only other such users.
+/// Tries to take the lock. A run that may not open the lock's folder, or cannot make it, locks the
+/// root itself, which excludes only other such runs.
 fn try_lock_root<R: Host>(rt: &R, lock: Lock) -> Result<Try, HostFault> {
     match fs::open(rt, LOCK_FOLDER) {
         Ok(folder) => try_lock_folder(rt, folder, lock),
         Err(e) if e.kind() == ErrorKind::NotFound => match make_lock_folder(rt) {
             Ok(()) => Ok(Try::Changed),
             Err(e) if e.kind() == ErrorKind::AlreadyExists => Ok(Try::Changed),
-            Err(e) if is_barred(e.kind()) => try_lock(fs::open(rt, ".")?, lock),
-            Err(e) => Err(e.into()),
+            // A full or read-only file system is read too.
+            Err(_) => try_lock(fs::open(rt, ".")?, lock),
         },
-        Err(e) if is_barred(e.kind()) => try_lock(fs::open(rt, ".")?, lock),
+        Err(e) if e.kind() == ErrorKind::PermissionDenied => try_lock(fs::open(rt, ".")?, lock),
         Err(e) => Err(e.into()),
     }
 }
@@ -105,14 +106,6 @@ fn try_lock(folder: File, lock: Lock) -> Result<Try, HostFault> {
         Err(TryLockError::WouldBlock) => Ok(Try::Taken),
         Err(TryLockError::Error(e)) => Err(e.into()),
     }
-}
-
-/// Whether an error says that this user has no access to the lock's folder.
-fn is_barred(kind: ErrorKind) -> bool {
-    matches!(
-        kind,
-        ErrorKind::PermissionDenied | ErrorKind::ReadOnlyFilesystem
-    )
 }
 
 /// Makes the lock's folder so that exactly those users can open it who may change the root: it

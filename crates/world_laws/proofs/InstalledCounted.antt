@@ -42,7 +42,7 @@ none_in test xs x none here = by (test x) refl
     by true e = absurd (true≢false (sym (in_any test xs x here e) ∙ none))
     by false e = refl
 
-no_any : {X : Type 0} (test : X → Bool) (xs : List X) → ((x : X) → IsIn x xs → test x ≡ false) → list_any test xs ≡ false
+pub no_any : {X : Type 0} (test : X → Bool) (xs : List X) → ((x : X) → IsIn x xs → test x ≡ false) → list_any test xs ≡ false
 no_any test xs none = by (list_any test xs) refl
   where
     by : (t : Bool) → list_any test xs ≡ t → t ≡ false

@@ -8,3 +8,5 @@ pub mod InstalledCounted
 pub mod CommandPools
 pub mod SatisfiedWorlds
 pub mod CommandSelections
+pub mod SatisfyingPlaces
+pub mod UnsatisfiedCommands

@@ -78,7 +78,7 @@ all_pass : (test : Dependency → Bool) (xs : List Dependency) → ((x : Depende
 all_pass test [] h = refl
 all_pass test (y ∷ ys) h = and_from (test y) (list_all test ys) (h y (inl refl)) (all_pass test ys (λ x here. h x (inr here)))
 
-all_in : (test : Dependency → Bool) (xs : List Dependency) (x : Dependency) → list_all test xs ≡ true → IsIn x xs → test x ≡ true
+pub all_in : (test : Dependency → Bool) (xs : List Dependency) (x : Dependency) → list_all test xs ≡ true → IsIn x xs → test x ≡ true
 all_in test [] x h here = absurd here
 all_in test (y ∷ ys) x h (inl is) = ap test is ∙ (and_parts (test y) (list_all test ys) h).0
 all_in test (y ∷ ys) x h (inr more) = all_in test ys x (and_parts (test y) (list_all test ys) h).1 more

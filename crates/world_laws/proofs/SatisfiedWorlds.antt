@@ -19,7 +19,7 @@ use Rattle.world_laws.proofs.InstalledCounted as Lists
 
 -- ---- candidates at places
 
-at_in : (pool : SealedPool) (places : List ℕ) (place : ℕ) (c : Candidate) → IsIn place places → candidate_at pool place ≡ Some c → IsIn c (candidates_at pool places)
+pub at_in : (pool : SealedPool) (places : List ℕ) (place : ℕ) (c : Candidate) → IsIn place places → candidate_at pool place ≡ Some c → IsIn c (candidates_at pool places)
 at_in pool [] place c here e = absurd here
 at_in pool (p ∷ places) place c here e = by (candidate_at pool p) refl here (λ behind. at_in pool places place c behind e)
   where
@@ -30,10 +30,10 @@ at_in pool (p ∷ places) place c here e = by (candidate_at pool p) refl here (�
     by (Some d) f (inr behind) more = rw f (inr (more behind))
 
 -- a place of some leads to the candidate
-abbrev IsLedTo : SealedPool → Candidate → List ℕ → Type 0
+abbrev pub IsLedTo : SealedPool → Candidate → List ℕ → Type 0
 IsLedTo pool c places = (place : ℕ) × IsIn place places × (candidate_at pool place ≡ Some c)
 
-in_at : (pool : SealedPool) (places : List ℕ) (c : Candidate) → IsIn c (candidates_at pool places) → IsLedTo pool c places
+pub in_at : (pool : SealedPool) (places : List ℕ) (c : Candidate) → IsIn c (candidates_at pool places) → IsLedTo pool c places
 in_at pool [] c here = absurd here
 in_at pool (p ∷ places) c here = by (candidate_at pool p) refl (λ behind. in_at pool places c behind)
   where
@@ -44,10 +44,10 @@ in_at pool (p ∷ places) c here = by (candidate_at pool p) refl (λ behind. in_
     by None f more = further (more (rw f at here))
     by (Some d) f more = elim (rw f at here) [ inl is ↦ (p, inl refl, f ∙ ap Some (sym is)) | inr behind ↦ further (more behind) ]
 
-test_at : (pool : SealedPool) (test : Candidate → Bool) (place : ℕ) (c : Candidate) → candidate_at pool place ≡ Some c → is_at pool test place ≡ test c
+pub test_at : (pool : SealedPool) (test : Candidate → Bool) (place : ℕ) (c : Candidate) → candidate_at pool place ≡ Some c → is_at pool test place ≡ test c
 test_at pool test place c e = ap (λ o. option_map_or test o false) e
 
-at_test : (pool : SealedPool) (test : Candidate → Bool) (place : ℕ) → is_at pool test place ≡ true → (c : Candidate) × (candidate_at pool place ≡ Some c) × (test c ≡ true)
+pub at_test : (pool : SealedPool) (test : Candidate → Bool) (place : ℕ) → is_at pool test place ≡ true → (c : Candidate) × (candidate_at pool place ≡ Some c) × (test c ≡ true)
 at_test pool test place e = by (candidate_at pool place) refl
   where
     by : (o : Option Candidate) → candidate_at pool place ≡ o → (c : Candidate) × (candidate_at pool place ≡ Some c) × (test c ≡ true)

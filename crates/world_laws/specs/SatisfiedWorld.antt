@@ -1,7 +1,7 @@
 -- What holds of the packages that a command selects, in a reader's words: they satisfy world, and each
 -- is needed. The rules are in `docs/selection.md`, "What satisfies world", 1 to 4, and "Which selection
 -- is taken", the end of its second paragraph.
-use Rattle.std.specs.Prelude.{◌≡◌, ◌⊎◌, ℕ, true, false, List}
+use Rattle.std.specs.Prelude.{◌≡◌, ◌⊎◌, ◌↔◌, ℕ, true, false, List}
 use Rattle.adb_fields.specs.FirstPair.{IsIn}
 use Rattle.candidate_core.specs.Candidates.{Candidate, has_usable_install_if, is_allowed, meets_dependency, occupies_name}
 use Rattle.dep_core.specs.Dependency.{Dependency}
@@ -44,6 +44,15 @@ pub record SatisfyWorld (candidates : List Candidate) (world : List Dependency)
   -- 4: if an install-if applies there is a package of its name
   pub installs : (c : Candidate) → HasInstallIf candidates world packages c
       → (other : Candidate) × IsIn other packages × (other.name ≡ c.name)
+
+-- the same packages, in any order and number
+abbrev pub AreSamePackages : List Candidate → List Candidate → Type 0
+AreSamePackages packages others = (c : Candidate) → IsIn c packages ↔ IsIn c others
+
+-- no packages satisfy world, among the candidates that there are
+abbrev pub IsUnsatisfiable : List Candidate → List Dependency → Type 0
+IsUnsatisfiable candidates world =
+    (packages : List Candidate) → ¬ SatisfyWorld candidates world packages
 
 -- ---- what is needed
 

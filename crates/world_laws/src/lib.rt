@@ -1,5 +1,6 @@
 //! What a command asks of world, what it chooses from, which dependency it satisfies next, what
-//! holds of the selected packages, and what a simulation reports of a change, in a reader's words.
+//! holds of the selected packages, when there are none that satisfy world, and what a simulation
+//! reports of a change, in a reader's words.
 //! The rules are in `docs/formats.md`, "World", in `docs/selection.md`, and in `docs/commands.md`,
 //! "`add` and `del`".
 //!
@@ -7,24 +8,27 @@
 //! `search_tables` and `engine_core` that they speak of.
 #![tactic(auto)]
 
-ghost use Rattle.std.specs.Prelude.{◌≡◌, ℕ, List, Option, false, Err, Ok};
+ghost use Rattle.std.specs.Prelude.{◌≡◌, ◌↔◌, ℕ, List, Option, None, false, Err, Ok};
 ghost use Rattle.adb_fields.specs.FirstPair.{IsIn};
 ghost use Rattle.candidate_core.specs.Candidates.{Candidate, Need};
 ghost use Rattle.candidate_core.specs.Rank.{SealedPool};
-ghost use Rattle.search_tables.specs.Selection.{next_need};
+ghost use Rattle.search_tables.specs.Selection.{IsSatisfying, next_need};
 ghost use Rattle.world_laws.specs.NextNeed.{IsNextOrNone};
 ghost use Rattle.base_core.specs.Files.{Files};
 ghost use Rattle.change_files.specs.FileChange.{FileChange};
 ghost use Rattle.change_outcome.specs.ChangeOutcome.{ChangeDone, ChangeWishes, change_report};
 ghost use Rattle.command_core.specs.Command.{CommandLine};
 ghost use Rattle.engine_core.specs.Changed.{Selected, change_of_command, selected_for};
-ghost use Rattle.engine_core.specs.Choice.{IsChoiceFrom};
+ghost use Rattle.engine_core.specs.Choice.{IsChoice, IsChoiceFrom};
 ghost use Rattle.engine_core.specs.Selecting.{pool_for};
+ghost use Rattle.engine_core.specs.Wishes.{unknown_place};
 ghost use Rattle.make_info.specs.Reads.{Reads};
 ghost use Rattle.package_changes.specs.Changes.{Replacement};
+ghost use Rattle.package_changes.specs.Placed.{candidates_at};
 ghost use Rattle.package_changes.specs.Report.{simulated_report};
 ghost use Rattle.path_clashes.specs.Clash.{NamePair};
 ghost use Rattle.report_core.specs.declared.refusal.Refusal.{Refusal};
+ghost use Rattle.report_core.specs.declared.refusal.Refusal.TheVariants.{Unsatisfied};
 ghost use Rattle.world_laws.specs.Simulation.{IsForetold, with_simulation};
 ghost use Rattle.change_inputs.specs.Candidates.{candidates_of};
 ghost use Rattle.change_inputs.specs.Inputs.{Inputs, inputs_of};
@@ -35,7 +39,8 @@ ghost use Rattle.dep_core.specs.Dependency.{Dependency};
 ghost use Rattle.dep_core.specs.World.{IsWorld};
 ghost use Rattle.world_laws.specs.CommandPool.{IsCommandPool};
 ghost use Rattle.world_laws.specs.NewWorld.{HoldsWhatWasAsked, IsReadWorld};
-ghost use Rattle.world_laws.specs.SatisfiedWorld.{IsNeeded, SatisfyWorld};
+ghost use Rattle.world_laws.specs.SatisfiedWorld.{AreSamePackages, IsNeeded, SatisfyWorld};
+ghost use Rattle.world_laws.specs.SatisfiedWorld.{IsUnsatisfiable};
 
 use change_outcome::a_change_that_is_made_passes_each_test;
 use engine_core::a_choice_is_unique;
@@ -126,4 +131,34 @@ pub fn the_selected_packages_satisfy_the_new_world()
         (s : Selected) (c : Candidate) → IsChoiceFrom (pool_for command read) chosen
         → selected_for command read chosen ≡ Ok s → IsIn c s.replacement.selected
         → IsNeeded (candidates_of s.inputs) s.inputs.root.new_world s.replacement.selected c }
+{}
+
+/// A selection of places satisfies world exactly if packages do in a reader's words. So a command
+/// finds no selection exactly if no packages satisfy its new world.
+pub fn a_selection_satisfies_world_exactly_if_packages_do()
+    // The packages of a satisfying selection satisfy world.
+    ensures satisfied { (pool : SealedPool) (selection : List ℕ) → IsSatisfying pool selection
+        → SatisfyWorld pool.candidates pool.world (candidates_at pool selection) }
+    // Packages that satisfy world are those of a satisfying selection.
+    ensures found { (pool : SealedPool) (packages : List Candidate)
+        → SatisfyWorld pool.candidates pool.world packages
+        → (selection : List ℕ) × IsSatisfying pool selection
+        × AreSamePackages (candidates_at pool selection) packages }
+    // A command has no selection exactly if no packages satisfy its new world.
+    ensures none { (command : CommandLine) (read : Reads) (inputs : Inputs) (pool : SealedPool)
+        → inputs_of command read ≡ Ok inputs → pool_for command read ≡ Ok pool
+        → IsChoice pool None ↔ IsUnsatisfiable (candidates_of inputs) inputs.root.new_world }
+    // If it is refused as unsatisfied, no packages satisfy its new world.
+    ensures refused { (command : CommandLine) (read : Reads) (chosen : Option (List ℕ))
+        → IsChoiceFrom (pool_for command read) chosen
+        → selected_for command read chosen ≡ Err Unsatisfied
+        → (inputs : Inputs) × (inputs_of command read ≡ Ok inputs)
+        × IsUnsatisfiable (candidates_of inputs) inputs.root.new_world }
+    // If no packages do, it is refused so, unless an earlier test refuses it.
+    ensures refuses { (command : CommandLine) (read : Reads) (chosen : Option (List ℕ))
+        (inputs : Inputs) (pool : SealedPool) → IsChoiceFrom (pool_for command read) chosen
+        → inputs_of command read ≡ Ok inputs → pool_for command read ≡ Ok pool
+        → unknown_place command.applet inputs command.operands ≡ None
+        → IsUnsatisfiable (candidates_of inputs) inputs.root.new_world
+        → selected_for command read chosen ≡ Err Unsatisfied }
 {}

@@ -1,0 +1,92 @@
+-- Elements of lists.
+use Rattle.std.proofs.Common.{◌≡◌, inl, inr, ◌∙◌, ℕ, Bool, true, false, cond, List, [], ◌∷◌, ◌++◌, map, Option, Some, None, refl, ap, sym, subst, true≢false}
+use Rattle.std.specs.Prelude.{◌||◌}
+use Rattle.std.specs.List.{cons_option, filter_map, find, list_any}
+use Rattle.std.specs.Str.{bytes_eq}
+use Rattle.std.proofs.lemmas.Slice.Eq.{bytes_eq-Decides}
+use Rattle.base_core.specs.Lists.{IsIn}
+use Rattle.base_core.proofs.Rising as rising
+
+pub from_any : (q : List ℕ) (xs : List (List ℕ)) → list_any (bytes_eq q) xs ≡ true → IsIn q xs
+from_any q [] e = absurd cc
+from_any q (x ∷ xs) e = go (bytes_eq q x) refl e (from_any q xs)
+  where
+    go : (b : Bool) → bytes_eq q x ≡ b → (b || list_any (bytes_eq q) xs) ≡ true → (list_any (bytes_eq q) xs ≡ true → IsIn q xs) → IsIn q (x ∷ xs)
+    go true is e more = inl ((bytes_eq-Decides q x).0 is)
+    go false is e more = inr (more e)
+
+pub in_any : (q : List ℕ) (xs : List (List ℕ)) → IsIn q xs → list_any (bytes_eq q) xs ≡ true
+in_any q [] h = absurd h
+in_any q (x ∷ xs) (inl is) = ap (λ b. b || list_any (bytes_eq q) xs) ((bytes_eq-Decides q x).1 is)
+in_any q (x ∷ xs) (inr more) = go (bytes_eq q x) (in_any q xs more)
+  where
+    go : (b : Bool) → list_any (bytes_eq q) xs ≡ true → (b || list_any (bytes_eq q) xs) ≡ true
+    go true e = refl
+    go false e = e
+
+-- ---- what a function gives of elements
+
+pub record IsGivenBy {X Y : Type 0} (h : X → Option Y) (xs : List X) (y : Y) : Type 0 where
+  pub from : X
+  pub given : h from ≡ Some y
+
+later : {X Y : Type 0} (h : X → Option Y) (x : X) (xs : List X) (y : Y) → IsGivenBy h xs y → IsGivenBy h (x ∷ xs) y
+later h x xs y g = record { from = g.from; given = g.given }
+
+pub given_of : {X Y : Type 0} (h : X → Option Y) (xs : List X) (y : Y) → IsIn y (filter_map h xs) → IsGivenBy h xs y
+given_of h [] y at = absurd at
+given_of {X} {Y} h (x ∷ xs) y at = go (h x) refl (given_of h xs y) at
+  where
+    go : (o : Option Y) → h x ≡ o → (IsIn y (filter_map h xs) → IsGivenBy h xs y) → IsIn y (cons_option o (filter_map h xs)) → IsGivenBy h (x ∷ xs) y
+    go None is more at = later h x xs y (more at)
+    go (Some z) is more (inl same) = record { from = x; given = is ∙ ap Some (sym same) }
+    go (Some z) is more (inr at) = later h x xs y (more at)
+
+behind : {Y : Type 0} (o : Option Y) (ys : List Y) (y : Y) → IsIn y ys → IsIn y (cons_option o ys)
+behind None ys y at = at
+behind (Some z) ys y at = inr at
+
+pub given_in : {X Y : Type 0} (h : X → Option Y) (xs : List X) (x : X) (y : Y) → IsIn x xs → h x ≡ Some y → IsIn y (filter_map h xs)
+given_in h [] x y at is = absurd at
+given_in {X} {Y} h (z ∷ xs) x y (inl same) is = subst (λ (o : Option Y). IsIn y (cons_option o (filter_map h xs))) (sym is ∙ ap h same) (inl refl)
+given_in h (z ∷ xs) x y (inr more) is = behind (h z) (filter_map h xs) y (given_in h xs x y more is)
+
+-- ---- what is found
+
+pub found_name : {X : Type 0} (name_of : X → List ℕ) (name : List ℕ) (xs : List X) (x : X) → find (λ y. bytes_eq (name_of y) name) xs ≡ Some x → rising.IsIn name (map name_of xs)
+found_name name_of name [] x e = absurd cc
+found_name {X} name_of name (y ∷ xs) x e = go (bytes_eq (name_of y) name) refl (found_name name_of name xs x) e
+  where
+    go : (b : Bool) → bytes_eq (name_of y) name ≡ b → (find (λ y. bytes_eq (name_of y) name) xs ≡ Some x → rising.IsIn name (map name_of xs))
+        → cond b (Some y) (find (λ y. bytes_eq (name_of y) name) xs) ≡ Some x → rising.IsIn name (map name_of (y ∷ xs))
+    go true is later e = inl (sym ((bytes_eq-Decides (name_of y) name).0 is))
+    go false is later e = inr (later e)
+
+pub in_left : (q : List ℕ) (xs ys : List (List ℕ)) → rising.IsIn q xs → rising.IsIn q (xs ++ ys)
+in_left q [] ys at = absurd at
+in_left q (x ∷ xs) ys (inl is) = inl is
+in_left q (x ∷ xs) ys (inr more) = inr (in_left q xs ys more)
+
+pub in_right : (q : List ℕ) (xs ys : List (List ℕ)) → rising.IsIn q ys → rising.IsIn q (xs ++ ys)
+in_right q [] ys at = at
+in_right q (x ∷ xs) ys at = inr (in_right q xs ys at)
+
+pub listed : (q : List ℕ) (xs : List (List ℕ)) → rising.IsIn q xs → IsIn q xs
+listed q [] at = absurd at
+listed q (x ∷ xs) (inl is) = inl is
+listed q (x ∷ xs) (inr more) = inr (listed q xs more)
+
+pub missing_name : {X : Type 0} (name_of : X → List ℕ) (name : List ℕ) (xs : List X) → find (λ y. bytes_eq (name_of y) name) xs ≡ None → IsIn name (map name_of xs) → ⊥
+missing_name name_of name [] e at = at
+missing_name {X} name_of name (y ∷ xs) e at = go (bytes_eq (name_of y) name) refl (missing_name name_of name xs) e at
+  where
+    go : (b : Bool) → bytes_eq (name_of y) name ≡ b → (find (λ y. bytes_eq (name_of y) name) xs ≡ None → IsIn name (map name_of xs) → ⊥)
+        → cond b (Some y) (find (λ y. bytes_eq (name_of y) name) xs) ≡ None → IsIn name (map name_of (y ∷ xs)) → ⊥
+    go true is later e at = absurd cc
+    go false is later e (inl same) = true≢false (sym ((bytes_eq-Decides (name_of y) name).1 (sym same)) ∙ is)
+    go false is later e (inr more) = later e more
+
+pub risen : (q : List ℕ) (xs : List (List ℕ)) → IsIn q xs → rising.IsIn q xs
+risen q [] at = absurd at
+risen q (x ∷ xs) (inl is) = inl is
+risen q (x ∷ xs) (inr more) = inr (risen q xs more)

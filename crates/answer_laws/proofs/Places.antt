@@ -1,0 +1,111 @@
+-- Where packages and databases are found.
+use Rattle.std.proofs.Common.{◌≡◌, ◌∙◌, ℕ, ◌+◌, Bool, true, false, List, [], ◌∷◌, ◌++◌, Option, Some, None, Result, Ok, Err, refl, ap, sym, arith}
+use Rattle.std.specs.Prelude.{◌-◌, ◌||◌, if◌then◌else◌, codes, slice_get}
+use Rattle.std.specs.List.{list_any}
+use Rattle.adb_fields.specs.Repeated.{entries_at}
+use Rattle.adb_schema.specs.Soundness.{payload_in, root_value}
+use Rattle.adb_view.specs.FieldIndexes.{IDB_PACKAGES}
+use Rattle.adb_view.specs.declared.tables.Which.TheVariants.{Idb}
+use Rattle.base_core.specs.Name.{is_name}
+use Rattle.base_core.specs.declared.cause.Cause.{Cause}
+use Rattle.candidate_core.specs.Candidates.{Candidate}
+use Rattle.change_inputs.specs.Chains.{unless_cause}
+use Rattle.change_inputs.specs.Database.{Database, database_by, payload_database, root_database}
+use Rattle.change_outcome.specs.PackageFiles.{folder_prefix, has_slash, if_name, package_file_of, package_path, path_beside_index}
+use Rattle.dep_core.specs.Repositories.{Repository}
+use Rattle.package_changes.specs.Changes.{selected_version}
+use Rattle.package_files.specs.Folders.{is_slash}
+use Rattle.adb_schema.specs.Soundness.{first_fault}
+use Rattle.report_core.specs.declared.refusal.Refusal.TheVariants.{DatabaseBad}
+use Rattle.report_core.specs.Reports.{name_version}
+use Rattle.v2_core.specs.Payload.{payload_of_text}
+use Rattle.v2_core.specs.declared.read.V2Fault.{V2Fault}
+use Rattle.v2_core.specs.declared.read.V2Fault.TheVariants.{Bad, Memory, TooLarge}
+use Rattle.answer_laws.specs.FoundFiles.{HasNoSlash, IsCandidateOfIndex, candidate_file_name}
+use Rattle.std.proofs.lemmas.List.{append_assoc}
+
+-- ---- the folder of an index
+
+no_prefix : (text : List ℕ) → list_any is_slash text ≡ false → folder_prefix text ≡ []
+no_prefix [] none = refl
+no_prefix (b ∷ text) none = ap (λ (t : Bool). if t then b ∷ folder_prefix text else []) none
+
+slash_within : (folder index : List ℕ) → has_slash (folder ++ codes "/" ++ index) ≡ true
+slash_within [] index = refl
+slash_within (b ∷ folder) index = go (is_slash b) (slash_within folder index)
+  where
+    go : (t : Bool) → has_slash (folder ++ codes "/" ++ index) ≡ true → (t || has_slash (folder ++ codes "/" ++ index)) ≡ true
+    go true e = refl
+    go false e = e
+
+prefix_is : (folder index : List ℕ) → HasNoSlash index → folder_prefix (folder ++ codes "/" ++ index) ≡ folder ++ codes "/"
+prefix_is [] index none = ap (λ (t : List ℕ). 47 ∷ t) (no_prefix index none)
+prefix_is (b ∷ folder) index none =
+    ap (λ (t : Bool). if t then b ∷ folder_prefix (folder ++ codes "/" ++ index) else []) (slash_within (b ∷ folder) index)
+    ∙ ap (λ (t : List ℕ). b ∷ t) (prefix_is folder index none)
+
+-- ---- the file of a candidate
+
+named_path : (path : List ℕ) → is_name path ≡ true → if_name path ≡ Some path
+named_path path e = ap (λ (t : Bool). let o : Option (List ℕ) = if t then Some path else None in o) e
+
+-- the name of the file beside an index, given the candidate's repository
+beside : (repositories : List Repository) (c : Candidate) (path : List ℕ) → IsCandidateOfIndex repositories c path
+    → package_file_of repositories c ≡ if_name (package_path path c.name (selected_version c))
+beside repositories c path of =
+    let at : (of.place + 1) - 1 ≡ of.place = omega arith in
+    by_number of.numbered
+    ∙ ap (λ (n : ℕ). path_beside_index c.name (selected_version c) (slice_get repositories n)) at
+    ∙ ap (path_beside_index c.name (selected_version c)) of.listed
+    ∙ ap (λ (p : List ℕ). if_name (package_path p c.name (selected_version c))) of.path_is
+  where
+    by_number : c.repository ≡ Some (of.place + 1) → package_file_of repositories c ≡ path_beside_index c.name (selected_version c) (slice_get repositories ((of.place + 1) - 1))
+    by_number e = ap (λ (o : Option ℕ). package_file_of repositories (record c { repository = o })) e
+
+pub below : (repositories : List Repository) (c : Candidate) (folder index : List ℕ) → HasNoSlash index → IsCandidateOfIndex repositories c (folder ++ codes "/" ++ index)
+    → is_name (folder ++ codes "/" ++ candidate_file_name c) ≡ true → package_file_of repositories c ≡ Some (folder ++ codes "/" ++ candidate_file_name c)
+below repositories c folder index none of named =
+    beside repositories c (folder ++ codes "/" ++ index) of
+    ∙ ap (λ (t : List ℕ). if_name (t ++ name_version c.name (selected_version c) ++ codes ".apk")) (prefix_is folder index none)
+    ∙ ap if_name (append_assoc (folder ++ codes "/") (name_version c.name (selected_version c)) (codes ".apk"))
+    ∙ named_path (folder ++ codes "/" ++ candidate_file_name c) named
+
+pub top : (repositories : List Repository) (c : Candidate) (index : List ℕ) → HasNoSlash index → IsCandidateOfIndex repositories c index
+    → is_name (candidate_file_name c) ≡ true → package_file_of repositories c ≡ Some (candidate_file_name c)
+top repositories c index none of named =
+    beside repositories c index of
+    ∙ ap (λ (t : List ℕ). if_name (t ++ name_version c.name (selected_version c) ++ codes ".apk")) (no_prefix index none)
+    ∙ named_path (candidate_file_name c) named
+
+-- ---- the two databases
+
+pub container : (begins other : Bool) (file : List ℕ) (text another : Option (List ℕ)) → root_database begins (Some file) text ≡ root_database other (Some file) another
+container begins other file text another = refl
+
+pub by_container : (begins : Bool) (file : List ℕ) (text : Option (List ℕ)) (d : Database) → root_database begins (Some file) text ≡ Ok d → (d.from_text ≡ false) × (d.file ≡ Some file)
+by_container begins file text d e = go (first_fault Idb file) e
+  where
+    go : (o : Option Cause) → unless_cause DatabaseBad o (database_by (entries_at IDB_PACKAGES (root_value Idb (payload_in file))) (Some file) false) ≡ Ok d → (d.from_text ≡ false) × (d.file ≡ Some file)
+    go None e =
+        let is : database_by (entries_at IDB_PACKAGES (root_value Idb (payload_in file))) (Some file) false ≡ d = cc in
+        (sym (ap (λ (x : Database). x.from_text) is), sym (ap (λ (x : Database). x.file) is))
+    go (Some cause) e = absurd cc
+
+pub text_alone : (begins other : Bool) (text : List ℕ) → root_database begins None (Some text) ≡ root_database other None (Some text)
+text_alone begins other text = refl
+
+pub by_text : (begins : Bool) (text : List ℕ) (d : Database) → root_database begins None (Some text) ≡ Ok d → (d.from_text ≡ true) × (d.file ≡ None)
+by_text begins text d e = go (payload_of_text text) e
+  where
+    go : (r : Result (List ℕ) V2Fault) → payload_database r ≡ Ok d → (d.from_text ≡ true) × (d.file ≡ None)
+    go (Ok payload) e =
+        let is : database_by (entries_at IDB_PACKAGES (root_value Idb payload)) None true ≡ d = cc in
+        (sym (ap (λ (x : Database). x.from_text) is), sym (ap (λ (x : Database). x.file) is))
+    go (Err (Bad cause)) e = absurd cc
+    go (Err (TooLarge bytes values)) e = absurd cc
+    go (Err Memory) e = absurd cc
+
+pub begun : (d : Database) → root_database true None None ≡ Ok d → (d.packages ≡ []) × (d.from_text ≡ false) × (d.file ≡ None)
+begun d e =
+    let is : database_by [] None false ≡ d = cc in
+    (sym (ap (λ (x : Database). x.packages) is), sym (ap (λ (x : Database). x.from_text) is), sym (ap (λ (x : Database). x.file) is))

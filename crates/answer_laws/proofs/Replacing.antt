@@ -1,0 +1,108 @@
+-- Which of two packages takes over files.
+use Rattle.std.proofs.Common.{◌≡◌, inl, inr, ◌↔◌, ◌∙◌, ℕ, ◌<◌, Bool, true, false, List, Option, Some, None, refl, ap, sym, true≢false}
+use Rattle.std.specs.Prelude.{◌==◌, ◌&&◌, ◌||◌, not, nat_lt}
+use Rattle.std.specs.List.{list_any}
+use Rattle.std.specs.Ordering.{is_lt}
+use Rattle.std.specs.Str.{bytes_eq}
+use Rattle.std.specs.declared.cmp.Ordering.TheVariants.{Less}
+use Rattle.std.proofs.lemmas.Bool.{eq-eqb, lt-ltb}
+use Rattle.std.proofs.lemmas.Slice.Eq.{bytes_eq-Decides}
+use Rattle.adb_fields.specs.Repeated.{entries_at, package_name}
+use Rattle.adb_schema.specs.Dependencies.{dependency_in}
+use Rattle.adb_view.specs.FieldIndexes.{INFO_REPLACES, PACKAGE_INFO}
+use Rattle.adb_view.specs.Plain.{Plain}
+use Rattle.adb_view.specs.Values.{entry_in}
+use Rattle.base_core.specs.ByteOrder.{bytes_cmp, precedes}
+use Rattle.dep_core.specs.Dependency.{Dependency}
+use Rattle.dep_core.specs.Meets.{is_wanted, meets}
+use Rattle.file_owners.specs.Replaces.{is_named_by, is_preferred_to, is_replaced_by, names_package, replacing_priority, takes_over, version_text}
+use Rattle.version_core.specs.Order.{is_version}
+use Rattle.answer_laws.specs.ReplacesEntries.{IsNamedInReplaces}
+use Rattle.answer_laws.proofs.Tests.{any_passes, as_one, both, from_either, not_false, not_true, passes_any}
+
+-- ---- by name and version
+
+-- a dependency that is read, and what it accepts
+record IsAccepting (entry : Plain) (name version : List ℕ) : Type 0 where
+  dependency : Dependency
+  read : dependency_in entry ≡ Some dependency
+  positive : dependency.conflict ≡ false
+  named : dependency.name ≡ name
+  wanted : is_wanted dependency.version dependency.bits (Some version) ≡ true
+
+accepting : (entry : Plain) (name version : List ℕ) → is_replaced_by (dependency_in entry) name version ≡ true → IsAccepting entry name version
+accepting entry name version e = go (dependency_in entry) refl e
+  where
+    go : (o : Option Dependency) → dependency_in entry ≡ o → is_replaced_by o name version ≡ true → IsAccepting entry name version
+    go None is e = absurd (true≢false (sym e))
+    go (Some d) is e =
+        let t = both (not d.conflict) (meets d name (Some version)) e in
+        let u = both (bytes_eq d.name name) (is_wanted d.version d.bits (Some version)) t.1 in
+        record { dependency = d; read = is; positive = not_true d.conflict t.0; named = (bytes_eq-Decides d.name name).0 u.0; wanted = u.1 }
+
+accepted : (entry : Plain) (name version : List ℕ) (d : Dependency) → dependency_in entry ≡ Some d → d.conflict ≡ false → d.name ≡ name → is_wanted d.version d.bits (Some version) ≡ true
+    → is_replaced_by (dependency_in entry) name version ≡ true
+accepted entry name version d read positive named wanted =
+    ap (λ (o : Option Dependency). is_replaced_by o name version) read
+    ∙ as_one (not d.conflict) (meets d name (Some version)) (not_false d.conflict positive)
+    (as_one (bytes_eq d.name name) (is_wanted d.version d.bits (Some version)) ((bytes_eq-Decides d.name name).1 named) wanted)
+
+pub named_in : (x y : Plain) → (names_package x y ≡ true) ↔ IsNamedInReplaces x y
+unfolding names_package
+named_in x y = (
+  λ e.
+      let h = any_passes (λ (entry : Plain). is_named_by entry y) (entries_at INFO_REPLACES (entry_in x PACKAGE_INFO)) e in
+      let t = both (is_version (version_text y)) (is_replaced_by (dependency_in h.element) (package_name y) (version_text y)) h.passes in
+      let a = accepting h.element (package_name y) (version_text y) t.1 in
+      record {
+        entry = h.element;
+        listed = h.listed;
+        dependency = a.dependency;
+        read = a.read;
+        positive = a.positive;
+        name = a.named;
+        version = t.0;
+        wanted = a.wanted;
+      },
+  λ n.
+      passes_any (λ (entry : Plain). is_named_by entry y) (entries_at INFO_REPLACES (entry_in x PACKAGE_INFO)) n.entry n.listed
+      (as_one (is_version (version_text y)) (is_replaced_by (dependency_in n.entry) (package_name y) (version_text y)) n.version
+      (accepted n.entry (package_name y) (version_text y) n.dependency n.read n.positive n.name n.wanted)),
+)
+
+-- the test by a name and a version alone
+abbrev names_text : Plain → List ℕ → List ℕ → Bool
+names_text x name version =
+    list_any (λ (entry : Plain). is_version version && is_replaced_by (dependency_in entry) name version) (entries_at INFO_REPLACES (entry_in x PACKAGE_INFO))
+
+pub own : (x y z : Plain) → package_name y ≡ package_name z → version_text y ≡ version_text z → names_package x y ≡ names_package x z
+unfolding names_package
+own x y z name version = ap (λ (n : List ℕ). names_text x n (version_text y)) name ∙ ap (names_text x (package_name z)) version
+
+-- ---- who is preferred
+
+pub unnamed : (x y : Plain) → names_package x y ≡ false → takes_over x y ≡ false
+unfolding takes_over
+unnamed x y e = ap (λ (b : Bool). b && (not (names_package y x) || is_preferred_to x y)) e
+
+pub alone : (x y : Plain) → names_package x y ≡ true → names_package y x ≡ false → takes_over x y ≡ true
+unfolding takes_over
+alone x y e f = as_one (names_package x y) (not (names_package y x) || is_preferred_to x y) e (from_either (not (names_package y x)) (is_preferred_to x y) (inl (not_false (names_package y x) f)))
+
+by_preference : (x y : Plain) → names_package x y ≡ true → is_preferred_to x y ≡ true → takes_over x y ≡ true
+unfolding takes_over
+by_preference x y e p = as_one (names_package x y) (not (names_package y x) || is_preferred_to x y) e (from_either (not (names_package y x)) (is_preferred_to x y) (inr p))
+
+pub priority : (x y : Plain) → names_package x y ≡ true → names_package y x ≡ true → replacing_priority y < replacing_priority x → takes_over x y ≡ true
+unfolding is_preferred_to
+priority x y e f less =
+    by_preference x y e
+    (from_either (nat_lt (replacing_priority y) (replacing_priority x)) ((replacing_priority x == replacing_priority y) && precedes (package_name y) (package_name x))
+    (inl (lt-ltb (replacing_priority y) (replacing_priority x) less)))
+
+pub later : (x y : Plain) → names_package x y ≡ true → names_package y x ≡ true → replacing_priority x ≡ replacing_priority y → bytes_cmp (package_name y) (package_name x) ≡ Less → takes_over x y ≡ true
+unfolding is_preferred_to
+later x y e f same order =
+    by_preference x y e
+    (from_either (nat_lt (replacing_priority y) (replacing_priority x)) ((replacing_priority x == replacing_priority y) && precedes (package_name y) (package_name x))
+    (inr (as_one (replacing_priority x == replacing_priority y) (precedes (package_name y) (package_name x)) (eq-eqb (replacing_priority x) (replacing_priority y) same) (ap is_lt order))))

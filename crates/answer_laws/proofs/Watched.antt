@@ -1,0 +1,96 @@
+-- Folders that are matched, and triggers that are due.
+use Rattle.std.proofs.Common.{◌≡◌, ◌↔◌, ◌∙◌, ℕ, suc, zero, ◌<◌, Bool, true, false, List, [], ◌∷◌, length, map, Some, refl, ap, sym, subst, true≢false, arith}
+use Rattle.std.specs.Prelude.{if◌then◌else◌, ◌==◌, codes, slice_get}
+use Rattle.std.specs.Str.{bytes_eq}
+use Rattle.std.proofs.lemmas.Bool.{eqb-true}
+use Rattle.std.proofs.lemmas.Slice.Eq.{bytes_eq-Decides}
+use Rattle.adb_view.specs.Plain.{Plain}
+use Rattle.base_core.proofs.Rising as rising
+use Rattle.base_core.specs.Listed.{IsRising}
+use Rattle.base_core.specs.Lists.{IsIn}
+use Rattle.base_core.specs.Name.{parts_of}
+use Rattle.change_files.proofs.InOrder.{from_order, in_order, order_rises}
+use Rattle.change_outcome.specs.PackageFiles.{has_script_of}
+use Rattle.change_outcome.specs.Triggers.{are_parts_matched, folders_of_paths, is_due, is_folder_matched, is_watched, patterns_of}
+use Rattle.dep_core.specs.LeadingSlash.{without_slash}
+use Rattle.package_files.specs.Folders.{folder_of}
+use Rattle.report_core.specs.Numbers.{TRIGGER_SCRIPT}
+use Rattle.star_patterns.specs.Fills.{IsFilledTo}
+use Rattle.star_patterns.specs.Patterns.{is_matched}
+use Rattle.answer_laws.specs.DueTriggers.{HasFileIn, IsFilledByParts, IsTriggered}
+use Rattle.answer_laws.proofs.Members.{listed, risen}
+use Rattle.answer_laws.proofs.Tests.{any_passes, as_one, both, passes_any, text_in, text_of}
+
+-- what the crate of patterns says of one part
+abbrev pub Filled : Type 0
+Filled = (pattern text : List ℕ) → (is_matched pattern text ≡ true) ↔ IsFilledTo pattern text
+
+abbrev EachFilled : List (List ℕ) → List (List ℕ) → Type 0
+EachFilled patterns parts = (i : ℕ) (p part : List ℕ) → slice_get patterns i ≡ Some p → slice_get parts i ≡ Some part → IsFilledTo p part
+
+parts_filled : Filled → (patterns parts : List (List ℕ)) → are_parts_matched patterns parts ≡ true → (length patterns ≡ length parts) × EachFilled patterns parts
+parts_filled law [] [] e = (refl, λ i p part is are. absurd cc)
+parts_filled law [] (part ∷ parts) e = absurd (true≢false (sym e))
+parts_filled law (p ∷ patterns) [] e = absurd (true≢false (sym e))
+parts_filled law (p ∷ patterns) (part ∷ parts) e =
+    let t = both (is_matched p part) (are_parts_matched patterns parts) e in
+    let more = parts_filled law patterns parts t.1 in
+    (ap suc more.0, at more.1 ((law p part).0 t.0))
+  where
+    at : EachFilled patterns parts → IsFilledTo p part → EachFilled (p ∷ patterns) (part ∷ parts)
+    at more first zero q other is are =
+        let one : p ≡ q = cc in
+        let two : part ≡ other = cc in
+        subst (λ (x : List ℕ). IsFilledTo x other) one (subst (λ (x : List ℕ). IsFilledTo p x) two first)
+    at more first (suc i) q other is are = more i q other is are
+
+filled_parts : Filled → (patterns parts : List (List ℕ)) → length patterns ≡ length parts → EachFilled patterns parts → are_parts_matched patterns parts ≡ true
+filled_parts law [] [] e each = refl
+filled_parts law [] (part ∷ parts) e each = absurd cc
+filled_parts law (p ∷ patterns) [] e each = absurd cc
+filled_parts law (p ∷ patterns) (part ∷ parts) e each =
+    let same : length patterns ≡ length parts = omega arith in
+    as_one (is_matched p part) (are_parts_matched patterns parts) ((law p part).1 (each zero p part refl refl))
+    (filled_parts law patterns parts same (λ i q other is are. each (suc i) q other is are))
+
+above_zero : (n : ℕ) → 0 < n → (n == 0) ≡ false
+above_zero n above = go (n == 0) refl
+  where
+    go : (b : Bool) → (n == 0) ≡ b → b ≡ false
+    go true e = absurd (omega (arith, eqb-true n 0 e, above))
+    go false e = refl
+
+not_root : (folder pattern : List ℕ) → (folder ≡ [] → ⊥) → is_folder_matched folder pattern ≡ are_parts_matched (parts_of (without_slash pattern)) (parts_of folder)
+unfolding is_folder_matched
+not_root [] pattern some = absurd (some refl)
+not_root (b ∷ folder) pattern some =
+    let test : (length (b ∷ folder) == 0) ≡ false = above_zero (length (b ∷ folder)) (omega arith) in
+    ap (λ (t : Bool). if t then bytes_eq pattern (codes "/") else are_parts_matched (parts_of (without_slash pattern)) (parts_of (b ∷ folder))) test
+
+pub matched_below : Filled → (folder pattern : List ℕ) → (folder ≡ [] → ⊥) → (is_folder_matched folder pattern ≡ true) ↔ IsFilledByParts pattern folder
+matched_below law folder pattern some = (
+  λ e. let t = parts_filled law (parts_of (without_slash pattern)) (parts_of folder) (sym (not_root folder pattern some) ∙ e) in record { count = t.0; each = t.1 },
+  λ f. not_root folder pattern some ∙ filled_parts law (parts_of (without_slash pattern)) (parts_of folder) f.count f.each,
+)
+
+pub matched_root : (pattern : List ℕ) → (is_folder_matched [] pattern ≡ true) ↔ (pattern ≡ codes "/")
+unfolding is_folder_matched
+matched_root pattern = ((bytes_eq-Decides pattern (codes "/")).0, (bytes_eq-Decides pattern (codes "/")).1)
+
+pub due_is : (pkg : Plain) (folder : List ℕ) → (is_due pkg folder ≡ true) ↔ IsTriggered pkg folder
+due_is pkg folder = (
+  λ e.
+      let t = both (has_script_of pkg TRIGGER_SCRIPT) (is_watched pkg folder) e in
+      let h = any_passes (is_folder_matched folder) (patterns_of pkg) t.1 in
+      record { script = t.0; pattern = h.element; watched = h.listed; matched = h.passes },
+  λ t. as_one (has_script_of pkg TRIGGER_SCRIPT) (is_watched pkg folder) t.script (passes_any (is_folder_matched folder) (patterns_of pkg) t.pattern t.watched t.matched),
+)
+
+pub folders_are : (paths : List (List ℕ)) (folder : List ℕ) → IsIn folder (folders_of_paths paths) ↔ HasFileIn paths folder
+folders_are paths folder = (
+  λ at. let t = text_of folder_of paths folder (from_order folder (map folder_of paths) (risen folder _ at)) in record { path = t.element; listed = t.listed; within = t.is },
+  λ f. listed folder (folders_of_paths paths) (in_order folder (map folder_of paths) (text_in folder_of paths folder f.path f.listed f.within)),
+)
+
+pub folders_rise : (paths : List (List ℕ)) → IsRising (folders_of_paths paths)
+folders_rise paths = rising.pairs_from_rises (folders_of_paths paths) (order_rises (map folder_of paths))

@@ -1,0 +1,62 @@
+-- Which triggers are due. The rules are in `docs/commands.md`, "`add` and `del`", which triggers are
+-- due. Serves the laws of `src/triggers.rt`.
+use Rattle.std.specs.Prelude.{◌≡◌, ◌↔◌, ℕ, true, List, Some, length, map, slice_get}
+use Rattle.adb_view.specs.Plain.{Plain}
+use Rattle.base_core.specs.Lists.{IsIn}
+use Rattle.base_core.specs.Name.{parts_of}
+use Rattle.change_outcome.specs.PackageFiles.{has_script_of}
+use Rattle.change_outcome.specs.Triggers.{is_folder_matched, patterns_of}
+use Rattle.db_core.specs.Members.{Member, member_name}
+use Rattle.dep_core.specs.LeadingSlash.{without_slash}
+use Rattle.package_files.specs.Folders.{folder_of}
+use Rattle.report_core.specs.Numbers.{TRIGGER_SCRIPT}
+use Rattle.report_core.specs.Reports.{report_lines, trigger_text}
+use Rattle.star_patterns.specs.Fills.{IsFilledTo}
+
+-- A pattern, without one leading `/`, has as many parts as a folder, and the stars of each part can be
+-- replaced by bytes so that it reads as the folder's part at the same place.
+pub record IsFilledByParts (pattern folder : List ℕ) : Type 0 where
+  pub count : length (parts_of (without_slash pattern)) ≡ length (parts_of folder)
+  pub each : (i : ℕ) (p part : List ℕ) → slice_get (parts_of (without_slash pattern)) i ≡ Some p
+      → slice_get (parts_of folder) i ≡ Some part → IsFilledTo p part
+
+-- a package has a trigger script and watches the folder by one of its patterns
+pub record IsTriggered (pkg : Plain) (folder : List ℕ) : Type 0 where
+  pub script : has_script_of pkg TRIGGER_SCRIPT ≡ true
+  pub pattern : List ℕ
+  pub watched : IsIn pattern (patterns_of pkg)
+  pub matched : is_folder_matched folder pattern ≡ true
+
+-- a file with one of these paths is right in the folder
+pub record HasFileIn (paths : List (List ℕ)) (folder : List ℕ) : Type 0 where
+  pub path : List ℕ
+  pub listed : IsIn path paths
+  pub within : folder ≡ folder_of path
+
+-- ---- the lines
+
+-- a package whose trigger is due for a folder
+pub record DueFolder : Type 0 where
+  pub member : Member
+  pub folder : List ℕ
+
+-- a package is among the members, and its trigger is due for a folder that has a file with one of
+-- these paths
+pub record IsDueAmong (paths : List (List ℕ)) (members : List Member) (due : DueFolder) : Type 0 where
+  pub listed : IsIn due.member members
+  pub file : HasFileIn paths due.folder
+  pub triggered : IsTriggered due.member.pkg due.folder
+
+-- a text with a line for each package and each folder for which its trigger is due, and no other
+pub record HasTriggerLines (paths : List (List ℕ)) (members : List Member) (text : List ℕ)
+    : Type 0 where
+  pub dues : List DueFolder
+  pub each : (due : DueFolder) → IsIn due dues ↔ IsDueAmong paths members due
+  pub text_is : text
+      ≡ report_lines (map (λ (d : DueFolder). trigger_text (member_name d.member) d.folder) dues)
+
+-- the trigger of a package of this name is due
+pub record HasDueUnder (paths : List (List ℕ)) (members : List Member) (name : List ℕ) : Type 0 where
+  pub due : DueFolder
+  pub named : member_name due.member ≡ name
+  pub among : IsDueAmong paths members due

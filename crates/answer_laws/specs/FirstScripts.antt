@@ -1,0 +1,27 @@
+-- Which script a refused change names. The rules are in `docs/commands.md`, "`add` and `del`", on
+-- scripts, and the numbers in `docs/formats.md`, "Schemas", table 6. Serves the laws of
+-- `src/scripts.rt`.
+use Rattle.std.specs.Prelude.{◌≡◌, ◌⊎◌, ◌<◌, ℕ, true, false}
+use Rattle.adb_view.specs.Plain.{Plain}
+use Rattle.change_outcome.specs.PackageFiles.{has_script_of}
+use Rattle.report_core.specs.Numbers.{POST_DEINSTALL_SCRIPT, POST_INSTALL_SCRIPT, POST_UPGRADE_SCRIPT, PRE_DEINSTALL_SCRIPT, PRE_INSTALL_SCRIPT, PRE_UPGRADE_SCRIPT}
+use Rattle.report_core.specs.Reports.{Change, Downgrade, Install, Purge, Reinstall, Replace, Upgrade}
+
+-- the script with this number is one of upgrades
+abbrev pub IsUpgradeScript : ℕ → Type 0
+IsUpgradeScript n = (n ≡ PRE_UPGRADE_SCRIPT) ⊎ (n ≡ POST_UPGRADE_SCRIPT)
+
+-- a change runs the script with this number, if the package has it
+abbrev pub RunsScript : Change → ℕ → Type 0
+RunsScript (Install name version) n = (n ≡ PRE_INSTALL_SCRIPT) ⊎ (n ≡ POST_INSTALL_SCRIPT)
+RunsScript (Purge name version) n = (n ≡ PRE_DEINSTALL_SCRIPT) ⊎ (n ≡ POST_DEINSTALL_SCRIPT)
+RunsScript (Reinstall name version) n = IsUpgradeScript n
+RunsScript (Upgrade name old new) n = IsUpgradeScript n
+RunsScript (Downgrade name old new) n = IsUpgradeScript n
+RunsScript (Replace name old new) n = IsUpgradeScript n
+
+-- the script with this number is the first, by number, of those that the change of a package runs
+pub record IsFirstScript (change : Change) (pkg : Plain) (n : ℕ) : Type 0 where
+  pub runs : RunsScript change n
+  pub present : has_script_of pkg n ≡ true
+  pub first : (m : ℕ) → m < n → RunsScript change m → has_script_of pkg m ≡ false

@@ -1,0 +1,26 @@
+-- Where packages and databases are found. The rules are in `docs/commands.md`, "`add` and `del`", what
+-- is read. Serves the laws of `src/found.rt`.
+use Rattle.std.specs.Prelude.{◌≡◌, ◌+◌, ℕ, false, List, ◌++◌, Some, codes, slice_get}
+use Rattle.std.specs.List.{list_any}
+use Rattle.candidate_core.specs.Candidates.{Candidate}
+use Rattle.dep_core.specs.Repositories.{Repository}
+use Rattle.package_changes.specs.Changes.{selected_version}
+use Rattle.package_files.specs.Folders.{is_slash}
+use Rattle.report_core.specs.Reports.{name_version}
+
+-- the file name of a candidate's package
+abbrev pub candidate_file_name : Candidate → List ℕ
+candidate_file_name c = name_version c.name (selected_version c) ++ codes ".apk"
+
+-- a candidate is of the repository at a place, counted from 0, whose index has this path
+pub record IsCandidateOfIndex (repositories : List Repository) (c : Candidate) (path : List ℕ)
+    : Type 0 where
+  pub place : ℕ
+  pub numbered : c.repository ≡ Some (place + 1)
+  pub repository : Repository
+  pub listed : slice_get repositories place ≡ Some repository
+  pub path_is : repository.path ≡ path
+
+-- a text has no `/`
+abbrev pub HasNoSlash : List ℕ → Type 0
+HasNoSlash text = list_any is_slash text ≡ false

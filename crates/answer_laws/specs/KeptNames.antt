@@ -1,0 +1,64 @@
+-- Which packages are kept though they were to be removed, and which others need them. The rules are in
+-- `docs/commands.md`, "`add` and `del`", what is reported. Serves the laws of `src/kept.rt`.
+use Rattle.std.specs.Prelude.{◌≡◌, ◌⊎◌, ◌↔◌, ◌≤◌, ℕ, true, false, List, [], map, length}
+use Rattle.std.specs.List.{filter, find}
+use Rattle.std.specs.Option.{option_map_or}
+use Rattle.adb_fields.specs.Repeated.{package_name}
+use Rattle.adb_view.specs.Plain.{Plain}
+use Rattle.base_core.specs.Listed.{IsRising}
+use Rattle.base_core.specs.Lists.{IsIn}
+use Rattle.candidate_core.specs.Candidates.{Candidate}
+use Rattle.dep_core.specs.Dependency.{Dependency}
+use Rattle.dep_core.specs.Meets.{meets}
+use Rattle.package_changes.specs.Changes.{is_selected_named}
+use Rattle.package_changes.specs.Report.{names_in_need}
+use Rattle.report_core.specs.Reports.{report_lines, stays_text}
+
+-- ---- who needs a candidate
+
+-- what a candidate provides, by an entry that is no conflict, meets a dependency
+pub record IsProvidedBy (d : Dependency) (c : Candidate) : Type 0 where
+  pub entry : Dependency
+  pub listed : IsIn entry c.provides
+  pub positive : entry.conflict ≡ false
+  pub met : meets d entry.name entry.version ≡ true
+
+-- a candidate has a dependency, which is no conflict, that another one meets by its own name and
+-- version, or by what it provides
+pub record NeedsOther (c other : Candidate) : Type 0 where
+  pub dependency : Dependency
+  pub listed : IsIn dependency c.depends
+  pub positive : dependency.conflict ≡ false
+  pub met : (meets dependency other.name other.version ≡ true) ⊎ IsProvidedBy dependency other
+
+-- a selected candidate of this name, which is not that of the needed one, needs it
+pub record IsNeededUnder (selected : List Candidate) (needed : Candidate) (name : List ℕ) : Type 0 where
+  pub user : Candidate
+  pub listed : IsIn user selected
+  pub named : name ≡ user.name
+  pub another : name ≡ needed.name → ⊥
+  pub needs : NeedsOther user needed
+
+-- ---- the lines
+
+-- of each name at most one candidate is selected
+abbrev pub AreNamedOnce : List Candidate → Type 0
+AreNamedOnce selected = (name : List ℕ) → length (filter (is_selected_named name) selected) ≤ 1
+
+-- the text on the selected candidate of a name that was to be removed, with the names of those that
+-- need it
+abbrev pub kept_text : List Candidate → List ℕ → List ℕ
+kept_text selected name =
+    option_map_or (λ (c : Candidate). stays_text name (names_in_need selected c))
+    (find (is_selected_named name) selected) []
+
+-- a text with one line for each name that was to be removed, was installed and is selected, and no
+-- other, in byte order of the names
+pub record HasKeptLines (before : List Plain) (selected : List Candidate) (to_go : List (List ℕ))
+    (text : List ℕ) : Type 0 where
+  pub names : List (List ℕ)
+  pub order : IsRising names
+  pub each : (name : List ℕ) → IsIn name names
+      ↔ (IsIn name to_go × IsIn name (map package_name before)
+      × IsIn name (map (λ (c : Candidate). c.name) selected))
+  pub text_is : text ≡ report_lines (map (kept_text selected) names)

@@ -1,0 +1,8 @@
+-- what the laws say
+pub mod WhichChange
+pub mod KeptNames
+pub mod FirstScripts
+pub mod DueTriggers
+pub mod InfoAnswers
+pub mod ReplacesEntries
+pub mod FoundFiles

@@ -1,0 +1,25 @@
+-- Which packages are named by the `replaces` of another. The rule is in `docs/commands.md`, "Files that
+-- several packages list". Serves the laws of `src/replaces.rt`.
+use Rattle.std.specs.Prelude.{◌≡◌, true, false, Some}
+use Rattle.adb_fields.specs.Repeated.{entries_at, package_name}
+use Rattle.adb_schema.specs.Dependencies.{dependency_in}
+use Rattle.adb_view.specs.FieldIndexes.{INFO_REPLACES, PACKAGE_INFO}
+use Rattle.adb_view.specs.Plain.{Plain}
+use Rattle.adb_view.specs.Values.{entry_in}
+use Rattle.base_core.specs.Lists.{IsIn}
+use Rattle.dep_core.specs.Dependency.{Dependency}
+use Rattle.dep_core.specs.Meets.{is_wanted}
+use Rattle.file_owners.specs.Replaces.{version_text}
+use Rattle.version_core.specs.Order.{is_version}
+
+-- an entry of a package's `replaces`, which is no conflict, has the other's own name and accepts its
+-- own version
+pub record IsNamedInReplaces (pkg other : Plain) : Type 0 where
+  pub entry : Plain
+  pub listed : IsIn entry (entries_at INFO_REPLACES (entry_in pkg PACKAGE_INFO))
+  pub dependency : Dependency
+  pub read : dependency_in entry ≡ Some dependency
+  pub positive : dependency.conflict ≡ false
+  pub name : dependency.name ≡ package_name other
+  pub version : is_version (version_text other) ≡ true
+  pub wanted : is_wanted dependency.version dependency.bits (Some (version_text other)) ≡ true

@@ -1,0 +1,67 @@
+-- What decides the change of a package. The rules are in `docs/commands.md`, "`add` and `del`" and
+-- "`upgrade` and `fix`", what is reported. Serves the laws of `src/changes.rt`.
+use Rattle.std.specs.Prelude.{◌≡◌, ℕ, ◌+◌, true, List, None, Some, is_some, length, map, slice_get}
+use Rattle.std.specs.List.{find}
+use Rattle.adb_fields.specs.Repeated.{package_name}
+use Rattle.adb_view.specs.Plain.{Plain}
+use Rattle.base_core.specs.Lists.{IsIn}
+use Rattle.candidate_core.specs.Candidates.{Candidate, is_same_id}
+use Rattle.db_core.specs.Packages.{installed_id, is_package_named}
+use Rattle.file_owners.specs.Replaces.{version_text}
+use Rattle.package_changes.specs.Changes.{Replacement, change_of_name, is_selected_named, selected_version}
+use Rattle.report_core.specs.Reports.{Change, Downgrade, Install, Purge, Reinstall, Replace, Upgrade, numbered_change, report_lines}
+use Rattle.version_core.specs.Order.{is_version}
+
+-- a name with a package before and a selected candidate of a repository, both of which have versions
+pub record HasBothVersions (r : Replacement) (name : List ℕ) (pkg : Plain) (c : Candidate)
+    : Type 0 where
+  pub before : find (is_package_named name) r.before ≡ Some pkg
+  pub selected : find (is_selected_named name) r.selected ≡ Some c
+  pub repository : is_some c.repository ≡ true
+  pub old : is_version (version_text pkg) ≡ true
+  pub new : is_version (selected_version c) ≡ true
+
+-- a name with a package before and a selected candidate of no repository, which is that package
+pub record IsSelectedItself (r : Replacement) (name : List ℕ) (c : Candidate) : Type 0 where
+  pub installed : Plain
+  pub before : find (is_package_named name) r.before ≡ Some installed
+  pub selected : find (is_selected_named name) r.selected ≡ Some c
+  pub repository : c.repository ≡ None
+
+-- a candidate with the text of a package's version and with its id
+abbrev pub IsVeryPackage : Plain → Candidate → Type 0
+IsVeryPackage pkg c =
+    (version_text pkg ≡ selected_version c) × (is_same_id (installed_id pkg) c.id ≡ true)
+
+-- the name of the package that a change is of
+abbrev pub changed_name : Change → List ℕ
+changed_name (Install name version) = name
+changed_name (Reinstall name version) = name
+changed_name (Purge name version) = name
+changed_name (Upgrade name old new) = name
+changed_name (Downgrade name old new) = name
+changed_name (Replace name old new) = name
+
+-- a package before has the name
+abbrev pub WasInstalled : Replacement → List ℕ → Type 0
+WasInstalled r name = IsIn name (map package_name r.before)
+
+-- a selected candidate has the name
+abbrev pub IsSelected : Replacement → List ℕ → Type 0
+IsSelected r name = IsIn name (map (λ (c : Candidate). c.name) r.selected)
+
+-- the package of a name is removed, in some version
+abbrev pub IsPurged : Replacement → List ℕ → Type 0
+IsPurged r name = (version : List ℕ) × (change_of_name r name ≡ Some (Purge name version))
+
+-- the package of a name is installed, in some version
+abbrev pub IsInstalled : Replacement → List ℕ → Type 0
+IsInstalled r name = (version : List ℕ) × (change_of_name r name ≡ Some (Install name version))
+
+-- a text with one line for each change, which has the change's number, from 1, and the count of all
+pub record HasNumberedLines (changes : List Change) (text : List ℕ) : Type 0 where
+  pub lines : List (List ℕ)
+  pub text_is : text ≡ report_lines lines
+  pub count : length lines ≡ length changes
+  pub each : (i : ℕ) (change : Change) → slice_get changes i ≡ Some change
+      → slice_get lines i ≡ Some (numbered_change (i + 1) (length changes) change)

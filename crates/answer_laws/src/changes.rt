@@ -1,0 +1,85 @@
+//! Which change a package has, and which changes a report has.
+//! The rules are in `docs/commands.md`, "`add` and `del`" and "`upgrade` and `fix`", what is
+//! reported.
+
+ghost use Rattle.std.specs.Prelude.{◌≡◌, ◌↔◌, ℕ, List, Some, None, map};
+ghost use Rattle.std.specs.declared.cmp.Ordering.TheVariants.{Less, Equal, Greater};
+ghost use Rattle.adb_view.specs.Plain.{Plain};
+ghost use Rattle.answer_laws.specs.WhichChange.{HasBothVersions, HasNumberedLines, IsInstalled, IsPurged, IsSelected, IsSelectedItself, IsVeryPackage, WasInstalled, changed_name};
+ghost use Rattle.base_core.specs.Listed.{IsRising};
+ghost use Rattle.base_core.specs.Lists.{IsIn};
+ghost use Rattle.candidate_core.specs.Candidates.{Candidate};
+ghost use Rattle.file_owners.specs.Replaces.{version_text};
+ghost use Rattle.package_changes.specs.Changes.{Replacement, change_of_name, changes_of, selected_version};
+ghost use Rattle.report_core.specs.Reports.{Change, Downgrade, Reinstall, Replace, Upgrade, change_lines};
+ghost use Rattle.version_core.specs.Order.{version_cmp};
+
+/// A package is upgraded exactly if the new version is greater, and downgraded exactly if it is
+/// less. It is replaced exactly if the versions are equal in order and the candidate is another
+/// package, by the text of its version or by its id. The very package that is installed is
+/// installed again exactly if its name is asked for again; otherwise it is kept.
+pub fn the_order_of_versions_decides_the_change()
+    ensures upgrade { (r : Replacement) (name : List ℕ) (pkg : Plain) (c : Candidate)
+        → HasBothVersions r name pkg c
+        → (change_of_name r name
+        ≡ Some (Upgrade name (version_text pkg) (selected_version c)))
+        ↔ (version_cmp (version_text pkg) (selected_version c) ≡ Less) }
+    ensures downgrade { (r : Replacement) (name : List ℕ) (pkg : Plain) (c : Candidate)
+        → HasBothVersions r name pkg c
+        → (change_of_name r name
+        ≡ Some (Downgrade name (version_text pkg) (selected_version c)))
+        ↔ (version_cmp (version_text pkg) (selected_version c) ≡ Greater) }
+    ensures replace { (r : Replacement) (name : List ℕ) (pkg : Plain) (c : Candidate)
+        → HasBothVersions r name pkg c
+        → (change_of_name r name
+        ≡ Some (Replace name (version_text pkg) (selected_version c)))
+        ↔ ((version_cmp (version_text pkg) (selected_version c) ≡ Equal)
+        × (IsVeryPackage pkg c → ⊥)) }
+    ensures reinstall { (r : Replacement) (name : List ℕ) (pkg : Plain) (c : Candidate)
+        → HasBothVersions r name pkg c
+        → (change_of_name r name ≡ Some (Reinstall name (selected_version c)))
+        ↔ (IsVeryPackage pkg c × IsIn name r.again) }
+    ensures kept { (r : Replacement) (name : List ℕ) (pkg : Plain) (c : Candidate)
+        → HasBothVersions r name pkg c
+        → (change_of_name r name ≡ None)
+        ↔ (IsVeryPackage pkg c × (IsIn name r.again → ⊥)) }
+{}
+
+/// A package that no index has is selected as it is installed: it is installed again exactly if its
+/// name is asked for again, and otherwise kept.
+pub fn a_package_of_no_index_is_kept()
+    ensures reinstall { (r : Replacement) (name : List ℕ) (c : Candidate)
+        → IsSelectedItself r name c
+        → (change_of_name r name ≡ Some (Reinstall name (selected_version c)))
+        ↔ IsIn name r.again }
+    ensures kept { (r : Replacement) (name : List ℕ) (c : Candidate)
+        → IsSelectedItself r name c
+        → (change_of_name r name ≡ None) ↔ (IsIn name r.again → ⊥) }
+{}
+
+/// The changes of a report are exactly those of the names, one for each name whose package
+/// changes, in byte order of the names.
+pub fn each_changed_name_has_one_change_in_order()
+    ensures each { (r : Replacement) (change : Change)
+        → IsIn change (changes_of r)
+        ↔ (change_of_name r (changed_name change) ≡ Some change) }
+    ensures order { (r : Replacement)
+        → IsRising (map changed_name (changes_of r)) }
+{}
+
+/// A package is removed exactly if it was installed and no candidate of its name is selected, and
+/// installed exactly if one is selected and it was not. A name on neither side has no change.
+pub fn a_package_on_one_side_is_installed_or_removed()
+    ensures purge { (r : Replacement) (name : List ℕ)
+        → IsPurged r name ↔ (WasInstalled r name × (IsSelected r name → ⊥)) }
+    ensures install { (r : Replacement) (name : List ℕ)
+        → IsInstalled r name ↔ (IsSelected r name × (WasInstalled r name → ⊥)) }
+    ensures absent { (r : Replacement) (name : List ℕ)
+        → (WasInstalled r name → ⊥) → (IsSelected r name → ⊥) → change_of_name r name ≡ None }
+{}
+
+/// A report has one line for each change, in the order of the changes, with its number, from 1, and
+/// with their count.
+pub fn each_change_has_one_numbered_line()
+    ensures { (changes : List Change) → HasNumberedLines changes (change_lines changes) }
+{}

@@ -1,0 +1,27 @@
+//! Which packages are kept though they were to be removed, and why.
+//! The rules are in `docs/commands.md`, "`add` and `del`", what is reported.
+
+ghost use Rattle.std.specs.Prelude.{◌↔◌, ℕ, List};
+ghost use Rattle.adb_view.specs.Plain.{Plain};
+ghost use Rattle.answer_laws.specs.KeptNames.{AreNamedOnce, HasKeptLines, IsNeededUnder};
+ghost use Rattle.base_core.specs.Listed.{IsRising};
+ghost use Rattle.base_core.specs.Lists.{IsIn};
+ghost use Rattle.candidate_core.specs.Candidates.{Candidate};
+ghost use Rattle.package_changes.specs.Report.{names_in_need, stay_lines};
+
+/// The names after "required by" are exactly those of the other selected packages that need the
+/// kept one, by its name or by what it provides, each once, in byte order.
+pub fn a_kept_package_is_required_by_those_that_need_it()
+    ensures each { (selected : List Candidate) (needed : Candidate) (name : List ℕ)
+        → IsIn name (names_in_need selected needed) ↔ IsNeededUnder selected needed name }
+    ensures order { (selected : List Candidate) (needed : Candidate)
+        → IsRising (names_in_need selected needed) }
+{}
+
+/// A name has a line "stays" exactly if it was to be removed, was installed and is still selected;
+/// it has one, and the lines are in byte order of the names.
+pub fn a_name_stays_if_it_is_still_selected()
+    ensures { (before : List Plain) (selected : List Candidate) (to_go : List (List ℕ))
+        → AreNamedOnce selected
+        → HasKeptLines before selected to_go (stay_lines before selected to_go) }
+{}

@@ -1,0 +1,14 @@
+//! Laws above the definitions of what a user is answered.
+//!
+//! Each is a function that does nothing; its contract is what it says. The rules are in
+//! `docs/commands.md`, "`add` and `del`", "`upgrade` and `fix`", "Files that several packages list"
+//! and "`info`".
+#![tactic(auto)]
+
+pub mod changes;
+pub mod found;
+pub mod info;
+pub mod kept;
+pub mod replaces;
+pub mod scripts;
+pub mod triggers;

@@ -1,0 +1,31 @@
+//! Which of two packages takes over the files of the other.
+//! The rule is in `docs/commands.md`, "Files that several packages list".
+
+ghost use Rattle.std.specs.Prelude.{◌≡◌, ◌↔◌, ◌<◌, true, false};
+ghost use Rattle.std.specs.declared.cmp.Ordering.TheVariants.{Less};
+ghost use Rattle.adb_fields.specs.Repeated.{package_name};
+ghost use Rattle.adb_view.specs.Plain.{Plain};
+ghost use Rattle.answer_laws.specs.ReplacesEntries.{IsNamedInReplaces};
+ghost use Rattle.base_core.specs.ByteOrder.{bytes_cmp};
+ghost use Rattle.file_owners.specs.Replaces.{names_package, replacing_priority, takes_over, version_text};
+
+/// The `replaces` of a package names another exactly by the other's own name and version. What the
+/// other one provides does not count.
+pub fn a_package_is_replaced_by_its_own_name_and_version()
+    ensures named { (x y : Plain) → (names_package x y ≡ true) ↔ IsNamedInReplaces x y }
+    ensures own { (x y z : Plain) → package_name y ≡ package_name z
+        → version_text y ≡ version_text z → names_package x y ≡ names_package x z }
+{}
+
+/// A package takes over the files of one that it names, unless it is named back; then that with the
+/// greater priority does, and at equal priority that with the later name.
+pub fn of_two_packages_that_name_each_other_one_is_preferred()
+    ensures unnamed { (x y : Plain) → names_package x y ≡ false → takes_over x y ≡ false }
+    ensures alone { (x y : Plain) → names_package x y ≡ true → names_package y x ≡ false
+        → takes_over x y ≡ true }
+    ensures priority { (x y : Plain) → names_package x y ≡ true → names_package y x ≡ true
+        → replacing_priority y < replacing_priority x → takes_over x y ≡ true }
+    ensures later { (x y : Plain) → names_package x y ≡ true → names_package y x ≡ true
+        → replacing_priority x ≡ replacing_priority y
+        → bytes_cmp (package_name y) (package_name x) ≡ Less → takes_over x y ≡ true }
+{}

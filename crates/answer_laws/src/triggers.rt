@@ -1,0 +1,52 @@
+//! Which triggers are due.
+//! The rules are in `docs/commands.md`, "`add` and `del`", which triggers are due.
+
+ghost use Rattle.std.specs.Prelude.{◌≡◌, ◌↔◌, ℕ, List, [], true, false, Ok, Err, codes};
+ghost use Rattle.adb_view.specs.Plain.{Plain};
+ghost use Rattle.answer_laws.specs.DueTriggers.{DueFolder, HasDueUnder, HasFileIn, HasTriggerLines, IsDueAmong, IsFilledByParts, IsTriggered};
+ghost use Rattle.base_core.specs.Listed.{IsRising};
+ghost use Rattle.base_core.specs.Lists.{IsIn};
+ghost use Rattle.change_outcome.specs.Triggers.{folders_of_paths, is_due, is_folder_matched, trigger_lines, unless_trigger};
+ghost use Rattle.db_core.specs.Members.{Member};
+ghost use Rattle.report_core.specs.declared.refusal.Refusal.TheVariants.{TriggerNeeded};
+
+use star_patterns::a_pattern_matches_what_its_stars_are_filled_to;
+
+/// A pattern matches a folder exactly if both have as many parts and the stars of each part of the
+/// pattern can be filled to the folder's part. The root is matched by `/` alone.
+pub fn a_pattern_matches_a_folder_part_by_part()
+    ensures below { (folder pattern : List ℕ) → (folder ≡ [] → ⊥)
+        → (is_folder_matched folder pattern ≡ true) ↔ IsFilledByParts pattern folder }
+    ensures root { (pattern : List ℕ)
+        → (is_folder_matched [] pattern ≡ true) ↔ (pattern ≡ codes "/") }
+{
+    a_pattern_matches_what_its_stars_are_filled_to();
+}
+
+/// A trigger is due for a folder exactly if the package has a trigger script and one of its
+/// patterns matches the folder. The folders are exactly those that have a changed file right in
+/// them, each once, in byte order.
+pub fn a_trigger_is_due_for_a_changed_folder()
+    ensures due { (pkg : Plain) (folder : List ℕ)
+        → (is_due pkg folder ≡ true) ↔ IsTriggered pkg folder }
+    ensures folders { (paths : List (List ℕ)) (folder : List ℕ)
+        → IsIn folder (folders_of_paths paths) ↔ HasFileIn paths folder }
+    ensures order { (paths : List (List ℕ)) → IsRising (folders_of_paths paths) }
+{}
+
+/// A report has a line for each package and each folder for which its trigger is due, and no other.
+pub fn each_due_trigger_has_a_line()
+    ensures { (paths : List (List ℕ)) (members : List Member)
+        → HasTriggerLines paths members (trigger_lines paths members) }
+{}
+
+/// If scripts may not be left out, a change is accepted exactly if no trigger is due; the package
+/// that a refusal names has a trigger that is due.
+pub fn a_due_trigger_refuses_the_change()
+    ensures accepted { (paths : List (List ℕ)) (members : List Member)
+        → (unless_trigger false paths members ≡ Ok true)
+        ↔ ((due : DueFolder) → IsDueAmong paths members due → ⊥) }
+    ensures named { (paths : List (List ℕ)) (members : List Member) (name : List ℕ)
+        → unless_trigger false paths members ≡ Err (TriggerNeeded name)
+        → HasDueUnder paths members name }
+{}
