@@ -156,15 +156,15 @@ module _ (have : HaveClash) (inputs : Inputs) (r : Replacement) (wishes : Change
 -- ---- a plan
 
 change_is : (history : List TreeState) (a : Arrived) (wishes : ChangeWishes) (found : List MemberFound) → IsArrived history a found
-    → change_by a.selection.now.db.now a.members.now wishes.purge ≡ file_change (inputs_arrived a) wishes found
+    → change_by a.selection.now.db a.members.now wishes.purge ≡ file_change (inputs_arrived a) wishes found
 change_is history a wishes found arrived = λ i. record { old = arrived.read.database i; members = arrived.members i; purge = wishes.purge }
 
 -- why there is none, of the packages that are found
 pub unplanned_run : HaveClash → (old now : List TreeState) (before after : Counts) (a : Arrived) (wishes : ChangeWishes) (read : Reads) (found : List MemberFound) (fault : PlanFault) (refused : Refused)
     → All IsWhole old → IsOnlyRead old now before after → IsArrived old a found → change_members (inputs_arrived a) (replacement_arrived a) wishes read ≡ Ok found
     → IsRefusedFor fault refused → IsRefusalFor (members_of a.members.now) fault
-    → IfObservable old (λ v. IsRefusalOf (change_by a.selection.now.db.now a.members.now wishes.purge) (files_of v) fault)
-    → MayBeRefusalOf (change_by a.selection.now.db.now a.members.now wishes.purge) old fault
+    → IfObservable old (λ v. IsRefusalOf (change_by a.selection.now.db a.members.now wishes.purge) (files_of v) fault)
+    → MayBeRefusalOf (change_by a.selection.now.db a.members.now wishes.purge) old fault
     → IsFoundRun (inputs_arrived a) (replacement_arrived a) wishes found old now before after (Err refused)
 unplanned_run have old now before after a wishes read found fault refused whole quiet arrived is_found is cause first may =
     unplanned have (inputs_arrived a) (replacement_arrived a) wishes read found is_found old now before after whole quiet fault refused is
@@ -173,9 +173,9 @@ unplanned_run have old now before after a wishes read found fault refused whole 
     (subst (λ (c : FileChange). MayBeRefusalOf c old fault) (change_is old a wishes found arrived) may)
 
 pub planned_now : (old mid : List TreeState) → mid ≡ old → (p : Planned) (wishes : ChangeWishes) (found : List MemberFound) → IsArrived old p.arrived.now found
-    → (plan : IsPlanOf (change_by p.arrived.now.selection.now.db.now p.arrived.now.members.now wishes.purge) old p.plan.now)
+    → (plan : IsPlanOf (change_by p.arrived.now.selection.now.db p.arrived.now.members.now wishes.purge) old p.plan.now)
     → HasOwnNames p.plan.now → HasSources (members_of p.arrived.now.members.now) p.plan.now → IsPlanFor (members_of p.arrived.now.members.now) p.plan.now
-    → All (λ l. is_reserved l.path ≡ false) (member_listings (map staying_member (packages_of p.arrived.now.selection.now.db.now)))
+    → All (λ l. is_reserved l.path ≡ false) (member_listings (map staying_member (packages_of p.arrived.now.selection.now.db)))
     → IsPlanned mid wishes p found plan.files
 unfolding old_listings
 planned_now old mid same p wishes found arrived plan names sources owners unreserved =
@@ -192,7 +192,7 @@ planned_now old mid same p wishes found arrived plan names sources owners unrese
     })
 
 pub planned_run : (old mid now : List TreeState) (before between after : Counts) (a : Arrived) (p : FilePlan) (wishes : ChangeWishes) (found : List MemberFound) (result : Result (List ℕ) Refused)
-    → IsOnlyRead old mid before between → IsArrived old a found → (plan : IsPlanOf (change_by a.selection.now.db.now a.members.now wishes.purge) old p) → IsPlanFor (members_of a.members.now) p
+    → IsOnlyRead old mid before between → IsArrived old a found → (plan : IsPlanOf (change_by a.selection.now.db a.members.now wishes.purge) old p) → IsPlanFor (members_of a.members.now) p
     → ComesTo (Ok found)
     (and_then (unless_trigger wishes.no_scripts (touched_paths (file_change (inputs_arrived a) wishes found) plan.files) (members_found found))
     (λ allowed. unless_too_large (inputs_arrived a) (replacement_arrived a) wishes found plan.files)) mid now between after result

@@ -40,12 +40,12 @@ use std::alloc::Global;
 pub(crate) fn make_change<T: Tree>(
     alloc: Global,
     command: &Command,
-    selection: &Selection<'_, '_>,
+    selection: &Selection<'_>,
     tree: &mut T,
 ) -> Result<Text, Refused>
     requires database { HasItsDatabase selection.now }
     requires pool { pool_by command.now (inputs_of_selection selection.now)
-        ≡ Ok selection.now.pool.now }
+        ≡ Ok selection.now.pool }
     requires root { IsRootRead (T.history tree.old) (inputs_of_selection selection.now) }
     // The change is not only simulated.
     requires real { command.now.flags.simulate ≡ false }
@@ -64,13 +64,13 @@ pub(crate) fn make_change<T: Tree>(
         trace,
         again,
         ..
-    } = *selection;
+    } = selection;
     let names = PlacedNames::of(alloc, db, pool, trace, again)?;
     let arrivals = read_arrivals(
         alloc,
         tree,
-        selection.db,
-        selection.pool,
+        db,
+        pool,
         &names,
         selection.loaded.repositories(),
         command.flags().no_scripts,
@@ -83,7 +83,7 @@ pub(crate) fn make_change<T: Tree>(
 fn change_members<'a, 'm, T: Tree>(
     alloc: Global,
     command: &Command,
-    selection: &Selection<'_, 'a>,
+    selection: &Selection<'a>,
     names: &PlacedNames<'a>,
     arrivals: &'m Arrivals,
     tree: &mut T,
@@ -108,7 +108,7 @@ fn change_members<'a, 'm, T: Tree>(
     a_change_has_a_first_clash_or_none();
     asked_runs_begin_with_reads::<T>();
     packages_that_were_read_are_those_found();
-    let members = members_of_change(alloc, selection.db, arrivals)?;
+    let members = members_of_change(alloc, &selection.db, arrivals)?;
     let arrived = Arrived {
         selection,
         names,
@@ -143,7 +143,7 @@ fn plan_change<T: Tree>(
     let purge = command.flags().purge;
     let selection = arrived.selection;
     selection.db.no_listed_path_is_reserved();
-    match plan(alloc, selection.db, arrived.members, tree, purge) {
+    match plan(alloc, &selection.db, arrived.members, tree, purge) {
         Ok(plan) => {
             let planned = Planned {
                 arrived,

@@ -84,7 +84,7 @@ fn member_name(alloc: Global, members: &Members<'_>, place: usize) -> Result<Tex
 #[derive(Clone, Copy)]
 pub(crate) struct Arrived<'r, 'a, 'm, 'x> {
     /// The candidates that were selected, and what was read of the root.
-    pub selection: &'r Selection<'r, 'a>,
+    pub selection: &'r Selection<'a>,
     /// The names of the packages before and of the candidates, each with its place.
     pub names: &'r PlacedNames<'a>,
     /// The added packages, read and tested, among the kept ones.
