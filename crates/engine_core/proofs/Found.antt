@@ -36,9 +36,9 @@ use Rattle.path_clashes.specs.FirstClash.{IsClashOf, MayBeClashOf}
 use Rattle.report_core.specs.declared.refusal.Refusal.{Refusal}
 use Rattle.report_core.specs.declared.refusal.Refusal.TheVariants.{Owned, PathClash, Reserved}
 use Rattle.engine_core.specs.ChangeRun.{ComesTo}
-use Rattle.engine_core.specs.Finishing.{IsArrived, IsPlanned, inputs_arrived, replacement_arrived}
+use Rattle.engine_core.specs.Finishing.{AreArrivals, IsArrived, IsPlanned, inputs_arrived, replacement_arrived}
 use Rattle.engine_core.specs.Making.{IsFoundRun}
-use Rattle.engine_core.specs.Plans.{IsRefusedFor}
+use Rattle.engine_core.specs.Plans.{IsPlanFrom, IsRefusedFor, IsUnplanned}
 use Rattle.engine_core.specs.declared.planning.Arrived.{Arrived}
 use Rattle.engine_core.specs.declared.planning.Planned.{Planned}
 use Rattle.engine_core.proofs.Early.{HaveClash, IsOnlyRead, comes_to_failure, comes_to_refusal, nothing_within}
@@ -172,6 +172,13 @@ unplanned_run have old now before after a wishes read found fault refused whole 
     (subst (λ (c : FileChange). IfObservable old (λ v. IsRefusalOf c (files_of v) fault)) (change_is old a wishes found arrived) first)
     (subst (λ (c : FileChange). MayBeRefusalOf c old fault) (change_is old a wishes found arrived) may)
 
+-- the same, of the step that plans
+pub unplanned_step : HaveClash → (old now : List TreeState) (before after : Counts) (a : Arrived) (wishes : ChangeWishes) (read : Reads) (found : List MemberFound) (refused : Refused)
+    → All IsWhole old → IsOnlyRead old now before after → IsArrived old a found → change_members (inputs_arrived a) (replacement_arrived a) wishes read ≡ Ok found
+    → IsUnplanned old wishes a refused → IsFoundRun (inputs_arrived a) (replacement_arrived a) wishes found old now before after (Err refused)
+unplanned_step have old now before after a wishes read found refused whole quiet arrived is_found why =
+    unplanned_run have old now before after a wishes read found why.fault refused whole quiet arrived is_found why.reported why.cause why.first why.may
+
 pub planned_now : (old mid : List TreeState) → mid ≡ old → (p : Planned) (wishes : ChangeWishes) (found : List MemberFound) → IsArrived old p.arrived.now found
     → (plan : IsPlanOf (change_by p.arrived.now.selection.now.db p.arrived.now.members.now wishes.purge) old p.plan.now)
     → HasOwnNames p.plan.now → HasSources (members_of p.arrived.now.members.now) p.plan.now → IsPlanFor (members_of p.arrived.now.members.now) p.plan.now
@@ -218,3 +225,23 @@ planned_run old mid now before between after a p wishes found result quiet arriv
       comes = subst (λ (w : Result ChangeDone Refusal). ComesTo (Ok found) w old now before after result) (sym wanted_is)
           (comes_behind_reads (Ok found) rest old mid now before between after result quiet comes);
     }
+
+-- the same two, of the step that plans
+pub planned_step : (old mid : List TreeState) → mid ≡ old → (p : Planned) (wishes : ChangeWishes) (found : List MemberFound) → IsArrived old p.arrived.now found
+    → (plan : IsPlanFrom old wishes p.arrived.now p.plan.now) → IsPlanned mid wishes p found plan.lists.files
+planned_step old mid same p wishes found arrived plan =
+    planned_now old mid same p wishes found arrived plan.lists plan.names plan.sources plan.owners plan.unreserved
+
+pub planned_step_run : (old mid now : List TreeState) (before between after : Counts) (a : Arrived) (p : FilePlan) (wishes : ChangeWishes) (found : List MemberFound) (result : Result (List ℕ) Refused)
+    → IsOnlyRead old mid before between → IsArrived old a found → (plan : IsPlanFrom old wishes a p)
+    → ComesTo (Ok found)
+    (and_then (unless_trigger wishes.no_scripts (touched_paths (file_change (inputs_arrived a) wishes found) plan.lists.files) (members_found found))
+    (λ allowed. unless_too_large (inputs_arrived a) (replacement_arrived a) wishes found plan.lists.files)) mid now between after result
+    → IsFoundRun (inputs_arrived a) (replacement_arrived a) wishes found old now before after result
+planned_step_run old mid now before between after a p wishes found result quiet arrived plan comes =
+    planned_run old mid now before between after a p wishes found result quiet arrived plan.lists plan.owners comes
+
+-- the packages after a change have arrived
+pub has_arrived : (history : List TreeState) (a : Arrived) (found : List MemberFound) → AreArrivals history a.selection.now a.names.now a.arrivals.now found
+    → members_of a.members.now ≡ members_found found → IsArrived history a found
+has_arrived history a found read members = record { read = read; members = members }

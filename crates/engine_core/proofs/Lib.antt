@@ -15,5 +15,6 @@ pub mod Elements
 pub mod Written
 pub mod Found
 pub mod Counted
+pub mod Planning
 pub mod Made
 pub mod Worked

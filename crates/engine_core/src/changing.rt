@@ -61,11 +61,7 @@ pub fn change<T: Tree>(alloc: Global, command: &Command, tree: &mut T) -> Result
 }
 
 // Reports what would change, as `--simulate` asks for it.
-fn simulate(
-    alloc: Global,
-    command: &Command,
-    selection: &Selection<'_>,
-) -> Result<Text, AllocError>
+fn simulate(alloc: Global, command: &Command, selection: &Selection<'_>) -> Result<Text, AllocError>
     requires { HasItsDatabase selection.now }
     ensures { IfOk result (λ report. report ≡ simulated_report (replacement_seen selection.now)
         (names_to_go command.now.applet command.now.operands)) }
