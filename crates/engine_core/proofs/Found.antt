@@ -37,10 +37,10 @@ use Rattle.report_core.specs.declared.refusal.Refusal.{Refusal}
 use Rattle.report_core.specs.declared.refusal.Refusal.TheVariants.{Owned, PathClash, Reserved}
 use Rattle.engine_core.specs.ChangeRun.{ComesTo}
 use Rattle.engine_core.specs.Finishing.{AreArrivals, IsArrived, IsPlanned, inputs_arrived, replacement_arrived}
-use Rattle.engine_core.specs.Making.{IsFoundRun}
 use Rattle.engine_core.specs.Plans.{IsPlanFrom, IsRefusedFor, IsUnplanned}
 use Rattle.engine_core.specs.declared.planning.Arrived.{Arrived}
 use Rattle.engine_core.specs.declared.planning.Planned.{Planned}
+use Rattle.engine_core.proofs.FoundRuns.{IsFoundRun}
 use Rattle.engine_core.proofs.Early.{HaveClash, IsOnlyRead, comes_to_failure, comes_to_refusal, nothing_within}
 use Rattle.engine_core.proofs.WholeRuns.{comes_behind_reads}
 

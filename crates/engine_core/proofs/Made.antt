@@ -33,12 +33,12 @@ use Rattle.report_core.specs.declared.refusal.Refusal.{Refusal}
 use Rattle.engine_core.specs.ChangeRun.{ComesTo}
 use Rattle.engine_core.specs.Changed.{IsClashOfSelectedOver, IsClashUnlessSimulatedOver, change_of_selected, simulated_change}
 use Rattle.engine_core.specs.Finishing.{AreArrivals, IsRootRead}
-use Rattle.engine_core.specs.Making.{IsFoundRun}
 use Rattle.engine_core.specs.Runs.{IsSelectedRun}
 use Rattle.engine_core.specs.Selecting.{pool_by}
 use Rattle.engine_core.specs.SelectionSeen.{HasItsDatabase, inputs_of_selection, replacement_seen, selection_seen}
 use Rattle.engine_core.specs.Wishes.{wishes_of}
 use Rattle.engine_core.specs.declared.choosing.Selection.{Selection}
+use Rattle.engine_core.proofs.FoundRuns.{IsFoundRun}
 use Rattle.engine_core.proofs.Early.{HaveClash, IsOnlyRead, comes_to_refusal, files_seen, selected_failure}
 use Rattle.engine_core.proofs.WholeRuns.{run_behind_reads}
 

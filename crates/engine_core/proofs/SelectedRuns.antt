@@ -18,7 +18,7 @@ use Rattle.report_core.specs.declared.refusal.Refusal.TheVariants.{NotInstalled}
 use Rattle.engine_core.specs.Changed.{Selected, selected_by, selected_of_inputs, simulated_change}
 use Rattle.engine_core.specs.Choice.{IsChoice, IsChoiceFrom}
 use Rattle.engine_core.specs.Chosen.{IsChosen}
-use Rattle.engine_core.specs.Runs.{IsRunBy, IsSelectedRun}
+use Rattle.engine_core.specs.Runs.{IsSelectedRun}
 use Rattle.engine_core.specs.Selecting.{pool_by, replacement_of_choice}
 use Rattle.engine_core.specs.SelectionSeen.{IsSelectedFrom, selection_seen}
 use Rattle.engine_core.specs.Wishes.{names_to_go, names_to_reinstall, unknown_place, unless_place, wishes_of}
@@ -27,6 +27,16 @@ use Rattle.engine_core.proofs.Early.{HaveClash, IsOnlyRead, Seen, comes_to_idle,
 
 abbrev pub HaveChoice : Type 0
 HaveChoice = (pool : Result SealedPool Refusal) → (chosen : Option (List ℕ)) × IsChoiceFrom pool chosen
+
+-- a run by these inputs, and by whatever is chosen among their candidates
+abbrev pub IsRunBy :
+    CommandLine → Inputs → List TreeState → List TreeState → Counts → Counts
+    → Result (List ℕ) Refused → Type 0
+IsRunBy command inputs old now before after result =
+    (chosen : Option (List ℕ))
+    × IsChoiceFrom (pool_by command inputs) chosen
+    × IsSelectedRun command (selected_of_inputs command chosen inputs)
+    old now before after result
 
 pub with_error : {A : Type 0} (P : Result A Refused → Type 0) (r : Result A Refused) (fault : Refused) → IsErrAnd r (λ e. e ≡ fault) → P (Err fault) → P r
 with_error P (Ok a) fault is p = absurd is

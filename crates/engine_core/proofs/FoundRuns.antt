@@ -1,5 +1,4 @@
--- A run by the packages that are found. Serves the proof of `make_change` in `src/making.rt`; the rules
--- are in `docs/commands.md`, "What a change does with files".
+-- A run by the packages that are found.
 use Rattle.std.specs.Prelude.{◌≡◌, ℕ, List, Option, Result, Ok}
 use Rattle.base_core.specs.Calls.{IfObservable}
 use Rattle.base_core.specs.Faults.{Counts}
