@@ -37,7 +37,7 @@ use Rattle.report_core.specs.declared.refusal.Refusal.{Refusal}
 use Rattle.report_core.specs.declared.refusal.Refusal.TheVariants.{Owned, PathClash, Reserved}
 use Rattle.engine_core.specs.ChangeRun.{ComesTo}
 use Rattle.engine_core.specs.Finishing.{AreArrivals, IsArrived, IsPlanned, inputs_arrived, replacement_arrived}
-use Rattle.engine_core.specs.Plans.{IsPlanFrom, IsRefusedFor, IsUnplanned}
+use Rattle.engine_core.specs.Plans.{IsPlanFrom, IsRefusedFor, HasNoPlan}
 use Rattle.engine_core.specs.declared.planning.Arrived.{Arrived}
 use Rattle.engine_core.specs.declared.planning.Planned.{Planned}
 use Rattle.engine_core.proofs.FoundRuns.{IsFoundRun}
@@ -175,7 +175,7 @@ unplanned_run have old now before after a wishes read found fault refused whole 
 -- the same, of the step that plans
 pub unplanned_step : HaveClash → (old now : List TreeState) (before after : Counts) (a : Arrived) (wishes : ChangeWishes) (read : Reads) (found : List MemberFound) (refused : Refused)
     → All IsWhole old → IsOnlyRead old now before after → IsArrived old a found → change_members (inputs_arrived a) (replacement_arrived a) wishes read ≡ Ok found
-    → IsUnplanned old wishes a refused → IsFoundRun (inputs_arrived a) (replacement_arrived a) wishes found old now before after (Err refused)
+    → HasNoPlan old wishes a refused → IsFoundRun (inputs_arrived a) (replacement_arrived a) wishes found old now before after (Err refused)
 unplanned_step have old now before after a wishes read found refused whole quiet arrived is_found why =
     unplanned_run have old now before after a wishes read found why.fault refused whole quiet arrived is_found why.reported why.cause why.first why.may
 

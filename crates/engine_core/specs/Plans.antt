@@ -45,7 +45,7 @@ pub record IsPlanFrom (history : List TreeState) (wishes : ChangeWishes) (a : Ar
       (member_listings (map staying_member (packages_of a.selection.now.db)))
 
 -- a change has no plan, for this reason
-pub record IsUnplanned (history : List TreeState) (wishes : ChangeWishes) (a : Arrived)
+pub record HasNoPlan (history : List TreeState) (wishes : ChangeWishes) (a : Arrived)
     (refused : Refused) : Type 0 where
   pub fault : PlanFault
   pub reported : IsRefusedFor fault refused

@@ -8,7 +8,7 @@ ghost use Rattle.change_outcome.specs.Triggers.{unless_trigger};
 ghost use Rattle.db_core.specs.Seen.{members_of};
 ghost use Rattle.change_report.specs.Due.{planned_paths};
 ghost use Rattle.base_core.specs.Read.{OnlyReads};
-ghost use Rattle.engine_core.specs.Plans.{IsPlanFrom, IsRefusedFor, IsUnplanned};
+ghost use Rattle.engine_core.specs.Plans.{IsPlanFrom, IsRefusedFor, HasNoPlan};
 ghost use Rattle.engine_core.specs.Wishes.{wishes_of};
 ghost use Rattle.std.specs.Prelude.{◌≡◌, ◌<◌, IfErr, IfOk, length};
 
@@ -40,7 +40,7 @@ pub(crate) fn plan_files<T: Tree>(
         (IsPlanFrom (T.history tree.old) (wishes_of command.now) arrived.now) }
     // Or the change has no plan, and this says why.
     ensures refused { IfErr result
-        (IsUnplanned (T.history tree.old) (wishes_of command.now) arrived.now) }
+        (HasNoPlan (T.history tree.old) (wishes_of command.now) arrived.now) }
     // The tree is only read, and an I/O error has its cause there.
     ensures tree { OnlyReads Refused.Disk (T.history tree.old) (T.history tree.new)
         (T.counts tree.old) (T.counts tree.new) result }
