@@ -8,7 +8,7 @@ ghost use Rattle.change_outcome.specs.Triggers.{unless_trigger};
 ghost use Rattle.db_core.specs.Seen.{members_of};
 ghost use Rattle.change_report.specs.Due.{planned_paths};
 ghost use Rattle.base_core.specs.Read.{OnlyReads};
-ghost use Rattle.engine_core.specs.Plans.{IsPlanFrom, IsRefusedFor, HasNoPlan};
+ghost use Rattle.engine_core.specs.Plans.{HasNoPlan, IsPlanFrom, IsRefusedFor};
 ghost use Rattle.engine_core.specs.Wishes.{wishes_of};
 ghost use Rattle.std.specs.Prelude.{◌≡◌, ◌<◌, IfErr, IfOk, length};
 
