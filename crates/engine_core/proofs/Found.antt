@@ -174,9 +174,9 @@ unplanned_run have old now before after a wishes read found fault refused whole 
 
 -- the same, of the step that plans
 pub unplanned_step : HaveClash → (old now : List TreeState) (before after : Counts) (a : Arrived) (wishes : ChangeWishes) (read : Reads) (found : List MemberFound) (refused : Refused)
-    → All IsWhole old → IsOnlyRead old now before after → IsArrived old a found → change_members (inputs_arrived a) (replacement_arrived a) wishes read ≡ Ok found
-    → HasNoPlan old wishes a refused → IsFoundRun (inputs_arrived a) (replacement_arrived a) wishes found old now before after (Err refused)
-unplanned_step have old now before after a wishes read found refused whole quiet arrived is_found why =
+    → HasNoPlan old wishes a refused → All IsWhole old → IsOnlyRead old now before after → IsArrived old a found → change_members (inputs_arrived a) (replacement_arrived a) wishes read ≡ Ok found
+    → IsFoundRun (inputs_arrived a) (replacement_arrived a) wishes found old now before after (Err refused)
+unplanned_step have old now before after a wishes read found refused why whole quiet arrived is_found =
     unplanned_run have old now before after a wishes read found why.fault refused whole quiet arrived is_found why.reported why.cause why.first why.may
 
 pub planned_now : (old mid : List TreeState) → mid ≡ old → (p : Planned) (wishes : ChangeWishes) (found : List MemberFound) → IsArrived old p.arrived.now found
@@ -227,21 +227,23 @@ planned_run old mid now before between after a p wishes found result quiet arriv
     }
 
 -- the same two, of the step that plans
-pub planned_step : (old mid : List TreeState) → mid ≡ old → (p : Planned) (wishes : ChangeWishes) (found : List MemberFound) → IsArrived old p.arrived.now found
-    → (plan : IsPlanFrom old wishes p.arrived.now p.plan.now) → IsPlanned mid wishes p found plan.lists.files
-planned_step old mid same p wishes found arrived plan =
+pub planned_step : (old mid : List TreeState) (p : Planned) (wishes : ChangeWishes) (found : List MemberFound) → (plan : IsPlanFrom old wishes p.arrived.now p.plan.now) → mid ≡ old → IsArrived old p.arrived.now found
+    → IsPlanned mid wishes p found plan.lists.files
+planned_step old mid p wishes found plan same arrived =
     planned_now old mid same p wishes found arrived plan.lists plan.names plan.sources plan.owners plan.unreserved
 
-pub planned_step_run : (old mid now : List TreeState) (before between after : Counts) (a : Arrived) (p : FilePlan) (wishes : ChangeWishes) (found : List MemberFound) (result : Result (List ℕ) Refused)
-    → IsOnlyRead old mid before between → IsArrived old a found → (plan : IsPlanFrom old wishes a p)
+pub planned_step_run : (old mid now : List TreeState) (before between after : Counts) (p : Planned) (wishes : ChangeWishes) (found : List MemberFound) (result : Result (List ℕ) Refused)
+    → ((files : Files) → IsPlanned mid wishes p found files
     → ComesTo (Ok found)
-    (and_then (unless_trigger wishes.no_scripts (touched_paths (file_change (inputs_arrived a) wishes found) plan.lists.files) (members_found found))
-    (λ allowed. unless_too_large (inputs_arrived a) (replacement_arrived a) wishes found plan.lists.files)) mid now between after result
-    → IsFoundRun (inputs_arrived a) (replacement_arrived a) wishes found old now before after result
-planned_step_run old mid now before between after a p wishes found result quiet arrived plan comes =
-    planned_run old mid now before between after a p wishes found result quiet arrived plan.lists plan.owners comes
+    (and_then (unless_trigger wishes.no_scripts (touched_paths (file_change (inputs_arrived p.arrived.now) wishes found) files) (members_found found))
+    (λ allowed. unless_too_large (inputs_arrived p.arrived.now) (replacement_arrived p.arrived.now) wishes found files)) mid now between after result)
+    → IsPlanFrom old wishes p.arrived.now p.plan.now → IsOnlyRead old mid before between → IsArrived old p.arrived.now found
+    → IsFoundRun (inputs_arrived p.arrived.now) (replacement_arrived p.arrived.now) wishes found old now before after result
+planned_step_run old mid now before between after p wishes found result comes plan quiet arrived =
+    planned_run old mid now before between after p.arrived.now p.plan.now wishes found result quiet arrived plan.lists plan.owners
+    (comes plan.lists.files (planned_step old mid p wishes found plan quiet.same arrived))
 
 -- the packages after a change have arrived
-pub has_arrived : (history : List TreeState) (a : Arrived) (found : List MemberFound) → AreArrivals history a.selection.now a.names.now a.arrivals.now found
-    → members_of a.members.now ≡ members_found found → IsArrived history a found
-has_arrived history a found read members = record { read = read; members = members }
+pub has_arrived : (history : List TreeState) (a : Arrived) (found : List MemberFound) → members_of a.members.now ≡ members_found found → AreArrivals history a.selection.now a.names.now a.arrivals.now found
+    → IsArrived history a found
+has_arrived history a found members read = record { read = read; members = members }

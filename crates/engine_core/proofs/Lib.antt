@@ -16,6 +16,6 @@ pub mod Written
 pub mod FoundRuns
 pub mod Found
 pub mod Counted
-pub mod Planning
+pub mod PlanSteps
 pub mod Made
 pub mod Worked

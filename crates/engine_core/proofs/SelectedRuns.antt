@@ -5,6 +5,7 @@ use Rattle.std.specs.Result.{IsErrAnd}
 use Rattle.base_core.specs.Faults.{Counts}
 use Rattle.base_core.specs.Tree.{IsWhole, TreeState}
 use Rattle.change_inputs.specs.Answers.{Agrees, IsFailure}
+use Rattle.change_inputs.specs.Candidates.{root_pool}
 use Rattle.change_inputs.specs.Chains.{and_then}
 use Rattle.change_inputs.specs.Inputs.{Inputs}
 use Rattle.change_inputs.specs.declared.root.Refused.{Refused}
@@ -12,7 +13,7 @@ use Rattle.change_inputs.specs.declared.root.Refused.TheVariants.{Disk, Memory, 
 use Rattle.change_outcome.specs.ChangeOutcome.{ChangeDone, change_or_refusal}
 use Rattle.command_core.specs.Command.{CommandLine}
 use Rattle.package_changes.specs.Report.{simulated_report}
-use Rattle.candidate_core.specs.Rank.{SealedPool}
+use Rattle.candidate_core.specs.Rank.{SealedPool, UpgradedNames}
 use Rattle.report_core.specs.declared.refusal.Refusal.{Refusal}
 use Rattle.report_core.specs.declared.refusal.Refusal.TheVariants.{NotInstalled}
 use Rattle.engine_core.specs.Changed.{Selected, selected_by, selected_of_inputs, simulated_change}
@@ -21,7 +22,7 @@ use Rattle.engine_core.specs.Chosen.{IsChosen}
 use Rattle.engine_core.specs.Runs.{IsSelectedRun}
 use Rattle.engine_core.specs.Selecting.{pool_by, replacement_of_choice}
 use Rattle.engine_core.specs.SelectionSeen.{IsSelectedFrom, selection_seen}
-use Rattle.engine_core.specs.Wishes.{names_to_go, names_to_reinstall, unknown_place, unless_place, wishes_of}
+use Rattle.engine_core.specs.Wishes.{names_to_go, names_to_reinstall, names_to_upgrade, unknown_place, unless_place, wishes_of}
 use Rattle.engine_core.specs.declared.choosing.Selection.{Selection}
 use Rattle.engine_core.proofs.Early.{HaveClash, IsOnlyRead, Seen, comes_to_idle, of_seen, seen_any, selected_failure, selected_refusal}
 
@@ -66,15 +67,25 @@ module _ (command : CommandLine) (inputs : Inputs) where
   pub out_of_memory : HaveChoice → IsSelectedFrom command inputs (Err Memory)
   out_of_memory choose = let (chosen, choice) = choose (pool_by command inputs) in (chosen, choice, tt)
 
+  -- it is no I/O error
+  pub not_disk : (fault : Refused) → IsSelectedFrom command inputs (Err fault) → fault ≡ Disk → ⊥
+  not_disk (IsRefused refusal) selected is = cc
+  not_disk Disk (chosen, choice, bad) is = bad
+  not_disk Memory selected is = cc
+
   -- there are too many candidates
-  pub without_pool : HaveChoice → (fault : Refused) → Agrees (λ (pool : SealedPool). pool) (Err fault) (pool_by command inputs) → IsSelectedFrom command inputs (Err fault)
-  without_pool choose (IsRefused refusal) is = (
-    None,
-    subst (λ (p : Result SealedPool Refusal). IsChoiceFrom p None) (sym is) refl,
-    ap (λ (p : Result SealedPool Refusal). and_then p (λ pool. unless_place (unknown_place command.applet inputs command.operands) (selected_by command inputs pool None))) is,
-  )
-  without_pool choose Disk is = absurd is
-  without_pool choose Memory is = out_of_memory choose
+  pub without_pool : HaveChoice → (fault : Refused) (names : UpgradedNames) → names ≡ names_to_upgrade command.applet command.operands → Agrees (λ (pool : SealedPool). pool) (Err fault) (root_pool inputs names) → IsSelectedFrom command inputs (Err fault)
+  without_pool choose fault names same agrees =
+      by fault (subst (λ (p : Result SealedPool Refusal). Agrees (λ (pool : SealedPool). pool) (Err fault) p) (ap (root_pool inputs) same) agrees)
+    where
+      by : (fault : Refused) → Agrees (λ (pool : SealedPool). pool) (Err fault) (pool_by command inputs) → IsSelectedFrom command inputs (Err fault)
+      by (IsRefused refusal) is = (
+        None,
+        subst (λ (p : Result SealedPool Refusal). IsChoiceFrom p None) (sym is) refl,
+        ap (λ (p : Result SealedPool Refusal). and_then p (λ pool. unless_place (unknown_place command.applet inputs command.operands) (selected_by command inputs pool None))) is,
+      )
+      by Disk is = absurd is
+      by Memory is = out_of_memory choose
 
   module _ (pool : SealedPool) (pool_is : pool_by command inputs ≡ Ok pool) where
     selected_is : (chosen : Option (List ℕ)) (unknown : Option ℕ) → unknown_place command.applet inputs command.operands ≡ unknown

@@ -5,10 +5,11 @@ use Rattle.change_inputs.specs.declared.root.Refused.TheVariants.{Memory}
 use Rattle.command_core.specs.declared.command.Flags.{Flags}
 use Rattle.engine_core.specs.ChangeRun.{IsChangeRun}
 use Rattle.engine_core.specs.Finishing.{IsRootRead}
+use Rattle.engine_core.specs.Runs.{IsRunCounted}
 use Rattle.engine_core.specs.SelectionSeen.{selection_seen}
-use Rattle.std.specs.Prelude.{Ok}
+use Rattle.engine_core.proofs.Counted.{counted_fault, counted_report, memory_no_disk}
 use Rattle.engine_core.proofs.Early.{HaveClash, nothing_read, only_read, selected_failure}
-use Rattle.engine_core.proofs.SelectedRuns.{run_failure, selected_run, simulated_run, unselected_run, with_error}
+use Rattle.engine_core.proofs.SelectedRuns.{not_disk, run_failure, selected_run, simulated_run, unselected_run, with_error}
 use Rattle.engine_core.proofs.WholeRuns.{HaveOwnReads, joined, root_read, unread}
 use Rattle.engine_core.proofs.changing.change.Goals as goal
 
@@ -34,8 +35,8 @@ returns-in_err-selection-clause-run g c =
     (joined own c.args.command.now c.in_ok-loaded.loaded _ _ _ _ _ _ _ (only_read _ _ _ _ _ _ c.in_ok-loaded.ensures.tree) c.in_ok-loaded.ensures.found
     (unselected_run c.args.command.now (inputs_seen c.in_ok-loaded.loaded) _ _ _ _ have (g.met.T.Tree.whole c.read.new.tree) (nothing_read _ _) _ c.in_err-selection.ensures.selected))
 
-pub returns-then-flags-in_err-report-clause-run : goal.returns-then-flags-in_err-report-clause-run
-returns-then-flags-in_err-report-clause-run g c =
+pub returns-in_err-report-clause-run : goal.returns-in_err-report-clause-run
+returns-in_err-report-clause-run g c =
     let have : HaveClash = record { exists = c.a_change_has_a_first_clash_or_none.ensures.exists } in
     let own : HaveOwnReads = record { inputs = c.inputs_rest_on_their_own_reads.ensures; members = c.packages_after_a_change_rest_on_later_reads.ensures } in
     with_error (IsChangeRun c.args.command.now _ _ _ _) c.from_residual-in_err-report.result Memory c.from_residual-in_err-report.ensures.1
@@ -51,6 +52,24 @@ returns-then-flags-clause-run g c =
     (selected_run c.args.command.now (inputs_seen c.in_ok-loaded.loaded) _ _ _ _ c.in_ok-selection.selection _ c.in_ok-selection.ensures.selected
     (simulated_run have c.args.command.now (selection_seen c.in_ok-selection.selection) _ _ _ _ _ (g.met.T.Tree.whole c.read.new.tree) (nothing_read _ _)
     (sym (ap (λ (f : Flags). f.simulate) c.flags.ensures.value) ∙ c.if-flags.true) c.in_ok-report.ensures))
+
+pub returns-in_err-upgraded-clause-counts : goal.returns-in_err-upgraded-clause-counts
+returns-in_err-upgraded-clause-counts g c =
+    with_error (IsRunCounted _ _) c.from_residual-in_err-upgraded.result Memory c.from_residual-in_err-upgraded.ensures.1
+    (counted_fault _ _ _ _ c.in_ok-loaded.loaded Memory memory_no_disk c.in_ok-loaded.ensures.tree)
+
+pub returns-in_err-selection-clause-counts : goal.returns-in_err-selection-clause-counts
+returns-in_err-selection-clause-counts g c =
+    with_error (IsRunCounted _ _) c.from_residual-in_err-selection.result _ c.from_residual-in_err-selection.ensures.1
+    (counted_fault _ _ _ _ c.in_ok-loaded.loaded _ (not_disk c.args.command.now (inputs_seen c.in_ok-loaded.loaded) _ c.in_err-selection.ensures.selected) c.in_ok-loaded.ensures.tree)
+
+pub returns-in_err-report-clause-counts : goal.returns-in_err-report-clause-counts
+returns-in_err-report-clause-counts g c =
+    with_error (IsRunCounted _ _) c.from_residual-in_err-report.result Memory c.from_residual-in_err-report.ensures.1
+    (counted_fault _ _ _ _ c.in_ok-loaded.loaded Memory memory_no_disk c.in_ok-loaded.ensures.tree)
+
+pub returns-then-flags-clause-counts : goal.returns-then-flags-clause-counts
+returns-then-flags-clause-counts g c = counted_report _ _ _ _ c.in_ok-loaded.loaded _ c.in_ok-loaded.ensures.tree
 
 pub make_change-requires-clause-root : goal.make_change-requires-clause-root
 make_change-requires-clause-root g c =

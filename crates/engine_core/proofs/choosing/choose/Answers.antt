@@ -1,11 +1,7 @@
-use Rattle.std.proofs.Common.{◌∙◌, ℕ, List, Result, Err, sym, ap, subst}
-use Rattle.change_inputs.specs.Answers.{Agrees}
+use Rattle.std.proofs.Common.{◌∙◌, refl, sym, ap}
 use Rattle.change_inputs.specs.Candidates.{root_pool}
 use Rattle.change_inputs.specs.Seen.{inputs_seen}
 use Rattle.change_inputs.specs.declared.root.Refused.TheVariants.{Memory}
-use Rattle.candidate_core.specs.Rank.{SealedPool}
-use Rattle.report_core.specs.declared.refusal.Refusal.{Refusal}
-use Rattle.engine_core.specs.Changed.{Selected}
 use Rattle.engine_core.specs.SelectionSeen.{IsSelectedFrom}
 use Rattle.engine_core.specs.Selecting.{replacement_of_choice}
 use Rattle.engine_core.proofs.Pools.{pool_world}
@@ -20,8 +16,7 @@ returns-in_err-again-clause-selected c =
 pub returns-in_err-pool-clause-selected : goal.returns-in_err-pool-clause-selected
 returns-in_err-pool-clause-selected c =
     with_error (IsSelectedFrom c.args.command.now (inputs_seen c.args.loaded.now)) c.from_residual-in_err-pool.result _ c.from_residual-in_err-pool.ensures.1
-    (without_pool c.args.command.now (inputs_seen c.args.loaded.now) c.a_choice_exists.ensures c.in_err-pool.e
-    (subst (λ (p : Result SealedPool Refusal). Agrees (λ (pool : SealedPool). pool) (Err c.in_err-pool.e) p) (ap (root_pool (inputs_seen c.args.loaded.now)) c.names_to_upgrade.ensures) c.in_err-pool.ensures))
+    (without_pool c.args.command.now (inputs_seen c.args.loaded.now) c.a_choice_exists.ensures _ _ c.names_to_upgrade.ensures c.in_err-pool.ensures)
 
 pub returns-in_err-db-clause-selected : goal.returns-in_err-db-clause-selected
 returns-in_err-db-clause-selected c =
@@ -53,7 +48,7 @@ returns-clause-selected c =
 
 pub returns-clause-parts : goal.returns-clause-parts
 returns-clause-parts c = record {
-  inputs_are = λ i. inputs_seen c.args.loaded.now;
+  inputs_are = refl;
   database = c.in_ok-db.ensures;
   pool = ap (root_pool (inputs_seen c.args.loaded.now)) (sym c.names_to_upgrade.ensures) ∙ c.in_ok-pool.ensures;
 }

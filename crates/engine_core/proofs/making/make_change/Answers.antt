@@ -4,7 +4,7 @@ use Rattle.std.specs.Prelude.{Ok}
 use Rattle.engine_core.specs.Runs.{IsRunCounted, IsSelectedRun}
 use Rattle.engine_core.specs.SelectionSeen.{inputs_of_selection, replacement_seen, selection_seen}
 use Rattle.engine_core.specs.Wishes.{wishes_of}
-use Rattle.engine_core.proofs.Counted.{counted_behind, counted_error, counted_memory}
+use Rattle.engine_core.proofs.Counted.{counted_behind, counted_error, counted_fault, memory_no_disk}
 use Rattle.engine_core.proofs.Early.{HaveClash, nothing_read, selected_failure}
 use Rattle.engine_core.proofs.Found.{found_failure, has_arrived, planned_step, planned_step_run, unplanned_step}
 use Rattle.engine_core.proofs.Made.{arrived, arrived_run, few_candidates, unarrived}
@@ -46,8 +46,8 @@ returns-in_err-members-clause-run g c =
 
 pub returns-in_err-members-clause-counts : goal.returns-in_err-members-clause-counts
 returns-in_err-members-clause-counts g c =
-    with_error (IsRunCounted (g.T.Tree.counts c.args.tree.now) (g.T.Tree.counts c.read_arrivals.new.tree)) c.from_residual-in_err-members.result Memory c.from_residual-in_err-members.ensures.1
-    (counted_memory _ _ _ _ c.in_ok-arrivals.arrivals c.in_ok-arrivals.ensures.tree)
+    with_error (IsRunCounted _ _) c.from_residual-in_err-members.result Memory c.from_residual-in_err-members.ensures.1
+    (counted_fault _ _ _ _ c.in_ok-arrivals.arrivals Memory memory_no_disk c.in_ok-arrivals.ensures.tree)
 
 pub returns-in_err-plan-clause-run : goal.returns-in_err-plan-clause-run
 returns-in_err-plan-clause-run g c =
@@ -59,12 +59,11 @@ returns-in_err-plan-clause-run g c =
     (arrived_run s c.requires.database c.args.command.now c.requires.real have (g.T.Tree.history c.args.tree.now) (g.T.Tree.history c.read_arrivals.new.tree) (g.T.Tree.counts c.args.tree.now) (g.T.Tree.counts c.read_arrivals.new.tree) (g.met.T.Tree.whole c.args.tree.now)
     (record { same = c.in_ok-arrivals.ensures.tree.same; proper = c.in_ok-arrivals.ensures.tree.proper }) _ c.repositories.ensures _ c.flags.ensures.value c.requires.root c.in_ok-names.names named c.in_ok-arrivals.arrivals explained
     _ _ _
-    (λ is_found. unplanned_step have (g.T.Tree.history c.read_arrivals.new.tree) _ _ _ _ (wishes_of c.args.command.now) explained.read explained.is.0 _ (g.met.T.Tree.whole c.read_arrivals.new.tree)
+    (λ is_found. unplanned_step have (g.T.Tree.history c.read_arrivals.new.tree) _ _ _ _ (wishes_of c.args.command.now) explained.read explained.is.0 _ c.in_err-plan.ensures.refused (g.met.T.Tree.whole c.read_arrivals.new.tree)
     (record { same = c.in_err-plan.ensures.tree.same; proper = c.in_err-plan.ensures.tree.proper })
-    (has_arrived _ _ explained.is.0
+    (has_arrived _ _ explained.is.0 (c.in_ok-members.ensures ∙ c.packages_that_were_read_are_those_found.ensures _ _ _ _ explained.is.2)
     (arrived s c.requires.database c.args.command.now c.requires.real have (g.T.Tree.history c.args.tree.now) (g.T.Tree.history c.read_arrivals.new.tree) (g.T.Tree.counts c.args.tree.now) (g.T.Tree.counts c.read_arrivals.new.tree) (g.met.T.Tree.whole c.args.tree.now)
-    (record { same = c.in_ok-arrivals.ensures.tree.same; proper = c.in_ok-arrivals.ensures.tree.proper }) _ c.repositories.ensures _ c.flags.ensures.value c.requires.root c.in_ok-names.names named c.in_ok-arrivals.arrivals explained)
-    (c.in_ok-members.ensures ∙ c.packages_that_were_read_are_those_found.ensures _ _ _ _ explained.is.2)) is_found c.in_err-plan.ensures.refused))
+    (record { same = c.in_ok-arrivals.ensures.tree.same; proper = c.in_ok-arrivals.ensures.tree.proper }) _ c.repositories.ensures _ c.flags.ensures.value c.requires.root c.in_ok-names.names named c.in_ok-arrivals.arrivals explained)) is_found))
 
 pub returns-in_err-plan-clause-counts : goal.returns-in_err-plan-clause-counts
 returns-in_err-plan-clause-counts g c =
@@ -83,11 +82,10 @@ finish_change-requires g c =
     let explained = c.in_ok-arrivals.ensures.found s.trace s.again named in (
       explained.is.0,
       c.in_ok-plan.ensures.plan.lists.files,
-      planned_step (g.T.Tree.history c.read_arrivals.new.tree) _ c.in_ok-plan.ensures.tree.same _ (wishes_of c.args.command.now) explained.is.0
-          (has_arrived _ _ explained.is.0
-          (arrived s c.requires.database c.args.command.now c.requires.real have (g.T.Tree.history c.args.tree.now) (g.T.Tree.history c.read_arrivals.new.tree) (g.T.Tree.counts c.args.tree.now) (g.T.Tree.counts c.read_arrivals.new.tree) (g.met.T.Tree.whole c.args.tree.now)
-          (record { same = c.in_ok-arrivals.ensures.tree.same; proper = c.in_ok-arrivals.ensures.tree.proper }) _ c.repositories.ensures _ c.flags.ensures.value c.requires.root c.in_ok-names.names named c.in_ok-arrivals.arrivals explained)
-          (c.in_ok-members.ensures ∙ c.packages_that_were_read_are_those_found.ensures _ _ _ _ explained.is.2)) c.in_ok-plan.ensures.plan,
+      planned_step (g.T.Tree.history c.read_arrivals.new.tree) _ _ (wishes_of c.args.command.now) explained.is.0 c.in_ok-plan.ensures.plan c.in_ok-plan.ensures.tree.same
+          (has_arrived _ _ explained.is.0 (c.in_ok-members.ensures ∙ c.packages_that_were_read_are_those_found.ensures _ _ _ _ explained.is.2)
+    (arrived s c.requires.database c.args.command.now c.requires.real have (g.T.Tree.history c.args.tree.now) (g.T.Tree.history c.read_arrivals.new.tree) (g.T.Tree.counts c.args.tree.now) (g.T.Tree.counts c.read_arrivals.new.tree) (g.met.T.Tree.whole c.args.tree.now)
+    (record { same = c.in_ok-arrivals.ensures.tree.same; proper = c.in_ok-arrivals.ensures.tree.proper }) _ c.repositories.ensures _ c.flags.ensures.value c.requires.root c.in_ok-names.names named c.in_ok-arrivals.arrivals explained)),
     )
 
 pub returns-clause-run : goal.returns-clause-run
@@ -99,16 +97,11 @@ returns-clause-run g c =
     arrived_run s c.requires.database c.args.command.now c.requires.real have (g.T.Tree.history c.args.tree.now) (g.T.Tree.history c.read_arrivals.new.tree) (g.T.Tree.counts c.args.tree.now) (g.T.Tree.counts c.read_arrivals.new.tree) (g.met.T.Tree.whole c.args.tree.now)
     (record { same = c.in_ok-arrivals.ensures.tree.same; proper = c.in_ok-arrivals.ensures.tree.proper }) _ c.repositories.ensures _ c.flags.ensures.value c.requires.root c.in_ok-names.names named c.in_ok-arrivals.arrivals explained
     _ _ c.finish_change.result
-    (λ is_found.
-    let has =
-    has_arrived _ _ explained.is.0
+    (λ is_found. planned_step_run (g.T.Tree.history c.read_arrivals.new.tree) _ _ _ _ _ _ (wishes_of c.args.command.now) explained.is.0 c.finish_change.result (c.finish_change.ensures.comes explained.is.0) c.in_ok-plan.ensures.plan
+    (record { same = c.in_ok-plan.ensures.tree.same; proper = c.in_ok-plan.ensures.tree.proper })
+    (has_arrived _ _ explained.is.0 (c.in_ok-members.ensures ∙ c.packages_that_were_read_are_those_found.ensures _ _ _ _ explained.is.2)
     (arrived s c.requires.database c.args.command.now c.requires.real have (g.T.Tree.history c.args.tree.now) (g.T.Tree.history c.read_arrivals.new.tree) (g.T.Tree.counts c.args.tree.now) (g.T.Tree.counts c.read_arrivals.new.tree) (g.met.T.Tree.whole c.args.tree.now)
-    (record { same = c.in_ok-arrivals.ensures.tree.same; proper = c.in_ok-arrivals.ensures.tree.proper }) _ c.repositories.ensures _ c.flags.ensures.value c.requires.root c.in_ok-names.names named c.in_ok-arrivals.arrivals explained)
-    (c.in_ok-members.ensures ∙ c.packages_that_were_read_are_those_found.ensures _ _ _ _ explained.is.2) in
-    planned_step_run (g.T.Tree.history c.read_arrivals.new.tree) _ _ _ _ _ _ c.in_ok-plan.plan (wishes_of c.args.command.now) explained.is.0 c.finish_change.result
-    (record { same = c.in_ok-plan.ensures.tree.same; proper = c.in_ok-plan.ensures.tree.proper }) has c.in_ok-plan.ensures.plan
-    (c.finish_change.ensures.comes explained.is.0 c.in_ok-plan.ensures.plan.lists.files
-    (planned_step (g.T.Tree.history c.read_arrivals.new.tree) _ c.in_ok-plan.ensures.tree.same _ (wishes_of c.args.command.now) explained.is.0 has c.in_ok-plan.ensures.plan)))
+    (record { same = c.in_ok-arrivals.ensures.tree.same; proper = c.in_ok-arrivals.ensures.tree.proper }) _ c.repositories.ensures _ c.flags.ensures.value c.requires.root c.in_ok-names.names named c.in_ok-arrivals.arrivals explained)))
 
 pub returns-clause-counts : goal.returns-clause-counts
 returns-clause-counts g c =
