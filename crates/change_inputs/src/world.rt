@@ -120,7 +120,8 @@ fn take_operands(alloc: Global, operands: &Operands, world: &mut World) -> Resul
 {
     let texts = operand_texts(alloc, operands)?;
     let names = SortedWords::of(alloc, &texts)?;
-    *world = world_without(alloc, world, &names)?;
+    let rest = world_without(alloc, world, &names)?;
+    *world = rest;
     Ok(())
 }
 
