@@ -1,146 +1,119 @@
 -- The lines of due triggers, and what they refuse.
-use Rattle.std.proofs.Common.{◌≡◌, ◌⊎◌, inl, inr, ◌↔◌, ◌∙◌, ℕ, Bool, true, false, List, [], ◌∷◌, ◌++◌, map, Ok, Err, refl, ap, sym, true≢false}
+use Rattle.std.proofs.Common.{◌≡◌, inl, inr, ◌↔◌, ◌∙◌, ℕ, Bool, true, false, List, [], ◌∷◌, ◌++◌, map, Ok, Err, refl, ap, sym, subst, true≢false}
 use Rattle.std.specs.Prelude.{if◌then◌else◌}
 use Rattle.std.specs.List.{filter, flat_map}
-use Rattle.std.proofs.lemmas.List.{append_assoc}
+use Rattle.std.proofs.lemmas.Grind.{flat_map-append}
+use Rattle.base_core.proofs.Rising as rising
+use Rattle.base_core.specs.Listed.{IsRising}
 use Rattle.base_core.specs.Lists.{IsIn}
+use Rattle.change_files.proofs.InOrder.{filter_rises, order_rises}
 use Rattle.change_outcome.specs.Triggers.{due_line, due_lines, folders_of_paths, has_due_trigger, is_due, trigger_lines, unless_trigger}
 use Rattle.db_core.specs.Members.{Member, member_name}
+use Rattle.package_files.specs.Folders.{folder_of}
 use Rattle.report_core.specs.Reports.{report_line, report_lines, trigger_text}
 use Rattle.report_core.specs.declared.refusal.Refusal.TheVariants.{TriggerNeeded}
-use Rattle.answer_laws.specs.DueTriggers.{DueFolder, HasDueUnder, HasFileIn, HasTriggerLines, IsDueAmong, IsTriggered}
+use Rattle.answer_laws.specs.DueTriggers.{HasTriggerLines, IsDueFor, IsFirstDue, IsTriggered}
 use Rattle.answer_laws.proofs.Tests.{any_passes, in_passing, passes_any, passing_in}
 use Rattle.answer_laws.proofs.Watched.{due_is, folders_are}
 
-abbrev due_for : Member → List ℕ → DueFolder
-due_for m folder = record { member = m; folder = folder }
+-- ---- the folders of one package
 
-abbrev dues_of : List (List ℕ) → Member → List DueFolder
-dues_of folders m = map (due_for m) (filter (is_due m.pkg) folders)
+abbrev due_folders : List (List ℕ) → Member → List (List ℕ)
+due_folders paths m = filter (is_due m.pkg) (folders_of_paths paths)
 
-abbrev due_text : DueFolder → List ℕ
-due_text d = trigger_text (member_name d.member) d.folder
+due_rising : (paths : List (List ℕ)) (m : Member) → IsRising (due_folders paths m)
+due_rising paths m =
+    rising.pairs_from_rises (due_folders paths m) (filter_rises (is_due m.pkg) (folders_of_paths paths) (order_rises (map folder_of paths)))
+
+due_each : (paths : List (List ℕ)) (m : Member) (folder : List ℕ) → IsIn folder (due_folders paths m) ↔ IsDueFor paths m folder
+due_each paths m folder = (
+  λ at.
+      let h = in_passing (is_due m.pkg) (folders_of_paths paths) folder at in
+      record { file = (folders_are paths folder).0 h.0; triggered = (due_is m.pkg folder).0 h.1 },
+  λ due. passing_in (is_due m.pkg) (folders_of_paths paths) folder ((folders_are paths folder).1 due.file) ((due_is m.pkg folder).1 due.triggered),
+)
 
 -- ---- the text
 
-lines_both : (xs ys : List DueFolder) → report_lines (map due_text (xs ++ ys)) ≡ report_lines (map due_text xs) ++ report_lines (map due_text ys)
-lines_both [] ys = refl
-lines_both (x ∷ xs) ys =
-    ap (λ (t : List ℕ). report_line (due_text x) ++ t) (lines_both xs ys)
-    ∙ sym (append_assoc (report_line (due_text x)) (report_lines (map due_text xs)) (report_lines (map due_text ys)))
-
-lines_of_one : (m : Member) (folders : List (List ℕ)) → flat_map (due_line m.pkg) folders ≡ report_lines (map due_text (map (due_for m) folders))
+lines_of_one : (m : Member) (folders : List (List ℕ)) → flat_map (due_line m.pkg) folders ≡ report_lines (map (trigger_text (member_name m)) folders)
 lines_of_one m [] = refl
 lines_of_one m (folder ∷ folders) = ap (λ (t : List ℕ). due_line m.pkg folder ++ t) (lines_of_one m folders)
 
-lines_of_all : (folders : List (List ℕ)) (members : List Member)
-    → flat_map (λ (m : Member). due_lines folders m.pkg) members ≡ report_lines (map due_text (flat_map (dues_of folders) members))
-lines_of_all folders [] = refl
-lines_of_all folders (m ∷ members) =
-    ap (λ (t : List ℕ). t ++ flat_map (λ (m : Member). due_lines folders m.pkg) members) (lines_of_one m (filter (is_due m.pkg) folders))
-    ∙ ap (λ (t : List ℕ). report_lines (map due_text (dues_of folders m)) ++ t) (lines_of_all folders members)
-    ∙ sym (lines_both (dues_of folders m) (flat_map (dues_of folders) members))
+abbrev due_texts : List (List ℕ) → Member → List (List ℕ)
+due_texts paths m = map (trigger_text (member_name m)) (due_folders paths m)
 
--- ---- which are due
-
-from_both : (d : DueFolder) (xs ys : List DueFolder) → IsIn d (xs ++ ys) → IsIn d xs ⊎ IsIn d ys
-from_both d [] ys at = inr at
-from_both d (x ∷ xs) ys (inl is) = inl (inl is)
-from_both d (x ∷ xs) ys (inr more) = elim (from_both d xs ys more) [ inl here ↦ inl (inr here) | inr there ↦ inr there ]
-
-in_both : (d : DueFolder) (xs ys : List DueFolder) → IsIn d xs ⊎ IsIn d ys → IsIn d (xs ++ ys)
-in_both d [] ys (inl at) = absurd at
-in_both d [] ys (inr at) = at
-in_both d (x ∷ xs) ys (inl (inl is)) = inl is
-in_both d (x ∷ xs) ys (inl (inr more)) = inr (in_both d xs ys (inl more))
-in_both d (x ∷ xs) ys (inr at) = inr (in_both d xs ys (inr at))
-
-of_one : (m : Member) (folders : List (List ℕ)) (d : DueFolder) → IsIn d (map (due_for m) folders) → (d.member ≡ m) × IsIn d.folder folders
-of_one m [] d at = absurd at
-of_one m (folder ∷ folders) d (inl is) = (ap (λ (e : DueFolder). e.member) is, inl (ap (λ (e : DueFolder). e.folder) is))
-of_one m (folder ∷ folders) d (inr more) = let h = of_one m folders d more in (h.0, inr h.1)
-
-one_of : (m : Member) (folders : List (List ℕ)) (d : DueFolder) → m ≡ d.member → IsIn d.folder folders → IsIn d (map (due_for m) folders)
-one_of m [] d is at = at
-one_of m (folder ∷ folders) d is (inl same) = inl (λ i. record { member = sym is i; folder = same i })
-one_of m (folder ∷ folders) d is (inr more) = inr (one_of m folders d is more)
-
-from_dues : (folders : List (List ℕ)) (members : List Member) (d : DueFolder) → IsIn d (flat_map (dues_of folders) members)
-    → IsIn d.member members × IsIn d.folder folders × (is_due d.member.pkg d.folder ≡ true)
-from_dues folders [] d at = absurd at
-from_dues folders (m ∷ members) d at = go (from_both d (dues_of folders m) (flat_map (dues_of folders) members) at) (from_dues folders members d)
-  where
-    go : IsIn d (dues_of folders m) ⊎ IsIn d (flat_map (dues_of folders) members)
-        → (IsIn d (flat_map (dues_of folders) members) → IsIn d.member members × IsIn d.folder folders × (is_due d.member.pkg d.folder ≡ true))
-        → IsIn d.member (m ∷ members) × IsIn d.folder folders × (is_due d.member.pkg d.folder ≡ true)
-    go (inl here) more =
-        let one = of_one m (filter (is_due m.pkg) folders) d here in
-        let passing = in_passing (is_due m.pkg) folders d.folder one.1 in
-        (inl one.0, passing.0, ap (λ (n : Member). is_due n.pkg d.folder) one.0 ∙ passing.1)
-    go (inr there) more = let h = more there in (inr h.0, h.1, h.2)
-
-in_dues : (folders : List (List ℕ)) (members : List Member) (d : DueFolder) → IsIn d.member members → IsIn d.folder folders → is_due d.member.pkg d.folder ≡ true
-    → IsIn d (flat_map (dues_of folders) members)
-in_dues folders [] d at within due = absurd at
-in_dues folders (m ∷ members) d (inl is) within due =
-    in_both d (dues_of folders m) (flat_map (dues_of folders) members)
-    (inl (one_of m (filter (is_due m.pkg) folders) d (sym is) (passing_in (is_due m.pkg) folders d.folder within (sym (ap (λ (n : Member). is_due n.pkg d.folder) is) ∙ due))))
-in_dues folders (m ∷ members) d (inr more) within due =
-    in_both d (dues_of folders m) (flat_map (dues_of folders) members) (inr (in_dues folders members d more within due))
+lines_of_all : (paths : List (List ℕ)) (members : List Member)
+    → flat_map (λ (m : Member). due_lines (folders_of_paths paths) m.pkg) members ≡ report_lines (flat_map (due_texts paths) members)
+lines_of_all paths [] = refl
+lines_of_all paths (m ∷ members) =
+    ap (λ (t : List ℕ). t ++ flat_map (λ (m : Member). due_lines (folders_of_paths paths) m.pkg) members) (lines_of_one m (due_folders paths m))
+    ∙ ap (λ (t : List ℕ). report_lines (due_texts paths m) ++ t) (lines_of_all paths members)
+    ∙ sym (flat_map-append report_line (due_texts paths m) (flat_map (due_texts paths) members))
 
 pub trigger_lines_are : (paths : List (List ℕ)) (members : List Member) → HasTriggerLines paths members (trigger_lines paths members)
 unfolding trigger_lines
 trigger_lines_are paths members = record {
-  dues = flat_map (dues_of (folders_of_paths paths)) members;
-  each = λ due. (
-    λ at.
-        let h = from_dues (folders_of_paths paths) members due at in
-        record { listed = h.0; file = (folders_are paths due.folder).0 h.1; triggered = (due_is due.member.pkg due.folder).0 h.2 },
-    λ among. in_dues (folders_of_paths paths) members due among.listed ((folders_are paths due.folder).1 among.file) ((due_is due.member.pkg due.folder).1 among.triggered),
-  );
-  text_is = lines_of_all (folders_of_paths paths) members;
+  folders = due_folders paths;
+  order = due_rising paths;
+  each = due_each paths;
+  text_is = lines_of_all paths members;
 }
 
 -- ---- what they refuse
 
-one_due : (paths : List (List ℕ)) (m : Member) → has_due_trigger (folders_of_paths paths) m.pkg ≡ true → (folder : List ℕ) × HasFileIn paths folder × IsTriggered m.pkg folder
+-- no trigger of a package is due
+abbrev NoneDue : List (List ℕ) → Member → Type 0
+NoneDue paths m = (folder : List ℕ) → IsDueFor paths m folder → ⊥
+
+one_due : (paths : List (List ℕ)) (m : Member) → has_due_trigger (folders_of_paths paths) m.pkg ≡ true → (folder : List ℕ) × IsDueFor paths m folder
 one_due paths m e =
     let h = any_passes (is_due m.pkg) (folders_of_paths paths) e in
-    (h.element, (folders_are paths h.element).0 h.listed, (due_is m.pkg h.element).0 h.passes)
+    (h.element, record { file = (folders_are paths h.element).0 h.listed; triggered = (due_is m.pkg h.element).0 h.passes })
 
-behind : (paths : List (List ℕ)) (m : Member) (members : List Member) (due : DueFolder) → IsDueAmong paths members due → IsDueAmong paths (m ∷ members) due
-behind paths m members due among = record { listed = inr among.listed; file = among.file; triggered = among.triggered }
+none_due : (paths : List (List ℕ)) (m : Member) → has_due_trigger (folders_of_paths paths) m.pkg ≡ false → NoneDue paths m
+none_due paths m e folder due =
+    true≢false
+    (sym (passes_any (is_due m.pkg) (folders_of_paths paths) folder ((folders_are paths folder).1 due.file) ((due_is m.pkg folder).1 due.triggered)) ∙ e)
 
-here : (paths : List (List ℕ)) (m : Member) (members : List Member) (folder : List ℕ) → HasFileIn paths folder → IsTriggered m.pkg folder → IsDueAmong paths (m ∷ members) (due_for m folder)
-here paths m members folder file triggered = record { listed = inl refl; file = file; triggered = triggered }
+none_of : (paths : List (List ℕ)) (m n : Member) → n ≡ m → NoneDue paths m → NoneDue paths n
+none_of paths m n same none folder due = none folder (record { file = due.file; triggered = moved })
+  where
+    moved : IsTriggered m.pkg folder
+    moved = subst (λ (x : Member). IsTriggered x.pkg folder) same due.triggered
 
-pub accepted : (paths : List (List ℕ)) (members : List Member) → (unless_trigger false paths members ≡ Ok true) ↔ ((due : DueFolder) → IsDueAmong paths members due → ⊥)
-accepted paths [] = (λ e due among. among.listed, λ f. refl)
+pub accepted : (paths : List (List ℕ)) (members : List Member) → (unless_trigger false paths members ≡ Ok true) ↔ ((m : Member) → IsIn m members → NoneDue paths m)
+accepted paths [] = (λ e m at. absurd at, λ f. refl)
 accepted paths (m ∷ members) = go (has_due_trigger (folders_of_paths paths) m.pkg) refl (accepted paths members)
   where
     go : (b : Bool) → has_due_trigger (folders_of_paths paths) m.pkg ≡ b
-        → ((unless_trigger false paths members ≡ Ok true) ↔ ((due : DueFolder) → IsDueAmong paths members due → ⊥))
-        → ((if b then Err (TriggerNeeded (member_name m)) else unless_trigger false paths members) ≡ Ok true) ↔ ((due : DueFolder) → IsDueAmong paths (m ∷ members) due → ⊥)
-    go true is more = (λ e. absurd cc, λ f. let d = one_due paths m is in absurd (f (due_for m d.0) (here paths m members d.0 d.1 d.2)))
+        → ((unless_trigger false paths members ≡ Ok true) ↔ ((n : Member) → IsIn n members → NoneDue paths n))
+        → ((if b then Err (TriggerNeeded (member_name m)) else unless_trigger false paths members) ≡ Ok true) ↔ ((n : Member) → IsIn n (m ∷ members) → NoneDue paths n)
+    go true is more = (λ e. absurd cc, λ f. let d = one_due paths m is in absurd (f m (inl refl) d.0 d.1))
     go false is more = (
-      λ e due among. elim among.listed [
-        | inl same ↦
-            true≢false (sym (passes_any (is_due m.pkg) (folders_of_paths paths) due.folder ((folders_are paths due.folder).1 among.file)
-            (sym (ap (λ (n : Member). is_due n.pkg due.folder) same) ∙ (due_is due.member.pkg due.folder).1 among.triggered)) ∙ is)
-        | inr later ↦ more.0 e due (record { listed = later; file = among.file; triggered = among.triggered })
-      ],
-      λ f. more.1 (λ due among. f due (behind paths m members due among)),
+      λ e n at. elim at [ inl same ↦ none_of paths m n same (none_due paths m is) | inr later ↦ more.0 e n later ],
+      λ f. more.1 (λ n at. f n (inr at)),
     )
 
-pub named : (paths : List (List ℕ)) (members : List Member) (name : List ℕ) → unless_trigger false paths members ≡ Err (TriggerNeeded name) → HasDueUnder paths members name
+pub named : (paths : List (List ℕ)) (members : List Member) (name : List ℕ) → unless_trigger false paths members ≡ Err (TriggerNeeded name) → IsFirstDue paths members name
 named paths [] name e = absurd cc
 named paths (m ∷ members) name e = go (has_due_trigger (folders_of_paths paths) m.pkg) refl e (named paths members name)
   where
     go : (b : Bool) → has_due_trigger (folders_of_paths paths) m.pkg ≡ b
         → (if b then Err (TriggerNeeded (member_name m)) else unless_trigger false paths members) ≡ Err (TriggerNeeded name)
-        → (unless_trigger false paths members ≡ Err (TriggerNeeded name) → HasDueUnder paths members name) → HasDueUnder paths (m ∷ members) name
+        → (unless_trigger false paths members ≡ Err (TriggerNeeded name) → IsFirstDue paths members name) → IsFirstDue paths (m ∷ members) name
     go true is e more =
         let d = one_due paths m is in
         let same : member_name m ≡ name = cc in
-        record { due = due_for m d.0; named = same; among = here paths m members d.0 d.1 d.2 }
-    go false is e more = let h = more e in record { due = h.due; named = h.named; among = behind paths m members h.due h.among }
+        record { front = []; member = m; rest = members; members_are = refl; named = same; folder = d.0; due = d.1; earlier = λ n at. absurd at }
+    go false is e more =
+        let h = more e in
+        record {
+          front = m ∷ h.front;
+          member = h.member;
+          rest = h.rest;
+          members_are = ap (λ (ms : List Member). m ∷ ms) h.members_are;
+          named = h.named;
+          folder = h.folder;
+          due = h.due;
+          earlier = λ n at. elim at [ inl same ↦ none_of paths m n same (none_due paths m is) | inr later ↦ h.earlier n later ];
+        }

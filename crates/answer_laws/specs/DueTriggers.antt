@@ -1,7 +1,9 @@
 -- Which triggers are due. The rules are in `docs/commands.md`, "`add` and `del`", which triggers are
 -- due. Serves the laws of `src/triggers.rt`.
-use Rattle.std.specs.Prelude.{◌≡◌, ◌↔◌, ℕ, true, List, Some, length, map, slice_get}
+use Rattle.std.specs.Prelude.{◌≡◌, ◌↔◌, ℕ, true, List, ◌∷◌, ◌++◌, Some, length, map, slice_get}
+use Rattle.std.specs.List.{flat_map}
 use Rattle.adb_view.specs.Plain.{Plain}
+use Rattle.base_core.specs.Listed.{IsRising}
 use Rattle.base_core.specs.Lists.{IsIn}
 use Rattle.base_core.specs.Name.{parts_of}
 use Rattle.change_outcome.specs.PackageFiles.{has_script_of}
@@ -33,30 +35,32 @@ pub record HasFileIn (paths : List (List ℕ)) (folder : List ℕ) : Type 0 wher
   pub listed : IsIn path paths
   pub within : folder ≡ folder_of path
 
+-- the trigger of a package is due for a folder that has a file with one of these paths
+pub record IsDueFor (paths : List (List ℕ)) (m : Member) (folder : List ℕ) : Type 0 where
+  pub file : HasFileIn paths folder
+  pub triggered : IsTriggered m.pkg folder
+
 -- ---- the lines
 
--- a package whose trigger is due for a folder
-pub record DueFolder : Type 0 where
-  pub member : Member
-  pub folder : List ℕ
-
--- a package is among the members, and its trigger is due for a folder that has a file with one of
--- these paths
-pub record IsDueAmong (paths : List (List ℕ)) (members : List Member) (due : DueFolder) : Type 0 where
-  pub listed : IsIn due.member members
-  pub file : HasFileIn paths due.folder
-  pub triggered : IsTriggered due.member.pkg due.folder
-
--- a text with a line for each package and each folder for which its trigger is due, and no other
+-- a text with a line for each package and each folder for which its trigger is due, and no other: the
+-- packages in their order, and of each the folders in byte order, each once
 pub record HasTriggerLines (paths : List (List ℕ)) (members : List Member) (text : List ℕ)
     : Type 0 where
-  pub dues : List DueFolder
-  pub each : (due : DueFolder) → IsIn due dues ↔ IsDueAmong paths members due
+  pub folders : Member → List (List ℕ)
+  pub order : (m : Member) → IsRising (folders m)
+  pub each : (m : Member) (folder : List ℕ) → IsIn folder (folders m) ↔ IsDueFor paths m folder
   pub text_is : text
-      ≡ report_lines (map (λ (d : DueFolder). trigger_text (member_name d.member) d.folder) dues)
+      ≡ report_lines (flat_map (λ m. map (trigger_text (member_name m)) (folders m)) members)
 
--- the trigger of a package of this name is due
-pub record HasDueUnder (paths : List (List ℕ)) (members : List Member) (name : List ℕ) : Type 0 where
-  pub due : DueFolder
-  pub named : member_name due.member ≡ name
-  pub among : IsDueAmong paths members due
+-- ---- what is refused
+
+-- the first package whose trigger is due has this name
+pub record IsFirstDue (paths : List (List ℕ)) (members : List Member) (name : List ℕ) : Type 0 where
+  pub front : List Member
+  pub member : Member
+  pub rest : List Member
+  pub members_are : members ≡ front ++ member ∷ rest
+  pub named : member_name member ≡ name
+  pub folder : List ℕ
+  pub due : IsDueFor paths member folder
+  pub earlier : (m : Member) → IsIn m front → (f : List ℕ) → IsDueFor paths m f → ⊥

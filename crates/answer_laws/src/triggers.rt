@@ -3,7 +3,7 @@
 
 ghost use Rattle.std.specs.Prelude.{◌≡◌, ◌↔◌, ℕ, List, [], true, false, Ok, Err, codes};
 ghost use Rattle.adb_view.specs.Plain.{Plain};
-ghost use Rattle.answer_laws.specs.DueTriggers.{DueFolder, HasDueUnder, HasFileIn, HasTriggerLines, IsDueAmong, IsFilledByParts, IsTriggered};
+ghost use Rattle.answer_laws.specs.DueTriggers.{HasFileIn, HasTriggerLines, IsDueFor, IsFilledByParts, IsFirstDue, IsTriggered};
 ghost use Rattle.base_core.specs.Listed.{IsRising};
 ghost use Rattle.base_core.specs.Lists.{IsIn};
 ghost use Rattle.change_outcome.specs.Triggers.{folders_of_paths, is_due, is_folder_matched, trigger_lines, unless_trigger};
@@ -34,19 +34,20 @@ pub fn a_trigger_is_due_for_a_changed_folder()
     ensures order { (paths : List (List ℕ)) → IsRising (folders_of_paths paths) }
 {}
 
-/// A report has a line for each package and each folder for which its trigger is due, and no other.
+/// A report has a line for each package and each folder for which its trigger is due, and no other:
+/// the packages in their order, and of each the folders in byte order, each once.
 pub fn each_due_trigger_has_a_line()
     ensures { (paths : List (List ℕ)) (members : List Member)
         → HasTriggerLines paths members (trigger_lines paths members) }
 {}
 
-/// If scripts may not be left out, a change is accepted exactly if no trigger is due; the package
-/// that a refusal names has a trigger that is due.
+/// If scripts may not be left out, a change is accepted exactly if no trigger is due; a refusal names
+/// the first package whose trigger is due.
 pub fn a_due_trigger_refuses_the_change()
     ensures accepted { (paths : List (List ℕ)) (members : List Member)
         → (unless_trigger false paths members ≡ Ok true)
-        ↔ ((due : DueFolder) → IsDueAmong paths members due → ⊥) }
+        ↔ ((m : Member) → IsIn m members → (folder : List ℕ) → IsDueFor paths m folder → ⊥) }
     ensures named { (paths : List (List ℕ)) (members : List Member) (name : List ℕ)
         → unless_trigger false paths members ≡ Err (TriggerNeeded name)
-        → HasDueUnder paths members name }
+        → IsFirstDue paths members name }
 {}
