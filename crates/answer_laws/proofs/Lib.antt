@@ -1,14 +1,21 @@
 -- Lemmas of this crate.
 mod Deciding
+mod DroppedLines
 mod DueLines
 mod FirstNumbers
 mod InfoSteps
+mod LetterLines
+mod LetterValues
+mod ListedFields
+mod ListedFolders
 mod Members
 mod Needing
 mod Numbered
-mod Reported
 mod Places
+mod RecordFields
 mod Replacing
+mod ReportParts
+mod Reported
 mod Sections
 mod Tests
 mod Unindexed

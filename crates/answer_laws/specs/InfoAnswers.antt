@@ -1,21 +1,23 @@
 -- What `info` answers. The rules are in `docs/commands.md`, "`info`". Serves the laws of
 -- `src/info.rt`.
-use Rattle.std.specs.Prelude.{◌≡◌, ◌↔◌, ℕ, true, List, [], ◌∷◌, ◌++◌, None, is_some, map}
+use Rattle.std.specs.Prelude.{◌≡◌, ℕ, true, List, [], ◌∷◌, ◌++◌, None, codes, is_some, map}
+use Rattle.std.specs.List.{flat_map}
 use Rattle.std.specs.List.Sorted.{IsPermutation, IsSorted}
-use Rattle.adb_fields.specs.Repeated.{package_name}
-use Rattle.adb_view.specs.FieldIndexes.{INFO_DEPENDS, PACKAGE_INFO}
+use Rattle.adb_fields.specs.Paths.{path_of}
+use Rattle.adb_fields.specs.Repeated.{files_in, folders_in, name_of, package_name}
 use Rattle.adb_view.specs.Plain.{Plain}
-use Rattle.adb_view.specs.Values.{entry_in}
+use Rattle.adb_view.specs.declared.tables.Which.TheVariants.{Package, PkgInfo}
 use Rattle.base_core.specs.ByteOrder.{bytes_cmp}
 use Rattle.base_core.specs.Lists.{IsIn}
 use Rattle.command_core.specs.declared.command.Flags.{Flags}
 use Rattle.command_core.specs.declared.operands.Operand.{Operand}
 use Rattle.candidate_core.specs.Candidates.{dependencies_in}
-use Rattle.dep_core.specs.Dependency.{Dependency}
 use Rattle.dep_core.specs.DependencyText.{dep_text}
+use Rattle.file_owners.specs.Replaces.{version_text}
 use Rattle.installed_info.specs.Form.{form_of}
 use Rattle.installed_info.specs.Packages.{package_asked}
-use Rattle.report_core.specs.Reports.{report_lines}
+use Rattle.make_laws.specs.NamedFields.{field_named}
+use Rattle.report_core.specs.Reports.{name_version, report_lines}
 
 -- a text with a line for each package, its name, in byte order
 pub record HasSortedNames (packages : List Plain) (text : List ℕ) : Type 0 where
@@ -37,14 +39,24 @@ pub record IsFirstAbsent (flags : Flags) (packages : List Plain) (operands : Lis
   pub earlier : (o : Operand) → IsIn o front
       → is_some (package_asked (form_of flags) packages o.text) ≡ true
 
--- a text with a heading, a line for each fact and no other, and an empty line
-pub record HasSection (heading : List ℕ) (IsFact : List ℕ → Type 0) (text : List ℕ) : Type 0 where
-  pub facts : List (List ℕ)
-  pub each : (fact : List ℕ) → IsIn fact facts ↔ IsFact fact
-  pub text_is : text ≡ report_lines (heading ∷ (facts ++ ([] ∷ [])))
+-- a section: a heading, a line for each fact, and an empty line
+abbrev pub section_lines : List ℕ → List (List ℕ) → List ℕ
+section_lines heading facts = report_lines (heading ∷ (facts ++ ([] ∷ [])))
 
--- a text is that of one of a package's dependencies
-pub record IsDependencyText (pkg : Plain) (text : List ℕ) : Type 0 where
-  pub dependency : Dependency
-  pub listed : IsIn dependency (dependencies_in (entry_in (entry_in pkg PACKAGE_INFO) INFO_DEPENDS))
-  pub text_is : text ≡ dep_text dependency
+-- the heading of a section: a package with its version, and a text
+abbrev pub info_heading : Plain → List ℕ → List ℕ
+info_heading pkg text = name_version (package_name pkg) (version_text pkg) ++ text
+
+-- the field of this name in a package's information
+abbrev pub info_field : List ℕ → Plain → Plain
+info_field name pkg = field_named PkgInfo name (field_named Package (codes "info") pkg)
+
+-- the paths that a package lists: folder by folder, and in each file by file
+abbrev pub paths_in_order : Plain → List (List ℕ)
+paths_in_order pkg =
+    flat_map (λ folder. map (λ file. path_of (name_of folder) (name_of file)) (files_in folder))
+    (folders_in pkg)
+
+-- the texts of a package's dependencies, in their order
+abbrev pub depends_in_order : Plain → List (List ℕ)
+depends_in_order pkg = map dep_text (dependencies_in (info_field (codes "depends") pkg))

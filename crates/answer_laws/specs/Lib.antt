@@ -6,3 +6,6 @@ pub mod DueTriggers
 pub mod InfoAnswers
 pub mod ReplacesEntries
 pub mod FoundFiles
+pub mod ReportSections
+pub mod TextLetters
+pub mod TextFiles

@@ -2,13 +2,16 @@
 //!
 //! Each is a function that does nothing; its contract is what it says. The rules are in
 //! `docs/commands.md`, "`add` and `del`", "`upgrade` and `fix`", "Files that several packages list"
-//! and "`info`".
+//! and "`info`", and in `docs/formats.md`, "Text database of version 2".
 #![tactic(auto)]
 
 pub mod changes;
 pub mod found;
 pub mod info;
 pub mod kept;
+pub mod letters;
+pub mod listed;
 pub mod replaces;
+pub mod report;
 pub mod scripts;
 pub mod triggers;

@@ -5,3 +5,4 @@ pub mod IndexSteps
 pub mod PoolSteps
 pub mod Explained
 pub mod OwnReads
+pub mod WorldRest

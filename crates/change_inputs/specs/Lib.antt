@@ -12,3 +12,4 @@ pub mod Faults
 pub mod IndexFiles
 pub mod RootFiles
 pub mod Seen
+pub mod WorldRest

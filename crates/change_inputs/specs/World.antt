@@ -1,6 +1,6 @@
 -- World before a command (apk-world(5)) and after it. The rules are in `docs/formats.md`, "World", and
 -- of the operands in `docs/commands.md`, "`add` and `del`".
-use Rattle.std.specs.Prelude.{ℕ, List, [], ◌∷◌, Option, unwrap_or, Result}
+use Rattle.std.specs.Prelude.{ℕ, List, [], ◌∷◌, map, Option, unwrap_or, Result}
 use Rattle.std.specs.Option.{option_map_or}
 use Rattle.command_core.specs.declared.command.Applet.{Applet}
 use Rattle.command_core.specs.declared.command.Applet.TheVariants.{Add, Del}
@@ -21,6 +21,10 @@ abbrev pub root_world : List ℕ → Result (List Dependency) Refusal
 root_world text = refused_as WorldBad (world_of text)
 
 -- ---- after the operands
+
+-- the texts of operands, in their order
+abbrev pub operand_texts : List Operand → List (List ℕ)
+operand_texts operands = map (λ o. o.text) operands
 
 -- world with the dependency of an operand, which replaces the one of its name
 abbrev pub world_with_operand : Operand → List Dependency → List Dependency

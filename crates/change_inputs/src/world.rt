@@ -2,14 +2,21 @@
 //! `docs/commands.md`, "`add` and `del`".
 ghost use Rattle.base_core.specs.Read.{bytes_in};
 ghost use Rattle.change_inputs.specs.Answers.{Agrees};
-ghost use Rattle.change_inputs.specs.World.{new_world, root_world, text_found, world_with_operand, world_with_operands, world_without_operands};
-ghost use Rattle.std.specs.Prelude.{◌≡◌, IfOk, OnOk};
+ghost use Rattle.change_inputs.specs.World.{new_world, operand_texts, root_world, text_found, world_with_operand, world_with_operands, world_without_operands};
+ghost use Rattle.change_inputs.specs.WorldRest.{world_without_names};
+ghost use Rattle.std.specs.Prelude.{◌≡◌, [], IfOk, OnOk};
 
 use crate::root::Refused;
+use base_core::Words;
 use command_core::{Applet, Command, Operand, Operands};
 use dep_core::{World, WorldFault, read_dep};
+use pool_core::SortedWords;
 use report_core::Refusal;
 use std::alloc::{AllocError, Global};
+
+/// The most texts that a list of words holds (`docs/commands.md`, "Answers and statuses"): 2^32 -
+/// 2.
+const MOST_TEXTS: usize = 4294967294;
 
 /// World, before a command and after it.
 #[derive(Drop)]
@@ -44,7 +51,7 @@ pub(crate) fn worlds_of(
     let text = text_found(alloc, found);
     let before = read_world(alloc, &text)?;
     let mut after = read_world(alloc, &text)?;
-    change_world(command, &mut after)?;
+    change_world(alloc, command, &mut after)?;
     Ok(Worlds {
         text,
         before,
@@ -74,16 +81,13 @@ fn read_world(alloc: Global, text: &[u8]) -> Result<World, Refused>
 }
 
 // Changes world as a command says: `add` inserts its operands, `del` removes theirs.
-fn change_world(command: &Command, world: &mut World) -> Result<(), AllocError>
+fn change_world(alloc: Global, command: &Command, world: &mut World) -> Result<(), AllocError>
     ensures { OnOk result
         (world.new ≡ new_world command.now.applet command.now.operands world.old) }
 {
     match command.applet() {
         Applet::Add => add_operands(command.operands(), world),
-        Applet::Del => {
-            take_operands(command.operands(), world);
-            Ok(())
-        }
+        Applet::Del => take_operands(alloc, command.operands(), world),
         _ => Ok(()),
     }
 }
@@ -109,11 +113,56 @@ fn add_operand(operand: &Operand, world: &mut World) -> Result<(), AllocError>
     }
 }
 
-// Removes the name of each operand of `del`.
-fn take_operands(operands: &Operands, world: &mut World)
-    ensures { world.new ≡ world_without_operands operands.now world.old }
+// Removes the name of each operand of `del`. The names are sorted and looked up entry by entry, in
+// time in proportion to n log n for n names and entries.
+fn take_operands(alloc: Global, operands: &Operands, world: &mut World) -> Result<(), AllocError>
+    ensures { OnOk result (world.new ≡ world_without_operands operands.now world.old) }
 {
-    for i in 0..operands.len() {
-        world.del(operands.get(i).text.as_bytes());
+    let texts = operand_texts(alloc, operands)?;
+    let names = SortedWords::of(alloc, &texts)?;
+    let rest = world_without(alloc, world, &names)?;
+    *world = rest;
+    Ok(())
+}
+
+// The entries of world whose names are not listed.
+fn world_without(alloc: Global, world: &World, names: &SortedWords<'_>) -> Result<World, AllocError>
+    ensures { IfOk result (λ rest. rest ≡ world_without_names names.now world.now) }
+{
+    let mut rest = empty_world(alloc)?;
+    for i in 0..world.len() {
+        let entry = world.entry(i);
+        if !names.has(entry.name) {
+            rest.add(&entry)?;
+        }
     }
+    Ok(rest)
+}
+
+// A world without entries.
+fn empty_world(alloc: Global) -> Result<World, AllocError>
+    ensures { IfOk result (λ world. world ≡ []) }
+{
+    match World::read(alloc, b"") {
+        Ok(world) => Ok(world),
+        Err(_) => Err(AllocError),
+    }
+}
+
+/// The texts of operands, in their order.
+///
+/// # Errors
+///
+/// Out of memory, also if there are more than a list of words holds.
+pub fn operand_texts(alloc: Global, operands: &Operands) -> Result<Words, AllocError>
+    ensures { IfOk result (λ texts. texts ≡ operand_texts operands.now) }
+{
+    let mut texts = Words::new(alloc);
+    for i in 0..operands.len() {
+        if i >= MOST_TEXTS {
+            return Err(AllocError);
+        }
+        texts.push(operands.get(i).text.as_bytes())?;
+    }
+    Ok(texts)
 }

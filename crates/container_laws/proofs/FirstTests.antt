@@ -15,7 +15,7 @@ use Rattle.pkg_core.specs.Whole.{behind_fault, container_fault, fault_by_header,
 
 -- ---- tests in sequence
 
-chain : List (Option Cause) → Option Cause
+unfoldable pub chain : List (Option Cause) → Option Cause
 chain [] = None
 chain (t ∷ ts) = option_or t (chain ts)
 
@@ -38,7 +38,7 @@ or_none : (o : Option Cause) → option_or o None ≡ o
 or_none None = refl
 or_none (Some c) = refl
 
-five : (a b d e f : Option Cause) → option_or (option_or a (option_or b (option_or d e))) f ≡ chain (a ∷ (b ∷ (d ∷ (e ∷ (f ∷ [])))))
+pub five : (a b d e f : Option Cause) → option_or (option_or a (option_or b (option_or d e))) f ≡ chain (a ∷ (b ∷ (d ∷ (e ∷ (f ∷ [])))))
 unfolding chain
 five (Some x) b d e f = refl
 five None (Some x) d e f = refl

@@ -1,2 +1,3 @@
 pub mod FirstHeader
 pub mod FirstTests
+pub mod EveryTest

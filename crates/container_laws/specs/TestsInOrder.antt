@@ -60,3 +60,17 @@ IsContainerFault file c =
     ⊎ ((schema : ℕ) × (header_of file ≡ Ok schema)
     × (((root_of_schema schema ≡ None) × (c ≡ WrongSchema schema))
     ⊎ ((which : Which) × (root_of_schema schema ≡ Some which) × IsFaultOfTable which file c)))
+
+-- A file passes every test of a container: it has a header with one of the four schemas, and a first
+-- block; no test of the values and of the blocks after them fails
+pub record PassesEveryTest (file : List ℕ) : Type 0 where
+  pub schema : ℕ
+  pub header : header_of file ≡ Ok schema
+  pub which : Which
+  pub root : root_of_schema schema ≡ Some which
+  pub first : Piece
+  pub at : ℕ
+  pub behind : Reading
+  pub blocks : reading_of (start_of schema file) ≡ more first at behind
+  pub each : (i : ℕ) (test : Option Cause)
+      → slice_get (tests_of_values which first.payload behind) i ≡ Some test → test ≡ None

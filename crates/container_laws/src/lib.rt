@@ -9,9 +9,9 @@ ghost use Rattle.adb_block.specs.Header.{header_of};
 ghost use Rattle.adb_view.specs.declared.tables.Which.{Which};
 ghost use Rattle.base_core.specs.declared.cause.Cause.{Cause};
 ghost use Rattle.container_laws.specs.HeaderFaults.{IsHeaderFault};
-ghost use Rattle.container_laws.specs.TestsInOrder.{IsContainerFault, IsFaultOfTable};
+ghost use Rattle.container_laws.specs.TestsInOrder.{IsContainerFault, IsFaultOfTable, PassesEveryTest};
 ghost use Rattle.pkg_core.specs.Whole.{container_fault, whole_fault};
-ghost use Rattle.std.specs.Prelude.{◌≡◌, ℕ, Err, List, Some};
+ghost use Rattle.std.specs.Prelude.{◌≡◌, ◌↔◌, ℕ, Err, List, Some, None};
 
 /// The fault that is reported of a header: no four bytes, else a compressed container, else no
 /// container, else no eight bytes.
@@ -29,4 +29,9 @@ pub fn the_first_fault_of_a_container_is_reported()
     // Of a file of any of the four schemas.
     ensures any { (file : List ℕ) (c : Cause)
         → container_fault file ≡ Some c → IsContainerFault file c }
+{}
+
+/// No fault of a container is reported exactly if every test holds.
+pub fn no_fault_is_reported_exactly_if_every_test_holds()
+    ensures { (file : List ℕ) → (container_fault file ≡ None) ↔ PassesEveryTest file }
 {}

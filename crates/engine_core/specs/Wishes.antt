@@ -1,21 +1,18 @@
 -- What a command asks of a change besides world. The rules are in `docs/commands.md`, "`add` and `del`"
 -- and "`upgrade` and `fix`".
-use Rattle.std.specs.Prelude.{ℕ, Bool, ◌||◌, if◌then◌else◌, List, [], ◌∷◌, map, Option, Some, None, Result, Err}
+use Rattle.std.specs.Prelude.{ℕ, Bool, ◌||◌, if◌then◌else◌, List, [], ◌∷◌, Option, Some, None, Result, Err}
 use Rattle.change_inputs.specs.Inputs.{Inputs}
 use Rattle.change_outcome.specs.ChangeOutcome.{ChangeWishes}
 use Rattle.command_core.specs.Command.{CommandLine}
 use Rattle.command_core.specs.declared.command.Applet.{Applet}
 use Rattle.command_core.specs.declared.command.Applet.TheVariants.{Del, Fix, Upgrade}
 use Rattle.command_core.specs.declared.operands.Operand.{Operand}
+pub use Rattle.change_inputs.specs.World.{operand_texts}
 use Rattle.dep_core.specs.World.{has_name}
 use Rattle.package_changes.specs.Report.{was_installed}
 use Rattle.candidate_core.specs.Rank.{UpgradedNames, all_names, listed_names, no_names}
 use Rattle.report_core.specs.declared.refusal.Refusal.{Refusal}
 use Rattle.report_core.specs.declared.refusal.Refusal.TheVariants.{NotInstalled}
-
--- the texts of a command's operands
-abbrev pub operand_texts : List Operand → List (List ℕ)
-operand_texts operands = map (λ o. o.text) operands
 
 -- the names to be removed, whether they are or not: those that `del` takes out of world
 abbrev pub names_to_go : Applet → List Operand → List (List ℕ)

@@ -15,12 +15,10 @@ ghost use Rattle.package_changes.specs.Report.{simulated_report};
 
 use crate::choosing::{Selection, a_choice_exists, choose};
 use crate::making::make_change;
-use crate::wishes::{
-    names_to_go, names_to_reinstall, names_to_upgrade, operand_texts, unknown_operand,
-};
+use crate::wishes::{names_to_go, names_to_reinstall, names_to_upgrade, unknown_operand};
 use arrivals::packages_after_a_change_rest_on_later_reads;
 use base_core::{Text, Tree, Words};
-use change_inputs::{Loaded, Refused, inputs_rest_on_their_own_reads};
+use change_inputs::{Loaded, Refused, inputs_rest_on_their_own_reads, operand_texts};
 use change_outcome::{a_change_has_a_first_clash_or_none, what_is_read_of_a_root_stands_there};
 use command_core::Command;
 use package_changes::{Changes, simulated_report};

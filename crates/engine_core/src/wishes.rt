@@ -3,23 +3,21 @@
 ghost use Rattle.change_inputs.specs.Seen.{inputs_seen};
 ghost use Rattle.db_core.specs.Seen.{packages_of};
 ghost use Rattle.dep_core.specs.World.{has_name};
-ghost use Rattle.engine_core.specs.Wishes.{first_unknown, is_known_name, names_to_go, names_to_reinstall, names_to_upgrade, operand_texts, unknown_place};
+ghost use Rattle.change_inputs.specs.World.{operand_texts};
+ghost use Rattle.engine_core.specs.Wishes.{first_unknown, is_known_name, names_to_go, names_to_reinstall, names_to_upgrade, unknown_place};
 ghost use Rattle.package_changes.specs.Report.{was_installed};
 ghost use Rattle.candidate_core.specs.Rank.{all_names, listed_names};
 ghost use Rattle.candidate_core.specs.Values.{names_upgraded_by};
 ghost use Rattle.std.specs.Prelude.{◌≡◌, ◌||◌, [], IfOk, OnOk};
 
 use base_core::Words;
-use change_inputs::Loaded;
+use change_inputs::{Loaded, operand_texts};
 use command_core::{Applet, Command, Operands};
 use db_core::Db;
 use dep_core::World;
 use pool_core::Upgrade;
 use std::alloc::{AllocError, Global};
-
-/// The most texts that a list of words holds (`docs/commands.md`, "Answers and statuses"): 2^32 -
-/// 2.
-const MOST_NAMES: usize = 4294967294;
+use std::cmp::Ordering;
 
 /// The names to be removed, whether they are or not: those that `del` takes out of world.
 ///
@@ -75,24 +73,6 @@ fn all_or_listed(names: &Words) -> Upgrade<'_>
     Upgrade::Listed(names)
 }
 
-/// The texts of operands, in their order.
-///
-/// # Errors
-///
-/// Out of memory, also if there are more than a list of words holds.
-pub(crate) fn operand_texts(alloc: Global, operands: &Operands) -> Result<Words, AllocError>
-    ensures { IfOk result (λ texts. texts ≡ operand_texts operands.now) }
-{
-    let mut texts = Words::new(alloc);
-    for i in 0..operands.len() {
-        if i >= MOST_NAMES {
-            return Err(AllocError);
-        }
-        texts.push(operands.get(i).text.as_bytes())?;
-    }
-    Ok(texts)
-}
-
 /// The place of the first operand that the command does not know: for `del` one that is neither in
 /// world nor installed, for `upgrade` and `fix` one that is not installed.
 pub(crate) fn unknown_operand(command: &Command, loaded: &Loaded, db: &Db<'_>) -> Option<u32>
@@ -145,13 +125,18 @@ fn is_known(name: &[u8], loaded: &Loaded, db: &Db<'_>) -> bool
     is_installed(name, db)
 }
 
-// Whether world has an entry of a name.
+// Whether world has an entry of a name, by bisection: in time linear in log n for n entries.
 fn is_in_world(name: &[u8], world: &World) -> bool
     ensures { result ≡ has_name name.now world.now }
 {
-    for i in 0..world.len() {
-        if world.entry(i).name == name {
-            return true;
+    let mut low = 0;
+    let mut high = world.len();
+    'halves: while low < high {
+        let middle = low + (high - low) / 2;
+        match world.entry(middle).name.cmp(name) {
+            Ordering::Less => low = middle + 1,
+            Ordering::Equal => return true,
+            Ordering::Greater => high = middle,
         }
     }
     false

@@ -147,11 +147,12 @@ fn read_parts(alloc: Global, place: u32, file: &[u8]) -> Result<Parts, MakeFault
     name.extend_from_slice(info.name())?;
     let mut version = Vec::new(alloc);
     version.extend_from_slice(info.version())?;
+    let id = pkg.id();
     Ok(Parts {
         name,
         version,
-        id: pkg.id(),
-        payload: entry_payload(alloc, &pkg, file.len() as u64)?,
+        id,
+        payload: entry_payload(alloc, &pkg, &id, file.len() as u64)?,
     })
 }
 

@@ -95,7 +95,7 @@ impl PackageFile {
             (draft.new ≡ draft_with (entry_of_package self.now.file.items) draft.old) }
     {
         match Package::new(alloc, &self.file) {
-            Ok(pkg) => write_package(alloc, draft, &pkg, self.file.len() as u64),
+            Ok(pkg) => write_package(alloc, draft, &pkg, &pkg.id(), self.file.len() as u64),
             Err(PackageFault::Memory) => Err(AllocError),
             // The file was opened before, and passed the tests.
             Err(PackageFault::Bad(_)) => unreachable!(),
@@ -103,20 +103,21 @@ impl PackageFile {
     }
 }
 
-/// Writes the entry of a package whose file has this length.
+/// Writes the entry of a package with this id, whose file has this length.
 fn write_package(
     alloc: Global,
     draft: &mut Draft,
     pkg: &Package<'_>,
+    id: &[u8],
     len: u64,
 ) -> Result<(), AllocError>
+    requires { id.now ≡ sha256 (opened_payload pkg.now) }
     ensures { OnOk result (draft.new ≡ draft_with
         (info_with (entry_in (opened_value pkg.now) PACKAGE_INFO) (sha256 (opened_payload pkg.now))
         len) draft.old) }
 {
-    let id = pkg.id();
     let info = pkg.view().info();
-    write_entry_info(alloc, draft, info.adb(), info.word(), &id, len)
+    write_entry_info(alloc, draft, info.adb(), info.word(), id, len)
 }
 
 /// Writes the information with a word of a payload, with `id` as its hash and `len` as the size of
@@ -138,19 +139,21 @@ fn write_entry_info(
 }
 
 /// The entry of a package in a payload of its own, or None if the entry exceeds a limit of the
-/// writer. `len` is the length of the package's file.
+/// writer. `id` is the package's id, and `len` is the length of its file.
 pub(crate) fn entry_payload(
     alloc: Global,
     pkg: &Package<'_>,
+    id: &[u8],
     len: u64,
 ) -> Result<Option<Vec<u8>>, AllocError>
+    requires { id.now ≡ sha256 (opened_payload pkg.now) }
     ensures small { len < 2 ^ 64 }
     ensures payload { IfOk result (λ found. IfSome found (λ payload. written_of
         (info_with (entry_in (opened_value pkg.now) PACKAGE_INFO) (sha256 (opened_payload pkg.now))
         len) ≡ Ok payload.items)) }
 {
     let mut draft = Draft::new(alloc);
-    write_package(alloc, &mut draft, pkg, len)?;
+    write_package(alloc, &mut draft, pkg, id, len)?;
     match draft.finish() {
         Ok(payload) => Ok(Some(payload)),
         Err(WriteFault::TooLarge { .. }) => Ok(None),

@@ -65,7 +65,7 @@ fn query(
         Applet::List => list(alloc, pool, command.operands(), command.flags().installed),
         Applet::Search => search(alloc, pool, command.operands()),
         Applet::Policy => policy(alloc, pool, repositories, command.operands()),
-        // Ok(Text::from_vec(Vec::new(alloc))) => No other applet is a query.
+        // No other applet is a query.
         _ => Ok(Text::from_vec(Vec::new(alloc))),
     }
 }

@@ -86,13 +86,13 @@ synopsis ProgramVersion = []
 abbrev pub purpose : Applet → List ℕ
 purpose Add = codes "install packages, and what they need"
 purpose Del = codes "remove packages, and what only they need"
-purpose Upgrade = codes "bring packages to the preferred versions"
+purpose Upgrade = codes "bring packages to preferred versions; run mkndx for new ones first"
 purpose Fix = codes "install packages again"
 purpose Info = codes "print which packages are installed, or what they have"
 purpose ListApplet = codes "list packages, installed ones and those of repositories"
 purpose Search = codes "find packages of repositories by name"
 purpose Policy = codes "print the versions of packages, and where each is"
-purpose Audit = codes "print which installed files were changed or removed"
+purpose Audit = codes "print which installed files are changed (U) or missing (X)"
 purpose Manifest = codes "print the hashes of the files of packages"
 purpose Verify = codes "test packages, indexes and databases"
 purpose Adbdump = codes "print a container as text"
@@ -133,14 +133,14 @@ option_help ListApplet =
 option_help Mkpkg =
     help_line (codes "-I, --info FIELD:VALUE")
     (codes "a field; name and version are needed")
-    ∷ (help_line (codes "-s, --script TYPE:FILE") (codes "a script, as post-install:FILE")
+    ∷ (help_line (codes "-s, --script TYPE:FILE") (codes "a script below this folder, as post-install:FILE")
     ∷ (help_line (codes "-t, --trigger PATTERN") (codes "folders that the trigger script is for")
-    ∷ (help_line (codes "-F, --files DIR") (codes "the folder whose files the package gets")
-    ∷ (help_line (codes "-o, --output FILE") (codes "the file to write, else NAME-VERSION.apk")
+    ∷ (help_line (codes "-F, --files DIR") (codes "the folder below this one with the package's files")
+    ∷ (help_line (codes "-o, --output FILE") (codes "the file below this folder, else NAME-VERSION.apk")
     ∷ (compression_help ∷ [])))))
 option_help Mkndx =
     help_line (codes "-d, --description TEXT") (codes "what the index is of")
-    ∷ (help_line (codes "-o, --output FILE") (codes "the file to write, which is needed")
+    ∷ (help_line (codes "-o, --output FILE") (codes "the file to write below this folder; it is needed")
     ∷ (compression_help ∷ []))
 option_help Version =
     help_line (codes "-t, --test") (codes "compare two versions: <, = or >")
@@ -150,7 +150,7 @@ option_help applet = []
 -- the lines of the options of every command
 abbrev pub common_help : List HelpLine
 common_help =
-    help_line (codes "    --allow-untrusted") (codes "use repositories; no signature is checked")
+    help_line (codes "    --allow-untrusted") (codes "needed once etc/apk/repositories names an index")
     ∷ (help_line (codes "    --no-scripts") (codes "make changes; run no scripts, no triggers")
     ∷ (help_line (codes "-h, --help") (codes "print this help, or that of a command")
     ∷ (help_line (codes "-V, --version") (codes "print the version of apk") ∷ [])))
@@ -176,7 +176,7 @@ operand_help Upgrade = name_help ∷ []
 operand_help Fix = name_help ∷ []
 operand_help Info =
     name_help
-    ∷ (help_line (codes "PATH") (codes "the path of a file, which may begin with /") ∷ [])
+    ∷ (help_line (codes "PATH") (codes "a file below this folder; a first / is dropped") ∷ [])
 operand_help ListApplet = pattern_help ∷ []
 operand_help Search =
     help_line (codes "PATTERN") (codes "a part of a name, in which each * stands for any text") ∷ []
@@ -184,9 +184,10 @@ operand_help Policy = name_help ∷ []
 operand_help Manifest = name_help ∷ []
 operand_help Verify = file_help ∷ []
 operand_help Adbdump = file_help ∷ []
-operand_help Adbgen = help_line (codes "FILE") (codes "the path of such a text below this folder") ∷ []
+operand_help Adbgen =
+    help_line (codes "FILE") (codes "a text as adbdump prints it, below this folder") ∷ []
 operand_help Mkndx =
-    help_line (codes "PACKAGE") (codes "the path of a package below this folder") ∷ []
+    help_line (codes "PACKAGE") (codes "a package below this folder, kept beside the index") ∷ []
 operand_help Version =
     help_line (codes "VERSION") (codes "a version, as 1.2.3-r0")
     ∷ (help_line (codes "TEXT") (codes "any text") ∷ [])
@@ -239,10 +240,11 @@ commands_text =
 unfoldable pub common_text : List ℕ
 common_text = codes "\nOptions of every command:\n" ++ lines_text option_column common_help
 
--- how a package is installed, and where to read on
+-- where paths begin, how a package is installed, and where to read on
 unfoldable pub first_steps : List ℕ
 first_steps =
-    codes "\nTo install a package, name an index of packages in etc/apk/repositories, and run\n"
+    codes "\nPaths are below the current folder, which is the root.\n"
+    ++ codes "\nTo install a package, name an index of packages in etc/apk/repositories, and run\n"
     ++ codes "  apk add --initdb --allow-untrusted NAME\n"
     ++ codes "\napk COMMAND --help explains a command.\nManual page: apk(8)\n"
 

@@ -71,7 +71,7 @@ const PATTERN_HELP: HelpRow =
 static COMMON_OPTIONS: [HelpRow; 4] = [
     HelpRow {
         subject: b"    --allow-untrusted",
-        text: b"use repositories; no signature is checked",
+        text: b"needed once etc/apk/repositories names an index",
     },
     HelpRow { subject: b"    --no-scripts", text: b"make changes; run no scripts, no triggers" },
     HelpRow { subject: b"-h, --help", text: b"print this help, or that of a command" },
@@ -201,17 +201,17 @@ static LIST_OPTIONS: [HelpRow; 1] = [
 #[rattlefmt::skip]
 static MKPKG_OPTIONS: [HelpRow; 6] = [
     HelpRow { subject: b"-I, --info FIELD:VALUE", text: b"a field; name and version are needed" },
-    HelpRow { subject: b"-s, --script TYPE:FILE", text: b"a script, as post-install:FILE" },
+    HelpRow { subject: b"-s, --script TYPE:FILE", text: b"a script below this folder, as post-install:FILE" },
     HelpRow { subject: b"-t, --trigger PATTERN", text: b"folders that the trigger script is for" },
-    HelpRow { subject: b"-F, --files DIR", text: b"the folder whose files the package gets" },
-    HelpRow { subject: b"-o, --output FILE", text: b"the file to write, else NAME-VERSION.apk" },
+    HelpRow { subject: b"-F, --files DIR", text: b"the folder below this one with the package's files" },
+    HelpRow { subject: b"-o, --output FILE", text: b"the file below this folder, else NAME-VERSION.apk" },
     COMPRESSION_HELP,
 ];
 
 #[rattlefmt::skip]
 static MKNDX_OPTIONS: [HelpRow; 3] = [
     HelpRow { subject: b"-d, --description TEXT", text: b"what the index is of" },
-    HelpRow { subject: b"-o, --output FILE", text: b"the file to write, which is needed" },
+    HelpRow { subject: b"-o, --output FILE", text: b"the file to write below this folder; it is needed" },
     COMPRESSION_HELP,
 ];
 
@@ -235,7 +235,7 @@ static NAME_OPERANDS: [HelpRow; 1] = [
 #[rattlefmt::skip]
 static INFO_OPERANDS: [HelpRow; 2] = [
     NAME_HELP,
-    HelpRow { subject: b"PATH", text: b"the path of a file, which may begin with /" },
+    HelpRow { subject: b"PATH", text: b"a file below this folder; a first / is dropped" },
 ];
 
 #[rattlefmt::skip]
@@ -255,12 +255,12 @@ static FILE_OPERANDS: [HelpRow; 1] = [
 
 #[rattlefmt::skip]
 static ADBGEN_OPERANDS: [HelpRow; 1] = [
-    HelpRow { subject: b"FILE", text: b"the path of such a text below this folder" },
+    HelpRow { subject: b"FILE", text: b"a text as adbdump prints it, below this folder" },
 ];
 
 #[rattlefmt::skip]
 static MKNDX_OPERANDS: [HelpRow; 1] = [
-    HelpRow { subject: b"PACKAGE", text: b"the path of a package below this folder" },
+    HelpRow { subject: b"PACKAGE", text: b"a package below this folder, kept beside the index" },
 ];
 
 #[rattlefmt::skip]
@@ -307,13 +307,13 @@ pub(crate) fn purpose(applet: Applet) -> &'static [u8]
     match applet {
         Applet::Add => b"install packages, and what they need",
         Applet::Del => b"remove packages, and what only they need",
-        Applet::Upgrade => b"bring packages to the preferred versions",
+        Applet::Upgrade => b"bring packages to preferred versions; run mkndx for new ones first",
         Applet::Fix => b"install packages again",
         Applet::Info => b"print which packages are installed, or what they have",
         Applet::List => b"list packages, installed ones and those of repositories",
         Applet::Search => b"find packages of repositories by name",
         Applet::Policy => b"print the versions of packages, and where each is",
-        Applet::Audit => b"print which installed files were changed or removed",
+        Applet::Audit => b"print which installed files are changed (U) or missing (X)",
         Applet::Manifest => b"print the hashes of the files of packages",
         Applet::Verify => b"test packages, indexes and databases",
         Applet::Adbdump => b"print a container as text",

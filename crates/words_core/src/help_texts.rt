@@ -111,11 +111,12 @@ fn push_common(text: &mut Vec<u8>) -> Result<(), AllocError>
     Ok(())
 }
 
-// Adds how a package is installed, and where to read on.
+// Adds where paths begin, how a package is installed, and where to read on.
 #[tactic(auto, unfolding(crate::specs::HelpTexts::first_steps))]
 fn push_first_steps(text: &mut Vec<u8>) -> Result<(), AllocError>
     ensures { OnOk result (text.new.items ≡ text.old.items ++ first_steps) }
 {
+    text.extend_from_slice(b"\nPaths are below the current folder, which is the root.\n")?;
     text.extend_from_slice(
         b"\nTo install a package, name an index of packages in etc/apk/repositories, and run\n",
     )?;

@@ -1,7 +1,10 @@
-use Rattle.std.proofs.Common.{◌≡◌, drop}
-use Rattle.dep_core.specs.World.{has_name}
+use Rattle.std.proofs.Common.{◌-◌}
+use Rattle.engine_core.proofs.Known.{IsNarrowed}
 use Rattle.engine_core.proofs.wishes.is_in_world.Given as goal
 
--- none so far has the name: the rest decides
-abbrev pub invariant-loop-i : goal.invariant-loop-i
-invariant-loop-i l = has_name l.name (drop l.i l.world) ≡ has_name l.name l.world
+-- the name can only be between the two bounds
+abbrev pub invariant-halves : goal.invariant-halves
+invariant-halves l = IsNarrowed l.name l.world l.low l.high
+
+abbrev pub decreases-halves : goal.decreases-halves
+decreases-halves l = l.high - l.low

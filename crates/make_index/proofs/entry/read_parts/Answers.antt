@@ -11,7 +11,7 @@ returns-clause-keys c =
     (c.info-info.ensures ∙ ap (λ v. entry_in v 0) (c.view.ensures ∙ c.in_ok-pkg.ensures.value))
     (c.in_ok-extend_from_slice.ensures.items ∙ (ap (λ (xs : List ℕ). xs ++ c.name.result.now) c.new-name.ensures.items ∙ c.name.ensures))
     (c.in_ok-extend_from_slice-2.ensures.items ∙ (ap (λ (xs : List ℕ). xs ++ c.version.result.now) c.new-version.ensures.items ∙ c.version.ensures))
-    (c.id.ensures ∙ ap sha256 c.in_ok-pkg.ensures.payload)
+    (c.id-id.ensures ∙ ap sha256 c.in_ok-pkg.ensures.payload)
     c.in_ok-pkg.ensures.opened
 
 pub returns-clause-payload : goal.returns-clause-payload

@@ -1,12 +1,12 @@
 use Rattle.std.proofs.Common.{ap, arith, length, length-take, take, ◌∙◌, ◌++◌, ◌∷◌, [], List, ℕ}
 use Rattle.std.proofs.lemmas.List.{length-map}
 use Rattle.command_core.specs.declared.operands.Operand.{Operand}
-use Rattle.engine_core.proofs.Known.{texts_all, texts_more}
-use Rattle.engine_core.proofs.wishes.operand_texts.Goals as goal
+use Rattle.change_inputs.proofs.WorldSteps.{texts_all, texts_more}
+use Rattle.change_inputs.proofs.world.operand_texts.Goals as goal
 
 pub push-requires : goal.push-requires
 push-requires c =
-    omega (arith, ap length c.loop-i.invariant, length-map (take c.loop-i.i c.args.operands.now) (λ (o : Operand). o.text), length-take c.loop-i.i c.args.operands.now, c.if-i-ge-MOST_NAMES.false)
+    omega (arith, ap length c.loop-i.invariant, length-map (take c.loop-i.i c.args.operands.now) (λ (o : Operand). o.text), length-take c.loop-i.i c.args.operands.now, c.if-i-ge-MOST_TEXTS.false)
 
 pub loop-i-preserved : goal.loop-i-preserved
 loop-i-preserved c =

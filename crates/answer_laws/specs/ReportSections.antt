@@ -1,0 +1,97 @@
+-- What a report of a change consists of. The rules are in `docs/commands.md`, "`add` and `del`", what
+-- is reported. Serves the laws of `src/report.rt`.
+use Rattle.std.specs.Prelude.{◌≡◌, ◌+◌, ℕ, List, [], ◌∷◌, ◌++◌, codes, length, map}
+use Rattle.std.specs.Fmt.{decimal}
+use Rattle.std.specs.List.Sorted.{IsPermutation, IsSorted}
+use Rattle.adb_view.specs.Plain.{Plain}
+use Rattle.adb_view.specs.Values.{int_in}
+use Rattle.adb_view.specs.declared.tables.Which.TheVariants.{Package, PkgInfo}
+use Rattle.base_core.specs.ByteOrder.{bytes_cmp}
+use Rattle.base_core.specs.Files.{Files}
+use Rattle.candidate_core.specs.Candidates.{Candidate}
+use Rattle.change_files.specs.FileChange.{FileChange}
+use Rattle.change_files.specs.PlanLists.{aside_of, kept_of}
+use Rattle.change_outcome.specs.ChangeOutcome.{ChangeWishes, touched_paths}
+use Rattle.db_core.specs.Members.{Member}
+use Rattle.make_laws.specs.NamedFields.{field_named}
+use Rattle.package_changes.specs.Changes.{Replacement, changes_of}
+use Rattle.report_core.specs.Reports.{report_lines}
+use Rattle.answer_laws.specs.DueTriggers.{HasTriggerLines}
+use Rattle.answer_laws.specs.KeptNames.{HasKeptLines}
+use Rattle.answer_laws.specs.WhichChange.{HasNumberedLines}
+
+-- ---- the sum
+
+-- the installed size of a package, by its information
+abbrev pub size_when_installed : Plain → ℕ
+size_when_installed info = int_in (field_named PkgInfo (codes "installed-size") info)
+
+-- the information of a package after a change
+abbrev pub member_info : Member → Plain
+member_info m = field_named Package (codes "info") m.pkg
+
+-- a number is the sum of some numbers
+abbrev pub IsSumOf : List ℕ → ℕ → Type 0
+IsSumOf [] sum = sum ≡ 0
+IsSumOf (n ∷ numbers) sum = (rest : ℕ) × IsSumOf numbers rest × (sum ≡ n + rest)
+
+-- a text is a line with the sum of some sizes, and how many they are
+pub record HasSum (sizes : List ℕ) (text : List ℕ) : Type 0 where
+  pub sum : ℕ
+  pub sum_is : IsSumOf sizes sum
+  pub text_is : text
+      ≡ codes "OK: " ++ decimal sum ++ codes " bytes in " ++ decimal (length sizes)
+      ++ codes " packages\n"
+
+-- ---- configuration
+
+-- a configuration file that the user changed: a new file is laid beside it, or it is kept though its
+-- package is removed
+pub data ChangedFile : Type 0 where
+  laid_beside : List ℕ → ChangedFile
+  kept : List ℕ → ChangedFile
+
+-- the path of a changed configuration file
+abbrev pub changed_path : ChangedFile → List ℕ
+changed_path (laid_beside path) = path
+changed_path (kept path) = path
+
+-- what is reported of a changed configuration file
+abbrev pub changed_file_text : ChangedFile → List ℕ
+changed_file_text (laid_beside path) =
+    path ++ codes ".apk-new installed; " ++ path ++ codes " was changed"
+changed_file_text (kept path) = path ++ codes " kept; it was changed"
+
+-- a text has a line for each of these configuration files, in byte order of the paths
+pub record HasConfigurationLines (beside kept_paths : List (List ℕ)) (text : List ℕ) : Type 0 where
+  pub changed : List ChangedFile
+  pub same : IsPermutation (map laid_beside beside ++ map kept kept_paths) changed
+  pub order : IsSorted bytes_cmp (map changed_path changed)
+  pub text_is : text ≡ report_lines (map changed_file_text changed)
+
+-- ---- the sections
+
+-- a text has the sections of a simulated report, in their order
+pub record HasSimulatedSections (r : Replacement) (to_go : List (List ℕ)) (text : List ℕ) : Type 0 where
+  pub changes : List ℕ
+  pub numbered : HasNumberedLines (changes_of r) changes
+  pub stays : List ℕ
+  pub kept_lines : HasKeptLines r.before r.selected to_go stays
+  pub last : List ℕ
+  pub sum : HasSum (map (λ (c : Candidate). size_when_installed c.info) r.selected) last
+  pub text_is : text ≡ changes ++ stays ++ last
+
+-- a text has the sections of the report of a change that is made, in their order
+pub record HasSections (r : Replacement) (wishes : ChangeWishes) (change : FileChange) (files : Files)
+    (text : List ℕ) : Type 0 where
+  pub changes : List ℕ
+  pub numbered : HasNumberedLines (changes_of r) changes
+  pub stays : List ℕ
+  pub kept_lines : HasKeptLines r.before r.selected wishes.to_go stays
+  pub configuration : List ℕ
+  pub configured : HasConfigurationLines (aside_of change files) (kept_of change files) configuration
+  pub triggers : List ℕ
+  pub due : HasTriggerLines (touched_paths change files) change.members triggers
+  pub last : List ℕ
+  pub sum : HasSum (map (λ (m : Member). size_when_installed (member_info m)) change.members) last
+  pub text_is : text ≡ changes ++ stays ++ configuration ++ triggers ++ last

@@ -1,0 +1,89 @@
+-- Which folders and files the lines of a text database list. The rules are in `docs/formats.md`, "Text
+-- database of version 2", the rows F, M, R, a and Z. Serves the laws of `src/listed.rt`.
+use Rattle.std.specs.Prelude.{ℕ, List, [], ◌∷◌, Option, Some, None}
+use Rattle.v2_core.specs.Records.{ListedFile, ListedFolder, file_by, folder_by}
+use Rattle.v2_lines.specs.Accesses.{Access}
+use Rattle.v2_lines.specs.Lines.{RecordLine, file_access_line, file_hash_line, file_line, folder_access_line, folder_line, info_line, other_line}
+
+-- the lines up to the next that begins a folder
+abbrev pub up_to_folder : List RecordLine → List RecordLine
+up_to_folder [] = []
+up_to_folder (info_line f values ∷ lines) = info_line f values ∷ up_to_folder lines
+up_to_folder (folder_line name ∷ lines) = []
+up_to_folder (folder_access_line a ∷ lines) = folder_access_line a ∷ up_to_folder lines
+up_to_folder (file_line name ∷ lines) = file_line name ∷ up_to_folder lines
+up_to_folder (file_access_line a ∷ lines) = file_access_line a ∷ up_to_folder lines
+up_to_folder (file_hash_line hash ∷ lines) = file_hash_line hash ∷ up_to_folder lines
+up_to_folder (other_line ∷ lines) = other_line ∷ up_to_folder lines
+
+-- the lines up to the next that begins a file
+abbrev pub up_to_file : List RecordLine → List RecordLine
+up_to_file [] = []
+up_to_file (info_line f values ∷ lines) = info_line f values ∷ up_to_file lines
+up_to_file (folder_line name ∷ lines) = folder_line name ∷ up_to_file lines
+up_to_file (folder_access_line a ∷ lines) = folder_access_line a ∷ up_to_file lines
+up_to_file (file_line name ∷ lines) = []
+up_to_file (file_access_line a ∷ lines) = file_access_line a ∷ up_to_file lines
+up_to_file (file_hash_line hash ∷ lines) = file_hash_line hash ∷ up_to_file lines
+up_to_file (other_line ∷ lines) = other_line ∷ up_to_file lines
+
+-- the access of a folder that the first of these lines gives; none if no line does
+abbrev pub folder_access_in : List RecordLine → Option Access
+folder_access_in [] = None
+folder_access_in (info_line f values ∷ lines) = folder_access_in lines
+folder_access_in (folder_line name ∷ lines) = folder_access_in lines
+folder_access_in (folder_access_line a ∷ lines) = Some a
+folder_access_in (file_line name ∷ lines) = folder_access_in lines
+folder_access_in (file_access_line a ∷ lines) = folder_access_in lines
+folder_access_in (file_hash_line hash ∷ lines) = folder_access_in lines
+folder_access_in (other_line ∷ lines) = folder_access_in lines
+
+-- the access of a file that the first of these lines gives; none if no line does
+abbrev pub file_access_in : List RecordLine → Option Access
+file_access_in [] = None
+file_access_in (info_line f values ∷ lines) = file_access_in lines
+file_access_in (folder_line name ∷ lines) = file_access_in lines
+file_access_in (folder_access_line a ∷ lines) = file_access_in lines
+file_access_in (file_line name ∷ lines) = file_access_in lines
+file_access_in (file_access_line a ∷ lines) = Some a
+file_access_in (file_hash_line hash ∷ lines) = file_access_in lines
+file_access_in (other_line ∷ lines) = file_access_in lines
+
+-- the hash of a file that the first of these lines gives; none if no line does
+abbrev pub file_hash_in : List RecordLine → Option (List ℕ)
+file_hash_in [] = None
+file_hash_in (info_line f values ∷ lines) = file_hash_in lines
+file_hash_in (folder_line name ∷ lines) = file_hash_in lines
+file_hash_in (folder_access_line a ∷ lines) = file_hash_in lines
+file_hash_in (file_line name ∷ lines) = file_hash_in lines
+file_hash_in (file_access_line a ∷ lines) = file_hash_in lines
+file_hash_in (file_hash_line hash ∷ lines) = Some hash
+file_hash_in (other_line ∷ lines) = file_hash_in lines
+
+-- the files that the lines of a folder list: one for each line that begins one, with the access and the
+-- hash that the lines up to the next file give
+abbrev pub files_listed : List RecordLine → List ListedFile
+files_listed [] = []
+files_listed (info_line f values ∷ lines) = files_listed lines
+files_listed (folder_line name ∷ lines) = files_listed lines
+files_listed (folder_access_line a ∷ lines) = files_listed lines
+files_listed (file_line name ∷ lines) =
+    file_by name (file_access_in (up_to_file lines)) (file_hash_in (up_to_file lines))
+    ∷ files_listed lines
+files_listed (file_access_line a ∷ lines) = files_listed lines
+files_listed (file_hash_line hash ∷ lines) = files_listed lines
+files_listed (other_line ∷ lines) = files_listed lines
+
+-- the folders that the lines of a record list: one for each line that begins one, with the access and
+-- the files that the lines up to the next folder give
+abbrev pub folders_listed : List RecordLine → List ListedFolder
+folders_listed [] = []
+folders_listed (info_line f values ∷ lines) = folders_listed lines
+folders_listed (folder_line name ∷ lines) =
+    folder_by name (folder_access_in (up_to_folder lines)) (files_listed (up_to_folder lines))
+    ∷ folders_listed lines
+folders_listed (folder_access_line a ∷ lines) = folders_listed lines
+folders_listed (file_line name ∷ lines) = folders_listed lines
+folders_listed (file_access_line a ∷ lines) = folders_listed lines
+folders_listed (file_hash_line hash ∷ lines) = folders_listed lines
+folders_listed (other_line ∷ lines) = folders_listed lines

@@ -1,0 +1,158 @@
+-- What the lines of a text database give to a package, letter by letter. The table is in
+-- `docs/formats.md`, "Text database of version 2"; the names of fields are those of "Schemas". Serves
+-- the laws of `src/letters.rt`.
+use Rattle.std.specs.Prelude.{◌≡◌, ◌⊎◌, ℕ, Bool, true, false, List, [], ◌∷◌, ◌++◌, length, codes, Option, Some, Ok}
+use Rattle.std.specs.Option.{option_and_then}
+use Rattle.base64.specs.Engines.{standard}
+use Rattle.base64.specs.GeneralPurpose.{decode_of as base64_bytes}
+use Rattle.adb_view.specs.Plain.{Plain}
+use Rattle.adb_view.specs.declared.tables.Which.TheVariants.{Package, PkgInfo}
+use Rattle.base_core.specs.Lists.{IsIn}
+use Rattle.make_info.specs.Fields.{FieldValue, text}
+use Rattle.make_info.specs.declared.field.Field.TheVariants as Options
+use Rattle.make_laws.specs.NamedFields.{field_named}
+use Rattle.make_laws.specs.OptionGrammar.{SaysNumber, SaysOfField}
+use Rattle.make_laws.specs.SaidOfFields.{TellsAsList}
+use Rattle.v2_core.specs.Reading.{with_text}
+use Rattle.v2_core.specs.Records.{Record}
+use Rattle.v2_lines.specs.declared.field.InfoField.{InfoField}
+use Rattle.v2_lines.specs.declared.field.InfoField.TheVariants as Letters
+
+-- ---- the table of letters
+
+-- the letter with which the lines of a field begin
+abbrev pub line_letter : InfoField → List ℕ
+line_letter Letters.Hashes = codes "C"
+line_letter Letters.Name = codes "P"
+line_letter Letters.Version = codes "V"
+line_letter Letters.Arch = codes "A"
+line_letter Letters.Description = codes "T"
+line_letter Letters.Url = codes "U"
+line_letter Letters.License = codes "L"
+line_letter Letters.Origin = codes "o"
+line_letter Letters.Maintainer = codes "m"
+line_letter Letters.InstalledSize = codes "I"
+line_letter Letters.BuildTime = codes "t"
+line_letter Letters.ProviderPriority = codes "k"
+line_letter Letters.ReplacesPriority = codes "q"
+line_letter Letters.RepoCommit = codes "c"
+line_letter Letters.Depends = codes "D"
+line_letter Letters.Provides = codes "p"
+line_letter Letters.Replaces = codes "r"
+line_letter Letters.InstallIf = codes "i"
+
+-- the letters that are listed: those of the package's fields, and those of folders and files
+abbrev pub listed_letters : List ℕ
+listed_letters = codes "CPVATULomItkqcDpriFMRaZ"
+
+-- the name of the field that the lines of a letter give
+abbrev pub letter_field_name : InfoField → List ℕ
+letter_field_name Letters.Hashes = codes "hashes"
+letter_field_name Letters.Name = codes "name"
+letter_field_name Letters.Version = codes "version"
+letter_field_name Letters.Arch = codes "arch"
+letter_field_name Letters.Description = codes "description"
+letter_field_name Letters.Url = codes "url"
+letter_field_name Letters.License = codes "license"
+letter_field_name Letters.Origin = codes "origin"
+letter_field_name Letters.Maintainer = codes "maintainer"
+letter_field_name Letters.InstalledSize = codes "installed-size"
+letter_field_name Letters.BuildTime = codes "build-time"
+letter_field_name Letters.ProviderPriority = codes "provider-priority"
+letter_field_name Letters.ReplacesPriority = codes "replaces-priority"
+letter_field_name Letters.RepoCommit = codes "repo-commit"
+letter_field_name Letters.Depends = codes "depends"
+letter_field_name Letters.Provides = codes "provides"
+letter_field_name Letters.Replaces = codes "replaces"
+letter_field_name Letters.InstallIf = codes "install-if"
+
+-- whether each line of a letter adds to a list; of another letter a record has one line at most
+abbrev pub is_list_letter : InfoField → Bool
+is_list_letter Letters.Depends = true
+is_list_letter Letters.Provides = true
+is_list_letter Letters.Replaces = true
+is_list_letter Letters.InstallIf = true
+is_list_letter f = false
+
+-- the value of a letter's field in a package: in its information, except the priority in replacing,
+-- which is a field of the package
+abbrev pub told_of_letter : InfoField → Plain → Plain
+told_of_letter Letters.ReplacesPriority pkg =
+    field_named Package (letter_field_name Letters.ReplacesPriority) pkg
+told_of_letter f pkg =
+    field_named PkgInfo (letter_field_name f) (field_named Package (codes "info") pkg)
+
+-- ---- what a value says
+
+-- `Q1` and the base64 of 20 bytes say these bytes
+abbrev pub SaysHash : List ℕ → List FieldValue → Type 0
+SaysHash value said =
+    (encoded : List ℕ) × (bytes : List ℕ) × (value ≡ codes "Q1" ++ encoded)
+    × (base64_bytes standard encoded ≡ Ok bytes) × (length bytes ≡ 20) × (said ≡ text bytes ∷ [])
+
+-- a value says what it would say as a commit of `mkpkg`; one that may not be given there is dropped
+abbrev pub SaysCommit : List ℕ → List FieldValue → Type 0
+SaysCommit value said =
+    SaysOfField Options.RepoCommit value said
+    ⊎ (((given : List FieldValue) → SaysOfField Options.RepoCommit value given → ⊥) × (said ≡ []))
+
+-- the value of a line of a letter is allowed, and says this: what it would say as an option `-I` of
+-- `mkpkg` for the field, if there is such an option
+abbrev pub SaysOfLetter : InfoField → List ℕ → List FieldValue → Type 0
+SaysOfLetter Letters.Hashes value said = SaysHash value said
+SaysOfLetter Letters.Name value said = SaysOfField Options.Name value said
+SaysOfLetter Letters.Version value said = SaysOfField Options.Version value said
+SaysOfLetter Letters.Arch value said = SaysOfField Options.Arch value said
+SaysOfLetter Letters.Description value said = SaysOfField Options.Description value said
+SaysOfLetter Letters.Url value said = SaysOfField Options.Url value said
+SaysOfLetter Letters.License value said = SaysOfField Options.License value said
+SaysOfLetter Letters.Origin value said = SaysOfField Options.Origin value said
+SaysOfLetter Letters.Maintainer value said = SaysOfField Options.Maintainer value said
+SaysOfLetter Letters.InstalledSize value said = SaysNumber value said
+SaysOfLetter Letters.BuildTime value said = SaysOfField Options.BuildTime value said
+SaysOfLetter Letters.ProviderPriority value said = SaysOfField Options.ProviderPriority value said
+SaysOfLetter Letters.ReplacesPriority value said = SaysOfField Options.ReplacesPriority value said
+SaysOfLetter Letters.RepoCommit value said = SaysCommit value said
+SaysOfLetter Letters.Depends value said = SaysOfField Options.Depends value said
+SaysOfLetter Letters.Provides value said = SaysOfField Options.Provides value said
+SaysOfLetter Letters.Replaces value said = SaysOfField Options.Replaces value said
+SaysOfLetter Letters.InstallIf value said = SaysOfField Options.InstallIf value said
+
+-- ---- lines
+
+-- a line: a letter, a colon and a value
+abbrev pub letter_line : List ℕ → List ℕ → List ℕ
+letter_line letter value = letter ++ codes ":" ++ value
+
+-- a line gives these values to a field; a line of another letter gives none
+abbrev pub SaysOfLine : InfoField → List ℕ → List FieldValue → Type 0
+SaysOfLine f line said =
+    ((value : List ℕ) × (line ≡ letter_line (line_letter f) value) × SaysOfLetter f value said)
+    ⊎ (((value : List ℕ) → line ≡ letter_line (line_letter f) value → ⊥) × (said ≡ []))
+
+-- lines give these values to a field, one line after another
+abbrev pub SayOfLines : InfoField → List (List ℕ) → List FieldValue → Type 0
+SayOfLines f [] said = said ≡ []
+SayOfLines f (line ∷ lines) said =
+    (here : List FieldValue) × (further : List FieldValue)
+    × SaysOfLine f line here × SayOfLines f lines further × (said ≡ here ++ further)
+
+-- a record with some lines more, one after another, if all are allowed
+abbrev pub record_with_lines : Record → List (List ℕ) → Option Record
+record_with_lines r [] = Some r
+record_with_lines r (line ∷ lines) =
+    option_and_then (λ next. record_with_lines next lines) (with_text r line)
+
+-- the field of a package has what the lines of its letter give: all values for a list, otherwise the
+-- first
+pub record TellsLines (f : InfoField) (lines : List (List ℕ)) (pkg : Plain) : Type 0 where
+  pub said : List FieldValue
+  pub say : SayOfLines f lines said
+  pub tells : TellsAsList (is_list_letter f) said (told_of_letter f pkg)
+
+-- a line has a letter that is not listed, before a colon
+pub record IsOfOtherLetter (line : List ℕ) : Type 0 where
+  pub letter : ℕ
+  pub value : List ℕ
+  pub line_is : line ≡ letter ∷ codes ":" ++ value
+  pub unlisted : IsIn letter listed_letters → ⊥

@@ -1,0 +1,55 @@
+//! What a text database of version 2 gives to the packages of the database that it becomes.
+//! The rules are in `docs/formats.md`, "Text database of version 2".
+
+ghost use Rattle.std.specs.Prelude.{◌≡◌, ◌↔◌, ℕ, List, Some, codes, map};
+ghost use Rattle.adb_view.specs.Plain.{null};
+ghost use Rattle.adb_view.specs.declared.tables.Which.TheVariants.{File, Idb, Package, PkgInfo};
+ghost use Rattle.answer_laws.specs.TextLetters.{IsOfOtherLetter, TellsLines, record_with_lines};
+ghost use Rattle.make_laws.specs.NamedFields.{entries_named, field_named};
+ghost use Rattle.v2_core.specs.Database.{listed_file_value, record_value, value_of_records};
+ghost use Rattle.v2_core.specs.Records.{ListedFile, Record, empty_record};
+ghost use Rattle.v2_lines.specs.Lines.{other_line, record_line_of};
+ghost use Rattle.v2_lines.specs.declared.field.InfoField.{InfoField};
+
+use dep_core::{read_texts_are_spelled, spelled_texts_are_read};
+
+/// Each field of a package has what the lines of its letter give, for every letter: a list has all
+/// values, in their order, another field the one value, if there is a line.
+pub fn each_letter_gives_its_field()
+    ensures { (lines : List (List ℕ)) (r : Record) (f : InfoField)
+        → record_with_lines empty_record lines ≡ Some r → TellsLines f lines (record_value r) }
+{
+    read_texts_are_spelled();
+    spelled_texts_are_read();
+}
+
+/// A line is dropped exactly if its letter is not listed.
+pub fn a_line_is_dropped_if_its_letter_is_not_listed()
+    ensures { (line : List ℕ) → (record_line_of line ≡ Some other_line) ↔ IsOfOtherLetter line }
+{}
+
+/// A package of a text has no field that no letter gives, and a file neither size nor time nor
+/// target.
+pub fn what_no_letter_gives_is_null()
+    ensures scripts { (r : Record)
+        → (field_named Package (codes "scripts") (record_value r) ≡ null)
+        × (field_named Package (codes "triggers") (record_value r) ≡ null) }
+    ensures info { (r : Record)
+        → (let info = field_named Package (codes "info") (record_value r) in
+        (field_named PkgInfo (codes "file-size") info ≡ null)
+        × (field_named PkgInfo (codes "recommends") info ≡ null)
+        × (field_named PkgInfo (codes "layer") info ≡ null)
+        × (field_named PkgInfo (codes "tags") info ≡ null)) }
+    ensures file { (f : ListedFile)
+        → (let file = listed_file_value f in
+        (field_named File (codes "size") file ≡ null)
+        × (field_named File (codes "mtime") file ≡ null)
+        × (field_named File (codes "target") file ≡ null)) }
+{}
+
+/// A text becomes one package for each of its records, in their order.
+pub fn each_record_is_a_package_in_order()
+    ensures { (records : List Record)
+        → entries_named Idb (codes "packages") (value_of_records records)
+        ≡ map record_value records }
+{}

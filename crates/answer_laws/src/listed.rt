@@ -1,0 +1,60 @@
+//! Which folders and files a text database of version 2 lists.
+//! The rules are in `docs/formats.md`, "Text database of version 2", the rows F, M, R, a and Z.
+
+ghost use Rattle.std.specs.Prelude.{◌≡◌, ℕ, List, Some, codes, map, option_map};
+ghost use Rattle.adb_view.specs.Plain.{blob_value, int};
+ghost use Rattle.adb_view.specs.declared.tables.Which.TheVariants.{Acl, Dir, File, Package};
+ghost use Rattle.answer_laws.specs.TextFiles.{folders_listed};
+ghost use Rattle.answer_laws.specs.TextLetters.{letter_line, record_with_lines};
+ghost use Rattle.make_laws.specs.NamedFields.{entries_named, field_named};
+ghost use Rattle.v2_core.specs.Database.{listed_access_value, listed_file_value, listed_folder_value, listed_hash_value, record_value};
+ghost use Rattle.v2_core.specs.Records.{ListedFile, ListedFolder, Record, empty_record};
+ghost use Rattle.v2_lines.specs.Accesses.{Access, access_in};
+ghost use Rattle.v2_lines.specs.InfoValues.{sha1_of};
+ghost use Rattle.v2_lines.specs.Lines.{RecordLine, file_access_line, file_hash_line, file_line_of, folder_access_line, folder_line_of, record_line_of};
+
+/// F begins a folder and R a file; M gives the access of a folder, a that of a file, and Z its
+/// hash.
+pub fn each_path_letter_has_its_meaning()
+    ensures folder { (name : List ℕ)
+        → record_line_of (letter_line (codes "F") name) ≡ folder_line_of name }
+    ensures folder_access { (value : List ℕ) → record_line_of (letter_line (codes "M") value)
+        ≡ option_map folder_access_line (access_in value) }
+    ensures file { (name : List ℕ)
+        → record_line_of (letter_line (codes "R") name) ≡ file_line_of name }
+    ensures file_access { (value : List ℕ) → record_line_of (letter_line (codes "a") value)
+        ≡ option_map file_access_line (access_in value) }
+    ensures hash { (value : List ℕ) → record_line_of (letter_line (codes "Z") value)
+        ≡ option_map file_hash_line (sha1_of value) }
+{}
+
+/// A record lists one folder for each line that begins one, with the access and the files that the
+/// lines up to the next folder give; and in it one file for each line that begins one, with the
+/// access and the hash that the lines up to the next file give.
+pub fn lines_list_folders_and_their_files()
+    ensures { (lines : List (List ℕ)) (meanings : List RecordLine) (r : Record)
+        → map record_line_of lines ≡ map Some meanings
+        → record_with_lines empty_record lines ≡ Some r
+        → r.folders ≡ folders_listed meanings }
+{}
+
+/// A package has its folders, and each folder its files, in their order; each of them has its name,
+/// its access and its hash in the field of that name.
+pub fn folders_and_files_have_their_fields()
+    ensures folders { (r : Record) → entries_named Package (codes "paths") (record_value r)
+        ≡ map listed_folder_value r.folders }
+    ensures folder { (f : ListedFolder)
+        → (field_named Dir (codes "name") (listed_folder_value f) ≡ blob_value f.name)
+        × (field_named Dir (codes "acl") (listed_folder_value f) ≡ listed_access_value f.access)
+        × (entries_named Dir (codes "files") (listed_folder_value f)
+        ≡ map listed_file_value f.files) }
+    ensures file { (f : ListedFile)
+        → (field_named File (codes "name") (listed_file_value f) ≡ blob_value f.name)
+        × (field_named File (codes "acl") (listed_file_value f) ≡ listed_access_value f.access)
+        × (field_named File (codes "hashes") (listed_file_value f) ≡ listed_hash_value f.hash) }
+    ensures access { (a : Access)
+        → (field_named Acl (codes "mode") (listed_access_value (Some a)) ≡ int a.mode)
+        × (field_named Acl (codes "user") (listed_access_value (Some a)) ≡ blob_value a.user)
+        × (field_named Acl (codes "group") (listed_access_value (Some a)) ≡ blob_value a.group) }
+    ensures hash { (hash : List ℕ) → listed_hash_value (Some hash) ≡ blob_value hash }
+{}

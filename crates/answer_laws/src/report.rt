@@ -1,0 +1,42 @@
+//! What a report of a change consists of.
+//! The rules are in `docs/commands.md`, "`add` and `del`", what is reported.
+
+ghost use Rattle.std.specs.Prelude.{List, map, ℕ};
+ghost use Rattle.answer_laws.specs.KeptNames.{AreNamedOnce};
+ghost use Rattle.answer_laws.specs.ReportSections.{HasConfigurationLines, HasSections, HasSimulatedSections, HasSum, size_when_installed, member_info};
+ghost use Rattle.base_core.specs.Files.{Files};
+ghost use Rattle.candidate_core.specs.Candidates.{Candidate};
+ghost use Rattle.change_files.specs.FileChange.{FileChange};
+ghost use Rattle.change_outcome.specs.ChangeOutcome.{ChangeWishes, change_report, member_sum_line};
+ghost use Rattle.change_outcome.specs.ConfigurationLines.{configuration_lines};
+ghost use Rattle.db_core.specs.Members.{Member};
+ghost use Rattle.package_changes.specs.Changes.{Replacement};
+ghost use Rattle.package_changes.specs.Report.{selected_sum_line, simulated_report};
+
+/// The last line of a report has the sum of the installed sizes of the packages after the change,
+/// and how many they are.
+pub fn the_sum_counts_what_is_installed()
+    ensures simulated { (selected : List Candidate)
+        → HasSum (map (λ (c : Candidate). size_when_installed c.info) selected)
+        (selected_sum_line selected) }
+    ensures made { (members : List Member)
+        → HasSum (map (λ (m : Member). size_when_installed (member_info m)) members)
+        (member_sum_line members) }
+{}
+
+/// A report has one line for each configuration file beside which a new one is laid, and one for
+/// each that is kept though its package is removed, in byte order of the paths.
+pub fn each_configuration_file_has_one_line()
+    ensures { (aside kept : List (List ℕ))
+        → HasConfigurationLines aside kept (configuration_lines aside kept) }
+{}
+
+/// The sections of a report are in this order: the changes, the kept names, configuration,
+/// triggers, the sum. A simulated report has the first two and the last.
+pub fn a_report_has_its_sections_in_order()
+    ensures simulated { (r : Replacement) (to_go : List (List ℕ)) → AreNamedOnce r.selected
+        → HasSimulatedSections r to_go (simulated_report r to_go) }
+    ensures made { (r : Replacement) (wishes : ChangeWishes) (change : FileChange) (files : Files)
+        → AreNamedOnce r.selected
+        → HasSections r wishes change files (change_report r wishes change files) }
+{}

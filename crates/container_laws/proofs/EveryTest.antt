@@ -1,0 +1,177 @@
+-- A container has no fault exactly if every test holds.
+use Rattle.std.proofs.Common.{◌≡◌, ◌↔◌, ◌⊎◌, inl, inr, ℕ, zero, suc, Bool, true, false, eqb, List, [], ◌∷◌, length, drop, Option, Some, None, Result, Ok, Err, refl, ap, sym, ◌∙◌, subst}
+use Rattle.std.specs.Prelude.{slice_get, if◌then◌else◌, ◌||◌, nat_lt, ◌-◌}
+use Rattle.std.specs.Option.{option_or}
+use Rattle.std.proofs.lemmas.Bool.{eqb-true}
+use Rattle.adb_block.specs.Framing.{HeadFields, Step, block, ended, failed, head_of, kind_of_number, next_step, step_by_head, step_by_order, step_by_size}
+use Rattle.adb_block.specs.Header.{header_of}
+use Rattle.adb_block.specs.Piece.{Piece, comes_after, least_payload}
+use Rattle.adb_block.specs.Reading.{Reading, done, fault, more, reading_by_step, reading_from, reading_of}
+use Rattle.adb_block.specs.Standing.{start_of}
+use Rattle.adb_block.specs.declared.block.BlockKind.{BlockKind}
+use Rattle.adb_schema.specs.Soundness.{blocks_fault, file_fault, is_schema_wanted, payload_fault, root_value, schema_fault, schema_word}
+use Rattle.adb_schema.specs.declared.read.TheConstants.{PACKAGE_WORD, INDEX_WORD, IDB_WORD, INTENT_WORD}
+use Rattle.adb_fields.specs.Repeated.{repeated_fault}
+use Rattle.adb_schema.specs.Texts.{text_fault}
+use Rattle.adb_view.specs.Head.{head_fault, root_of}
+use Rattle.adb_view.specs.Schema.{shape_of}
+use Rattle.adb_view.specs.Walk.{shape_fault}
+use Rattle.adb_view.specs.declared.tables.Kind.TheVariants.{Obj}
+use Rattle.adb_view.specs.declared.tables.Which.{Which}
+use Rattle.adb_view.specs.declared.tables.Which.TheVariants.{Package, Index, Idb, Intent}
+use Rattle.base_core.specs.declared.cause.Cause.{Cause}
+use Rattle.base_core.specs.declared.cause.Cause.TheVariants.{WrongSchema}
+use Rattle.container_laws.specs.TestsInOrder.{PassesEveryTest, tests_of_values}
+use Rattle.container_laws.proofs.FirstTests.{chain, five}
+use Rattle.pkg_core.specs.Whole.{behind_fault, container_fault, fault_by_header, fault_by_schema, root_of_schema, whole_fault}
+
+-- ---- a file without a block is refused
+
+-- a step that is no end
+abbrev GoesOn : Step → Type 0
+GoesOn s = s ≡ ended → ⊥
+
+either_goes_on : (b : Bool) (s t : Step) → GoesOn s → GoesOn t → GoesOn (if b then s else t)
+either_goes_on true s t f g = f
+either_goes_on false s t f g = g
+
+size_goes_on : (at : ℕ) (bytes : List ℕ) (head : HeadFields) (kind : BlockKind) → GoesOn (step_by_size at bytes head kind)
+size_goes_on at bytes head kind =
+    either_goes_on (nat_lt head.raw head.len || nat_lt (length bytes) head.raw) _ _ (λ e. absurd cc)
+    (either_goes_on (nat_lt (head.raw - head.len) (least_payload kind)) _ _ (λ e. absurd cc) (λ e. absurd cc))
+
+order_goes_on : (at : ℕ) (bytes : List ℕ) (head : HeadFields) (kind : Option BlockKind) → GoesOn (step_by_order None at bytes head kind)
+order_goes_on at bytes head None e = absurd cc
+order_goes_on at bytes head (Some kind) e =
+    either_goes_on (comes_after None kind) _ _ (size_goes_on at bytes head kind) (λ e. absurd cc) e
+
+head_goes_on : (at : ℕ) (bytes : List ℕ) (head : Option HeadFields) → GoesOn (step_by_head None at bytes head)
+head_goes_on at bytes None e = absurd cc
+head_goes_on at bytes (Some head) e = order_goes_on at bytes head (kind_of_number head.kind) e
+
+first_goes_on : (at : ℕ) (bytes : List ℕ) → GoesOn (next_step None at bytes)
+unfolding next_step
+first_goes_on at bytes =
+    either_goes_on (eqb (length bytes) 0) _ _ (λ e. absurd cc) (head_goes_on at bytes (head_of bytes))
+
+by_step : (at : ℕ) (further : Piece → ℕ → Reading) (s : Step) → GoesOn s → reading_by_step at further s ≡ done → ⊥
+by_step at further ended on e = on refl
+by_step at further (failed c) on e = absurd cc
+by_step at further (block b size) on e = absurd cc
+
+not_done : (schema : ℕ) (file : List ℕ) → reading_of (start_of schema file) ≡ done → ⊥
+unfolding reading_of reading_from
+not_done schema file e = by_step 8 _ (next_step None 8 (drop 8 file)) (first_goes_on 8 (drop 8 file)) e
+
+-- ---- tests that do not fail
+
+abbrev EachPasses : List (Option Cause) → Type 0
+EachPasses tests = (i : ℕ) (test : Option Cause) → slice_get tests i ≡ Some test → test ≡ None
+
+both_none : (a b : Option Cause) → option_or a b ≡ None → (a ≡ None) × (b ≡ None)
+both_none None b e = (refl, e)
+both_none (Some c) b e = absurd cc
+
+none_fails : (tests : List (Option Cause)) → chain tests ≡ None → EachPasses tests
+unfolding chain
+none_fails [] e i test is = absurd cc
+none_fails (t ∷ ts) e zero test is =
+    let same : t ≡ test = cc in
+    sym same ∙ (both_none t (chain ts) e).0
+none_fails (t ∷ ts) e (suc i) test is = none_fails ts (both_none t (chain ts) e).1 i test is
+
+each_holds : (tests : List (Option Cause)) → EachPasses tests → chain tests ≡ None
+unfolding chain
+each_holds [] each = refl
+each_holds (t ∷ ts) each =
+    ap (λ (o : Option Cause). option_or o (chain ts)) (each 0 t refl) ∙ each_holds ts (λ i test is. each (suc i) test is)
+
+-- ---- the four schemas
+
+-- one of two values was chosen
+chosen_of : (b : Bool) (x y : Option Which) (which : Which) → (if b then x else y) ≡ Some which → ((b ≡ true) × (x ≡ Some which)) ⊎ (y ≡ Some which)
+chosen_of true x y which e = inl (refl, e)
+chosen_of false x y which e = inr e
+
+wanted : (schema : ℕ) (which : Which) → root_of_schema schema ≡ Some which → is_schema_wanted (schema_word which) schema ≡ true
+wanted schema which e =
+    elim (chosen_of (eqb schema PACKAGE_WORD) _ _ which e) [
+      | inl x ↦ named Package PACKAGE_WORD refl refl x.0 x.1
+      | inr x ↦
+          elim (chosen_of (eqb schema INDEX_WORD) _ _ which x) [
+            | inl y ↦ named Index INDEX_WORD refl refl y.0 y.1
+            | inr y ↦
+                elim (chosen_of (eqb schema IDB_WORD) _ _ which y) [
+                  | inl z ↦ named Idb IDB_WORD refl refl z.0 z.1
+                  | inr z ↦
+                      elim (chosen_of (eqb schema INTENT_WORD) _ _ which z) [
+                        | inl u ↦ named Intent INTENT_WORD refl refl u.0 u.1
+                        | inr u ↦ absurd cc
+                      ]
+                ]
+          ]
+    ]
+  where
+    named : (w : Which) (word : ℕ) → schema_word w ≡ Some word → eqb word word ≡ true → eqb schema word ≡ true → Some w ≡ Some which → is_schema_wanted (schema_word which) schema ≡ true
+    named w word h same t e =
+        let same_table : w ≡ which = cc in
+        ap (λ (x : Which). is_schema_wanted (schema_word x) schema) (sym same_table)
+        ∙ ap (λ (o : Option ℕ). is_schema_wanted o schema) h
+        ∙ ap (eqb word) (eqb-true schema word t) ∙ same
+
+-- ---- both ways
+
+by_reading : (which : Which) (r : Reading) → (r ≡ done → ⊥) → blocks_fault (behind_fault which) which r ≡ None
+    → (first : Piece) × (at : ℕ) × (behind : Reading) × (r ≡ more first at behind) × EachPasses (tests_of_values which first.payload behind)
+by_reading which done on e = absurd (on refl)
+by_reading which (fault c) on e = absurd cc
+by_reading which (more b at r) on e =
+    (b, at, r, refl, none_fails (tests_of_values which b.payload r) (sym (five (head_fault b.payload) (shape_fault b.payload (shape_of (Obj which)) (root_of b.payload)) (text_fault which (root_value which b.payload)) (repeated_fault which (root_value which b.payload)) (behind_fault which (root_value which b.payload) r)) ∙ e))
+
+by_table : (file : List ℕ) (schema : ℕ) (which : Which) → header_of file ≡ Ok schema → root_of_schema schema ≡ Some which → whole_fault which file ≡ None → PassesEveryTest file
+unfolding whole_fault
+by_table file schema which header root e =
+    let all : file_fault (behind_fault which) which file (Ok schema) ≡ None = sym (ap (file_fault (behind_fault which) which file) header) ∙ e in
+    let blocks = (both_none (schema_fault which schema) _ all).1 in
+    let (first, at, behind, is, each) = by_reading which (reading_of (start_of schema file)) (not_done schema file) blocks in
+    record {
+      schema = schema;
+      header = header;
+      which = which;
+      root = root;
+      first = first;
+      at = at;
+      behind = behind;
+      blocks = is;
+      each = each;
+    }
+
+by_root : (file : List ℕ) (schema : ℕ) (root : Option Which) → header_of file ≡ Ok schema → root_of_schema schema ≡ root → fault_by_schema file schema root ≡ None → PassesEveryTest file
+by_root file schema None header root e = absurd cc
+by_root file schema (Some which) header root e = by_table file schema which header root e
+
+by_header : (file : List ℕ) (h : Result ℕ Cause) → header_of file ≡ h → fault_by_header file h ≡ None → PassesEveryTest file
+by_header file (Err c) header e = absurd cc
+by_header file (Ok schema) header e = by_root file schema (root_of_schema schema) header refl e
+
+passes : (file : List ℕ) → container_fault file ≡ None → PassesEveryTest file
+unfolding container_fault
+passes file e = by_header file (header_of file) refl e
+
+accepted : (file : List ℕ) → PassesEveryTest file → container_fault file ≡ None
+unfolding container_fault whole_fault
+accepted file p =
+    let values = tests_of_values p.which p.first.payload p.behind in
+    let blocks : blocks_fault (behind_fault p.which) p.which (reading_of (start_of p.schema file)) ≡ None =
+    ap (blocks_fault (behind_fault p.which) p.which) p.blocks
+    ∙ five (head_fault p.first.payload) (shape_fault p.first.payload (shape_of (Obj p.which)) (root_of p.first.payload)) (text_fault p.which (root_value p.which p.first.payload)) (repeated_fault p.which (root_value p.which p.first.payload))
+    (behind_fault p.which (root_value p.which p.first.payload) p.behind)
+    ∙ each_holds values p.each in
+    ap (fault_by_header file) p.header
+    ∙ ap (fault_by_schema file p.schema) p.root
+    ∙ ap (file_fault (behind_fault p.which) p.which file) p.header
+    ∙ ap (λ (b : Bool). option_or (if b then None else Some (WrongSchema p.schema)) (blocks_fault (behind_fault p.which) p.which (reading_of (start_of p.schema file)))) (wanted p.schema p.which p.root)
+    ∙ blocks
+
+pub every_test : (file : List ℕ) → (container_fault file ≡ None) ↔ PassesEveryTest file
+every_test file = (passes file, accepted file)

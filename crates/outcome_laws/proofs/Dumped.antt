@@ -1,0 +1,147 @@
+-- What `adbdump` answers.
+use Rattle.std.proofs.Common.{◌≡◌, ◌∙◌, ℕ, Bool, true, false, List, [], ◌∷◌, length, Option, Some, None, Result, Ok, Err, refl, ap, sym, subst}
+use Rattle.std.specs.Prelude.{if◌then◌else◌, nat_lt}
+use Rattle.std.specs.Option.{option_or}
+use Rattle.adb_block.specs.Header.{header_of}
+use Rattle.adb_block.specs.Reading.{Reading, done, fault, more, reading_of}
+use Rattle.adb_block.specs.Standing.{start_of}
+use Rattle.adb_block.specs.declared.block.BlockKind.{BlockKind}
+use Rattle.adb_block.specs.declared.block.BlockKind.TheVariants as Kinds
+use Rattle.adb_dump.specs.Dump.{dump_text}
+use Rattle.adb_schema.specs.Soundness.{block_fault, file_pair, first_payload, further_fault, payload_behind, payload_in, root_value}
+use Rattle.adb_view.specs.Head.{root_of}
+use Rattle.adb_view.specs.Plain.{Plain}
+use Rattle.adb_view.specs.Schema.{shape_of}
+use Rattle.adb_view.specs.Walk.{shape_fault}
+use Rattle.adb_view.specs.declared.tables.Kind.TheVariants.{Obj}
+use Rattle.adb_view.specs.declared.tables.Which.{Which}
+use Rattle.adb_view.specs.declared.tables.Which.TheVariants as Tables
+use Rattle.base_core.specs.Files.{Files}
+use Rattle.base_core.specs.declared.cause.Cause.{Cause}
+use Rattle.base_core.specs.declared.cause.Cause.TheVariants.{DataOrder, Truncated}
+use Rattle.command_core.specs.Files.{without_dot}
+use Rattle.command_core.specs.declared.operands.Operand.{Operand}
+use Rattle.container_laws.specs.TestsInOrder.{PassesEveryTest}
+use Rattle.make_info.specs.Reads.{Reads}
+use Rattle.outcome.specs.Dump.{adbdump, dump_fault, dump_of, dump_of_blocks, dump_outcome, dump_with_root, dump_with_schema, framing_fault, or_text, text_outcome}
+use Rattle.pkg_core.specs.Contents.{Expected, POSITIONS_LEN, contents_block_fault, expected_contents, fault_in, files_at_block, files_by_blocks, unless_fault, with_next}
+use Rattle.pkg_core.specs.Whole.{behind_fault, root_of_schema}
+use Rattle.report_core.specs.declared.refusal.Refusal.TheVariants.{FileBad, FileMissing}
+use Rattle.outcome_laws.specs.DumpedFiles.{HasTextOfValue}
+
+-- ---- the printed text
+
+told_text : (which : Which) (r : Reading) (text : List ℕ) → dump_of_blocks which r ≡ Ok text → text ≡ dump_text which (root_value which (first_payload r))
+told_text which r text e = go (dump_fault which r) e
+  where
+    go : (o : Option Cause) → or_text o (dump_text which (root_value which (first_payload r))) ≡ Ok text → text ≡ dump_text which (root_value which (first_payload r))
+    go None e = let same : dump_text which (root_value which (first_payload r)) ≡ text = cc in sym same
+    go (Some c) e = absurd cc
+
+text_by_root : (file text : List ℕ) (schema : ℕ) (root : Option Which) → header_of file ≡ Ok schema → root_of_schema schema ≡ root → dump_with_root schema (reading_of (start_of schema file)) root ≡ Ok text → HasTextOfValue file text
+unfolding payload_in
+text_by_root file text schema None header root e = absurd cc
+text_by_root file text schema (Some which) header root e =
+    record {
+      schema = schema;
+      header = header;
+      which = which;
+      root = root;
+      text_is = told_text which (reading_of (start_of schema file)) text e
+          ∙ ap (λ (o : Result ℕ Cause). dump_text which (root_value which (payload_behind file o))) (sym header);
+    }
+
+text_by_header : (file text : List ℕ) (h : Result ℕ Cause) → header_of file ≡ h → dump_with_schema file h ≡ Ok text → HasTextOfValue file text
+text_by_header file text (Err c) header e = absurd cc
+text_by_header file text (Ok schema) header e = text_by_root file text schema (root_of_schema schema) header refl e
+
+text_of : (file text : List ℕ) → dump_of file ≡ Ok text → HasTextOfValue file text
+unfolding dump_of
+text_of file text e = text_by_header file text (header_of file) refl e
+
+pub text_printed : (read : Reads) (files : Files) (o : Operand) (file : List ℕ) → read 0 (without_dot o.text) ≡ Some file
+    → (adbdump read files (o ∷ [])).refusal ≡ None → HasTextOfValue file (adbdump read files (o ∷ [])).out
+text_printed read files o file found e = go (dump_of file) refl
+  where
+    go : (r : Result (List ℕ) Cause) → dump_of file ≡ r → HasTextOfValue file (dump_outcome files o.place (read 0 (without_dot o.text))).out
+    go (Ok text) is =
+        subst (HasTextOfValue file)
+        (sym (ap (λ (f : Option (List ℕ)). (dump_outcome files o.place f).out) found ∙ ap (λ (r : Result (List ℕ) Cause). (text_outcome files o.place r).out) is))
+        (text_of file text is)
+    go (Err cause) is =
+        let refused : Some (FileBad o.place cause) ≡ None = sym (ap (λ (f : Option (List ℕ)). (dump_outcome files o.place f).refusal) found ∙ ap (λ (r : Result (List ℕ) Cause). (text_outcome files o.place r).refusal) is) ∙ e in
+        absurd cc
+
+-- ---- the framing of the blocks
+
+both_none : (a b : Option Cause) → option_or a b ≡ None → (a ≡ None) × (b ≡ None)
+both_none None b e = (refl, e)
+both_none (Some c) b e = absurd cc
+
+framed_further : (r : Reading) → further_fault r ≡ None → framing_fault r ≡ None
+unfolding further_fault
+framed_further done e = refl
+framed_further (fault c) e = absurd cc
+framed_further (more b at r) e = framed_further r (both_none (block_fault b.kind b.payload at) (further_fault r) e).1
+
+never_none : {A : Type 0} (b : Bool) (x y : A) → (if b then Some x else Some y) ≡ None → ⊥
+never_none true x y e = absurd cc
+never_none false x y e = absurd cc
+
+framed_contents : (es : List Expected) (r : Reading) → fault_in (files_by_blocks es r) ≡ None → framing_fault r ≡ None
+unfolding files_by_blocks
+framed_contents es done e = refl
+framed_contents es (fault c) e = absurd cc
+framed_contents es (more b at r) e = by_kind b.kind e (λ left. framed_contents left r)
+  where
+    by_fault : (o : Option Cause) (left : List Expected) → contents_block_fault b.payload at left ≡ o → fault_in (unless_fault o (with_next b.payload (λ rest. files_by_blocks rest r) left)) ≡ None
+        → ((rest : List Expected) → fault_in (files_by_blocks rest r) ≡ None → framing_fault r ≡ None) → framing_fault r ≡ None
+    by_fault (Some c) left is e further = absurd cc
+    by_fault None [] is e further = absurd (never_none (nat_lt (length b.payload) POSITIONS_LEN) (Truncated at) (DataOrder (0, 0) (file_pair b.payload)) is)
+    by_fault None (x ∷ xs) is e further = further xs e
+
+    by_kind : (k : BlockKind) → fault_in (files_at_block k b.payload at (λ left. files_by_blocks left r) es) ≡ None
+        → ((rest : List Expected) → fault_in (files_by_blocks rest r) ≡ None → framing_fault r ≡ None) → framing_fault r ≡ None
+    by_kind Kinds.Contents e further = by_fault (contents_block_fault b.payload at es) es refl e further
+    by_kind Kinds.Adb e further = further es e
+    by_kind Kinds.Signature e further = further es e
+
+framed : (which : Which) (value : Plain) (r : Reading) → behind_fault which value r ≡ None → framing_fault r ≡ None
+framed Tables.Package value r e = framed_contents (expected_contents value) r e
+framed Tables.Dep value r e = framed_further r e
+framed Tables.Acl value r e = framed_further r e
+framed Tables.PkgInfo value r e = framed_further r e
+framed Tables.File value r e = framed_further r e
+framed Tables.Dir value r e = framed_further r e
+framed Tables.Scripts value r e = framed_further r e
+framed Tables.Index value r e = framed_further r e
+framed Tables.Idb value r e = framed_further r e
+framed Tables.Intent value r e = framed_further r e
+
+-- ---- what passes every test is printed
+
+dumped : (file : List ℕ) → PassesEveryTest file → (text : List ℕ) × (dump_of file ≡ Ok text)
+unfolding dump_of
+dumped file p =
+    let r : Reading = more p.first p.at p.behind in
+    let value : Plain = root_value p.which p.first.payload in
+    let text : List ℕ = dump_text p.which value in
+    let good : dump_fault p.which r ≡ None =
+    ap (λ (o : Option Cause). option_or (option_or o (shape_fault p.first.payload (shape_of (Obj p.which)) (root_of p.first.payload))) (framing_fault p.behind)) (p.each 0 _ refl)
+    ∙ ap (λ (o : Option Cause). option_or o (framing_fault p.behind)) (p.each 1 _ refl)
+    ∙ framed p.which value p.behind (p.each 4 _ refl) in (
+      text,
+      ap (dump_with_schema file) p.header
+          ∙ ap (dump_with_root p.schema (reading_of (start_of p.schema file))) p.root
+          ∙ ap (dump_of_blocks p.which) p.blocks
+          ∙ ap (λ (o : Option Cause). or_text o text) good,
+    )
+
+pub sound_dumped : (read : Reads) (files : Files) (o : Operand) (file : List ℕ) → read 0 (without_dot o.text) ≡ Some file → PassesEveryTest file
+    → (adbdump read files (o ∷ [])).refusal ≡ None
+sound_dumped read files o file found p =
+    ap (λ (f : Option (List ℕ)). (dump_outcome files o.place f).refusal) found
+    ∙ ap (λ (r : Result (List ℕ) Cause). (text_outcome files o.place r).refusal) (dumped file p).1
+
+pub absent_refused : (read : Reads) (files : Files) (o : Operand) → read 0 (without_dot o.text) ≡ None → (adbdump read files (o ∷ [])).refusal ≡ Some (FileMissing o.place)
+absent_refused read files o found = ap (λ (f : Option (List ℕ)). (dump_outcome files o.place f).refusal) found

@@ -1,0 +1,4 @@
+-- Lemmas of this crate.
+mod Dumped
+mod Verified
+mod Versions

@@ -1,0 +1,4 @@
+-- what the laws say
+pub mod TestedFiles
+pub mod DumpedFiles
+pub mod CheckedVersions

@@ -1,0 +1,40 @@
+-- Which files `verify` accepts. The rules are in `docs/commands.md`, "`verify FILE..`", and the tests
+-- in `docs/formats.md`, "Tests of a container". Serves the laws of `src/verify.rt`.
+use Rattle.std.specs.Prelude.{◌≡◌, ◌<◌, ℕ, List, Option, Some, None, slice_get}
+use Rattle.base_core.specs.declared.cause.Cause.{Cause}
+use Rattle.command_core.specs.Files.{without_dot}
+use Rattle.command_core.specs.declared.operands.Operand.{Operand}
+use Rattle.container_laws.specs.TestsInOrder.{IsContainerFault, PassesEveryTest}
+use Rattle.make_info.specs.Reads.{Reads}
+use Rattle.report_core.specs.declared.refusal.Refusal.{Refusal}
+use Rattle.report_core.specs.declared.refusal.Refusal.TheVariants.{FileBad, FileMissing}
+
+-- a file was found, and passes every test of a container
+pub record IsFoundSound (found : Option (List ℕ)) : Type 0 where
+  pub file : List ℕ
+  pub is : found ≡ Some file
+  pub passes : PassesEveryTest file
+
+-- the read with an operand's number, from 0, finds a file that passes every test
+abbrev pub IsOperandSound : Reads → List Operand → ℕ → Type 0
+IsOperandSound read operands i =
+    (o : Operand) → slice_get operands i ≡ Some o → IsFoundSound (read i (without_dot o.text))
+
+-- the files of all operands pass every test
+abbrev pub AreFilesSound : Reads → List Operand → Type 0
+AreFilesSound read operands = (i : ℕ) → IsOperandSound read operands i
+
+-- the refusal of what was found for the operand at a place: it is absent, or fails a test, whose cause
+-- is reported
+abbrev pub IsFileRefusal : Option (List ℕ) → ℕ → Refusal → Type 0
+IsFileRefusal None place refusal = refusal ≡ FileMissing place
+IsFileRefusal (Some file) place refusal =
+    (cause : Cause) × IsContainerFault file cause × (refusal ≡ FileBad place cause)
+
+-- the refusal is that of the file of one operand, and the files before it pass every test
+pub record IsFirstUnsound (read : Reads) (operands : List Operand) (refusal : Refusal) : Type 0 where
+  pub number : ℕ
+  pub operand : Operand
+  pub at : slice_get operands number ≡ Some operand
+  pub refused : IsFileRefusal (read number (without_dot operand.text)) operand.place refusal
+  pub earlier : (i : ℕ) → i < number → IsOperandSound read operands i

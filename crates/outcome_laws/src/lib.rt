@@ -1,0 +1,9 @@
+//! Laws above the outcomes of `verify`, `adbdump` and `version`.
+//!
+//! Each is a function that does nothing; its contract is what it says. The rules are in
+//! `docs/commands.md`, in the section of each command.
+#![tactic(auto)]
+
+pub mod dump;
+pub mod verify;
+pub mod version;
