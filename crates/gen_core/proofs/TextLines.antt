@@ -2,6 +2,7 @@
 use Rattle.std.proofs.Common.{◌≡◌, ◌≢◌, ℕ, zero, suc, ◌+◌, ◌-◌, ◌<◌, ◌≤◌, Bool, true, false, cond, eqb, List, [], ◌∷◌, ◌++◌, length, get_or, take, drop, Option, Some, None, refl, sym, ap, subst, ◌∙◌, append_assoc, arith, inl, inr, ◌⊎◌, eq-eqb}
 use Rattle.std.specs.Prelude.{codes, not, slice_get}
 use Rattle.std.proofs.lemmas.Bool.{eqb-true}
+use Rattle.std.proofs.lemmas.List.{drop_more}
 use Rattle.adb_dump.specs.Dump.{Line, ends_with_byte}
 use Rattle.adb_dump.specs.Margin.{margin}
 use Rattle.adb_dump.specs.ReadBack.{strip_prefix}
@@ -35,6 +36,11 @@ stripped_none p l other = go (strip_prefix p l) refl
     go : (o : Option (List ℕ)) → strip_prefix p l ≡ o → None ≡ o
     go None e = refl
     go (Some r) e = absurd (other r (strip_prefix_some p l r e))
+
+-- a line that ends within a prefix
+pub prefix_left : (p l rest : List ℕ) (i : ℕ) → i < length p → length rest ≡ 0 → strip_prefix (drop i p) rest ≡ strip_prefix p l → None ≡ strip_prefix p l
+prefix_left p l [] i lt over e = ap (λ (x : List ℕ). strip_prefix x []) (sym (drop_more p i 0 lt)) ∙ e
+prefix_left p l (c ∷ cs) i lt over e = absurd (omega (arith, over))
 
 -- a prefix after another
 pub then_stripped : List ℕ → Option (List ℕ) → Option (List ℕ)

@@ -140,5 +140,16 @@ fn without_levels(line: &[u8], levels: u32) -> Option<&[u8]>
 pub(crate) fn without_prefix<'a>(line: &'a [u8], prefix: &[u8]) -> Option<&'a [u8]>
     ensures { option_copied result ≡ strip_prefix prefix.now line.entry.now }
 {
-    line.strip_prefix(prefix)
+    // A prefix is short: comparing it byte by byte takes less time than by groups of bytes.
+    let mut rest = line;
+    for byte in prefix {
+        let Some((first, further)) = rest.split_first() else {
+            return None;
+        };
+        if first != byte {
+            return None;
+        }
+        rest = further;
+    }
+    Some(rest)
 }

@@ -303,12 +303,16 @@ fn read_fields(
         IsTextFault fault (values_taken (fields_read (shapes_of fields.now) block.0)
         block draft.old cursor.old)) }
 {
+    let mut next = cursor.at_depth(depth);
     for field in fields {
-        let Some(line) = cursor.at_depth(depth) else {
+        let Some(line) = next else {
             return Ok(());
         };
         match after_name(line, field.name) {
-            Some(value) => read_named(draft, cursor, scratch, field.kind, value, depth)?,
+            Some(value) => {
+                read_named(draft, cursor, scratch, field.kind, value, depth)?;
+                next = cursor.at_depth(depth);
+            }
             None => draft.null()?,
         }
     }

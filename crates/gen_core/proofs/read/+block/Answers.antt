@@ -1,5 +1,5 @@
 use Rattle.std.proofs.Common.{◌≡◌, ◌≢◌, ◌+◌, ◌<◌, ◌≤◌, ℕ, List, [], ◌∷◌, ◌++◌, length, drop, get_or, Some, None, Ok, Err, Result, true, false, arith, ap, sym, subst, ◌∙◌, refl, eqb}
-use Rattle.std.specs.Prelude.{OnOk, IfErr, codes}
+use Rattle.std.specs.Prelude.{OnOk, IfErr, codes, option_copied}
 use Rattle.std.proofs.lemmas.Result.{err_from_is_err_and}
 use Rattle.std.proofs.lemmas.List.{drop_more, drop_all}
 use Rattle.adb_view.specs.Plain.{Plain, Plains, Shape, array, null, arr_value, obj_value, Fields, field}
@@ -128,7 +128,7 @@ next_fields : (fs : List Field) (i : ℕ) → i < length fs → shapes_of (drop 
 next_fields fs i lt = ap shapes_of (drop_more fs i first lt)
 
 pub read_fields-returns-in_default-clause-ok : goal.read_fields-returns-in_default-clause-ok
-read_fields-returns-in_default-clause-ok t c = sym c.loop-field.invariant.so_far ∙ fields_stop (shapes_of (drop c.loop-field.field-index c.args.fields.now)) c.args.depth c.loop-field.draft c.loop-field.cursor c.in_default.ensures
+read_fields-returns-in_default-clause-ok t c = sym c.loop-field.invariant.so_far ∙ fields_stop (shapes_of (drop c.loop-field.field-index c.args.fields.now)) c.args.depth c.loop-field.draft c.loop-field.cursor (sym (ap option_copied c.in_default.is) ∙ c.loop-field.invariant.next)
 
 -- a field that comes next
 there : (fs : List Field) (i depth : ℕ) (line value : Line) (d : DraftState) (c : CursorState) → i < length fs → Some line ≡ line_of_block (block_at depth c.lines).0 → Some value ≡ strip_prefix (field_name_text (get_or fs i first).name ++ codes ":") line
@@ -155,7 +155,7 @@ read_fields-returns-in_err-read_named-in-Some-after_name-clause-err t c =
     let others = fields_read (shapes_of (drop (i + 1) fs)) in
     handed_on c.from_residual.result c.in_err-read_named-in-Some-after_name.field-0.0 (λ (fault : GenFault). IsTextFault fault whole) (err_from_is_err_and c.from_residual.result c.from_residual.ensures.1)
     (same_fault c.in_err-read_named-in-Some-after_name.field-0.0 (values_taken (named_read (shape_of (get_or fs i first).kind) others (drop 1 block.0) c.in-Some-after_name.value.now) block c.loop-field.draft c.loop-field.cursor) whole
-    (λ n e. sym c.loop-field.invariant.so_far ∙ there fs i c.args.depth c.in-Some.line.now c.in-Some-after_name.value.now c.loop-field.draft c.loop-field.cursor c.loop-field-test.true c.in-Some.ensures c.in-Some-after_name.ensures ∙ e)
+    (λ n e. sym c.loop-field.invariant.so_far ∙ there fs i c.args.depth c.in-Some.line.now c.in-Some-after_name.value.now c.loop-field.draft c.loop-field.cursor c.loop-field-test.true (sym (ap option_copied c.in-Some.is) ∙ c.loop-field.invariant.next) c.in-Some-after_name.ensures ∙ e)
     (c.in_err-read_named-in-Some-after_name.ensures.err others))
 
 pub read_fields-loop-field-preserved : goal.read_fields-loop-field-preserved
@@ -163,21 +163,25 @@ read_fields-loop-field-preserved t c =
     let fs = c.args.fields.now in
     let i = c.loop-field.field-index in
     let others = fields_read (shapes_of (drop (i + 1) fs)) in
+    let line : Some c.in-Some.line.now ≡ line_of_block (block_at c.args.depth c.loop-field.cursor.lines).0 = sym (ap option_copied c.in-Some.is) ∙ c.loop-field.invariant.next in
+    let first_of = λ (p : CursorState). line_of_block (block_at c.args.depth p.lines).0 in
     let left = λ (d : DraftState) (p : CursorState). values_taken (others (block_at c.args.depth p.lines).0) (block_at c.args.depth p.lines) d p in
     elim c.match-after_name.branch [
       | read_fields-in-Some-after_name+in_ok-read_named-in-Some-after_name w ↦ record {
         within = subst (λ (p : CursorState). p.levels ≤ c.args.depth) (sym w.cursor-is) (omega (arith, w.in_ok-read_named-in-Some-after_name.ensures.begun));
+        next = ap option_copied w.next-is ∙ w.at_depth-next-in-Some-after_name.ensures ∙ ap first_of (sym w.cursor-is);
         so_far =
             ap (λ (d : DraftState). left d c.match-after_name.cursor) w.draft-is ∙ ap (λ (p : CursorState). left w.read_named.new.draft p) w.cursor-is
             ∙ sym (w.in_ok-read_named-in-Some-after_name.ensures.ok others)
-            ∙ sym (there fs i c.args.depth c.in-Some.line.now w.in-Some-after_name.value.now c.loop-field.draft c.loop-field.cursor c.loop-field-test.true c.in-Some.ensures w.in-Some-after_name.ensures)
+            ∙ sym (there fs i c.args.depth c.in-Some.line.now w.in-Some-after_name.value.now c.loop-field.draft c.loop-field.cursor c.loop-field-test.true line w.in-Some-after_name.ensures)
             ∙ c.loop-field.invariant.so_far;
       }
       | read_fields-in-None+in_ok-null-in-None w ↦ record {
         within = subst (λ (p : CursorState). p.levels ≤ c.args.depth) (sym w.cursor-is) c.loop-field.invariant.within;
+        next = ap option_copied w.next-is ∙ c.loop-field.invariant.next ∙ ap first_of (sym w.cursor-is);
         so_far =
             ap (λ (d : DraftState). left d c.match-after_name.cursor) (w.draft-is ∙ w.in_ok-null-in-None.ensures.ok) ∙ ap (λ (p : CursorState). left (draft_with null c.loop-field.draft) p) w.cursor-is
-            ∙ absent fs i c.args.depth c.in-Some.line.now c.loop-field.draft c.loop-field.cursor c.loop-field-test.true c.in-Some.ensures w.in-None.ensures
+            ∙ absent fs i c.args.depth c.in-Some.line.now c.loop-field.draft c.loop-field.cursor c.loop-field-test.true line w.in-None.ensures
             ∙ c.loop-field.invariant.so_far;
       }
     ]

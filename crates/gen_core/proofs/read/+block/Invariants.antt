@@ -1,9 +1,10 @@
 use Rattle.std.proofs.Common.{◌≡◌, ◌+◌, ◌*◌, ◌≤◌, length, drop}
+use Rattle.std.specs.Prelude.{option_copied}
 use Rattle.adb_view.specs.Rank.{rank, rank_of_all}
 use Rattle.adb_view.specs.Schema.{shape_of, shapes_of}
 use Rattle.adb_view.specs.declared.tables.Kind.TheVariants.{Obj}
 use Rattle.adb_dump.specs.ReadBack.{block_read, entries_read, fields_read}
-use Rattle.gen_core.specs.Cursors.{block_at}
+use Rattle.gen_core.specs.Cursors.{block_at, line_of_block}
 use Rattle.gen_core.specs.Reads.{values_taken}
 use Rattle.gen_core.proofs.read.+block.Given as goal
 
@@ -39,10 +40,12 @@ invariant-read_entries-loop-line l = record {
 abbrev pub decreases-read_entries-loop-line : goal.decreases-read_entries-loop-line
 decreases-read_entries-loop-line l = length l.cursor.lines
 
--- the fields that are left give with what was read what all fields give
+-- the fields that are left give with what was read what all fields give; `next` is the first line that
+-- is left
 abbrev pub invariant-read_fields-loop-field : goal.invariant-read_fields-loop-field
 invariant-read_fields-loop-field l = record {
   within : l.cursor.levels ≤ l.depth;
+  next : option_copied l.next ≡ line_of_block (block_at l.depth l.cursor.lines).0;
   so_far : values_taken (fields_read (shapes_of (drop l.field-index l.fields)) (block_at l.depth l.cursor.lines).0) (block_at l.depth l.cursor.lines) l.draft l.cursor
       ≡ values_taken (fields_read (shapes_of l.fields) (block_at l.depth l.initial.cursor.lines).0) (block_at l.depth l.initial.cursor.lines) l.initial.draft l.initial.cursor;
 }
