@@ -84,8 +84,8 @@ finish_change-requires g c =
       c.in_ok-plan.ensures.plan.lists.files,
       planned_step (g.T.Tree.history c.read_arrivals.new.tree) _ _ (wishes_of c.args.command.now) explained.is.0 c.in_ok-plan.ensures.plan c.in_ok-plan.ensures.tree.same
           (has_arrived _ _ explained.is.0 (c.in_ok-members.ensures ∙ c.packages_that_were_read_are_those_found.ensures _ _ _ _ explained.is.2)
-    (arrived s c.requires.database c.args.command.now c.requires.real have (g.T.Tree.history c.args.tree.now) (g.T.Tree.history c.read_arrivals.new.tree) (g.T.Tree.counts c.args.tree.now) (g.T.Tree.counts c.read_arrivals.new.tree) (g.met.T.Tree.whole c.args.tree.now)
-    (record { same = c.in_ok-arrivals.ensures.tree.same; proper = c.in_ok-arrivals.ensures.tree.proper }) _ c.repositories.ensures _ c.flags.ensures.value c.requires.root c.in_ok-names.names named c.in_ok-arrivals.arrivals explained)),
+          (arrived s c.requires.database c.args.command.now c.requires.real have (g.T.Tree.history c.args.tree.now) (g.T.Tree.history c.read_arrivals.new.tree) (g.T.Tree.counts c.args.tree.now) (g.T.Tree.counts c.read_arrivals.new.tree) (g.met.T.Tree.whole c.args.tree.now)
+          (record { same = c.in_ok-arrivals.ensures.tree.same; proper = c.in_ok-arrivals.ensures.tree.proper }) _ c.repositories.ensures _ c.flags.ensures.value c.requires.root c.in_ok-names.names named c.in_ok-arrivals.arrivals explained)),
     )
 
 pub returns-clause-run : goal.returns-clause-run
