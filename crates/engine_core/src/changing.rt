@@ -14,7 +14,7 @@ use crate::choosing::{Selection, a_choice_exists, choose};
 use crate::making::make_change;
 use crate::wishes::{names_of_upgrade, names_to_go};
 use arrivals::packages_after_a_change_rest_on_later_reads;
-use base_core::{Text, Tree};
+use base_core::{Text, Tree, counts_of_calls_in_a_row_join};
 use change_inputs::{Loaded, Refused, inputs_rest_on_their_own_reads};
 use change_outcome::{a_change_has_a_first_clash_or_none, what_is_read_of_a_root_stands_there};
 use command_core::Command;
@@ -47,6 +47,7 @@ pub fn change<T: Tree>(alloc: Global, command: &Command, tree: &mut T) -> Result
     a_choice_exists();
     a_change_has_a_first_clash_or_none();
     asked_runs_begin_with_reads::<T>();
+    counts_of_calls_in_a_row_join();
     inputs_rest_on_their_own_reads();
     packages_after_a_change_rest_on_later_reads();
     what_is_read_of_a_root_stands_there();

@@ -7,7 +7,7 @@ use Rattle.engine_core.specs.ChangeRun.{IsChangeRun}
 use Rattle.engine_core.specs.Finishing.{IsRootRead}
 use Rattle.engine_core.specs.Runs.{IsRunCounted}
 use Rattle.engine_core.specs.SelectionSeen.{selection_seen}
-use Rattle.engine_core.proofs.Counted.{counted_fault, counted_report, memory_no_disk}
+use Rattle.engine_core.proofs.Counted.{counted_behind, counted_fault, counted_report, memory_no_disk}
 use Rattle.engine_core.proofs.Early.{HaveClash, nothing_read, only_read, selected_failure}
 use Rattle.engine_core.proofs.SelectedRuns.{not_disk, run_failure, selected_run, simulated_run, unselected_run, with_error}
 use Rattle.engine_core.proofs.WholeRuns.{HaveOwnReads, joined, root_read, unread}
@@ -73,7 +73,7 @@ returns-then-flags-clause-counts g c = counted_report _ _ _ _ c.in_ok-loaded.loa
 
 pub make_change-requires-clause-root : goal.make_change-requires-clause-root
 make_change-requires-clause-root g c =
-    subst (λ (i : Inputs). IsRootRead _ i) (sym c.in_ok-selection.ensures.parts.inputs_are)
+    subst (λ (i : Inputs). IsRootRead (g.T.Tree.history c.read.new.tree) i) (sym c.in_ok-selection.ensures.parts.inputs_are)
     (root_read c.what_is_read_of_a_root_stands_there.ensures c.args.command.now (inputs_seen c.in_ok-loaded.loaded) _ _ c.in_ok-loaded.ensures.tree.same c.in_ok-loaded.ensures.found)
 
 pub returns-clause-run : goal.returns-clause-run
@@ -81,3 +81,6 @@ returns-clause-run g c =
     let own : HaveOwnReads = record { inputs = c.inputs_rest_on_their_own_reads.ensures; members = c.packages_after_a_change_rest_on_later_reads.ensures } in
     joined own c.args.command.now c.in_ok-loaded.loaded _ _ _ _ _ _ c.make_change.result (only_read _ _ _ _ _ _ c.in_ok-loaded.ensures.tree) c.in_ok-loaded.ensures.found
     (selected_run c.args.command.now (inputs_seen c.in_ok-loaded.loaded) _ _ _ _ c.in_ok-selection.selection c.make_change.result c.in_ok-selection.ensures.selected c.make_change.ensures.run)
+
+pub returns-clause-counts : goal.returns-clause-counts
+returns-clause-counts g c = counted_behind _ _ _ c.make_change.result c.in_ok-loaded.ensures.tree.goes_on c.in_ok-loaded.ensures.tree.kept c.counts_of_calls_in_a_row_join.ensures.cause_behind c.make_change.ensures.counts
