@@ -14,7 +14,6 @@ pub mod Named
 pub mod Effects
 pub mod AfterRecovery
 pub mod Behind
-pub mod Promised
 pub mod EachOutcome
 pub mod Changing
 pub mod Telling
