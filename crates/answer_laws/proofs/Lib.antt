@@ -18,5 +18,6 @@ mod ReportParts
 mod Reported
 mod Sections
 mod Tests
+mod TouchedPaths
 mod Unindexed
 mod Watched

@@ -169,3 +169,15 @@ installed r name = (sides r name).install
 
 pub absent : (r : Replacement) (name : List ℕ) → (WasInstalled r name → ⊥) → (IsSelected r name → ⊥) → change_of_name r name ≡ None
 absent r name = (sides r name).absent
+
+pub purged_version : (r : Replacement) (name : List ℕ) (pkg : Plain) → find (is_package_named name) r.before ≡ Some pkg → find (is_selected_named name) r.selected ≡ None → change_of_name r name ≡ Some (Purge name (version_text pkg))
+unfolding change_of_name
+purged_version r name pkg is are =
+    ap (λ (o : Option Plain). change_between (list_any (bytes_eq name) r.again) name o (find (is_selected_named name) r.selected)) is
+    ∙ ap (change_between (list_any (bytes_eq name) r.again) name (Some pkg)) are
+
+pub installed_version : (r : Replacement) (name : List ℕ) (c : Candidate) → find (is_package_named name) r.before ≡ None → find (is_selected_named name) r.selected ≡ Some c → change_of_name r name ≡ Some (Install name (selected_version c))
+unfolding change_of_name
+installed_version r name c is are =
+    ap (λ (o : Option Plain). change_between (list_any (bytes_eq name) r.again) name o (find (is_selected_named name) r.selected)) is
+    ∙ ap (change_between (list_any (bytes_eq name) r.again) name None) are

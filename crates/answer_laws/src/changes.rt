@@ -3,15 +3,17 @@
 //! reported.
 
 ghost use Rattle.std.specs.Prelude.{◌≡◌, ◌↔◌, ℕ, List, Some, None, map};
+ghost use Rattle.std.specs.List.{find};
 ghost use Rattle.std.specs.declared.cmp.Ordering.TheVariants.{Less, Equal, Greater};
 ghost use Rattle.adb_view.specs.Plain.{Plain};
 ghost use Rattle.answer_laws.specs.WhichChange.{HasBothVersions, HasNumberedLines, IsInstalled, IsPurged, IsSelected, IsSelectedItself, IsVeryPackage, WasInstalled, changed_name};
 ghost use Rattle.base_core.specs.Listed.{IsRising};
 ghost use Rattle.base_core.specs.Lists.{IsIn};
 ghost use Rattle.candidate_core.specs.Candidates.{Candidate};
+ghost use Rattle.db_core.specs.Packages.{is_package_named};
 ghost use Rattle.file_owners.specs.Replaces.{version_text};
-ghost use Rattle.package_changes.specs.Changes.{Replacement, change_of_name, changes_of, selected_version};
-ghost use Rattle.report_core.specs.Reports.{Change, Downgrade, Reinstall, Replace, Upgrade, change_lines};
+ghost use Rattle.package_changes.specs.Changes.{Replacement, change_of_name, changes_of, is_selected_named, selected_version};
+ghost use Rattle.report_core.specs.Reports.{Change, Downgrade, Install, Purge, Reinstall, Replace, Upgrade, change_lines};
 ghost use Rattle.version_core.specs.Order.{version_cmp};
 
 /// A package is upgraded exactly if the new version is greater, and downgraded exactly if it is
@@ -68,12 +70,21 @@ pub fn each_changed_name_has_one_change_in_order()
 {}
 
 /// A package is removed exactly if it was installed and no candidate of its name is selected, and
-/// installed exactly if one is selected and it was not. A name on neither side has no change.
+/// installed exactly if one is selected and it was not; the version is that of the package, or of
+/// the candidate. A name on neither side has no change.
 pub fn a_package_on_one_side_is_installed_or_removed()
     ensures purge { (r : Replacement) (name : List ℕ)
         → IsPurged r name ↔ (WasInstalled r name × (IsSelected r name → ⊥)) }
     ensures install { (r : Replacement) (name : List ℕ)
         → IsInstalled r name ↔ (IsSelected r name × (WasInstalled r name → ⊥)) }
+    ensures purged_version { (r : Replacement) (name : List ℕ) (pkg : Plain)
+        → find (is_package_named name) r.before ≡ Some pkg
+        → find (is_selected_named name) r.selected ≡ None
+        → change_of_name r name ≡ Some (Purge name (version_text pkg)) }
+    ensures installed_version { (r : Replacement) (name : List ℕ) (c : Candidate)
+        → find (is_package_named name) r.before ≡ None
+        → find (is_selected_named name) r.selected ≡ Some c
+        → change_of_name r name ≡ Some (Install name (selected_version c)) }
     ensures absent { (r : Replacement) (name : List ℕ)
         → (WasInstalled r name → ⊥) → (IsSelected r name → ⊥) → change_of_name r name ≡ None }
 {}

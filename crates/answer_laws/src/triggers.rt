@@ -1,15 +1,20 @@
 //! Which triggers are due.
 //! The rules are in `docs/commands.md`, "`add` and `del`", which triggers are due.
 
-ghost use Rattle.std.specs.Prelude.{◌≡◌, ◌↔◌, ℕ, List, [], true, false, Ok, Err, codes};
+ghost use Rattle.std.specs.Prelude.{◌≡◌, ◌⊎◌, ◌↔◌, ℕ, List, [], true, false, Ok, Err, codes};
 ghost use Rattle.adb_view.specs.Plain.{Plain};
 ghost use Rattle.answer_laws.specs.DueTriggers.{HasFileIn, HasTriggerLines, IsDueFor, IsFilledByParts, IsFirstDue, IsTriggered};
+ghost use Rattle.base_core.specs.Files.{Files};
 ghost use Rattle.base_core.specs.Listed.{IsRising};
 ghost use Rattle.base_core.specs.Lists.{IsIn};
+ghost use Rattle.change_files.specs.FileChange.{FileChange};
+ghost use Rattle.change_files.specs.FilesAfter.{is_removed, is_written};
+ghost use Rattle.change_outcome.specs.ChangeOutcome.{touched_paths};
 ghost use Rattle.change_outcome.specs.Triggers.{folders_of_paths, is_due, is_folder_matched, trigger_lines, unless_trigger};
 ghost use Rattle.db_core.specs.Members.{Member};
 ghost use Rattle.report_core.specs.declared.refusal.Refusal.TheVariants.{TriggerNeeded};
 
+use change_files::the_lists_of_a_plan_hold_just_its_names;
 use star_patterns::a_pattern_matches_what_its_stars_are_filled_to;
 
 /// A pattern matches a folder exactly if both have as many parts and the stars of each part of the
@@ -41,8 +46,8 @@ pub fn each_due_trigger_has_a_line()
         → HasTriggerLines paths members (trigger_lines paths members) }
 {}
 
-/// If scripts may not be left out, a change is accepted exactly if no trigger is due; a refusal names
-/// the first package whose trigger is due.
+/// If scripts may not be left out, a change is accepted exactly if no trigger is due; a refusal
+/// names the first package whose trigger is due.
 pub fn a_due_trigger_refuses_the_change()
     ensures accepted { (paths : List (List ℕ)) (members : List Member)
         → (unless_trigger false paths members ≡ Ok true)
@@ -51,3 +56,13 @@ pub fn a_due_trigger_refuses_the_change()
         → unless_trigger false paths members ≡ Err (TriggerNeeded name)
         → IsFirstDue paths members name }
 {}
+
+/// The files whose folders count for triggers are exactly those of packages that a change writes or
+/// removes.
+pub fn the_changed_files_are_those_written_or_removed()
+    ensures { (change : FileChange) (files : Files) (path : List ℕ)
+        → IsIn path (touched_paths change files)
+        ↔ ((is_written change files path ≡ true) ⊎ (is_removed change files path ≡ true)) }
+{
+    the_lists_of_a_plan_hold_just_its_names();
+}

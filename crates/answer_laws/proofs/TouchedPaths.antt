@@ -1,0 +1,37 @@
+-- The files whose folders count for triggers.
+use Rattle.std.proofs.Common.{◌≡◌, ◌⊎◌, inl, inr, ◌↔◌, ℕ, true, List, [], ◌∷◌, ◌++◌, map, Contains}
+use Rattle.base_core.proofs.Rising as rising
+use Rattle.base_core.specs.Files.{Files}
+use Rattle.base_core.specs.Lists.{IsIn}
+use Rattle.change_files.specs.FileChange.{FileChange}
+use Rattle.change_files.specs.FilesAfter.{is_removed, is_written}
+use Rattle.change_files.specs.PlanLists.{FileWrite, file_writes_of, removals_of}
+use Rattle.change_outcome.specs.ChangeOutcome.{touched_paths}
+use Rattle.answer_laws.proofs.Members.{in_left, in_right, listed, risen}
+
+abbrev written_paths : FileChange → Files → List (List ℕ)
+written_paths change files = map (λ (w : FileWrite). w.name) (file_writes_of change files)
+
+abbrev pub Written : Type 0
+Written = (change : FileChange) (files : Files) (name : List ℕ) → Contains (written_paths change files) name ↔ (is_written change files name ≡ true)
+
+abbrev pub Removed : Type 0
+Removed = (change : FileChange) (files : Files) (path : List ℕ) → Contains (removals_of change files) path ↔ (is_removed change files path ≡ true)
+
+on_one_side : (q : List ℕ) (xs ys : List (List ℕ)) → rising.IsIn q (xs ++ ys) → rising.IsIn q xs ⊎ rising.IsIn q ys
+on_one_side q [] ys at = inr at
+on_one_side q (x ∷ xs) ys (inl is) = inl (inl is)
+on_one_side q (x ∷ xs) ys (inr more) = elim (on_one_side q xs ys more) [ inl here ↦ inl (inr here) | inr there ↦ inr there ]
+
+pub touched_are : Written → Removed → (change : FileChange) (files : Files) (path : List ℕ)
+    → IsIn path (touched_paths change files) ↔ ((is_written change files path ≡ true) ⊎ (is_removed change files path ≡ true))
+touched_are written removed change files path = (
+  λ at. elim (on_one_side path (written_paths change files) (removals_of change files) (risen path (touched_paths change files) at)) [
+    | inl here ↦ inl ((written change files path).0 (rising.contains_from_in (written_paths change files) path here))
+    | inr there ↦ inr ((removed change files path).0 (rising.contains_from_in (removals_of change files) path there))
+  ],
+  λ e. listed path (touched_paths change files) (elim e [
+    | inl w ↦ in_left path (written_paths change files) (removals_of change files) (rising.in_from_contains (written_paths change files) path ((written change files path).1 w))
+    | inr r ↦ in_right path (written_paths change files) (removals_of change files) (rising.in_from_contains (removals_of change files) path ((removed change files path).1 r))
+  ]),
+)
