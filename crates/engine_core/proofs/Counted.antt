@@ -1,9 +1,11 @@
 -- The counts of a run behind calls that only read.
-use Rattle.std.proofs.Common.{◌≡◌, ◌∙◌, Result, Ok, Err, arith}
+use Rattle.std.proofs.Common.{◌≡◌, ◌∙◌, List, Result, Ok, Err, refl, ap, arith}
 use Rattle.std.specs.Prelude.{IfErr, OnOk}
 use Rattle.base_core.specs.Faults.{Counts, GoesOn, HasCause, IsNoFault}
+use Rattle.base_core.specs.Read.{OnlyReads}
+use Rattle.base_core.specs.Tree.{TreeState}
 use Rattle.change_inputs.specs.declared.root.Refused.{Refused}
-use Rattle.change_inputs.specs.declared.root.Refused.TheVariants.{Disk}
+use Rattle.change_inputs.specs.declared.root.Refused.TheVariants.{Disk, Memory}
 use Rattle.engine_core.specs.Runs.{IsRunCounted}
 
 goes_on_both : (a b c : Counts) → GoesOn a b → GoesOn b c → GoesOn a c
@@ -33,3 +35,20 @@ counted_behind {A} a b c result on none cause counted = record {
     others : (r : Result A Refused) → IfErr r (λ refused. (refused ≡ Disk → ⊥) → IsNoFault b c) → IfErr r (λ refused. (refused ≡ Disk → ⊥) → IsNoFault a c)
     others (Ok x) is = tt
     others (Err e) is = λ not. no_fault_both a b c none (is not)
+
+same_error : {A : Type 0} (r : Result A Refused) (e f : Refused) → r ≡ Err e → r ≡ Err f → e ≡ f
+same_error r e f one other = cc
+
+-- calls that only read, and end in an error
+pub counted_error : {A B : Type 0} (old now : List TreeState) (a b : Counts) (fault : Refused) → OnlyReads {A = A} Disk old now a b (Err fault) → IsRunCounted {A = B} a b (Err fault)
+counted_error old now a b fault reads = record { goes_on = reads.goes_on; disk = λ is. reads.disk (ap Err (same_error _ fault Disk refl is)); kept = tt; others = reads.others }
+
+-- calls that only read, and then an end that is no I/O error
+pub counted_fault : {A B : Type 0} (old now : List TreeState) (a b : Counts) (x : A) (fault : Refused) → (fault ≡ Disk → ⊥) → OnlyReads Disk old now a b (Ok x) → IsRunCounted {A = B} a b (Err fault)
+counted_fault old now a b x fault never reads = record { goes_on = reads.goes_on; disk = λ is. absurd (never (same_error _ fault Disk refl is)); kept = tt; others = λ not. reads.kept }
+
+pub counted_report : {A B : Type 0} (old now : List TreeState) (a b : Counts) (x : A) (report : B) → OnlyReads Disk old now a b (Ok x) → IsRunCounted {A = B} a b (Ok report)
+counted_report old now a b x report reads = record { goes_on = reads.goes_on; disk = λ is. absurd (cc); kept = reads.kept; others = tt }
+
+pub memory_no_disk : Memory ≡ Disk → ⊥
+memory_no_disk is = cc

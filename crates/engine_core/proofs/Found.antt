@@ -36,11 +36,11 @@ use Rattle.path_clashes.specs.FirstClash.{IsClashOf, MayBeClashOf}
 use Rattle.report_core.specs.declared.refusal.Refusal.{Refusal}
 use Rattle.report_core.specs.declared.refusal.Refusal.TheVariants.{Owned, PathClash, Reserved}
 use Rattle.engine_core.specs.ChangeRun.{ComesTo}
-use Rattle.engine_core.specs.Finishing.{IsArrived, IsPlanned, inputs_arrived, replacement_arrived}
-use Rattle.engine_core.specs.Making.{IsFoundRun}
-use Rattle.engine_core.specs.Plans.{IsRefusedFor}
+use Rattle.engine_core.specs.Finishing.{AreArrivals, IsArrived, IsPlanned, inputs_arrived, replacement_arrived}
+use Rattle.engine_core.specs.Plans.{HasNoPlan, IsPlanFrom, IsRefusedFor}
 use Rattle.engine_core.specs.declared.planning.Arrived.{Arrived}
 use Rattle.engine_core.specs.declared.planning.Planned.{Planned}
+use Rattle.engine_core.proofs.FoundRuns.{IsFoundRun}
 use Rattle.engine_core.proofs.Early.{HaveClash, IsOnlyRead, comes_to_failure, comes_to_refusal, nothing_within}
 use Rattle.engine_core.proofs.WholeRuns.{comes_behind_reads}
 
@@ -156,15 +156,15 @@ module _ (have : HaveClash) (inputs : Inputs) (r : Replacement) (wishes : Change
 -- ---- a plan
 
 change_is : (history : List TreeState) (a : Arrived) (wishes : ChangeWishes) (found : List MemberFound) → IsArrived history a found
-    → change_by a.selection.now.db.now a.members.now wishes.purge ≡ file_change (inputs_arrived a) wishes found
+    → change_by a.selection.now.db a.members.now wishes.purge ≡ file_change (inputs_arrived a) wishes found
 change_is history a wishes found arrived = λ i. record { old = arrived.read.database i; members = arrived.members i; purge = wishes.purge }
 
 -- why there is none, of the packages that are found
 pub unplanned_run : HaveClash → (old now : List TreeState) (before after : Counts) (a : Arrived) (wishes : ChangeWishes) (read : Reads) (found : List MemberFound) (fault : PlanFault) (refused : Refused)
     → All IsWhole old → IsOnlyRead old now before after → IsArrived old a found → change_members (inputs_arrived a) (replacement_arrived a) wishes read ≡ Ok found
     → IsRefusedFor fault refused → IsRefusalFor (members_of a.members.now) fault
-    → IfObservable old (λ v. IsRefusalOf (change_by a.selection.now.db.now a.members.now wishes.purge) (files_of v) fault)
-    → MayBeRefusalOf (change_by a.selection.now.db.now a.members.now wishes.purge) old fault
+    → IfObservable old (λ v. IsRefusalOf (change_by a.selection.now.db a.members.now wishes.purge) (files_of v) fault)
+    → MayBeRefusalOf (change_by a.selection.now.db a.members.now wishes.purge) old fault
     → IsFoundRun (inputs_arrived a) (replacement_arrived a) wishes found old now before after (Err refused)
 unplanned_run have old now before after a wishes read found fault refused whole quiet arrived is_found is cause first may =
     unplanned have (inputs_arrived a) (replacement_arrived a) wishes read found is_found old now before after whole quiet fault refused is
@@ -172,10 +172,17 @@ unplanned_run have old now before after a wishes read found fault refused whole 
     (subst (λ (c : FileChange). IfObservable old (λ v. IsRefusalOf c (files_of v) fault)) (change_is old a wishes found arrived) first)
     (subst (λ (c : FileChange). MayBeRefusalOf c old fault) (change_is old a wishes found arrived) may)
 
+-- the same, of the step that plans
+pub unplanned_step : HaveClash → (old now : List TreeState) (before after : Counts) (a : Arrived) (wishes : ChangeWishes) (read : Reads) (found : List MemberFound) (refused : Refused)
+    → HasNoPlan old wishes a refused → All IsWhole old → IsOnlyRead old now before after → IsArrived old a found → change_members (inputs_arrived a) (replacement_arrived a) wishes read ≡ Ok found
+    → IsFoundRun (inputs_arrived a) (replacement_arrived a) wishes found old now before after (Err refused)
+unplanned_step have old now before after a wishes read found refused why whole quiet arrived is_found =
+    unplanned_run have old now before after a wishes read found why.fault refused whole quiet arrived is_found why.reported why.cause why.first why.may
+
 pub planned_now : (old mid : List TreeState) → mid ≡ old → (p : Planned) (wishes : ChangeWishes) (found : List MemberFound) → IsArrived old p.arrived.now found
-    → (plan : IsPlanOf (change_by p.arrived.now.selection.now.db.now p.arrived.now.members.now wishes.purge) old p.plan.now)
+    → (plan : IsPlanOf (change_by p.arrived.now.selection.now.db p.arrived.now.members.now wishes.purge) old p.plan.now)
     → HasOwnNames p.plan.now → HasSources (members_of p.arrived.now.members.now) p.plan.now → IsPlanFor (members_of p.arrived.now.members.now) p.plan.now
-    → All (λ l. is_reserved l.path ≡ false) (member_listings (map staying_member (packages_of p.arrived.now.selection.now.db.now)))
+    → All (λ l. is_reserved l.path ≡ false) (member_listings (map staying_member (packages_of p.arrived.now.selection.now.db)))
     → IsPlanned mid wishes p found plan.files
 unfolding old_listings
 planned_now old mid same p wishes found arrived plan names sources owners unreserved =
@@ -192,7 +199,7 @@ planned_now old mid same p wishes found arrived plan names sources owners unrese
     })
 
 pub planned_run : (old mid now : List TreeState) (before between after : Counts) (a : Arrived) (p : FilePlan) (wishes : ChangeWishes) (found : List MemberFound) (result : Result (List ℕ) Refused)
-    → IsOnlyRead old mid before between → IsArrived old a found → (plan : IsPlanOf (change_by a.selection.now.db.now a.members.now wishes.purge) old p) → IsPlanFor (members_of a.members.now) p
+    → IsOnlyRead old mid before between → IsArrived old a found → (plan : IsPlanOf (change_by a.selection.now.db a.members.now wishes.purge) old p) → IsPlanFor (members_of a.members.now) p
     → ComesTo (Ok found)
     (and_then (unless_trigger wishes.no_scripts (touched_paths (file_change (inputs_arrived a) wishes found) plan.files) (members_found found))
     (λ allowed. unless_too_large (inputs_arrived a) (replacement_arrived a) wishes found plan.files)) mid now between after result
@@ -218,3 +225,25 @@ planned_run old mid now before between after a p wishes found result quiet arriv
       comes = subst (λ (w : Result ChangeDone Refusal). ComesTo (Ok found) w old now before after result) (sym wanted_is)
           (comes_behind_reads (Ok found) rest old mid now before between after result quiet comes);
     }
+
+-- the same two, of the step that plans
+pub planned_step : (old mid : List TreeState) (p : Planned) (wishes : ChangeWishes) (found : List MemberFound) → (plan : IsPlanFrom old wishes p.arrived.now p.plan.now) → mid ≡ old → IsArrived old p.arrived.now found
+    → IsPlanned mid wishes p found plan.lists.files
+planned_step old mid p wishes found plan same arrived =
+    planned_now old mid same p wishes found arrived plan.lists plan.names plan.sources plan.owners plan.unreserved
+
+pub planned_step_run : (old mid now : List TreeState) (before between after : Counts) (p : Planned) (wishes : ChangeWishes) (found : List MemberFound) (result : Result (List ℕ) Refused)
+    → ((files : Files) → IsPlanned mid wishes p found files
+    → ComesTo (Ok found)
+    (and_then (unless_trigger wishes.no_scripts (touched_paths (file_change (inputs_arrived p.arrived.now) wishes found) files) (members_found found))
+    (λ allowed. unless_too_large (inputs_arrived p.arrived.now) (replacement_arrived p.arrived.now) wishes found files)) mid now between after result)
+    → IsPlanFrom old wishes p.arrived.now p.plan.now → IsOnlyRead old mid before between → IsArrived old p.arrived.now found
+    → IsFoundRun (inputs_arrived p.arrived.now) (replacement_arrived p.arrived.now) wishes found old now before after result
+planned_step_run old mid now before between after p wishes found result comes plan quiet arrived =
+    planned_run old mid now before between after p.arrived.now p.plan.now wishes found result quiet arrived plan.lists plan.owners
+    (comes plan.lists.files (planned_step old mid p wishes found plan quiet.same arrived))
+
+-- the packages after a change have arrived
+pub has_arrived : (history : List TreeState) (a : Arrived) (found : List MemberFound) → members_of a.members.now ≡ members_found found → AreArrivals history a.selection.now a.names.now a.arrivals.now found
+    → IsArrived history a found
+has_arrived history a found members read = record { read = read; members = members }

@@ -13,7 +13,9 @@ pub mod SpoiledPackages
 pub mod Carries
 pub mod Elements
 pub mod Written
+pub mod FoundRuns
 pub mod Found
 pub mod Counted
+pub mod PlanSteps
 pub mod Made
 pub mod Worked

@@ -33,12 +33,12 @@ use Rattle.report_core.specs.declared.refusal.Refusal.{Refusal}
 use Rattle.engine_core.specs.ChangeRun.{ComesTo}
 use Rattle.engine_core.specs.Changed.{IsClashOfSelectedOver, IsClashUnlessSimulatedOver, change_of_selected, simulated_change}
 use Rattle.engine_core.specs.Finishing.{AreArrivals, IsRootRead}
-use Rattle.engine_core.specs.Making.{IsFoundRun}
 use Rattle.engine_core.specs.Runs.{IsSelectedRun}
 use Rattle.engine_core.specs.Selecting.{pool_by}
 use Rattle.engine_core.specs.SelectionSeen.{HasItsDatabase, inputs_of_selection, replacement_seen, selection_seen}
 use Rattle.engine_core.specs.Wishes.{wishes_of}
 use Rattle.engine_core.specs.declared.choosing.Selection.{Selection}
+use Rattle.engine_core.proofs.FoundRuns.{IsFoundRun}
 use Rattle.engine_core.proofs.Early.{HaveClash, IsOnlyRead, comes_to_refusal, files_seen, selected_failure}
 use Rattle.engine_core.proofs.WholeRuns.{run_behind_reads}
 
@@ -63,10 +63,10 @@ module _ (s : Selection) (database : HasItsDatabase s) (command : CommandLine) w
   wishes = wishes_of command
 
   abbrev placed : Replacement
-  placed = replacement_of (replacement_by s.db.now s.pool.now s.trace.now s.again.now)
+  placed = replacement_of (replacement_by s.db s.pool s.trace s.again)
 
   placed_is : placed ≡ replacement_seen s
-  placed_is = λ i. record { before = database i; selected = candidates_at s.pool.now s.trace.now; again = s.again.now }
+  placed_is = λ i. record { before = database i; selected = candidates_at s.pool s.trace; again = s.again }
 
   members_are : (read : Reads) (repositories : List Repository) (flags : Flags) → repositories ≡ inputs.root.repositories → flags ≡ command.flags
       → members_after placed read repositories flags.no_scripts ≡ change_members inputs (replacement_seen s) wishes read
@@ -92,7 +92,7 @@ module _ (s : Selection) (database : HasItsDatabase s) (command : CommandLine) w
         (repositories : List Repository) (are : repositories ≡ inputs.root.repositories) (flags : Flags) (is_flags : flags ≡ command.flags) where
       -- a package that comes is refused
       pub unarrived : (fault : Refused)
-          → Explains old (λ read. StandsUnlessDisk (λ (a : Arrivals) (found : List MemberFound). AreMembersRead old (packages_of s.db.now) (arrivals_seen a) found) (Err fault) (members_after placed read repositories flags.no_scripts))
+          → Explains old (λ read. StandsUnlessDisk (λ (a : Arrivals) (found : List MemberFound). AreMembersRead old (packages_of s.db) (arrivals_seen a) found) (Err fault) (members_after placed read repositories flags.no_scripts))
           → IsSelectedRun command (Ok (selection_seen s)) old mid before between (Err fault)
       unarrived (IsRefused refusal) explained =
           let read = explained.read in
@@ -113,8 +113,8 @@ module _ (s : Selection) (database : HasItsDatabase s) (command : CommandLine) w
       unarrived Memory explained = selected_failure command (Ok (selection_seen s)) old mid before between have whole quiet Memory tt
 
       -- the packages that come are read
-      module _ (root : IsRootRead old inputs) (names : PlacedNames) (named : placed_names_seen names ≡ placed_names_of (replacement_by s.db.now s.pool.now s.trace.now s.again.now)) (arrivals : Arrivals)
-          (explained : Explains old (λ read. StandsUnlessDisk (λ a found. AreMembersRead old (packages_of s.db.now) (arrivals_seen a) found) (Ok arrivals) (members_after placed read repositories flags.no_scripts))) where
+      module _ (root : IsRootRead old inputs) (names : PlacedNames) (named : placed_names_seen names ≡ placed_names_of (replacement_by s.db s.pool s.trace s.again)) (arrivals : Arrivals)
+          (explained : Explains old (λ read. StandsUnlessDisk (λ a found. AreMembersRead old (packages_of s.db) (arrivals_seen a) found) (Ok arrivals) (members_after placed read repositories flags.no_scripts))) where
         found_is : change_members inputs (replacement_seen s) wishes explained.read ≡ Ok explained.is.0
         found_is = sym (members_are explained.read repositories flags are is_flags) ∙ explained.is.1
 

@@ -5,6 +5,7 @@ use Rattle.std.specs.Result.{IsErrAnd}
 use Rattle.base_core.specs.Faults.{Counts}
 use Rattle.base_core.specs.Tree.{IsWhole, TreeState}
 use Rattle.change_inputs.specs.Answers.{Agrees, IsFailure}
+use Rattle.change_inputs.specs.Candidates.{root_pool}
 use Rattle.change_inputs.specs.Chains.{and_then}
 use Rattle.change_inputs.specs.Inputs.{Inputs}
 use Rattle.change_inputs.specs.declared.root.Refused.{Refused}
@@ -12,19 +13,31 @@ use Rattle.change_inputs.specs.declared.root.Refused.TheVariants.{Disk, Memory, 
 use Rattle.change_outcome.specs.ChangeOutcome.{ChangeDone, change_or_refusal}
 use Rattle.command_core.specs.Command.{CommandLine}
 use Rattle.package_changes.specs.Report.{simulated_report}
-use Rattle.candidate_core.specs.Rank.{SealedPool}
+use Rattle.candidate_core.specs.Rank.{SealedPool, UpgradedNames}
 use Rattle.report_core.specs.declared.refusal.Refusal.{Refusal}
 use Rattle.report_core.specs.declared.refusal.Refusal.TheVariants.{NotInstalled}
 use Rattle.engine_core.specs.Changed.{Selected, selected_by, selected_of_inputs, simulated_change}
 use Rattle.engine_core.specs.Choice.{IsChoice, IsChoiceFrom}
 use Rattle.engine_core.specs.Chosen.{IsChosen}
-use Rattle.engine_core.specs.Runs.{IsRunBy, IsSelectedRun}
+use Rattle.engine_core.specs.Runs.{IsSelectedRun}
 use Rattle.engine_core.specs.Selecting.{pool_by, replacement_of_choice}
-use Rattle.engine_core.specs.Wishes.{names_to_go, names_to_reinstall, unknown_place, unless_place, wishes_of}
+use Rattle.engine_core.specs.SelectionSeen.{IsSelectedFrom, selection_seen}
+use Rattle.engine_core.specs.Wishes.{names_to_go, names_to_reinstall, names_to_upgrade, unknown_place, unless_place, wishes_of}
+use Rattle.engine_core.specs.declared.choosing.Selection.{Selection}
 use Rattle.engine_core.proofs.Early.{HaveClash, IsOnlyRead, Seen, comes_to_idle, of_seen, seen_any, selected_failure, selected_refusal}
 
 abbrev pub HaveChoice : Type 0
 HaveChoice = (pool : Result SealedPool Refusal) → (chosen : Option (List ℕ)) × IsChoiceFrom pool chosen
+
+-- a run by these inputs, and by whatever is chosen among their candidates
+abbrev pub IsRunBy :
+    CommandLine → Inputs → List TreeState → List TreeState → Counts → Counts
+    → Result (List ℕ) Refused → Type 0
+IsRunBy command inputs old now before after result =
+    (chosen : Option (List ℕ))
+    × IsChoiceFrom (pool_by command inputs) chosen
+    × IsSelectedRun command (selected_of_inputs command chosen inputs)
+    old now before after result
 
 pub with_error : {A : Type 0} (P : Result A Refused → Type 0) (r : Result A Refused) (fault : Refused) → IsErrAnd r (λ e. e ≡ fault) → P (Err fault) → P r
 with_error P (Ok a) fault is p = absurd is
@@ -36,18 +49,43 @@ module _ (command : CommandLine) (inputs : Inputs) (old now : List TreeState) (b
       let (chosen, choice) = choose (pool_by command inputs) in
       (chosen, choice, selected_failure command (selected_of_inputs command chosen inputs) old now before after have whole quiet fault is)
 
-  by_refusal : HaveClash → All IsWhole old → IsOnlyRead old now before after → (chosen : Option (List ℕ)) → IsChoiceFrom (pool_by command inputs) chosen → (refusal : Refusal) → selected_of_inputs command chosen inputs ≡ Err refusal
-      → IsRunBy command inputs old now before after (Err (IsRefused refusal))
-  by_refusal have whole quiet chosen choice refusal is =
+  -- nothing is selected
+  pub unselected_run : HaveClash → All IsWhole old → IsOnlyRead old now before after → (fault : Refused) → IsSelectedFrom command inputs (Err fault) → IsRunBy command inputs old now before after (Err fault)
+  unselected_run have whole quiet (IsRefused refusal) (chosen, choice, is) =
       (chosen, choice, selected_refusal command (selected_of_inputs command chosen inputs) old now before after have whole quiet refusal is)
+  unselected_run have whole quiet Disk (chosen, choice, is) = absurd is
+  unselected_run have whole quiet Memory (chosen, choice, is) =
+      (chosen, choice, selected_failure command (selected_of_inputs command chosen inputs) old now before after have whole quiet Memory tt)
+
+  -- a selection is made
+  pub selected_run : (s : Selection) (result : Result (List ℕ) Refused) → IsSelectedFrom command inputs (Ok s) → IsSelectedRun command (Ok (selection_seen s)) old now before after result → IsRunBy command inputs old now before after result
+  selected_run s result (chosen, choice, is) run = (chosen, choice, subst (λ (r : Result Selected Refusal). IsSelectedRun command r old now before after result) (sym is) run)
+
+-- ---- what is selected
+
+module _ (command : CommandLine) (inputs : Inputs) where
+  pub out_of_memory : HaveChoice → IsSelectedFrom command inputs (Err Memory)
+  out_of_memory choose = let (chosen, choice) = choose (pool_by command inputs) in (chosen, choice, tt)
+
+  -- it is no I/O error
+  pub not_disk : (fault : Refused) → IsSelectedFrom command inputs (Err fault) → fault ≡ Disk → ⊥
+  not_disk (IsRefused refusal) selected is = cc
+  not_disk Disk (chosen, choice, bad) is = bad
+  not_disk Memory selected is = cc
 
   -- there are too many candidates
-  pub without_pool : HaveChoice → HaveClash → All IsWhole old → IsOnlyRead old now before after → (fault : Refused) → Agrees (λ (pool : SealedPool). pool) (Err fault) (pool_by command inputs) → IsRunBy command inputs old now before after (Err fault)
-  without_pool choose have whole quiet (IsRefused refusal) is =
-      by_refusal have whole quiet None (subst (λ (p : Result SealedPool Refusal). IsChoiceFrom p None) (sym is) refl) refusal
-      (ap (λ (p : Result SealedPool Refusal). and_then p (λ pool. unless_place (unknown_place command.applet inputs command.operands) (selected_by command inputs pool None))) is)
-  without_pool choose have whole quiet Disk is = absurd is
-  without_pool choose have whole quiet Memory is = run_failure choose have whole quiet Memory tt
+  pub without_pool : HaveChoice → (fault : Refused) (names : UpgradedNames) → names ≡ names_to_upgrade command.applet command.operands → Agrees (λ (pool : SealedPool). pool) (Err fault) (root_pool inputs names) → IsSelectedFrom command inputs (Err fault)
+  without_pool choose fault names same agrees =
+      by fault (subst (λ (p : Result SealedPool Refusal). Agrees (λ (pool : SealedPool). pool) (Err fault) p) (ap (root_pool inputs) same) agrees)
+    where
+      by : (fault : Refused) → Agrees (λ (pool : SealedPool). pool) (Err fault) (pool_by command inputs) → IsSelectedFrom command inputs (Err fault)
+      by (IsRefused refusal) is = (
+        None,
+        subst (λ (p : Result SealedPool Refusal). IsChoiceFrom p None) (sym is) refl,
+        ap (λ (p : Result SealedPool Refusal). and_then p (λ pool. unless_place (unknown_place command.applet inputs command.operands) (selected_by command inputs pool None))) is,
+      )
+      by Disk is = absurd is
+      by Memory is = out_of_memory choose
 
   module _ (pool : SealedPool) (pool_is : pool_by command inputs ≡ Ok pool) where
     selected_is : (chosen : Option (List ℕ)) (unknown : Option ℕ) → unknown_place command.applet inputs command.operands ≡ unknown
@@ -60,31 +98,25 @@ module _ (command : CommandLine) (inputs : Inputs) (old now : List TreeState) (b
     choice_is chosen choice = subst (λ (p : Result SealedPool Refusal). IsChoiceFrom p chosen) (sym pool_is) choice
 
     -- an operand is not known
-    pub unknown_run : HaveChoice → HaveClash → All IsWhole old → IsOnlyRead old now before after → (place : ℕ) → unknown_place command.applet inputs command.operands ≡ Some place
-        → IsRunBy command inputs old now before after (Err (IsRefused (NotInstalled place)))
-    unknown_run choose have whole quiet place is =
+    pub unknown_operand_found : HaveChoice → (place : ℕ) → unknown_place command.applet inputs command.operands ≡ Some place → IsSelectedFrom command inputs (Err (IsRefused (NotInstalled place)))
+    unknown_operand_found choose place is =
         let (chosen, choice) = choose (pool_by command inputs) in
-        by_refusal have whole quiet chosen choice (NotInstalled place) (selected_is chosen (Some place) is)
+        (chosen, choice, selected_is chosen (Some place) is)
 
     module _ (known : unknown_place command.applet inputs command.operands ≡ None) (chosen : Option (List ℕ)) (choice : IsChoice pool chosen) where
       -- no selection satisfies the world
-      pub unchosen_run : HaveClash → All IsWhole old → IsOnlyRead old now before after → (fault : Refused) → IsChosen chosen (Err fault) → IsRunBy command inputs old now before after (Err fault)
-      unchosen_run have whole quiet (IsRefused refusal) is =
-          by_refusal have whole quiet chosen (choice_is chosen choice) refusal
-          (selected_is chosen None known ∙ ap (selected_by command inputs pool) is.0 ∙ ap Err (sym is.1))
-      unchosen_run have whole quiet Disk is = absurd is
-      unchosen_run have whole quiet Memory is =
-          (chosen, choice_is chosen choice, selected_failure command (selected_of_inputs command chosen inputs) old now before after have whole quiet Memory tt)
+      pub unchosen : (fault : Refused) → IsChosen chosen (Err fault) → IsSelectedFrom command inputs (Err fault)
+      unchosen (IsRefused refusal) is =
+          (chosen, choice_is chosen choice, selected_is chosen None known ∙ ap (selected_by command inputs pool) is.0 ∙ ap Err (sym is.1))
+      unchosen Disk is = absurd is
+      unchosen Memory is = (chosen, choice_is chosen choice, tt)
 
       -- a selection does
-      pub chosen_run : (trace : List ℕ) (result : Result (List ℕ) Refused) → chosen ≡ Some trace
-          → IsSelectedRun command (Ok (record { inputs = inputs; replacement = replacement_of_choice (names_to_reinstall command.applet command.operands) inputs pool trace })) old now before after result
-          → IsRunBy command inputs old now before after result
-      chosen_run trace result is run = (
-        chosen,
-        choice_is chosen choice,
-        subst (λ (s : Result Selected Refusal). IsSelectedRun command s old now before after result) (sym (selected_is chosen None known ∙ ap (selected_by command inputs pool) is)) run,
-      )
+      pub selection_by : (s : Selection) (trace : List ℕ) → chosen ≡ Some trace
+          → record { inputs = inputs; replacement = replacement_of_choice (names_to_reinstall command.applet command.operands) inputs pool trace } ≡ selection_seen s
+          → IsSelectedFrom command inputs (Ok s)
+      selection_by s trace is seen =
+          (chosen, choice_is chosen choice, selected_is chosen None known ∙ ap (selected_by command inputs pool) is ∙ ap Ok seen)
 
 -- ---- a change that is only simulated
 

@@ -28,11 +28,11 @@ use Rattle.engine_core.specs.Finishing.{IsRootRead}
 use Rattle.engine_core.specs.ChangeRun.{ComesTo, IsChangeRun}
 use Rattle.engine_core.specs.Changed.{IsClashOfSelected, IsClashOfSelectedOver, IsClashUnlessSimulatedOver, Selected, change_of_selected, change_of_command, packages_found, selected_by, selected_for, selected_of_inputs, simulated_change}
 use Rattle.engine_core.specs.Choice.{IsChoiceFrom}
-use Rattle.engine_core.specs.Runs.{IsRunBy, IsSelectedRun}
+use Rattle.engine_core.specs.Runs.{IsSelectedRun}
 use Rattle.engine_core.specs.Selecting.{pool_by, pool_for}
 use Rattle.engine_core.specs.Wishes.{unknown_place, unless_place, wishes_of}
 use Rattle.engine_core.proofs.Early.{HaveClash, IsOnlyRead, comes_to_failure, comes_to_refusal, files_seen}
-use Rattle.engine_core.proofs.SelectedRuns.{HaveChoice}
+use Rattle.engine_core.proofs.SelectedRuns.{HaveChoice, IsRunBy}
 
 -- what is read of the root, and what is read behind it, rest on reads of their own
 pub record HaveOwnReads : Type 0 where

@@ -55,8 +55,8 @@ pub record AreArrivals (history : List TreeState) (s : Selection) (names : Place
     (arrivals : Arrivals) (found : List MemberFound) : Type 0 where
   pub database : HasItsDatabase s
   pub placed : placed_names_seen names
-      ≡ placed_names_of (replacement_by s.db.now s.pool.now s.trace.now s.again.now)
-  pub read : AreMembersRead history (packages_of s.db.now) (arrivals_seen arrivals) found
+      ≡ placed_names_of (replacement_by s.db s.pool s.trace s.again)
+  pub read : AreMembersRead history (packages_of s.db) (arrivals_seen arrivals) found
   pub root : IsRootRead history (inputs_of_selection s)
 
 -- the packages after a change have arrived: they were read, and one database can list their members

@@ -12,4 +12,3 @@ pub mod Plans
 pub mod Writing
 pub mod Finishing
 pub mod Carrying
-pub mod Making

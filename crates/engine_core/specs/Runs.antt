@@ -1,12 +1,11 @@
--- What the steps of a run of a change promise, each by its inputs. Serves the contracts of
--- `src/changing.rt`; the contract of the whole run is *IsChangeRun*.
+-- What a run promises by what is selected, and how its counts explain its answer. Serves the contracts
+-- of `src/changing.rt` and `src/making.rt`; the contract of the whole run is *IsChangeRun*.
 use Rattle.std.specs.Prelude.{◌≡◌, ℕ, List, Option, Result, OnOk, IfErr, IsErrOf}
 use Rattle.base_core.specs.Calls.{IfObservable}
 use Rattle.base_core.specs.Faults.{Counts, GoesOn, HasCause, IsNoFault}
 use Rattle.base_core.specs.Files.{Files}
 use Rattle.base_core.specs.Tree.{TreeState, files_of}
 use Rattle.change_inputs.specs.Chains.{and_then}
-use Rattle.change_inputs.specs.Inputs.{Inputs}
 use Rattle.change_inputs.specs.declared.root.Refused.{Refused}
 use Rattle.change_inputs.specs.declared.root.Refused.TheVariants.{Disk}
 use Rattle.command_core.specs.Command.{CommandLine}
@@ -15,9 +14,7 @@ use Rattle.package_files.specs.Runs.{AreObserved}
 use Rattle.path_clashes.specs.Clash.{NamePair}
 use Rattle.report_core.specs.declared.refusal.Refusal.{Refusal}
 use Rattle.engine_core.specs.ChangeRun.{ComesTo}
-use Rattle.engine_core.specs.Changed.{IsClashOfSelectedOver, Selected, change_of_selected, packages_found, selected_of_inputs}
-use Rattle.engine_core.specs.Choice.{IsChoiceFrom}
-use Rattle.engine_core.specs.Selecting.{pool_by}
+use Rattle.engine_core.specs.Changed.{IsClashOfSelectedOver, Selected, change_of_selected, packages_found}
 
 -- a run by what is selected, or by the refusal instead
 pub record IsSelectedRun (command : CommandLine) (selected : Result Selected Refusal)
@@ -34,16 +31,6 @@ pub record IsSelectedRun (command : CommandLine) (selected : Result Selected Ref
   pub comes : ComesTo (packages_found command read selected)
       (and_then selected (change_of_selected command read files clash))
       old now before after result
-
--- a run by these inputs, and by whatever is chosen among their candidates
-abbrev pub IsRunBy :
-    CommandLine → Inputs → List TreeState → List TreeState → Counts → Counts
-    → Result (List ℕ) Refused → Type 0
-IsRunBy command inputs old now before after result =
-    (chosen : Option (List ℕ))
-    × IsChoiceFrom (pool_by command inputs) chosen
-    × IsSelectedRun command (selected_of_inputs command chosen inputs)
-    old now before after result
 
 -- the effect of a call on the counts of a tree that it may write
 pub record IsRunCounted {A : Type 0} (before after : Counts) (result : Result A Refused) : Type 0 where

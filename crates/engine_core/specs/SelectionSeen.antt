@@ -1,12 +1,17 @@
--- What a selection of the program means. Serves the contracts of `src/changing.rt` and `src/making.rt`,
--- which pass a `Selection` on.
-use Rattle.std.specs.Prelude.{◌≡◌}
+-- What a selection of the program means. Serves the contracts of `src/choosing.rt`, which makes a
+-- `Selection`, and of the steps that use one; the rules are in `docs/commands.md`, "`add` and `del`" and
+-- "`upgrade` and `fix`", what is refused.
+use Rattle.std.specs.Prelude.{◌≡◌, ℕ, List, Ok, Option, Result}
+use Rattle.change_inputs.specs.Answers.{Agrees}
 use Rattle.change_inputs.specs.Inputs.{Inputs}
 use Rattle.change_inputs.specs.Seen.{inputs_seen}
+use Rattle.change_inputs.specs.declared.root.Refused.{Refused}
+use Rattle.command_core.specs.Command.{CommandLine}
 use Rattle.db_core.specs.Seen.{packages_of}
 use Rattle.package_changes.specs.Changes.{Replacement}
-use Rattle.engine_core.specs.Changed.{Selected}
-use Rattle.engine_core.specs.Selecting.{replacement_of_choice}
+use Rattle.engine_core.specs.Changed.{Selected, selected_of_inputs}
+use Rattle.engine_core.specs.Choice.{IsChoiceFrom}
+use Rattle.engine_core.specs.Selecting.{pool_by, replacement_of_choice}
 use Rattle.engine_core.specs.declared.choosing.Selection.{Selection}
 
 -- what was read of the root for a selection
@@ -16,7 +21,7 @@ inputs_of_selection s = inputs_seen s.loaded.now
 -- the chosen candidates in the place of the packages before
 abbrev pub replacement_seen : Selection → Replacement
 replacement_seen s =
-    replacement_of_choice s.again.now (inputs_of_selection s) s.pool.now s.trace.now
+    replacement_of_choice s.again (inputs_of_selection s) s.pool s.trace
 
 -- what contracts see in a selection: what was read of the root, and the replacement
 abbrev pub selection_seen : Selection → Selected
@@ -25,4 +30,19 @@ selection_seen s =
 
 -- the database of a selection is the one of its inputs
 abbrev pub HasItsDatabase : Selection → Type 0
-HasItsDatabase s = packages_of s.db.now ≡ (inputs_of_selection s).root.database.packages
+HasItsDatabase s = packages_of s.db ≡ (inputs_of_selection s).root.database.packages
+
+-- ---- a choice is made
+
+-- what a command selects by the choice among its candidates; or its refusal
+abbrev pub IsSelectedFrom : CommandLine → Inputs → Result Selection Refused → Type 0
+IsSelectedFrom command inputs result =
+    (chosen : Option (List ℕ))
+    × IsChoiceFrom (pool_by command inputs) chosen
+    × Agrees selection_seen result (selected_of_inputs command chosen inputs)
+
+-- a selection has these inputs, their database, and the command's candidates
+pub record IsSelectionFor (command : CommandLine) (inputs : Inputs) (s : Selection) : Type 0 where
+  pub inputs_are : inputs_of_selection s ≡ inputs
+  pub database : HasItsDatabase s
+  pub pool : pool_by command (inputs_of_selection s) ≡ Ok s.pool

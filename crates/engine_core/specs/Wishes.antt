@@ -25,6 +25,11 @@ names_to_upgrade Upgrade [] = all_names
 names_to_upgrade Upgrade (o ∷ operands) = listed_names (operand_texts (o ∷ operands))
 names_to_upgrade applet operands = no_names
 
+-- the texts of the operands of `upgrade`, and none for another command
+abbrev pub names_of_upgrade : Applet → List Operand → List (List ℕ)
+names_of_upgrade Upgrade operands = operand_texts operands
+names_of_upgrade applet operands = []
+
 -- the names that `fix` reinstalls: those of its operands
 abbrev pub names_to_reinstall : Applet → List Operand → List (List ℕ)
 names_to_reinstall Fix operands = operand_texts operands

@@ -2,28 +2,23 @@
 //! in `docs/commands.md`, "`add` and `del`" and "`upgrade` and `fix`": the refusals, in their
 //! order, and the report.
 
-ghost use Rattle.change_inputs.specs.Seen.{inputs_seen};
 ghost use Rattle.engine_core.specs.ChangeRun.{IsChangeRun};
-ghost use Rattle.engine_core.specs.Finishing.{IsRootRead};
-ghost use Rattle.engine_core.specs.Runs.{IsRunBy, IsRunCounted, IsSelectedRun};
-ghost use Rattle.engine_core.specs.Selecting.{pool_by};
-ghost use Rattle.engine_core.specs.SelectionSeen.{HasItsDatabase, inputs_of_selection, selection_seen, replacement_seen};
-ghost use Rattle.engine_core.specs.Wishes.{names_to_reinstall, names_to_go};
+ghost use Rattle.engine_core.specs.Runs.{IsRunCounted};
+ghost use Rattle.engine_core.specs.SelectionSeen.{HasItsDatabase, replacement_seen};
+ghost use Rattle.engine_core.specs.Wishes.{names_to_go};
 ghost use Rattle.stage_run.specs.Asked.{IsAskedRun};
-ghost use Rattle.std.specs.Prelude.{◌≡◌, Ok, IfOk};
+ghost use Rattle.std.specs.Prelude.{◌≡◌, IfOk};
 ghost use Rattle.package_changes.specs.Report.{simulated_report};
 
 use crate::choosing::{Selection, a_choice_exists, choose};
 use crate::making::make_change;
-use crate::wishes::{names_to_go, names_to_reinstall, names_to_upgrade, unknown_operand};
+use crate::wishes::{names_of_upgrade, names_to_go};
 use arrivals::packages_after_a_change_rest_on_later_reads;
-use base_core::{Text, Tree, Words};
-use change_inputs::{Loaded, Refused, inputs_rest_on_their_own_reads, operand_texts};
+use base_core::{Text, Tree};
+use change_inputs::{Loaded, Refused, inputs_rest_on_their_own_reads};
 use change_outcome::{a_change_has_a_first_clash_or_none, what_is_read_of_a_root_stands_there};
 use command_core::Command;
 use package_changes::{Changes, simulated_report};
-use pool_core::Sealed;
-use report_core::Refusal;
 use stage_run::asked_runs_begin_with_reads;
 use std::alloc::{AllocError, Global};
 
@@ -56,108 +51,17 @@ pub fn change<T: Tree>(alloc: Global, command: &Command, tree: &mut T) -> Result
     packages_after_a_change_rest_on_later_reads();
     what_is_read_of_a_root_stands_there();
     let loaded = Loaded::read(alloc, command, tree)?;
-    change_loaded(alloc, command, &loaded, tree)
-}
-
-// Continues with what was read of the root: makes the candidates.
-fn change_loaded<T: Tree>(
-    alloc: Global,
-    command: &Command,
-    loaded: &Loaded,
-    tree: &mut T,
-) -> Result<Text, Refused>
-    requires { IsRootRead (T.history tree.old) (inputs_seen loaded.now) }
-    ensures run { IsRunBy command.now (inputs_seen loaded.now) (T.history tree.old)
-        (T.history tree.new) (T.counts tree.old) (T.counts tree.new) result }
-    ensures counts { IsRunCounted (T.counts tree.old) (T.counts tree.new) result }
-    ensures promised { IsAskedRun T.accepts (T.history tree.old) (T.history tree.new) }
-{
-    // Laws that the proof needs; they have no effect at run time.
-    a_choice_exists();
-    a_change_has_a_first_clash_or_none();
-    asked_runs_begin_with_reads::<T>();
-    let again = names_to_reinstall(alloc, command)?;
-    let names = operand_texts(alloc, command.operands())?;
-    match loaded.pool(alloc, names_to_upgrade(command, &names)) {
-        Ok(pool) => change_in_pool(alloc, command, loaded, &pool, &again, tree),
-        Err(refused) => Err(refused),
-    }
-}
-
-// Continues with the candidates: refuses an operand that is not installed, and chooses.
-fn change_in_pool<'a, T: Tree>(
-    alloc: Global,
-    command: &Command,
-    loaded: &'a Loaded,
-    pool: &Sealed<'a>,
-    again: &Words,
-    tree: &mut T,
-) -> Result<Text, Refused>
-    // The candidates are those of the command and of what was read.
-    requires pool { pool_by command.now (inputs_seen loaded.now) ≡ Ok pool.now }
-    requires again { again.now ≡ names_to_reinstall command.now.applet command.now.operands }
-    // On an observable tree the database and world are still as they were read.
-    requires root { IsRootRead (T.history tree.old) (inputs_seen loaded.now) }
-    // The run is one by what was read and by whatever is chosen.
-    ensures run { IsRunBy command.now (inputs_seen loaded.now) (T.history tree.old)
-        (T.history tree.new) (T.counts tree.old) (T.counts tree.new) result }
-    ensures counts { IsRunCounted (T.counts tree.old) (T.counts tree.new) result }
-    ensures promised { IsAskedRun T.accepts (T.history tree.old) (T.history tree.new) }
-{
-    // Laws that the proof needs; they have no effect at run time.
-    a_choice_exists();
-    a_change_has_a_first_clash_or_none();
-    asked_runs_begin_with_reads::<T>();
-    let db = loaded.db(alloc)?;
-    if let Some(place) = unknown_operand(command, loaded, &db) {
-        return Err(Refused::Refusal(Refusal::NotInstalled { place }));
-    }
-    let trace = choose(alloc, loaded, pool)?;
-    let selection = Selection {
-        loaded,
-        db: &db,
-        pool,
-        trace: &trace,
-        again,
-    };
-    change_selected(alloc, command, &selection, tree)
-}
-
-// Continues with the selected candidates: reports with `--simulate`, and makes the change
-// otherwise.
-fn change_selected<T: Tree>(
-    alloc: Global,
-    command: &Command,
-    selection: &Selection<'_, '_>,
-    tree: &mut T,
-) -> Result<Text, Refused>
-    // The database is the one of the selection, opened.
-    requires database { HasItsDatabase selection.now }
-    requires pool { pool_by command.now (inputs_of_selection selection.now)
-        ≡ Ok selection.now.pool.now }
-    requires root { IsRootRead (T.history tree.old) (inputs_of_selection selection.now) }
-    // The run is one by what is selected.
-    ensures run { IsSelectedRun command.now (Ok (selection_seen selection.now))
-        (T.history tree.old) (T.history tree.new) (T.counts tree.old) (T.counts tree.new) result }
-    ensures counts { IsRunCounted (T.counts tree.old) (T.counts tree.new) result }
-    ensures promised { IsAskedRun T.accepts (T.history tree.old) (T.history tree.new) }
-{
-    // Laws that the proof needs; they have no effect at run time.
-    a_change_has_a_first_clash_or_none();
-    asked_runs_begin_with_reads::<T>();
+    let upgraded = names_of_upgrade(alloc, command)?;
+    let selection = choose(alloc, command, &upgraded, &loaded)?;
     if command.flags().simulate {
-        let report = simulate(alloc, command, selection)?;
+        let report = simulate(alloc, command, &selection)?;
         return Ok(report);
     }
-    make_change(alloc, command, selection, tree)
+    make_change(alloc, command, &selection, tree)
 }
 
-/// Reports what would change, as `--simulate` asks for it.
-pub(crate) fn simulate(
-    alloc: Global,
-    command: &Command,
-    selection: &Selection<'_, '_>,
-) -> Result<Text, AllocError>
+// Reports what would change, as `--simulate` asks for it.
+fn simulate(alloc: Global, command: &Command, selection: &Selection<'_>) -> Result<Text, AllocError>
     requires { HasItsDatabase selection.now }
     ensures { IfOk result (λ report. report ≡ simulated_report (replacement_seen selection.now)
         (names_to_go command.now.applet command.now.operands)) }
@@ -169,7 +73,7 @@ pub(crate) fn simulate(
         trace,
         again,
         ..
-    } = *selection;
+    } = selection;
     let changes = Changes::of(alloc, db, pool, trace, again)?;
     let report = simulated_report(alloc, db, pool, trace, &changes, &to_go)?;
     Text::of(alloc, report.bytes())

@@ -1,27 +1,82 @@
 //! The candidates that replace the packages before, and how they are chosen. Laws: there is always
-//! exactly one choice. The rules are in `docs/selection.md`, "Which selection is taken".
+//! exactly one choice. The rules are in `docs/selection.md`, "Which selection is taken", and for the
+//! refusals in `docs/commands.md`, "`add` and `del`" and "`upgrade` and `fix`".
 
 ghost use Rattle.change_inputs.specs.Seen.{inputs_seen};
 ghost use Rattle.engine_core.specs.Chosen.{IsChosen};
 ghost use Rattle.engine_core.specs.Choice.{IsChoice, IsChoiceFrom};
-ghost use Rattle.std.specs.Prelude.{◌≡◌, ℕ, List, Option, Result};
+ghost use Rattle.engine_core.specs.SelectionSeen.{IsSelectedFrom, IsSelectionFor};
+ghost use Rattle.engine_core.specs.Wishes.{names_of_upgrade};
+ghost use Rattle.std.specs.Prelude.{◌≡◌, ℕ, IfOk, List, Option, Result};
 ghost use Rattle.candidate_core.specs.Rank.{SealedPool};
 ghost use Rattle.report_core.specs.declared.refusal.Refusal.{Refusal};
 
+use crate::wishes::{names_to_reinstall, names_to_upgrade, unknown_operand};
 use base_core::Words;
 use change_inputs::{Loaded, Refused};
+use command_core::Command;
 use db_core::Db;
 use pool_core::{Sealed, options_are_the_best_first};
 use report_core::Refusal;
 use solve_core::{Trace, solve, the_first_selection_is_unique};
 use std::alloc::{AllocError, Global};
 
-/// The first preferred selection (the preferred solution) under the new world.
+/// What a command selects: the candidates that replace the packages before, with what they were
+/// chosen from.
+#[derive(Drop)]
+pub(crate) struct Selection<'a> {
+    /// What was read of the root.
+    pub loaded: &'a Loaded,
+    /// The database of the root, opened.
+    pub db: Db<'a>,
+    /// The candidates.
+    pub pool: Sealed<'a>,
+    /// The places of the chosen candidates, in the order in which they were chosen.
+    pub trace: Trace,
+    /// The names to be reinstalled, which `fix` asks for.
+    pub again: Words,
+}
+
+/// Chooses the candidates that a command installs, given what was read of the root and the operands
+/// of `upgrade`.
 ///
 /// # Errors
 ///
-/// `Unsatisfied` if no selection satisfies the new world; or `Memory`.
+/// `TooMany` candidates; `NotInstalled` of an operand of `del`, `upgrade` or `fix`; `Unsatisfied`;
+/// or `Memory`.
 pub(crate) fn choose<'a>(
+    alloc: Global,
+    command: &Command,
+    upgraded: &'a Words,
+    loaded: &'a Loaded,
+) -> Result<Selection<'a>, Refused>
+    requires { upgraded.now ≡ names_of_upgrade command.now.applet command.now.operands }
+    // The selection by the choice among the command's candidates, or the refusal instead.
+    ensures selected { IsSelectedFrom command.now (inputs_seen loaded.entry.now) result }
+    // Its parts are those of the command and of what was read.
+    ensures parts { IfOk result (IsSelectionFor command.now (inputs_seen loaded.entry.now)) }
+{
+    // A law that the proof needs; it has no effect at run time.
+    a_choice_exists();
+    let again = names_to_reinstall(alloc, command)?;
+    let pool = loaded.pool(alloc, names_to_upgrade(command, upgraded))?;
+    let db = loaded.db(alloc)?;
+    if let Some(place) = unknown_operand(command, loaded, &db) {
+        return Err(Refused::Refusal(Refusal::NotInstalled { place }));
+    }
+    let trace = first_selection(alloc, loaded, &pool)?;
+    Ok(Selection {
+        loaded,
+        db,
+        pool,
+        trace,
+        again,
+    })
+}
+
+// The first preferred selection (the preferred solution) under the new world. `Unsatisfied` if no
+// selection satisfies the new world; or `Memory`.
+fn first_selection<'a>(
     alloc: Global,
     loaded: &'a Loaded,
     pool: &Sealed<'a>,
@@ -36,21 +91,6 @@ pub(crate) fn choose<'a>(
         Ok(None) => Err(Refused::Refusal(Refusal::Unsatisfied)),
         Err(AllocError) => Err(Refused::Memory),
     }
-}
-
-/// The candidates that replace the packages before, with what they were chosen from.
-#[derive(Clone, Copy)]
-pub(crate) struct Selection<'r, 'a> {
-    /// What was read of the root.
-    pub loaded: &'a Loaded,
-    /// The database of the root, opened.
-    pub db: &'r Db<'a>,
-    /// The candidates.
-    pub pool: &'r Sealed<'a>,
-    /// The places of the chosen candidates, in the order in which they were chosen.
-    pub trace: &'r Trace,
-    /// The names to be reinstalled, which `fix` asks for.
-    pub again: &'r Words,
 }
 
 /// There is always a choice: the first preferred selection, or none.

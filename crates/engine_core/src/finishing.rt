@@ -115,9 +115,9 @@ pub(crate) fn report_of(
     let report = change_report(
         alloc,
         &ReportedChange {
-            db: selection.db,
-            pool: selection.pool,
-            trace: selection.trace,
+            db: &selection.db,
+            pool: &selection.pool,
+            trace: &selection.trace,
             changes: &changes,
             to_go: &to_go,
             members: arrived.members,

@@ -7,22 +7,55 @@ ghost use Rattle.change_outcome.specs.ChangeOutcome.{name_at_place};
 ghost use Rattle.change_outcome.specs.Triggers.{unless_trigger};
 ghost use Rattle.db_core.specs.Seen.{members_of};
 ghost use Rattle.change_report.specs.Due.{planned_paths};
-ghost use Rattle.engine_core.specs.Plans.{IsRefusedFor};
-ghost use Rattle.std.specs.Prelude.{◌≡◌, ◌<◌, IfOk, length};
+ghost use Rattle.base_core.specs.Read.{OnlyReads};
+ghost use Rattle.engine_core.specs.Plans.{HasNoPlan, IsPlanFrom, IsRefusedFor};
+ghost use Rattle.engine_core.specs.Wishes.{wishes_of};
+ghost use Rattle.std.specs.Prelude.{◌≡◌, ◌<◌, IfErr, IfOk, length};
 
 use crate::choosing::Selection;
 use arrivals::Arrivals;
-use base_core::Text;
+use base_core::{Text, Tree};
 use change_inputs::Refused;
 use change_report::{first_due, touched_folders};
+use command_core::Command;
 use db_core::Members;
-use own_core::{FilePlan, PlanFault};
+use own_core::{FilePlan, PlanFault, plan};
 use package_changes::PlacedNames;
 use report_core::Refusal;
 use std::alloc::{AllocError, Global};
 
-/// Why a change is refused if its files cannot be planned.
-pub(crate) fn refused_plan(fault: PlanFault) -> Refused
+/// Plans the files of a change, or refuses it.
+///
+/// # Errors
+///
+/// `Reserved`, `PathClash` and `Owned`; `Disk`, or `Memory`.
+pub(crate) fn plan_files<T: Tree>(
+    alloc: Global,
+    command: &Command,
+    arrived: &Arrived<'_, '_, '_, '_>,
+    tree: &mut T,
+) -> Result<FilePlan, Refused>
+    // The plan is that of the change, over the tree's files if they are observable.
+    ensures plan { IfOk result
+        (IsPlanFrom (T.history tree.old) (wishes_of command.now) arrived.now) }
+    // Or the change has no plan, and this says why.
+    ensures refused { IfErr result
+        (HasNoPlan (T.history tree.old) (wishes_of command.now) arrived.now) }
+    // The tree is only read, and an I/O error has its cause there.
+    ensures tree { OnlyReads Refused.Disk (T.history tree.old) (T.history tree.new)
+        (T.counts tree.old) (T.counts tree.new) result }
+{
+    let purge = command.flags().purge;
+    let selection = arrived.selection;
+    selection.db.no_listed_path_is_reserved();
+    match plan(alloc, &selection.db, arrived.members, tree, purge) {
+        Ok(plan) => Ok(plan),
+        Err(fault) => Err(refused_plan(fault)),
+    }
+}
+
+// Why a change is refused if its files cannot be planned.
+fn refused_plan(fault: PlanFault) -> Refused
     ensures { IsRefusedFor fault result }
 {
     match fault {
@@ -84,7 +117,7 @@ fn member_name(alloc: Global, members: &Members<'_>, place: usize) -> Result<Tex
 #[derive(Clone, Copy)]
 pub(crate) struct Arrived<'r, 'a, 'm, 'x> {
     /// The candidates that were selected, and what was read of the root.
-    pub selection: &'r Selection<'r, 'a>,
+    pub selection: &'r Selection<'a>,
     /// The names of the packages before and of the candidates, each with its place.
     pub names: &'r PlacedNames<'a>,
     /// The added packages, read and tested, among the kept ones.

@@ -4,7 +4,7 @@ ghost use Rattle.change_inputs.specs.Seen.{inputs_seen};
 ghost use Rattle.db_core.specs.Seen.{packages_of};
 ghost use Rattle.dep_core.specs.World.{has_name};
 ghost use Rattle.change_inputs.specs.World.{operand_texts};
-ghost use Rattle.engine_core.specs.Wishes.{first_unknown, is_known_name, names_to_go, names_to_reinstall, names_to_upgrade, unknown_place};
+ghost use Rattle.engine_core.specs.Wishes.{first_unknown, is_known_name, names_of_upgrade, names_to_go, names_to_reinstall, names_to_upgrade, unknown_place};
 ghost use Rattle.package_changes.specs.Report.{was_installed};
 ghost use Rattle.candidate_core.specs.Rank.{all_names, listed_names};
 ghost use Rattle.candidate_core.specs.Values.{names_upgraded_by};
@@ -49,9 +49,24 @@ pub(crate) fn names_to_reinstall(alloc: Global, command: &Command) -> Result<Wor
     }
 }
 
-/// The names that `upgrade` upgrades: the texts of its operands.
+/// The texts of the operands of `upgrade`, and none for another command.
+///
+/// # Errors
+///
+/// Out of memory, also if there are more than a list of words holds.
+pub(crate) fn names_of_upgrade(alloc: Global, command: &Command) -> Result<Words, AllocError>
+    ensures { IfOk result
+        (λ names. names ≡ names_of_upgrade command.now.applet command.now.operands) }
+{
+    match command.applet() {
+        Applet::Upgrade => operand_texts(alloc, command.operands()),
+        _ => Ok(Words::new(alloc)),
+    }
+}
+
+/// The names that `upgrade` upgrades, given the texts of its operands.
 pub(crate) fn names_to_upgrade<'a>(command: &Command, names: &'a Words) -> Upgrade<'a>
-    requires { names.now ≡ operand_texts command.now.operands }
+    requires { names.now ≡ names_of_upgrade command.now.applet command.now.operands }
     ensures { names_upgraded_by result
         ≡ names_to_upgrade command.now.applet command.now.operands }
 {

@@ -1,8 +1,16 @@
-use Rattle.engine_core.specs.ChangeRun.{IsChangeRun}
-use Rattle.engine_core.proofs.Early.{HaveClash, only_read}
-use Rattle.engine_core.proofs.SelectedRuns.{with_error}
+use Rattle.std.proofs.Common.{◌∙◌, sym, ap, subst}
+use Rattle.change_inputs.specs.Inputs.{Inputs}
 use Rattle.change_inputs.specs.Seen.{inputs_seen}
-use Rattle.engine_core.proofs.WholeRuns.{joined, root_read, unread}
+use Rattle.change_inputs.specs.declared.root.Refused.TheVariants.{Memory}
+use Rattle.command_core.specs.declared.command.Flags.{Flags}
+use Rattle.engine_core.specs.ChangeRun.{IsChangeRun}
+use Rattle.engine_core.specs.Finishing.{IsRootRead}
+use Rattle.engine_core.specs.Runs.{IsRunCounted}
+use Rattle.engine_core.specs.SelectionSeen.{selection_seen}
+use Rattle.engine_core.proofs.Counted.{counted_fault, counted_report, memory_no_disk}
+use Rattle.engine_core.proofs.Early.{HaveClash, nothing_read, only_read, selected_failure}
+use Rattle.engine_core.proofs.SelectedRuns.{not_disk, run_failure, selected_run, simulated_run, unselected_run, with_error}
+use Rattle.engine_core.proofs.WholeRuns.{HaveOwnReads, joined, root_read, unread}
 use Rattle.engine_core.proofs.changing.change.Goals as goal
 
 pub returns-in_err-loaded-clause-run : goal.returns-in_err-loaded-clause-run
@@ -11,11 +19,65 @@ returns-in_err-loaded-clause-run g c =
     with_error (IsChangeRun c.args.command.now _ _ _ _) c.from_residual.result _ c.from_residual.ensures.1
     (unread c.a_choice_exists.ensures have c.args.command.now _ _ _ _ (g.met.T.Tree.whole c.args.tree.now) (only_read _ _ _ _ _ _ c.in_err-loaded.ensures.tree) _ c.in_err-loaded.ensures.found)
 
+pub returns-in_err-upgraded-clause-run : goal.returns-in_err-upgraded-clause-run
+returns-in_err-upgraded-clause-run g c =
+    let have : HaveClash = record { exists = c.a_change_has_a_first_clash_or_none.ensures.exists } in
+    let own : HaveOwnReads = record { inputs = c.inputs_rest_on_their_own_reads.ensures; members = c.packages_after_a_change_rest_on_later_reads.ensures } in
+    with_error (IsChangeRun c.args.command.now _ _ _ _) c.from_residual-in_err-upgraded.result Memory c.from_residual-in_err-upgraded.ensures.1
+    (joined own c.args.command.now c.in_ok-loaded.loaded _ _ _ _ _ _ _ (only_read _ _ _ _ _ _ c.in_ok-loaded.ensures.tree) c.in_ok-loaded.ensures.found
+    (run_failure c.args.command.now (inputs_seen c.in_ok-loaded.loaded) _ _ _ _ c.a_choice_exists.ensures have (g.met.T.Tree.whole c.read.new.tree) (nothing_read _ _) Memory tt))
+
+pub returns-in_err-selection-clause-run : goal.returns-in_err-selection-clause-run
+returns-in_err-selection-clause-run g c =
+    let have : HaveClash = record { exists = c.a_change_has_a_first_clash_or_none.ensures.exists } in
+    let own : HaveOwnReads = record { inputs = c.inputs_rest_on_their_own_reads.ensures; members = c.packages_after_a_change_rest_on_later_reads.ensures } in
+    with_error (IsChangeRun c.args.command.now _ _ _ _) c.from_residual-in_err-selection.result _ c.from_residual-in_err-selection.ensures.1
+    (joined own c.args.command.now c.in_ok-loaded.loaded _ _ _ _ _ _ _ (only_read _ _ _ _ _ _ c.in_ok-loaded.ensures.tree) c.in_ok-loaded.ensures.found
+    (unselected_run c.args.command.now (inputs_seen c.in_ok-loaded.loaded) _ _ _ _ have (g.met.T.Tree.whole c.read.new.tree) (nothing_read _ _) _ c.in_err-selection.ensures.selected))
+
+pub returns-in_err-report-clause-run : goal.returns-in_err-report-clause-run
+returns-in_err-report-clause-run g c =
+    let have : HaveClash = record { exists = c.a_change_has_a_first_clash_or_none.ensures.exists } in
+    let own : HaveOwnReads = record { inputs = c.inputs_rest_on_their_own_reads.ensures; members = c.packages_after_a_change_rest_on_later_reads.ensures } in
+    with_error (IsChangeRun c.args.command.now _ _ _ _) c.from_residual-in_err-report.result Memory c.from_residual-in_err-report.ensures.1
+    (joined own c.args.command.now c.in_ok-loaded.loaded _ _ _ _ _ _ _ (only_read _ _ _ _ _ _ c.in_ok-loaded.ensures.tree) c.in_ok-loaded.ensures.found
+    (selected_run c.args.command.now (inputs_seen c.in_ok-loaded.loaded) _ _ _ _ c.in_ok-selection.selection _ c.in_ok-selection.ensures.selected
+    (selected_failure _ _ _ _ _ _ have (g.met.T.Tree.whole c.read.new.tree) (nothing_read _ _) Memory tt)))
+
+pub returns-then-flags-clause-run : goal.returns-then-flags-clause-run
+returns-then-flags-clause-run g c =
+    let have : HaveClash = record { exists = c.a_change_has_a_first_clash_or_none.ensures.exists } in
+    let own : HaveOwnReads = record { inputs = c.inputs_rest_on_their_own_reads.ensures; members = c.packages_after_a_change_rest_on_later_reads.ensures } in
+    joined own c.args.command.now c.in_ok-loaded.loaded _ _ _ _ _ _ _ (only_read _ _ _ _ _ _ c.in_ok-loaded.ensures.tree) c.in_ok-loaded.ensures.found
+    (selected_run c.args.command.now (inputs_seen c.in_ok-loaded.loaded) _ _ _ _ c.in_ok-selection.selection _ c.in_ok-selection.ensures.selected
+    (simulated_run have c.args.command.now (selection_seen c.in_ok-selection.selection) _ _ _ _ _ (g.met.T.Tree.whole c.read.new.tree) (nothing_read _ _)
+    (sym (ap (λ (f : Flags). f.simulate) c.flags.ensures.value) ∙ c.if-flags.true) c.in_ok-report.ensures))
+
+pub returns-in_err-upgraded-clause-counts : goal.returns-in_err-upgraded-clause-counts
+returns-in_err-upgraded-clause-counts g c =
+    with_error (IsRunCounted _ _) c.from_residual-in_err-upgraded.result Memory c.from_residual-in_err-upgraded.ensures.1
+    (counted_fault _ _ _ _ c.in_ok-loaded.loaded Memory memory_no_disk c.in_ok-loaded.ensures.tree)
+
+pub returns-in_err-selection-clause-counts : goal.returns-in_err-selection-clause-counts
+returns-in_err-selection-clause-counts g c =
+    with_error (IsRunCounted _ _) c.from_residual-in_err-selection.result _ c.from_residual-in_err-selection.ensures.1
+    (counted_fault _ _ _ _ c.in_ok-loaded.loaded _ (not_disk c.args.command.now (inputs_seen c.in_ok-loaded.loaded) _ c.in_err-selection.ensures.selected) c.in_ok-loaded.ensures.tree)
+
+pub returns-in_err-report-clause-counts : goal.returns-in_err-report-clause-counts
+returns-in_err-report-clause-counts g c =
+    with_error (IsRunCounted _ _) c.from_residual-in_err-report.result Memory c.from_residual-in_err-report.ensures.1
+    (counted_fault _ _ _ _ c.in_ok-loaded.loaded Memory memory_no_disk c.in_ok-loaded.ensures.tree)
+
+pub returns-then-flags-clause-counts : goal.returns-then-flags-clause-counts
+returns-then-flags-clause-counts g c = counted_report _ _ _ _ c.in_ok-loaded.loaded _ c.in_ok-loaded.ensures.tree
+
+pub make_change-requires-clause-root : goal.make_change-requires-clause-root
+make_change-requires-clause-root g c =
+    subst (λ (i : Inputs). IsRootRead _ i) (sym c.in_ok-selection.ensures.parts.inputs_are)
+    (root_read c.what_is_read_of_a_root_stands_there.ensures c.args.command.now (inputs_seen c.in_ok-loaded.loaded) _ _ c.in_ok-loaded.ensures.tree.same c.in_ok-loaded.ensures.found)
+
 pub returns-clause-run : goal.returns-clause-run
 returns-clause-run g c =
-    joined (record { inputs = c.inputs_rest_on_their_own_reads.ensures; members = c.packages_after_a_change_rest_on_later_reads.ensures }) c.args.command.now c.in_ok-loaded.loaded _ _ _ _ _ _ c.change_loaded.result
-    (only_read _ _ _ _ _ _ c.in_ok-loaded.ensures.tree) c.in_ok-loaded.ensures.found c.change_loaded.ensures.run
-
-pub change_loaded-requires : goal.change_loaded-requires
-change_loaded-requires g c =
-    root_read c.what_is_read_of_a_root_stands_there.ensures c.args.command.now (inputs_seen c.in_ok-loaded.loaded) _ _ c.in_ok-loaded.ensures.tree.same c.in_ok-loaded.ensures.found
+    let own : HaveOwnReads = record { inputs = c.inputs_rest_on_their_own_reads.ensures; members = c.packages_after_a_change_rest_on_later_reads.ensures } in
+    joined own c.args.command.now c.in_ok-loaded.loaded _ _ _ _ _ _ c.make_change.result (only_read _ _ _ _ _ _ c.in_ok-loaded.ensures.tree) c.in_ok-loaded.ensures.found
+    (selected_run c.args.command.now (inputs_seen c.in_ok-loaded.loaded) _ _ _ _ c.in_ok-selection.selection c.make_change.result c.in_ok-selection.ensures.selected c.make_change.ensures.run)

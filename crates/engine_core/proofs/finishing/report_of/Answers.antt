@@ -23,11 +23,11 @@ returns c =
     copied c.of.result c.bytes.result.now _ (λ history found files planned.
     let change = file_change (inputs_arrived a) wishes found in
     c.bytes.ensures
-    ∙ (c.in_ok-report.ensures s.again.now wishes change files (record {
+    ∙ (c.in_ok-report.ensures s.again wishes change files (record {
       changes = ap (map (λ (p : PlacedChange). p.change)) (c.in_ok-changes.ensures ∙ ap (filter_map change_in) planned.arrived.read.placed)
-          ∙ changes_named c.places_lead_to_packages_and_candidates.ensures.change (replacement_by s.db.now s.pool.now s.trace.now s.again.now);
+          ∙ changes_named c.places_lead_to_packages_and_candidates.ensures.change (replacement_by s.db s.pool s.trace s.again);
       to_go = sym (c.in_ok-to_go.ensures);
       members = sym planned.arrived.members;
       plan = planned.lists;
     })
-    ∙ ap (λ (before : List Plain). change_report (record { before = before; selected = candidates_at s.pool.now s.trace.now; again = s.again.now }) wishes change files) planned.arrived.read.database)) c.of.ensures
+    ∙ ap (λ (before : List Plain). change_report (record { before = before; selected = candidates_at s.pool s.trace; again = s.again }) wishes change files) planned.arrived.read.database)) c.of.ensures

@@ -1,5 +1,4 @@
--- A run by the packages that are found. Serves the contract of `change_members` in `src/making.rt`; the
--- rules are in `docs/commands.md`, "What a change does with files".
+-- A run by the packages that are found.
 use Rattle.std.specs.Prelude.{◌≡◌, ℕ, List, Option, Result, Ok}
 use Rattle.base_core.specs.Calls.{IfObservable}
 use Rattle.base_core.specs.Faults.{Counts}
@@ -7,9 +6,8 @@ use Rattle.base_core.specs.Files.{Files}
 use Rattle.base_core.specs.Tree.{TreeState, files_of}
 use Rattle.change_inputs.specs.Inputs.{Inputs}
 use Rattle.change_inputs.specs.declared.root.Refused.{Refused}
-use Rattle.change_outcome.specs.ChangeOutcome.{ChangeWishes, IsClashFoundOver, change_members, change_with_members}
+use Rattle.change_outcome.specs.ChangeOutcome.{ChangeWishes, IsClashFoundOver, change_with_members}
 use Rattle.change_outcome.specs.MembersAfter.{MemberFound}
-use Rattle.make_info.specs.Reads.{Reads}
 use Rattle.package_changes.specs.Changes.{Replacement}
 use Rattle.path_clashes.specs.Clash.{NamePair}
 use Rattle.engine_core.specs.ChangeRun.{ComesTo}
@@ -26,11 +24,3 @@ pub record IsFoundRun (inputs : Inputs) (r : Replacement) (wishes : ChangeWishes
   pub is_clash : IsClashFoundOver inputs wishes files standing (Ok found) clash
   pub comes : ComesTo (Ok found) (change_with_members inputs r wishes clash files found)
       old now before after result
-
--- the result of a run if reads find each added package, and no test of it fails
-abbrev pub IsMembersRun :
-    Inputs → Replacement → ChangeWishes → Reads → List MemberFound → List TreeState
-    → List TreeState → Counts → Counts → Result (List ℕ) Refused → Type 0
-IsMembersRun inputs r wishes read found old now before after result =
-    change_members inputs r wishes read ≡ Ok found
-    → IsFoundRun inputs r wishes found old now before after result
