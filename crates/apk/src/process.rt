@@ -18,10 +18,13 @@ const MOST_WORDS: usize = 4294967294;
 /// with 4,096 bytes, so an argument may have about two gigabytes.
 const MOST_DOUBLINGS: u32 = 20;
 
-/// How many bytes of stack a run is given at its start: five buffers for pieces of files, of 64 KiB
-/// each. The deepest run that was measured is an `add`, which holds three; with what the host puts
+/// The bytes of a page of memory.
+const PAGE_LEN: usize = 4096;
+
+/// How many pages of stack a run is given at its start: 320 KiB. The deepest run that was measured is
+/// an `add`, which holds three buffers for pieces of files, of 64 KiB each; with what the host puts
 /// there it needs 264 KiB.
-const STACK_LEN: usize = 327680;
+const STACK_PAGES: usize = 80;
 
 /// Why the words are not read.
 #[derive(Drop)]
@@ -61,19 +64,23 @@ pub fn words_of(rt: &impl Env, alloc: Global) -> Result<Words, WordsFault> {
 // signal, at whatever call needs more stack. The heap is asked for as much first: what it gives and
 // gets back, the stack can have.
 fn reserve_stack(rt: &impl Env, alloc: Global) -> Result<(), AllocError> {
-    let mut room = vec![in alloc; 0u8; STACK_LEN]?;
+    let mut room = vec![in alloc; 0u8; STACK_PAGES * PAGE_LEN]?;
     let _ = rt.arg(0, &mut room);
     drop(room);
-    touch_stack(rt);
+    touch_stack(rt, STACK_PAGES);
     Ok(())
 }
 
-// Uses that many bytes of stack once. The call that gets the buffer keeps it from being left out,
-// and a function of its own gives the bytes back.
-#[inline(never)]
-fn touch_stack(rt: &impl Env) {
-    let mut room = [0u8; STACK_LEN];
-    let _ = rt.arg(0, &mut room);
+// Uses this many pages of stack once, one in each call. The buffer is used again after the call
+// below it, so each call keeps its page until then.
+fn touch_stack(rt: &impl Env, pages: usize) {
+    if pages == 0 {
+        return;
+    }
+    let mut page = [0u8; PAGE_LEN];
+    let _ = rt.arg(0, &mut page);
+    touch_stack(rt, pages - 1);
+    let _ = rt.arg(0, &mut page);
 }
 
 // Reads an argument into the buffer, which grows until it fits, and returns its length, or None if
