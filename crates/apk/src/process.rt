@@ -18,11 +18,6 @@ const MOST_WORDS: usize = 4294967294;
 /// with 4,096 bytes, so an argument may have about two gigabytes.
 const MOST_DOUBLINGS: u32 = 20;
 
-/// How many bytes of stack a run is given at its start: five buffers for pieces of files, of 64 KiB
-/// each. The deepest run that was measured is an `add`, which holds three; with what the host puts
-/// there it needs 264 KiB.
-const STACK_LEN: usize = 327680;
-
 /// Why the words are not read.
 #[derive(Drop)]
 pub enum WordsFault {
@@ -40,9 +35,8 @@ impl From<AllocError> for WordsFault {
 }
 
 /// The words of the command line, without the program's name, as the bytes that the host handed
-/// over. The stack that a run needs is reserved before.
+/// over.
 pub fn words_of(rt: &impl Env, alloc: Global) -> Result<Words, WordsFault> {
-    reserve_stack(rt, alloc)?;
     let mut words = Words::new(alloc);
     let mut buffer = vec![in alloc; 0u8; 4096]?;
     for i in 1..=MOST_WORDS + 1 {
@@ -55,25 +49,6 @@ pub fn words_of(rt: &impl Env, alloc: Global) -> Result<Words, WordsFault> {
         words.push(&buffer[..len])?;
     }
     Err(WordsFault::TooMany)
-}
-
-// Grows the stack to what a run needs. A host that limits memory would otherwise end the run by a
-// signal, at whatever call needs more stack. The heap is asked for as much first: what it gives and
-// gets back, the stack can have.
-fn reserve_stack(rt: &impl Env, alloc: Global) -> Result<(), AllocError> {
-    let mut room = vec![in alloc; 0u8; STACK_LEN]?;
-    let _ = rt.arg(0, &mut room);
-    drop(room);
-    touch_stack(rt);
-    Ok(())
-}
-
-// Uses that many bytes of stack once. The call that gets the buffer keeps it from being left out,
-// and a function of its own gives the bytes back.
-#[inline(never)]
-fn touch_stack(rt: &impl Env) {
-    let mut room = [0u8; STACK_LEN];
-    let _ = rt.arg(0, &mut room);
 }
 
 // Reads an argument into the buffer, which grows until it fits, and returns its length, or None if
