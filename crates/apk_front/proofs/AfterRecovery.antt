@@ -65,7 +65,7 @@ newest_orderly laws ignored v rest now orderly since = by_added since.added sinc
 
 -- ---- moments in a row
 
-since_both : (P Q R : TreeState → Type 0) (old mid now : History) → ((w : TreeState) → P w → R w) → ((w : TreeState) → Q w → R w) → Since P old mid → Since Q mid now → Since R old now
+pub since_both : (P Q R : TreeState → Type 0) (old mid now : History) → ((w : TreeState) → P w → R w) → ((w : TreeState) → Q w → R w) → Since P old mid → Since Q mid now → Since R old now
 since_both P Q R old mid now p q first then = record {
   added = then.added ++ first.added;
   is = then.is ∙ ap (λ h. then.added ++ h) first.is ∙ sym (append_assoc then.added first.added old);
@@ -119,7 +119,7 @@ unwritten : (A B : Outcome → Type 0) (effect : Effect) (output : Option (List 
 unwritten A B effect output judged u mid now from run memory (inl none) = memory none
 unwritten A B effect output judged u mid now from run memory (inr (o, one, commits)) = run.idle o (from o one) commits
 
-none_since : (P : TreeState → Type 0) (old now : History) → now ≡ old → Since P old now
+pub none_since : (P : TreeState → Type 0) (old now : History) → now ≡ old → Since P old now
 none_since P old now same = record { added = []; is = same; each = All-nil P }
 
 -- ---- a run that recovers

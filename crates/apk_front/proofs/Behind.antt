@@ -100,7 +100,7 @@ from command v u o recovering good left one =
     (subst (λ (fault : Option Cause). IsOutcomeUnless fault command (files_of v) o) (good_is (effect_of command.applet) (files_of v) recovering good) one)
 
 -- nothing waits then
-nothing_waits : (v u : TreeState) → LeavesUnstaged v u → HasNothingWaiting u
+pub nothing_waits : (v u : TreeState) → LeavesUnstaged v u → HasNothingWaiting u
 nothing_waits v u left = (left.1, λ q staged. ap (λ (f : Files). f q) left.0 ∙ ap (λ b. if b then None else recovered_files (files_of v) q) staged)
 
 pub behind_found : (command : CommandLine) (old mid : History) (judged : Judged) → does_recover (effect_of command.applet) ≡ true → IfObservable old IsGood → IfObservable old (λ v. HasNow mid (LeavesUnstaged v))

@@ -14,6 +14,7 @@ pub mod Named
 pub mod Effects
 pub mod AfterRecovery
 pub mod Behind
+pub mod Promised
 pub mod EachOutcome
 pub mod Changing
 pub mod Telling

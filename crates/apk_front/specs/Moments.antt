@@ -3,7 +3,7 @@
 -- it.
 use Rattle.std.specs.Prelude.{◌≡◌, ◌⊎◌, ◌||◌, ℕ, Bool, true, false, if◌then◌else◌, List, [], ◌∷◌, Option, Some, None, IsSome}
 use Rattle.std.specs.Str.{bytes_eq}
-use Rattle.base_core.specs.Calls.{HasNow}
+use Rattle.base_core.specs.Calls.{HasNow, IfObservable}
 use Rattle.base_core.specs.Crash.{IsOrderly, Since}
 use Rattle.base_core.specs.Files.{Files}
 use Rattle.base_core.specs.Restart.{SinceBy}
@@ -17,6 +17,7 @@ use Rattle.outcome.specs.Effect.{Effect, Computes, Reads, Tells, Makes, Changes,
 use Rattle.outcome.specs.Outcome.{Outcome}
 use Rattle.outcome.specs.Words.{IsOutcome}
 use Rattle.outcome.specs.Work.{work_files}
+use Rattle.stage_run.specs.Asked.{PromisesAccepted}
 use Rattle.words_core.specs.Grammar.{command_of}
 use Rattle.apk_front.specs.declared.answer.Answer.{Answer}
 use Rattle.apk_front.specs.declared.answer.Answer.TheVariants.{Ok, Refused, OutFault, Memory}
@@ -238,3 +239,12 @@ LeavesAtRest IsOne output ignored now =
     (outcome : Outcome)
     × IsOne outcome
     × (outcome.commits ≡ true → HasNow now (IsAtRest (ignored_but output ignored) outcome.files))
+
+-- ---- what is promised
+
+-- at each moment of a run the tree accepts each name to which a recovery gives other bytes than a
+-- recovery of the files at the start: it was asked for the name before
+abbrev pub IsAskedThroughout :
+    (Option (List ℕ) → List ℕ → Type 0) → List TreeState → List TreeState → Type 0
+IsAskedThroughout accepts old now = IfObservable old (λ v.
+    Since (PromisesAccepted accepts (unstaged_files (files_of v))) old now)

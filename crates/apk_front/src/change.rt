@@ -11,6 +11,7 @@ ghost use Rattle.base_core.specs.Tree.{files_of};
 ghost use Rattle.outcome.specs.Commands.{IsFoundOver, IsOutcomeOver};
 ghost use Rattle.outcome.specs.Effect.{Changes, effect_of, output_if};
 ghost use Rattle.outcome.specs.Outcome.{Outcome};
+ghost use Rattle.stage_run.specs.Asked.{IsAskedRun};
 
 use crate::answer::Verdict;
 use base_core::{Text, Tree, TreeFault};
@@ -36,6 +37,7 @@ pub(crate) fn change<T: Tree>(
         result v (T.history tree.old) (T.history tree.new)) }
     ensures undone { IfNothingWaits (T.history tree.old) (λ v.
         IsErrOf result TreeFault.Memory → T.history tree.new ≡ T.history tree.old) }
+    ensures promised { IsAskedRun T.accepts (T.history tree.old) (T.history tree.new) }
     ensures goes_on { GoesOn (T.counts tree.old) (T.counts tree.new) }
     ensures disk { IsErrOf result TreeFault.Disk
         → HasCause (T.counts tree.old) (T.counts tree.new) }

@@ -3,7 +3,7 @@
 //! "Recovery", in the table of what a run of `apk` may leave.
 ghost use Rattle.std.specs.Prelude.{◌≡◌, ℕ, Bool, List, IsSome, IsTrue, is_some};
 ghost use Rattle.apk_front.specs.Answers.{name_a_command, IsAnswerOf, IsAnswerTo, LeavesFiles, LeavesAny, HasCauses, IsFaultless, IsComplete, IsUnplanned, IsOutcomeUnlessMemory};
-ghost use Rattle.apk_front.specs.Moments.{AnswersOutcome, AreReadOnTheWay, AreSafe, CommitsNothing, HasNothingToRecover, HidesScratchOf, LeavesAtRest, LeavesLasting, LeavesRoom, UnreadNamesLast};
+ghost use Rattle.apk_front.specs.Moments.{AnswersOutcome, AreReadOnTheWay, AreSafe, CommitsNothing, HasNothingToRecover, HidesScratchOf, IsAskedThroughout, LeavesAtRest, LeavesLasting, LeavesRoom, UnreadNamesLast};
 ghost use Rattle.base_core.specs.Calls.{HasNow, IfObservable};
 ghost use Rattle.base_core.specs.Crash.{IsOrderly, Since};
 ghost use Rattle.base_core.specs.Faults.{GoesOn, HasCause};
@@ -12,7 +12,7 @@ ghost use Rattle.base_core.specs.Sink.{sink_change, IsProperUse};
 ghost use Rattle.base_core.specs.Tree.{files_of};
 ghost use Rattle.journal_core.specs.Quiet.{IsStill};
 ghost use Rattle.journal_core.specs.Recovery.{RestsOn, intent_name};
-ghost use Rattle.outcome.specs.Effect.{effect_by, output, reads_only, rests_on_words};
+ghost use Rattle.outcome.specs.Effect.{Changes, effect_by, output, reads_only, rests_on_words};
 ghost use Rattle.outcome.specs.Words.{IsFoundOutcome, IsOutcome};
 ghost use Rattle.outcome.specs.Work.{recovery_fault};
 ghost use Rattle.words_core.specs.Grammar.{command_of};
@@ -116,6 +116,12 @@ pub fn apk<T: Tree, O: Sink, E: Sink>(
     // A command that only reads leaves the tree as it is.
     ensures same { IsTrue (reads_only (command_of words.now))
         → T.history tree.new ≡ T.history tree.old }
+
+    // Before a change is committed the tree was asked for each name that it writes or removes: at
+    // each moment the tree accepts each name to which a recovery gives other bytes than a recovery
+    // of the files at the start.
+    ensures promised { effect_by (command_of words.now) ≡ Changes
+        → IsAskedThroughout T.accepts (T.history tree.old) (T.history tree.new) }
 
     // If there is nothing to recover, nothing is written by a run that is refused, that runs out of
     // memory, or whose outcome commits nothing, whatever is answered instead.

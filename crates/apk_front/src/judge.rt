@@ -5,7 +5,7 @@
 
 ghost use Rattle.std.specs.Prelude.{◌≡◌, [], None, Ok, IfOk, IsErrOf, IsTrue, MatchResult, OnOk};
 ghost use Rattle.apk_front.specs.Answers.{name_a_command};
-ghost use Rattle.apk_front.specs.Moments.{LeavesRoom, LeavesRoomFor};
+ghost use Rattle.apk_front.specs.Moments.{IsAskedThroughout, LeavesRoom, LeavesRoomFor};
 ghost use Rattle.apk_front.specs.Runs.{IsWholeRun};
 ghost use Rattle.apk_front.specs.Verdicts.{ReportsOne, as_outcome};
 ghost use Rattle.base_core.specs.Calls.{IfObservable};
@@ -16,7 +16,7 @@ ghost use Rattle.base_core.specs.Tree.{files_of};
 ghost use Rattle.make_info.specs.Reads.{Reads};
 ghost use Rattle.outcome.specs.Commands.{IsFoundOutcomeOf, IsOutcomeOf, reads_in, command_outcome};
 ghost use Rattle.outcome.specs.Given.{nothing_given};
-ghost use Rattle.outcome.specs.Effect.{does_only_read, does_rest_on_words, effect_by, effect_of, output, output_if, reads_only, rests_on_words};
+ghost use Rattle.outcome.specs.Effect.{Changes, does_only_read, does_rest_on_words, effect_by, effect_of, output, output_if, reads_only, rests_on_words};
 ghost use Rattle.outcome.specs.Words.{IsFoundOutcome, IsFoundOutcomeBy, IsOutcome, IsOutcomeBy};
 ghost use Rattle.words_core.specs.Grammar.{command_of};
 ghost use Rattle.apk_front.specs.Effects.{access_of};
@@ -57,6 +57,9 @@ pub(crate) fn judge<T: Tree>(
     ensures run { IfObservable (T.history tree.old) (λ v. IsWholeRun
         (IsOutcome words.now (files_of v)) (effect_by (command_of words.now)) (output words.now)
         result v (T.history tree.old) (T.history tree.new)) }
+    // A change has asked the tree for each name that it promises.
+    ensures promised { effect_by (command_of words.now) ≡ Changes
+        → IsAskedThroughout T.accepts (T.history tree.old) (T.history tree.new) }
     ensures same { IsTrue (reads_only (command_of words.now))
         → T.history tree.new ≡ T.history tree.old }
     // How the tree's counts explain the answer: no count falls, an I/O error has its cause, and any
@@ -99,6 +102,8 @@ fn carry_out<T: Tree>(alloc: Global, command: &Command, tree: &mut T) -> Result<
         (IsOutcomeBy (Ok command.now) (files_of v)) (effect_of command.now.applet)
         (output_if (effect_of command.now.applet) command.now)
         result v (T.history tree.old) (T.history tree.new)) }
+    ensures promised { effect_of command.now.applet ≡ Changes
+        → IsAskedThroughout T.accepts (T.history tree.old) (T.history tree.new) }
     ensures same { IsTrue (does_only_read (effect_of command.now.applet))
         → T.history tree.new ≡ T.history tree.old }
     ensures goes_on { GoesOn (T.counts tree.old) (T.counts tree.new) }
@@ -141,6 +146,8 @@ pub(crate) fn run<T: Tree>(
         (IsOutcomeOf (Ok command.now) (files_of v)) (effect_of command.now.applet)
         (output_if (effect_of command.now.applet) command.now)
         result v (T.history tree.old) (T.history tree.new)) }
+    ensures promised { effect_of command.now.applet ≡ Changes
+        → IsAskedThroughout T.accepts (T.history tree.old) (T.history tree.new) }
     ensures same { IsTrue (does_only_read (effect_of command.now.applet))
         → T.history tree.new ≡ T.history tree.old }
     ensures goes_on { GoesOn (T.counts tree.old) (T.counts tree.new) }

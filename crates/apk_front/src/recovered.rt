@@ -1,7 +1,7 @@
 //! A command that recovers first finishes the change of an intent that is found. The rules are in
 //! `docs/commands.md`, "Commands that recover first", and in `docs/crash-safety.md`, "Recovery".
 ghost use Rattle.std.specs.Prelude.{◌≡◌, true, None, Ok, IfOk, IsErrOf, IsSome, OnOk};
-ghost use Rattle.apk_front.specs.Moments.{HasRoomToWrite, LeavesRoomFor};
+ghost use Rattle.apk_front.specs.Moments.{HasRoomToWrite, IsAskedThroughout, LeavesRoomFor};
 ghost use Rattle.apk_front.specs.Runs.{IfNothingWaits, IsRun, IsWholeRun};
 ghost use Rattle.apk_front.specs.Verdicts.{ReportsOne, as_outcome};
 ghost use Rattle.base_core.specs.Calls.{IfObservable};
@@ -10,9 +10,10 @@ ghost use Rattle.base_core.specs.Files.{Files};
 ghost use Rattle.base_core.specs.Tree.{files_of};
 ghost use Rattle.base_core.specs.declared.cause.Cause.{Cause};
 ghost use Rattle.outcome.specs.Commands.{IsFoundOutcomeOf, IsFoundOver, IsOutcomeOf, IsOutcomeOver};
-ghost use Rattle.outcome.specs.Effect.{does_recover, effect_of, output_if};
+ghost use Rattle.outcome.specs.Effect.{Changes, does_recover, effect_of, output_if};
 ghost use Rattle.outcome.specs.Outcome.{Outcome, just_refusal};
 ghost use Rattle.report_core.specs.declared.refusal.Refusal.TheVariants.{IntentBad};
+ghost use Rattle.stage_run.specs.Asked.{IsAskedRun};
 
 use crate::answer::Verdict;
 use crate::change::change;
@@ -44,6 +45,8 @@ pub(crate) fn recover_and_run<T: Tree>(
         (IsOutcomeOf (Ok command.now) (files_of v)) (effect_of command.now.applet)
         (output_if (effect_of command.now.applet) command.now)
         result v (T.history tree.old) (T.history tree.new)) }
+    ensures promised { effect_of command.now.applet ≡ Changes
+        → IsAskedThroughout T.accepts (T.history tree.old) (T.history tree.new) }
     ensures goes_on { GoesOn (T.counts tree.old) (T.counts tree.new) }
     ensures disk { IsErrOf result TreeFault.Disk
         → HasCause (T.counts tree.old) (T.counts tree.new) }
@@ -88,6 +91,9 @@ fn run_recovered<T: Tree>(
     // If memory ran out nothing was written.
     ensures undone { IfNothingWaits (T.history tree.old) (λ v.
         IsErrOf result TreeFault.Memory → T.history tree.new ≡ T.history tree.old) }
+    // A change has asked the tree for each name that it promises.
+    ensures promised { effect_of command.now.applet ≡ Changes
+        → IsAskedRun T.accepts (T.history tree.old) (T.history tree.new) }
     // How the tree's counts explain the answer: no count falls, an I/O error of the tree has its
     // cause, and any other answer hides none.
     ensures goes_on { GoesOn (T.counts tree.old) (T.counts tree.new) }

@@ -2,14 +2,14 @@
 //! about one run alone.
 ghost use Rattle.std.specs.Prelude.{◌≡◌, IsTrue};
 ghost use Rattle.apk_front.specs.Answers.{name_a_command, HasCauses, IsAnswerOf, IsAnswerTo, IsComplete, IsFaultless, IsOutcomeUnlessMemory, IsUnplanned, LeavesAny, LeavesFiles};
-ghost use Rattle.apk_front.specs.Moments.{LeavesRoom};
+ghost use Rattle.apk_front.specs.Moments.{IsAskedThroughout, LeavesRoom};
 ghost use Rattle.base_core.specs.Calls.{IfObservable};
 ghost use Rattle.base_core.specs.Faults.{GoesOn, HasCause};
 ghost use Rattle.base_core.specs.Files.{no_names};
 ghost use Rattle.base_core.specs.Sink.{sink_change, IsProperUse};
 ghost use Rattle.base_core.specs.Tree.{files_of};
 ghost use Rattle.headline.specs.Sentence.{IsAsPromisedBehindAll};
-ghost use Rattle.outcome.specs.Effect.{reads_only, rests_on_words};
+ghost use Rattle.outcome.specs.Effect.{Changes, effect_by, reads_only, rests_on_words};
 ghost use Rattle.outcome.specs.Words.{IsFoundOutcome};
 ghost use Rattle.run_lists.specs.Events.{IsRunFrom, Run};
 ghost use Rattle.words_core.specs.Grammar.{command_of};
@@ -56,6 +56,8 @@ pub fn apk_as_promised<T: Tree, O: Sink, E: Sink>(
         (HasCause (T.counts tree.old) (T.counts tree.new)) result
         (sink_change O.bytes O.counts out.old out.new)
         (sink_change E.bytes E.counts err.old err.new) }
+    ensures asked { effect_by (command_of words.now) ≡ Changes
+        → IsAskedThroughout T.accepts (T.history tree.old) (T.history tree.new) }
     ensures causes { HasCauses result (T.counts tree.old) (T.counts tree.new)
         (sink_change O.bytes O.counts out.old out.new)
         (sink_change E.bytes E.counts err.old err.new) }

@@ -1,4 +1,6 @@
 use Rattle.apk_front.proofs.Demos.{demo_by_reads, demo_by_words, demo_found, demo_run, never_disk, other_by_reads, other_by_words, other_found, other_proper, other_run}
+use Rattle.std.proofs.Common.{sym, ◌∙◌}
+use Rattle.apk_front.proofs.Promised.{changes_not_demo}
 use Rattle.apk_front.proofs.judge.carry_out.Goals as goal
 
 pub returns-in-Demo-clause-found : goal.returns-in-Demo-clause-found
@@ -30,3 +32,6 @@ returns-in_default-clause-run g c = other_run c.args.command.now c.applet.result
 
 pub returns-in_default-clause-proper : goal.returns-in_default-clause-proper
 returns-in_default-clause-proper g c = other_proper c.args.command.now c.applet.result _ _ c.applet.ensures.value c.in_default.not-Demo c.run.ensures.proper
+
+pub returns-in-Demo-clause-promised : goal.returns-in-Demo-clause-promised
+returns-in-Demo-clause-promised g c = λ changes. absurd (changes_not_demo c.args.command.now.applet (sym c.applet.ensures.value ∙ c.in-Demo.is) changes)

@@ -2,6 +2,7 @@ use Rattle.std.proofs.Common.{Ok}
 use Rattle.apk_front.proofs.Carried.{by_command, found_by_command, proper_by_command, run_by_command, words_by_command, usage_reported, usage_run}
 use Rattle.apk_front.proofs.Judged.{usage_found, usage_verdict}
 use Rattle.apk_front.proofs.Named.{command_named, memory_named_so}
+use Rattle.apk_front.proofs.Promised.{asked_by_command, asked_idle}
 use Rattle.apk_front.proofs.judge.judge.Goals as goal
 
 pub returns-in-Ok-clause-found : goal.returns-in-Ok-clause-found
@@ -36,3 +37,12 @@ returns-in-Ok-clause-by_words g c = words_by_command c.args.words.now _ c.carry_
 
 pub returns-in-Err-Memory-clause-named : goal.returns-in-Err-Memory-clause-named
 returns-in-Err-Memory-clause-named g c = λ memory. memory_named_so c.args.words.now _ c.in-Err-Memory.field-0-is c.in-Err-Memory.ensures.memory
+
+pub returns-in-Ok-clause-promised : goal.returns-in-Ok-clause-promised
+returns-in-Ok-clause-promised g c = asked_by_command g.T.Tree.accepts c.args.words.now _ _ _ c.in-Ok.ensures.ok c.carry_out.ensures.promised
+
+pub returns-in-Err-Usage-clause-promised : goal.returns-in-Err-Usage-clause-promised
+returns-in-Err-Usage-clause-promised g c = λ changes. asked_idle g.T.Tree.accepts _
+
+pub returns-in-Err-Memory-clause-promised : goal.returns-in-Err-Memory-clause-promised
+returns-in-Err-Memory-clause-promised g c = λ changes. asked_idle g.T.Tree.accepts _

@@ -1,6 +1,7 @@
 use Rattle.std.proofs.Common.{true≢false, sym, ◌∙◌}
 use Rattle.outcome.specs.Effect.{effect_of}
 use Rattle.apk_front.proofs.Carried.{look_found, look_memory, look_read, look_run, not_on_words, reads_by_access, recovers_else, writes_by_access}
+use Rattle.apk_front.proofs.Promised.{changes_not_read}
 use Rattle.apk_front.proofs.Runs.{proper_anyway}
 use Rattle.apk_front.proofs.judge.run.Goals as goal
 
@@ -17,6 +18,7 @@ returns-in-Write g c =
       by_words = λ rests. absurd (not_on_words (effect_of c.args.command.now.applet) writes rests);
       untouched = λ rests. absurd (not_on_words (effect_of c.args.command.now.applet) writes rests);
       run = c.recover_and_run.ensures.run;
+      promised = c.recover_and_run.ensures.promised;
       same = λ only. absurd (true≢false (sym only ∙ writes));
       goes_on = c.recover_and_run.ensures.goes_on;
       disk = c.recover_and_run.ensures.disk;
@@ -36,6 +38,7 @@ returns-in-Read g c =
       by_reads = look_read c.args.command.now c.look.result reads c.look.ensures.by_reads;
       by_words = c.look.ensures.by_words;
       untouched = c.look.ensures.untouched;
+      promised = λ changes. absurd (changes_not_read (effect_of c.args.command.now.applet) reads changes);
       run = look_run c.args.command.now _ _ c.look.result reads c.look.ensures.tree.same;
       same = λ only. c.look.ensures.tree.same;
       goes_on = c.look.ensures.tree.goes_on;

@@ -1,6 +1,7 @@
 use Rattle.std.proofs.Common.{Err, ap}
 use Rattle.outcome.specs.Effect.{effect_of, output_if}
 use Rattle.apk_front.proofs.Behind.{behind_found, behind_proper, behind_run, is_recovery, refused_found, refused_read, refused_run}
+use Rattle.apk_front.proofs.Promised.{asked_behind, asked_unrecovered}
 use Rattle.apk_front.proofs.recovered.recover_and_run.Goals as goal
 
 pub returns-in-Ok-clause-found : goal.returns-in-Ok-clause-found
@@ -42,3 +43,9 @@ returns-in-Err-clause-run g c =
       still = c.moments_on_the_way_join.ensures.still;
       before = c.moments_on_the_way_join.ensures.before;
     }) c.args.command.now _ (output_if (effect_of c.args.command.now.applet) c.args.command.now) c.refuse_to_recover.result _ _ c.requires (is_recovery _ _ c.in-Err.ensures.moments c.in-Err.ensures.reads c.in-Err.ensures.bytes c.in-Err.ensures.waiting c.in-Err.ensures.last c.in-Err.ensures.idle) (λ cause is. c.in-Err.ensures.bad cause (ap Err is)) c.in-Err.ensures.bad_idle c.refuse_to_recover.ensures.refused
+
+pub returns-in-Ok-clause-promised : goal.returns-in-Ok-clause-promised
+returns-in-Ok-clause-promised g c = λ changes. asked_behind g.T.Tree.accepts _ _ _ c.in-Ok.ensures.reads c.in-Ok.ensures.files (c.run_recovered.ensures.promised changes)
+
+pub returns-in-Err-clause-promised : goal.returns-in-Err-clause-promised
+returns-in-Err-clause-promised g c = λ changes. asked_unrecovered g.T.Tree.accepts _ _ c.in-Err.ensures.reads

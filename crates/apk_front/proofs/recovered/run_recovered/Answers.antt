@@ -1,7 +1,9 @@
 use Rattle.std.proofs.Common.{◌∙◌, sym}
+use Rattle.outcome.specs.Effect.{effect_of}
 use Rattle.apk_front.proofs.Changing.{change_applet}
 use Rattle.apk_front.proofs.Carried.{index_found_one, index_proper, index_read_one, index_run, package_found_one, package_proper, package_read_one, package_run, undone_anyway}
 use Rattle.apk_front.proofs.Telling.{tell_applet}
+use Rattle.apk_front.proofs.Promised.{changes_not_mkndx, changes_not_mkpkg, changes_not_told}
 use Rattle.apk_front.proofs.recovered.run_recovered.Goals as goal
 
 pub returns-in-Mkpkg-clause-found : goal.returns-in-Mkpkg-clause-found
@@ -39,3 +41,13 @@ returns-in-Mkpkg-clause-undone g c = undone_anyway _ _ c.mkpkg.ensures.undone
 
 pub returns-in-Mkndx-clause-undone : goal.returns-in-Mkndx-clause-undone
 returns-in-Mkndx-clause-undone g c = undone_anyway _ _ c.mkndx.ensures.undone
+
+pub returns-in-Mkpkg-clause-promised : goal.returns-in-Mkpkg-clause-promised
+returns-in-Mkpkg-clause-promised g c = λ changes. absurd (changes_not_mkpkg c.args.command.now.applet (sym c.applet.ensures.value ∙ c.in-Mkpkg.is) changes)
+
+pub returns-in-Mkndx-clause-promised : goal.returns-in-Mkndx-clause-promised
+returns-in-Mkndx-clause-promised g c = λ changes. absurd (changes_not_mkndx c.args.command.now.applet (sym c.applet.ensures.value ∙ c.in-Mkndx.is) changes)
+
+pub returns-in-Info-clause-promised : goal.returns-in-Info-clause-promised
+returns-in-Info-clause-promised g c = λ changes.
+    absurd (changes_not_told (effect_of c.args.command.now.applet) (tell_applet c.args.command.now c.applet.result c.applet.ensures.value c.in-Info.is) changes)
