@@ -1,6 +1,6 @@
 -- What `info` answers. The rules are in `docs/commands.md`, "`info`". Serves the laws of
 -- `src/info.rt`.
-use Rattle.std.specs.Prelude.{◌≡◌, ℕ, true, false, List, [], ◌∷◌, ◌++◌, Some, None, codes, is_some, map}
+use Rattle.std.specs.Prelude.{◌≡◌, ℕ, true, List, [], ◌∷◌, ◌++◌, None, codes, is_some, map}
 use Rattle.std.specs.List.{flat_map}
 use Rattle.std.specs.List.Sorted.{IsPermutation, IsSorted}
 use Rattle.adb_fields.specs.Paths.{path_of}
@@ -15,7 +15,6 @@ use Rattle.candidate_core.specs.Candidates.{dependencies_in}
 use Rattle.dep_core.specs.DependencyText.{dep_text}
 use Rattle.file_owners.specs.Replaces.{version_text}
 use Rattle.installed_info.specs.Form.{form_of}
-use Rattle.installed_info.specs.Info.{package_info}
 use Rattle.installed_info.specs.Packages.{package_asked}
 use Rattle.make_laws.specs.NamedFields.{field_named}
 use Rattle.report_core.specs.Reports.{name_version, report_lines}
@@ -61,19 +60,3 @@ paths_in_order pkg =
 -- the texts of a package's dependencies, in their order
 abbrev pub depends_in_order : Plain → List (List ℕ)
 depends_in_order pkg = map dep_text (dependencies_in (info_field (codes "depends") pkg))
-
--- a text has the answer to each operand, in the order given; the package of each is there
-abbrev pub AreAnswered : Flags → List Plain → List Operand → List ℕ → Type 0
-AreAnswered flags packages [] text = text ≡ []
-AreAnswered flags packages (o ∷ operands) text =
-    (pkg : Plain) × (rest : List ℕ)
-    × (package_asked (form_of flags) packages o.text ≡ Some pkg)
-    × (text ≡ package_info (form_of flags) o.text pkg ++ rest)
-    × AreAnswered flags packages operands rest
-
--- flags with none of the four that select a form
-pub record HasNoForm (flags : Flags) : Type 0 where
-  pub who_owns : flags.who_owns ≡ false
-  pub installed : flags.installed ≡ false
-  pub contents : flags.contents ≡ false
-  pub depends : flags.depends ≡ false

@@ -1,24 +1,22 @@
 //! What `info` answers.
 //! The rules are in `docs/commands.md`, "`info`".
 
-ghost use Rattle.std.specs.Prelude.{◌≡◌, ◌↔◌, ◌∷◌, [], codes, ℕ, List, Some, None, Ok, Err, true, false, is_some, map};
+ghost use Rattle.std.specs.Prelude.{◌≡◌, ◌↔◌, ◌∷◌, [], codes, ℕ, List, Some, true, false, is_some, map};
 ghost use Rattle.std.specs.List.{filter};
 ghost use Rattle.adb_fields.specs.Repeated.{package_name};
 ghost use Rattle.adb_view.specs.Plain.{Plain};
 ghost use Rattle.adb_view.specs.Values.{text_in};
-ghost use Rattle.answer_laws.specs.InfoAnswers.{AreAnswered, HasNoForm, HasSortedNames, IsFirstAbsent, depends_in_order, info_field, info_heading, paths_in_order, section_lines};
+ghost use Rattle.answer_laws.specs.InfoAnswers.{HasSortedNames, IsFirstAbsent, depends_in_order, info_field, info_heading, paths_in_order, section_lines};
 ghost use Rattle.base_core.specs.Lists.{IsIn};
-ghost use Rattle.command_core.specs.Command.{CommandLine};
 ghost use Rattle.command_core.specs.declared.command.Flags.{Flags};
 ghost use Rattle.command_core.specs.declared.operands.Operand.{Operand};
 ghost use Rattle.db_core.specs.Packages.{lists_path};
 ghost use Rattle.dep_core.specs.LeadingSlash.{without_slash};
 ghost use Rattle.file_owners.specs.Replaces.{version_text};
 ghost use Rattle.installed_info.specs.Form.{form_of};
-ghost use Rattle.installed_info.specs.Info.{info_of, info_refusal, names_info, operands_info, package_info};
+ghost use Rattle.installed_info.specs.Info.{info_refusal, names_info, operands_info, package_info};
 ghost use Rattle.installed_info.specs.Packages.{package_named};
 ghost use Rattle.report_core.specs.Reports.{owner_text, report_line, report_lines};
-ghost use Rattle.report_core.specs.declared.refusal.Refusal.{Refusal};
 ghost use Rattle.report_core.specs.declared.refusal.Refusal.TheVariants.{NotInstalled};
 
 /// Without an operand `info` prints the name of each package, in byte order, in whatever order the
@@ -70,37 +68,4 @@ pub fn each_question_of_info_has_its_answer()
     ensures owner { (flags : Flags) (path : List ℕ) (pkg : Plain) → flags.who_owns ≡ true
         → package_info (form_of flags) path pkg
         ≡ report_line (owner_text (without_slash path) (package_name pkg) (version_text pkg)) }
-{}
-
-/// If no operand is refused, `info` answers each of them, in the order given.
-pub fn info_answers_its_operands_in_order()
-    ensures { (flags : Flags) (packages : List Plain) (operands : List Operand)
-        → info_refusal (form_of flags) packages operands ≡ None
-        → AreAnswered flags packages operands (operands_info (form_of flags) packages operands) }
-{}
-
-/// The refusal of an operand takes the place of the report; that of `info -e` follows it. Without
-/// an operand and without a flag the names are printed.
-pub fn a_refused_operand_leaves_no_report()
-    ensures refused { (command : CommandLine) (packages : List Plain) (refusal : Refusal)
-        → command.flags.installed ≡ false
-        → info_refusal (form_of command.flags) packages command.operands ≡ Some refusal
-        → info_of command packages ≡ Err refusal }
-    ensures answered { (command : CommandLine) (packages : List Plain) (first : Operand)
-        (others : List Operand)
-        → command.flags.installed ≡ false → command.operands ≡ first ∷ others
-        → info_refusal (form_of command.flags) packages command.operands ≡ None
-        → info_of command packages ≡ Ok (record {
-          report = operands_info (form_of command.flags) packages command.operands;
-          late = None;
-        }) }
-    ensures installed { (command : CommandLine) (packages : List Plain)
-        → command.flags.who_owns ≡ false → command.flags.installed ≡ true
-        → info_of command packages ≡ Ok (record {
-          report = operands_info (form_of command.flags) packages command.operands;
-          late = info_refusal (form_of command.flags) packages command.operands;
-        }) }
-    ensures names { (command : CommandLine) (packages : List Plain)
-        → HasNoForm command.flags → command.operands ≡ []
-        → info_of command packages ≡ Ok (record { report = names_info packages; late = None }) }
 {}
