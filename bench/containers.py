@@ -248,14 +248,26 @@ def run(folder, *command):
 
 def best_of(times, command, folder):
     """The least processor time in seconds that a command takes of so many runs."""
-    best = None
+    return best_of_each(times, [command], folder)[0]
+
+
+def best_of_each(times, commands, folder):
+    """The least processor time in seconds that each of these commands takes of so many runs. They run in turn, so that a slow
+    spell of the machine meets all of them. Other work only adds to a time, so the least is the nearest to the program's own."""
+    best = [None] * len(commands)
     for _ in range(times):
-        before = resource.getrusage(resource.RUSAGE_CHILDREN)
-        subprocess.run(command, cwd=folder, check=True, stdout=subprocess.DEVNULL)
-        after = resource.getrusage(resource.RUSAGE_CHILDREN)
-        took = after.ru_utime + after.ru_stime - before.ru_utime - before.ru_stime
-        best = took if best is None else min(best, took)
+        for i, command in enumerate(commands):
+            took = processor_time(command, folder)
+            best[i] = took if best[i] is None else min(best[i], took)
     return best
+
+
+def processor_time(command, folder):
+    """The processor time in seconds of one run of a command."""
+    before = resource.getrusage(resource.RUSAGE_CHILDREN)
+    subprocess.run(command, cwd=folder, check=True, stdout=subprocess.DEVNULL)
+    after = resource.getrusage(resource.RUSAGE_CHILDREN)
+    return after.ru_utime + after.ru_stime - before.ru_utime - before.ru_stime
 
 
 def greatest_memory(command, folder):

@@ -111,6 +111,10 @@ class Runner(Maker):
         if wanted[0] == 2 or b"ERROR: usage error" in wanted[2]:
             # the further lines are texts for a reader, of the host or of the help
             found = found[0], found[1], found[2].split(b"\n")[0] + b"\n"
+        elif wanted[0] == 1 and found[2]:
+            # lines after the first that say what its numbers stand for
+            first, *others = found[2].splitlines(keepends=True)
+            found = found[0], found[1], first + b"".join(it for it in others if not it.startswith(b"apk: "))
         for name, one, other in zip(("status", "standard output", "standard error"), found, wanted):
             if one != other:
                 self.differ(words, before, f"{name}: found {one!r}\n  instead of {other!r}")

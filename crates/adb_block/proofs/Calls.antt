@@ -2,13 +2,13 @@
 use Rattle.std.proofs.Common.{◌≡◌, ◌↔◌, ℕ, ◌+◌, ◌-◌, List, [], ◌∷◌, length, drop, Option, Some, None, Ok, Err, refl, sym, ap, subst, ◌∙◌, arith}
 use Rattle.std.specs.Prelude.{IsSome}
 use Rattle.base_core.specs.declared.Cause.{Cause}
-use Rattle.adb_block.specs.Container.{IsLater, SpellsBlocks}
+use Rattle.adb_block.specs.Container.{IsNotFirst, SpellsBlocks}
 use Rattle.adb_block.specs.Piece.{Piece}
 use Rattle.adb_block.specs.Framing.{ended, failed, block, next_step}
-use Rattle.adb_block.specs.Standing.{Standing}
+use Rattle.adb_block.specs.ReaderPosition.{ReaderPosition}
 use Rattle.adb_block.specs.Reading.{reading_of}
 use Rattle.adb_block.specs.AllBlocks.{rest_of}
-use Rattle.adb_block.specs.Reader.{piece_of, BeginsWith, Continues, IsStep, Advances, Ends, ContinuesReading, ContinuesRest, standing_behind}
+use Rattle.adb_block.specs.Reader.{piece_of, BeginsWith, Continues, IsStep, Advances, Ends, ContinuesReading, ContinuesRest, reader_after_block}
 use Rattle.adb_block.specs.declared.block.Block.{Block}
 use Rattle.adb_block.specs.declared.block.BlockKind.{BlockKind}
 use Rattle.adb_block.proofs.Sound.{step_sound, step_ended}
@@ -44,18 +44,18 @@ spells_back last at bytes b size e (c ∷ bs) (same, further) =
 
 -- ---- the clauses of a call, by its step
 
-some_later : (last : Option BlockKind) → IsLater last → IsSome last
+some_later : (last : Option BlockKind) → IsNotFirst last → IsSome last
 some_later None later = absurd later
 some_later (Some kind) later = refl
 
 -- at the end
-pub record IsEnd (s : Standing) : Type 0 where
+pub record IsEnd (s : ReaderPosition) : Type 0 where
   pub blocks : Continues s (Ok None) s
   pub none : Ends s s
   pub reading : ContinuesReading (reading_of s) (Ok None) (reading_of s)
   pub rest : ContinuesRest (rest_of s) (Ok None) (rest_of s)
 
-pub at_end : (s : Standing) → next_step s.last s.at s.left ≡ ended → IsEnd s
+pub at_end : (s : ReaderPosition) → next_step s.last s.at s.left ≡ ended → IsEnd s
 at_end s e = record {
   blocks = spells_end s.last s.at s.left e;
   none = (let end = step_ended s.last s.at s.left e in record { empty = end.0; later = some_later s.last end.1; stays = refl });
@@ -64,12 +64,12 @@ at_end s e = record {
 }
 
 -- at a failed test
-pub record IsFault (s : Standing) (c : Cause) : Type 0 where
+pub record PrintsOnlyErrorLine (s : ReaderPosition) (c : Cause) : Type 0 where
   pub blocks : Continues s (Err c) s
   pub reading : ContinuesReading (reading_of s) (Err c) (reading_of s)
   pub rest : ContinuesRest (rest_of s) (Err c) (rest_of s)
 
-pub at_fault : (s : Standing) (c : Cause) → next_step s.last s.at s.left ≡ failed c → IsFault s c
+pub at_fault : (s : ReaderPosition) (c : Cause) → next_step s.last s.at s.left ≡ failed c → PrintsOnlyErrorLine s c
 at_fault s c e = record {
   blocks = spells_not s.last s.at s.left c e;
   reading = reading_failed s c e;
@@ -77,7 +77,7 @@ at_fault s c e = record {
 }
 
 -- at a block
-pub record IsFound (s : Standing) (b : Block) (t : Standing) : Type 0 where
+pub record IsFound (s : ReaderPosition) (b : Block) (t : ReaderPosition) : Type 0 where
   pub blocks : Continues s (Ok (Some b)) t
   pub exact : IsStep s (Ok (Some b)) t
   pub found : Advances s b t
@@ -85,8 +85,8 @@ pub record IsFound (s : Standing) (b : Block) (t : Standing) : Type 0 where
   pub reading : ContinuesReading (reading_of s) (Ok (Some b)) (reading_of t)
   pub rest : ContinuesRest (rest_of s) (Ok (Some b)) (rest_of t)
 
-found_behind : (s : Standing) (b : Block) (size : ℕ) → b.at ≡ s.at → next_step s.last s.at s.left ≡ block (piece_of b) size → IsFound s b (standing_behind s b.kind size)
-found_behind s b size at e =
+found_after : (s : ReaderPosition) (b : Block) (size : ℕ) → b.at ≡ s.at → next_step s.last s.at s.left ≡ block (piece_of b) size → IsFound s b (reader_after_block s b.kind size)
+found_after s b size at e =
     let sound = step_sound s.last s.at s.left (piece_of b) size e in
     let size_is : size ≡ s.at + size - s.at = omega arith in
     let shorter = step_shorter s.last s.at s.left (piece_of b) size e in
@@ -97,7 +97,7 @@ found_behind s b size at e =
         at = at;
         follows = sound.0;
         is_block = sound.1;
-        stands = ap (standing_behind s b.kind) size_is;
+        located = ap (reader_after_block s b.kind) size_is;
         shorter = shorter;
       };
       filled = λ is. omega (arith, ap length is);
@@ -105,5 +105,5 @@ found_behind s b size at e =
       rest = rest_more s (piece_of b) size e;
     }
 
-pub at_block : (s : Standing) (b : Block) (size : ℕ) (t : Standing) → b.at ≡ s.at → next_step s.last s.at s.left ≡ block (piece_of b) size → t ≡ standing_behind s b.kind size → IsFound s b t
-at_block s b size t at e is = subst (IsFound s b) (sym is) (found_behind s b size at e)
+pub at_block : (s : ReaderPosition) (b : Block) (size : ℕ) (t : ReaderPosition) → b.at ≡ s.at → next_step s.last s.at s.left ≡ block (piece_of b) size → t ≡ reader_after_block s b.kind size → IsFound s b t
+at_block s b size t at e is = subst (IsFound s b) (sym is) (found_after s b size at e)

@@ -9,7 +9,7 @@ use Rattle.adb_block.specs.Container.{IsBlock, MayFollow}
 use Rattle.adb_block.specs.Header.{header_of}
 use Rattle.adb_block.specs.Framing.{HeadFields, head_of, kind_of_number, Step, ended, failed, block, step_by_size, step_by_order, step_by_head, step_at_end, next_step}
 use Rattle.adb_block.specs.FirstFraming.{BeginWithBlocks, last_kind, IsWrongSize, HaveBlockFault, IsFirstFramingFault}
-use Rattle.adb_block.specs.Standing.{start_of}
+use Rattle.adb_block.specs.ReaderPosition.{start_of}
 use Rattle.adb_block.specs.Reading.{reading_by_step, reading_from, reading_of}
 use Rattle.adb_block.specs.AllBlocks.{with_block, pieces_of, rest_of, blocks_of}
 use Rattle.adb_block.specs.declared.block.BlockKind.{BlockKind}
@@ -82,7 +82,7 @@ record Fails (total : ℕ) (last : Option BlockKind) (bytes : List ℕ) (c : Cau
   pub rest : List ℕ
   pub before : BeginWithBlocks last bytes blocks rest
   pub at : ℕ
-  pub stands : at + length rest ≡ total
+  pub located : at + length rest ≡ total
   pub fault : HaveBlockFault (last_kind last blocks) at rest c
 
 with_err : (b : Piece) (r : Result (List Piece) Cause) (c : Cause) → with_block b r ≡ Err c → r ≡ Err c
@@ -91,7 +91,7 @@ with_err b (Err d) c e = e
 
 fails_behind : (total : ℕ) (last : Option BlockKind) (bytes : List ℕ) (c : Cause) (b : Piece) (behind : List ℕ) → MayFollow last b → IsBlock b bytes behind → Fails total (Some b.kind) behind c → Fails total last bytes c
 fails_behind total last bytes c b behind may is f =
-    record { blocks = b ∷ f.blocks; rest = f.rest; before = (behind, may, is, f.before); at = f.at; stands = f.stands; fault = f.fault }
+    record { blocks = b ∷ f.blocks; rest = f.rest; before = (behind, may, is, f.before); at = f.at; located = f.located; fault = f.fault }
 
 -- nothing fails at the end after a block
 nothing_fails : (n at : ℕ) (kind : BlockKind) (bytes : List ℕ) (c : Cause) → bytes ≡ [] → length bytes < n → pieces_of (reading_from n (Some kind) at bytes) ≡ Err c → ⊥
@@ -105,9 +105,9 @@ nothing_fails (suc n) at kind bytes c none enough e =
 abbrev FailsLater : ℕ → ℕ → Cause → Type 0
 FailsLater n total c = (kind : BlockKind) (at : ℕ) (bytes : List ℕ) → length bytes < n → at + length bytes ≡ total → pieces_of (reading_from n (Some kind) at bytes) ≡ Err c → Fails total (Some kind) bytes c
 
-behind_fails : (n total : ℕ) (kind : BlockKind) (at size : ℕ) (bytes : List ℕ) (c : Cause) → FailsLater n total c → length (drop size bytes) < n → at + length bytes ≡ total → pieces_of (reading_from n (Some kind) (at + size) (drop size bytes)) ≡ Err c
+after_fails : (n total : ℕ) (kind : BlockKind) (at size : ℕ) (bytes : List ℕ) (c : Cause) → FailsLater n total c → length (drop size bytes) < n → at + length bytes ≡ total → pieces_of (reading_from n (Some kind) (at + size) (drop size bytes)) ≡ Err c
     → Fails total (Some kind) (drop size bytes) c
-behind_fails n total kind at size bytes c ih enough sum e =
+after_fails n total kind at size bytes c ih enough sum e =
     elim (cases_lt (length bytes) size) [
       | inl short ↦ absurd (nothing_fails n (at + size) kind (drop size bytes) c (drop_all size bytes (omega arith)) enough e)
       | inr fits ↦ ih kind (at + size) (drop size bytes) enough (omega (arith, length-drop size bytes)) e
@@ -118,12 +118,12 @@ stepped_fails : (n total : ℕ) (last : Option BlockKind) (at : ℕ) (bytes : Li
 stepped_fails n total last at bytes c ih enough sum ended is e = absurd cc
 stepped_fails n total last at bytes c ih enough sum (failed d) is e =
     let same : d ≡ c = cc in
-    record { blocks = []; rest = bytes; before = refl; at = at; stands = sum; fault = step_failed last at bytes c (is ∙ ap failed same) }
+    record { blocks = []; rest = bytes; before = refl; at = at; located = sum; fault = step_failed last at bytes c (is ∙ ap failed same) }
 stepped_fails n total last at bytes c ih enough sum (block b size) is e =
     let sound = step_sound last at bytes b size is in
     let shorter = step_shorter last at bytes b size is in
     let later = with_err b (pieces_of (reading_from n (Some b.kind) (at + size) (drop size bytes))) c e in
-    fails_behind total last bytes c b (drop size bytes) sound.0 sound.1 (behind_fails n total b.kind at size bytes c ih (omega arith) sum later)
+    fails_behind total last bytes c b (drop size bytes) sound.0 sound.1 (after_fails n total b.kind at size bytes c ih (omega arith) sum later)
 
 reading_fails : (n total : ℕ) (last : Option BlockKind) (at : ℕ) (bytes : List ℕ) (c : Cause) → length bytes < n → at + length bytes ≡ total → pieces_of (reading_from n last at bytes) ≡ Err c → Fails total last bytes c
 unfolding reading_from
@@ -141,4 +141,4 @@ pub first_told : (file : List ℕ) (schema : ℕ) (c : Cause) → header_of file
 first_told file schema c h e =
     let header = header_sound file schema h in
     let f = rest_fails schema file c header.whole (sym (whole_from file schema h) ∙ e) in
-    record { blocks = f.blocks; rest = f.rest; before = f.before; at = f.at; stands = f.stands; fault = f.fault }
+    record { blocks = f.blocks; rest = f.rest; before = f.before; at = f.at; located = f.located; fault = f.fault }

@@ -6,7 +6,7 @@ use Rattle.std.proofs.lemmas.List.{take-take, drop-take, take_all}
 use Rattle.adb_block.specs.Header.{word_at, long_at}
 use Rattle.adb_block.specs.Framing.{HeadFields, Step, head_of, kind_of_number, long_head, next_step, step_by_order}
 use Rattle.adb_block.specs.declared.block.BlockKind.{BlockKind}
-use Rattle.adb_block.specs.Frames.{HoldsHead, head_len}
+use Rattle.adb_block.specs.Frames.{IsHeadPrefix, head_len}
 
 -- bytes begin with all of themselves
 pub begins_whole : (bytes : List ℕ) → take (length bytes) bytes ≡ bytes
@@ -85,7 +85,7 @@ torn_head bytes head more torn begins = by_four (ltb (length head) 4) (eqb (word
         cut_head bytes (omega arith) long few ∙ sym (cut_head head four f (omega arith))
     by_four false false e f few = let four = ltb-false _ _ e in absurd (omega arith)
 
-pub same_head : (bytes head : List ℕ) (left : ℕ) → HoldsHead head left → length bytes ≡ left → take (length head) bytes ≡ head → head_of bytes ≡ head_of head
+pub same_head : (bytes head : List ℕ) (left : ℕ) → IsHeadPrefix head left → length bytes ≡ left → take (length head) bytes ≡ head → head_of bytes ≡ head_of head
 same_head bytes head left holds len begins =
     let within = holds.within in
     elim (cases_lt left (head_len head)) [
@@ -95,7 +95,7 @@ same_head bytes head left holds len begins =
 
 -- ---- the step by it
 
-pub framed_step : (last : Option BlockKind) (at : ℕ) (bytes head : List ℕ) (left : ℕ) (f : HeadFields) (s : Step) → HoldsHead head left → length bytes ≡ left → take (length head) bytes ≡ head → (left ≡ 0 → ⊥) → head_of head ≡ Some f → step_by_order last at bytes f (kind_of_number f.kind) ≡ s → next_step last at bytes ≡ s
+pub framed_step : (last : Option BlockKind) (at : ℕ) (bytes head : List ℕ) (left : ℕ) (f : HeadFields) (s : Step) → IsHeadPrefix head left → length bytes ≡ left → take (length head) bytes ≡ head → (left ≡ 0 → ⊥) → head_of head ≡ Some f → step_by_order last at bytes f (kind_of_number f.kind) ≡ s → next_step last at bytes ≡ s
 unfolding next_step
 framed_step last at bytes head left f s holds len begins some is step =
     let a : eqb (length bytes) 0 ≡ false = ne_eqb _ _ (λ e. some (sym len ∙ e)) in

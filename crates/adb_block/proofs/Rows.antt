@@ -6,8 +6,8 @@ use Rattle.adb_block.specs.Container.{Spells}
 use Rattle.adb_block.specs.Piece.{Piece}
 use Rattle.adb_block.specs.Header.{header_of}
 use Rattle.adb_block.specs.Framing.{head_of, next_step}
-use Rattle.adb_block.specs.Standing.{start_of}
-use Rattle.adb_block.specs.Reader.{standing_behind, next_offset}
+use Rattle.adb_block.specs.ReaderPosition.{start_of}
+use Rattle.adb_block.specs.Reader.{reader_after_block, next_offset}
 use Rattle.adb_block.specs.Reading.{fault, more, reading_from, reading_of}
 use Rattle.adb_block.specs.AllBlocks.{rest_of, blocks_of}
 use Rattle.adb_block.specs.declared.block.BlockKind.TheVariants.{Adb, Signature, Contents}
@@ -160,9 +160,9 @@ at_first = refl
 at_none : next_offset (start_of 0x676b6370 (take 8 file)) ≡ None
 at_none = refl
 
-at_second : next_offset (standing_behind (start_of 0x676b6370 (file ++ signature)) Adb 40) ≡ Some 48
+at_second : next_offset (reader_after_block (start_of 0x676b6370 (file ++ signature)) Adb 40) ≡ Some 48
 at_second = refl
 
 -- after cut padding the offset is past the file's end
-at_padding : next_offset (standing_behind (start_of 0x676b6370 (take 45 file)) Adb 40) ≡ None
+at_padding : next_offset (reader_after_block (start_of 0x676b6370 (take 45 file)) Adb 40) ≡ None
 at_padding = refl

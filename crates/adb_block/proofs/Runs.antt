@@ -5,8 +5,8 @@ use Rattle.base_core.specs.declared.Cause.{Cause}
 use Rattle.adb_block.specs.Container.{IsBlock, SpellsBlocks}
 use Rattle.adb_block.specs.Piece.{Piece}
 use Rattle.adb_block.specs.Framing.{Step, ended, failed, block, next_step}
-use Rattle.adb_block.specs.Standing.{Standing}
-use Rattle.adb_block.specs.Reader.{standing_behind}
+use Rattle.adb_block.specs.ReaderPosition.{ReaderPosition}
+use Rattle.adb_block.specs.Reader.{reader_after_block}
 use Rattle.adb_block.specs.Reading.{Reading, done, fault, more, reading_by_step, reading_from, reading_of}
 use Rattle.adb_block.specs.AllBlocks.{with_block, pieces_of, rest_of}
 use Rattle.adb_block.specs.declared.block.BlockKind.{BlockKind}
@@ -43,30 +43,30 @@ reading_enough (suc n) (suc m) last at bytes l k =
     let shorter = step_shorter last at bytes b size e in
     reading_enough n m (Some b.kind) (at + size) (drop size bytes) (omega arith) (omega arith))
 
-pub reading_ended : (s : Standing) → next_step s.last s.at s.left ≡ ended → reading_of s ≡ done
+pub reading_ended : (s : ReaderPosition) → next_step s.last s.at s.left ≡ ended → reading_of s ≡ done
 unfolding reading_of reading_from
 reading_ended s e = rw e refl
 
-pub reading_failed : (s : Standing) (c : Cause) → next_step s.last s.at s.left ≡ failed c → reading_of s ≡ fault c
+pub reading_failed : (s : ReaderPosition) (c : Cause) → next_step s.last s.at s.left ≡ failed c → reading_of s ≡ fault c
 unfolding reading_of reading_from
 reading_failed s c e = rw e refl
 
-pub reading_more : (s : Standing) (b : Piece) (size : ℕ) → next_step s.last s.at s.left ≡ block b size → reading_of s ≡ more b s.at (reading_of (standing_behind s b.kind size))
+pub reading_more : (s : ReaderPosition) (b : Piece) (size : ℕ) → next_step s.last s.at s.left ≡ block b size → reading_of s ≡ more b s.at (reading_of (reader_after_block s b.kind size))
 unfolding reading_of reading_from
 reading_more s b size e =
     let shorter = step_shorter s.last s.at s.left b size e in
     let enough = reading_enough (length s.left) (suc (length (drop size s.left))) (Some b.kind) (s.at + size) (drop size s.left) shorter (omega arith) in
     ap (reading_by_step s.at (λ b size. reading_from (length s.left) (Some b.kind) (s.at + size) (drop size s.left))) e ∙ ap (more b s.at) enough
 
-pub rest_ended : (s : Standing) → next_step s.last s.at s.left ≡ ended → rest_of s ≡ Ok []
+pub rest_ended : (s : ReaderPosition) → next_step s.last s.at s.left ≡ ended → rest_of s ≡ Ok []
 unfolding rest_of
 rest_ended s e = ap pieces_of (reading_ended s e)
 
-pub rest_failed : (s : Standing) (c : Cause) → next_step s.last s.at s.left ≡ failed c → rest_of s ≡ Err c
+pub rest_failed : (s : ReaderPosition) (c : Cause) → next_step s.last s.at s.left ≡ failed c → rest_of s ≡ Err c
 unfolding rest_of
 rest_failed s c e = ap pieces_of (reading_failed s c e)
 
-pub rest_more : (s : Standing) (b : Piece) (size : ℕ) → next_step s.last s.at s.left ≡ block b size → rest_of s ≡ with_block b (rest_of (standing_behind s b.kind size))
+pub rest_more : (s : ReaderPosition) (b : Piece) (size : ℕ) → next_step s.last s.at s.left ≡ block b size → rest_of s ≡ with_block b (rest_of (reader_after_block s b.kind size))
 unfolding rest_of
 rest_more s b size e = ap pieces_of (reading_more s b size e)
 

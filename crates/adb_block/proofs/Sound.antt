@@ -3,7 +3,7 @@ use Rattle.std.proofs.Common.{◌≡◌, ℕ, zero, suc, ◌+◌, ◌-◌, ◌*�
 use Rattle.std.specs.Int.{w32, w64, from_le_bytes}
 use Rattle.std.proofs.lemmas.Bool.{cases_lt, ltb-false, eqb-true, or_parts}
 use Rattle.std.proofs.lemmas.List.{take-append-drop, length-take, length-drop, take-take, drop-drop, drop-take, drop_all, nil_from_length}
-use Rattle.adb_block.specs.Container.{IsHead, IsPadding, IsBlock, MayFollow, IsLater}
+use Rattle.adb_block.specs.Container.{IsHead, IsPadding, IsBlock, MayFollow, IsNotFirst}
 use Rattle.adb_block.specs.Piece.{Piece, kind_number, comes_after, least_payload, padding_of}
 use Rattle.adb_block.specs.Header.{word_at, long_at}
 use Rattle.adb_block.specs.Framing.{HeadFields, short_head, long_head, head_of, kind_of_number, ended, block, step_by_size, step_by_order, step_by_head, step_at_end, next_step}
@@ -149,10 +149,10 @@ is_padded bytes size raw e le =
     ]
 
 passes_block : (last : Option BlockKind) (bytes : List ℕ) (h : HeadFields) (b : Piece) (size : ℕ) → Stands bytes h → h.kind ≡ kind_number b.kind → Passes last bytes h b size → MayFollow last b × IsBlock b bytes (drop size bytes)
-passes_block last bytes h b size stands kind p =
+passes_block last bytes h b size located kind p =
     let enough = p.enough in
     let fits = p.fits in
-    let within = stands.within in
+    let within = located.within in
     let len : length b.payload ≡ h.raw - h.len = rw (← p.payload_is) (omega (arith, length-take (h.raw - h.len) (drop h.len bytes), length-drop h.len bytes)) in
     let head_len : length (take h.len bytes) ≡ h.len = omega (arith, length-take h.len bytes) in
     let whole : bytes ≡ take h.len bytes ++ (b.payload ++ (take (padding_of h.raw) (drop h.raw bytes) ++ drop size bytes)) = rw (← p.payload_is, ← p.size_is) (split_bytes bytes h.len h.raw (padding_of h.raw) enough) in (
@@ -160,7 +160,7 @@ passes_block last bytes h b size stands kind p =
       record {
         head = take h.len bytes;
         pad = take (padding_of h.raw) (drop h.raw bytes);
-        is_head = rw len (stands.says b.kind kind enough);
+        is_head = rw len (located.says b.kind kind enough);
         parts = whole;
         is_pad = rw (← p.size_is) (is_padded bytes (length (take h.len bytes) + length b.payload) h.raw (omega arith) fits);
       },
@@ -205,11 +205,11 @@ headed_not_ended : (last : Option BlockKind) (at : ℕ) (bytes : List ℕ) (o : 
 headed_not_ended last at bytes None e = cc
 headed_not_ended last at bytes (Some h) e = ordered_not_ended last at bytes h (kind_of_number h.kind) e
 
-at_end_ended : (last : Option BlockKind) (at : ℕ) → step_at_end last at ≡ ended → IsLater last
+at_end_ended : (last : Option BlockKind) (at : ℕ) → step_at_end last at ≡ ended → IsNotFirst last
 at_end_ended None at e = absurd cc
 at_end_ended (Some k) at e = tt
 
-pub step_ended : (last : Option BlockKind) (at : ℕ) (bytes : List ℕ) → next_step last at bytes ≡ ended → (bytes ≡ []) × IsLater last
+pub step_ended : (last : Option BlockKind) (at : ℕ) (bytes : List ℕ) → next_step last at bytes ≡ ended → (bytes ≡ []) × IsNotFirst last
 unfolding next_step
 step_ended last at bytes e =
     elim (chosen (eqb (length bytes) 0) _ _ _ e) [

@@ -10,9 +10,9 @@ use Rattle.base_core.specs.declared.Cause.TheVariants.{NotAdb, Compressed, Trunc
 use Rattle.adb_block.specs.Container.{Spells, SpellsBlocks}
 use Rattle.adb_block.specs.Piece.{Piece}
 use Rattle.adb_block.specs.Header.{word_at, is_compressed, header_of}
-use Rattle.adb_block.specs.Standing.{start_of}
+use Rattle.adb_block.specs.ReaderPosition.{start_of}
 use Rattle.adb_block.specs.Reading.{reading_of}
-use Rattle.adb_block.specs.AllBlocks.{rest_of, blocks_behind, blocks_of}
+use Rattle.adb_block.specs.AllBlocks.{rest_of, blocks_after_header, blocks_of}
 use Rattle.adb_block.proofs.Choices.{passed}
 use Rattle.adb_block.proofs.Runs.{pieces_sound, pieces_again}
 
@@ -52,7 +52,7 @@ parts file = sym (ap (λ r. take 4 file ++ r) (ap (λ r. take 4 (drop 4 file) ++
 
 -- ---- all blocks
 
-blocks_by : (file : List ℕ) (r : Result ℕ Cause) (schema : ℕ) (bs : List Piece) → r ≡ Ok schema → blocks_behind file r ≡ Ok bs → rest_of (start_of schema file) ≡ Ok bs
+blocks_by : (file : List ℕ) (r : Result ℕ Cause) (schema : ℕ) (bs : List Piece) → r ≡ Ok schema → blocks_after_header file r ≡ Ok bs → rest_of (start_of schema file) ≡ Ok bs
 blocks_by file (Ok found) schema bs e is = let same : found ≡ schema = cc in rw (← same) is
 blocks_by file (Err c) schema bs e is = absurd cc
 
@@ -88,7 +88,7 @@ spelled_is_read file schema bs s =
     let body : drop 8 file ≡ s.body = ap (drop 8) s.parts ∙ text_body s.word s.body s.four in
     let spelled : SpellsBlocks None (drop 8 file) bs = rw body s.blocks in
     let read = pieces_again bs (suc (length (drop 8 file))) None 8 (drop 8 file) spelled (omega arith) in
-    (header, ap (blocks_behind file) header ∙ read)
+    (header, ap (blocks_after_header file) header ∙ read)
 
 pub one_reading : (file : List ℕ) (schema other : ℕ) (bs others : List Piece) → Spells file schema bs → Spells file other others → (schema ≡ other) × (bs ≡ others)
 one_reading file schema other bs others s t =
@@ -102,8 +102,8 @@ one_reading file schema other bs others s t =
 
 pub whole_from : (file : List ℕ) (schema : ℕ) → header_of file ≡ Ok schema → blocks_of file ≡ rest_of (start_of schema file)
 unfolding blocks_of
-whole_from file schema e = ap (blocks_behind file) e
+whole_from file schema e = ap (blocks_after_header file) e
 
 pub whole_failed : (file : List ℕ) (c : Cause) → header_of file ≡ Err c → blocks_of file ≡ Err c
 unfolding blocks_of
-whole_failed file c e = ap (blocks_behind file) e
+whole_failed file c e = ap (blocks_after_header file) e

@@ -24,21 +24,21 @@ last_kind last (b ∷ bs) = last_kind (Some b.kind) bs
 -- ---- the tests of one block, after a block of the kind `last`, in their order
 
 -- first: the bytes have no complete header
-pub record LackHead (at : ℕ) (bytes : List ℕ) (c : Cause) : Type 0 where
+pub record LackHeader (at : ℕ) (bytes : List ℕ) (c : Cause) : Type 0 where
   pub head : head_of bytes ≡ None
   pub cause : c ≡ Truncated at
 
 -- a kind is not allowed after `last`, or is unknown
-abbrev pub MayNotStand : Option BlockKind → Option BlockKind → Type 0
-MayNotStand last None = Unit {0}
-MayNotStand last (Some kind) = comes_after last kind ≡ false
+abbrev pub CannotFollow : Option BlockKind → Option BlockKind → Type 0
+CannotFollow last None = Unit {0}
+CannotFollow last (Some kind) = comes_after last kind ≡ false
 
 -- second: the bytes begin with a complete header, whose kind is not allowed here
 pub record HaveWrongKind (last : Option BlockKind) (at : ℕ) (bytes : List ℕ)
     (c : Cause) : Type 0 where
   pub head : HeadFields
   pub is : head_of bytes ≡ Some head
-  pub wrong : MayNotStand last (kind_of_number head.kind)
+  pub wrong : CannotFollow last (kind_of_number head.kind)
   pub cause : c ≡ BlockOrder at
 
 -- the raw size is too small for the header and the least payload of the kind, or exceeds the bytes
@@ -60,7 +60,7 @@ pub record HaveWrongSize (last : Option BlockKind) (at : ℕ) (bytes : List ℕ)
 -- the next block has this fault: one of its three tests fails, and those before it do not
 abbrev pub HaveBlockFault : Option BlockKind → ℕ → List ℕ → Cause → Type 0
 HaveBlockFault last at bytes c =
-    LackHead at bytes c ⊎ (HaveWrongKind last at bytes c ⊎ HaveWrongSize last at bytes c)
+    LackHeader at bytes c ⊎ (HaveWrongKind last at bytes c ⊎ HaveWrongSize last at bytes c)
 
 -- ---- the whole file
 
@@ -75,6 +75,6 @@ pub record IsFirstFramingFault (file : List ℕ) (c : Cause) : Type 0 where
   pub before : BeginWithBlocks None (drop 8 file) blocks rest
   -- the offset of the rest
   pub at : ℕ
-  pub stands : at + length rest ≡ length file
+  pub located : at + length rest ≡ length file
   -- the next block has this fault
   pub fault : HaveBlockFault (last_kind None blocks) at rest c

@@ -19,7 +19,7 @@ head_len bytes =
 
 -- `head` is the first of the `left` bytes up to the file's end: as many as a header has, if they are
 -- all there
-pub record HoldsHead (head : List ℕ) (left : ℕ) : Type 0 where
+pub record IsHeadPrefix (head : List ℕ) (left : ℕ) : Type 0 where
   pub within : length head ≤ left
   pub whole : head_len head ≤ left → head_len head ≤ length head
 

@@ -4,7 +4,7 @@
 pub mod Piece
 pub mod Header
 pub mod Framing
-pub mod Standing
+pub mod ReaderPosition
 pub mod Reading
 pub mod Written
 -- used by inner contracts and proofs only

@@ -6,19 +6,19 @@ use Rattle.base_core.specs.declared.Cause.{Cause}
 use Rattle.adb_block.specs.Container.{IsBlock, MayFollow, SpellsBlocks}
 use Rattle.adb_block.specs.Piece.{Piece}
 use Rattle.adb_block.specs.Framing.{ended, failed, block, next_step}
-use Rattle.adb_block.specs.Standing.{Standing}
+use Rattle.adb_block.specs.ReaderPosition.{ReaderPosition}
 use Rattle.adb_block.specs.Reading.{Reading, done, fault, more}
 use Rattle.adb_block.specs.AllBlocks.{with_block, rest_of}
 use Rattle.adb_block.specs.declared.block.Block.{Block}
 use Rattle.adb_block.specs.declared.block.BlockKind.{BlockKind}
 
 -- the position of a reader after a block of this kind, which has this size with its padding
-abbrev pub standing_behind : Standing → BlockKind → ℕ → Standing
-standing_behind s kind size =
+abbrev pub reader_after_block : ReaderPosition → BlockKind → ℕ → ReaderPosition
+reader_after_block s kind size =
     record { schema = s.schema; last = Some kind; at = s.at + size; left = drop size s.left }
 
 -- the offset of the next block, or None if it is at or past the file's end
-abbrev pub next_offset : Standing → Option ℕ
+abbrev pub next_offset : ReaderPosition → Option ℕ
 next_offset s = if length s.left == 0 then None else Some s.at
 
 -- a block of the program as a block of the grammar: its kind and its payload
@@ -26,7 +26,7 @@ abbrev pub piece_of : Block → Piece
 piece_of b = record { kind = b.kind; payload = b.payload.now }
 
 -- the file spells these blocks from the reader's position on
-abbrev pub SpelledFrom : Standing → List Piece → Type 0
+abbrev pub SpelledFrom : ReaderPosition → List Piece → Type 0
 SpelledFrom s bs = SpellsBlocks s.last s.left bs
 
 -- a list of blocks begins with this one, and `Goes` holds for the blocks after it
@@ -37,7 +37,7 @@ BeginsWith b Goes (c ∷ bs) = (c ≡ b) × Goes bs
 -- a call of the reader returns the blocks of the grammar and no others. If it returns a block, the
 -- spelled blocks begin with it and go on with those from the new position. If it returns None, no block
 -- is left; and if it returns an error, the file spells nothing at all
-abbrev pub Continues : Standing → Result (Option Block) Cause → Standing → Type 0
+abbrev pub Continues : ReaderPosition → Result (Option Block) Cause → ReaderPosition → Type 0
 Continues s (Ok None) t = (bs : List Piece) → SpelledFrom s bs ↔ (bs ≡ [])
 Continues s (Ok (Some b)) t =
     (bs : List Piece) → SpelledFrom s bs ↔ BeginsWith (piece_of b) (SpelledFrom t) bs
@@ -45,13 +45,13 @@ Continues s (Err c) t = (bs : List Piece) → ¬ SpelledFrom s bs
 
 -- the result of a call is that of the tests at the old position: nothing after the last block, a block
 -- and the distance to the next one, or the first failed test
-abbrev pub IsStep : Standing → Result (Option Block) Cause → Standing → Type 0
+abbrev pub IsStep : ReaderPosition → Result (Option Block) Cause → ReaderPosition → Type 0
 IsStep s (Ok None) t = next_step s.last s.at s.left ≡ ended
 IsStep s (Ok (Some b)) t = next_step s.last s.at s.left ≡ block (piece_of b) (t.at - s.at)
 IsStep s (Err c) t = next_step s.last s.at s.left ≡ failed c
 
 -- a call of the reader has read a block, and moved to the position after it
-pub record Advances (s : Standing) (b : Block) (t : Standing) : Type 0 where
+pub record Advances (s : ReaderPosition) (b : Block) (t : ReaderPosition) : Type 0 where
   -- the block's offset is the old position
   pub at : b.at ≡ s.at
   -- the block is allowed there
@@ -59,13 +59,13 @@ pub record Advances (s : Standing) (b : Block) (t : Standing) : Type 0 where
   -- its header, payload and padding are there
   pub is_block : IsBlock (piece_of b) s.left t.left
   -- the new position is after its padding
-  pub stands : t ≡ standing_behind s b.kind (t.at - s.at)
+  pub located : t ≡ reader_after_block s b.kind (t.at - s.at)
   -- fewer bytes are left, so a loop over all blocks ends
   pub shorter : length t.left < length s.left
 
 -- a call of the reader has found the end: nothing is left, at least one block was read, and the reader
 -- has not moved
-pub record Ends (s t : Standing) : Type 0 where
+pub record Ends (s t : ReaderPosition) : Type 0 where
   -- nothing is left
   pub empty : s.left ≡ []
   -- at least one block was read
@@ -87,6 +87,6 @@ ContinuesRest r (Ok (Some b)) q = r ≡ with_block (piece_of b) q
 ContinuesRest r (Err c) q = r ≡ Err c
 
 -- all blocks of a file, by the result for its header: those from the first position, or the fault
-abbrev pub BeginsRest : Result (List Piece) Cause → Result Standing Cause → Type 0
+abbrev pub BeginsRest : Result (List Piece) Cause → Result ReaderPosition Cause → Type 0
 BeginsRest r (Ok s) = r ≡ rest_of s
 BeginsRest r (Err c) = r ≡ Err c

@@ -5,7 +5,7 @@ use Rattle.base_core.specs.declared.Cause.{Cause}
 use Rattle.base_core.specs.declared.Cause.TheVariants.{Truncated}
 use Rattle.adb_block.specs.Piece.{Piece}
 use Rattle.adb_block.specs.Framing.{Step, ended, failed, block, next_step}
-use Rattle.adb_block.specs.Standing.{Standing}
+use Rattle.adb_block.specs.ReaderPosition.{ReaderPosition}
 use Rattle.adb_block.specs.declared.block.BlockKind.{BlockKind}
 
 -- a reading of a file: its end (`done`), the first failed test (`fault`), or a block, its offset, and
@@ -30,5 +30,5 @@ reading_from (suc n) last at bytes =
     (next_step last at bytes)
 
 -- the reading of a file from a reader's position on
-unfoldable pub reading_of : Standing → Reading
+unfoldable pub reading_of : ReaderPosition → Reading
 reading_of s = reading_from (suc (length s.left)) s.last s.at s.left

@@ -10,7 +10,7 @@ ghost use Rattle.std.specs.Option.{option_map};
 ghost use Rattle.adb_block.specs.Container.{IsHead};
 ghost use Rattle.adb_block.specs.Piece.{comes_after, least_payload, padding_of, kind_number};
 ghost use Rattle.adb_block.specs.Framing.{HeadFields, head_of, kind_of_number, step_by_order, next_step};
-ghost use Rattle.adb_block.specs.Frames.{HoldsHead, IsFramed, IsFramedBy, IsReadBlock, fields_of, head_len, raw_size};
+ghost use Rattle.adb_block.specs.Frames.{IsHeadPrefix, IsFramed, IsFramedBy, IsReadBlock, fields_of, head_len, raw_size};
 ghost use Rattle.adb_block.specs.Written.{head_bytes};
 ghost use Rattle.adb_block.specs.Header.{word_at, long_at};
 
@@ -128,7 +128,7 @@ pub fn frame_of(
     head: &[u8],
     left: u64,
 ) -> Result<Option<Frame>, Cause>
-    requires { HoldsHead head.now left }
+    requires { IsHeadPrefix head.now left }
     // It holds for any rest of the file that begins with these bytes.
     ensures exact { (bytes : List ℕ) → length bytes ≡ left → take (length head.now) bytes ≡ head.now
         → IsFramed result bytes (next_step last at bytes) }

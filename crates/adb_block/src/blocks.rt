@@ -4,12 +4,12 @@
 
 ghost use Rattle.std.specs.Prelude.{◌≡◌, ◌↔◌, [], drop, IfOk, IfErr, IfSome, IfNone, IsNone, OnErr, ◌<◌, ◌^◌, ℕ, List};
 ghost use Rattle.adb_block.specs.Header.{header_of};
-ghost use Rattle.adb_block.specs.Standing.{start_of};
+ghost use Rattle.adb_block.specs.ReaderPosition.{start_of};
 ghost use Rattle.adb_block.specs.Reader.{next_offset};
 ghost use Rattle.adb_block.specs.Reading.{reading_of};
 ghost use Rattle.adb_block.specs.AllBlocks.{blocks_of, rest_of};
 ghost use Rattle.base_core.specs.declared.Cause.{Cause};
-ghost use Rattle.adb_block.specs.Container.{Spells, MayStand};
+ghost use Rattle.adb_block.specs.Container.{Spells, CanBeWrittenAfter};
 ghost use Rattle.adb_block.specs.FirstFraming.{IsFirstFramingFault};
 ghost use Rattle.adb_block.specs.Piece.{Piece};
 ghost use Rattle.adb_block.specs.Written.{container};
@@ -18,8 +18,8 @@ use crate::block::{Block, BlockKind, block_at, word_at};
 use base_core::Cause;
 use std::marker::Model;
 
-/// The blocks of a file, from the front. Contracts see the position of the reader: `Standing` of
-/// `specs/`.
+/// The blocks of a file, from the front. Contracts see the position of the reader: `ReaderPosition`
+/// of `specs/`.
 #[derive(Drop)]
 pub struct Blocks<'a> {
     /// The whole file.
@@ -34,9 +34,9 @@ pub struct Blocks<'a> {
 
 impl<'a> Model for Blocks<'a> {
     ghost use Rattle.std.specs.Prelude.{◌≤◌, ◌+◌, length, drop};
-    ghost use Rattle.adb_block.specs.Standing.{Standing};
+    ghost use Rattle.adb_block.specs.ReaderPosition.{ReaderPosition};
 
-    ghost Value = { Standing };
+    ghost Value = { ReaderPosition };
 
     ghost view = { λ b.
         record { schema = b.schema; last = b.last; at = b.at; left = drop b.at b.bytes.now } };
@@ -193,5 +193,6 @@ pub fn a_container_has_one_reading()
 /// The container of blocks in an allowed order is spelled by its schema and these blocks.
 pub fn what_is_written_is_spelled()
     ensures { (schema : ℕ) (pieces : List Piece)
-        → schema < 2 ^ 32 → MayStand None pieces → Spells (container schema pieces) schema pieces }
+        → schema < 2 ^ 32 → CanBeWrittenAfter None pieces
+        → Spells (container schema pieces) schema pieces }
 {}

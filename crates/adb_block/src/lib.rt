@@ -7,7 +7,7 @@
 //!
 //! - `Piece`: a block, and the kinds;
 //! - `Header` and `Framing`: the tests in their order;
-//! - `Standing`: the position of a reader;
+//! - `ReaderPosition`: the position of a reader;
 //! - `Reading` and `AllBlocks`: all that is read from a position;
 //! - `Reader`: the result of a call;
 //! - `Written`: how headers, blocks and containers are written;

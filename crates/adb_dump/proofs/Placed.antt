@@ -15,8 +15,8 @@ laid-append : (d : ℕ) (xs ys : List Line) → lines_at d false (xs ++ ys) ≡ 
 laid-append d [] ys = refl
 laid-append d (x ∷ xs) ys = laid_first d false x xs ys (laid-append d xs ys)
 
-pub laid_behind : (d : ℕ) (b : Bool) (x : Line) (xs ys : List Line) → lines_at d b ((x ∷ xs) ++ ys) ≡ lines_at d b (x ∷ xs) ++ lines_at d false ys
-laid_behind d b x xs ys = laid_first d b x xs ys (laid-append d xs ys)
+pub laid_after : (d : ℕ) (b : Bool) (x : Line) (xs ys : List Line) → lines_at d b ((x ∷ xs) ++ ys) ≡ lines_at d b (x ∷ xs) ++ lines_at d false ys
+laid_after d b x xs ys = laid_first d b x xs ys (laid-append d xs ys)
 
 margin-more : (d : ℕ) (l : Line) → margin d ++ (codes "  " ++ l) ≡ codes "  " ++ (margin d ++ l)
 margin-more zero l = refl

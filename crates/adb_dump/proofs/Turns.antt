@@ -15,7 +15,7 @@ use Rattle.adb_dump.specs.Words.{are_null, fields_at, is_null, fields_sound, has
 use Rattle.adb_dump.proofs.BlockLines.{HasLine, block_line, or_null_line, named_line, object_lines, text_lines}
 use Rattle.adb_dump.proofs.Nulls.{obj_null}
 use Rattle.adb_dump.proofs.Left.{entries_left, fields_left, entry_step, entries_more, entries_done, fields_next, fields_skip, fields_done, fields_over, unless_absent-false, unless_absent-true}
-use Rattle.adb_dump.proofs.Placed.{laid_behind, laid_dashed, laid_on_line, laid_below}
+use Rattle.adb_dump.proofs.Placed.{laid_after, laid_dashed, laid_on_line, laid_below}
 
 -- ---- entries
 
@@ -109,8 +109,8 @@ several_lines (Obj w) d b name v h = laid_below d b name _
 several_lines TextArr d b name v h = laid_below d b name _
 several_lines (ObjArr w) d b name v h = laid_below d b name _
 
-pub field_behind : (k : Kind) (d : ℕ) (b : Bool) (name : Line) (v : Plain) → has_one_line k ≡ true → ((lead d b ++ name) ++ codes ": ") ++ lines_at d true (block_lines (shape_of k) v) ≡ lines_at d b (named_lines (shape_of k) name v)
-field_behind k d b name v h = ap (λ (t : List ℕ). t ++ lines_at d true (block_lines (shape_of k) v)) (sym (append_assoc (lead d b ++ name) (codes ":") (codes " "))) ∙ sym (one_line k d b name v h)
+pub field_after : (k : Kind) (d : ℕ) (b : Bool) (name : Line) (v : Plain) → has_one_line k ≡ true → ((lead d b ++ name) ++ codes ": ") ++ lines_at d true (block_lines (shape_of k) v) ≡ lines_at d b (named_lines (shape_of k) name v)
+field_after k d b name v h = ap (λ (t : List ℕ). t ++ lines_at d true (block_lines (shape_of k) v)) (sym (append_assoc (lead d b ++ name) (codes ":") (codes " "))) ∙ sym (one_line k d b name v h)
 
 pub field_below : (k : Kind) (d : ℕ) (b : Bool) (name : Line) (v : Plain) → has_one_line k ≡ false → ((lead d b ++ name) ++ codes ":\n") ++ lines_at (d + 1) false (block_lines (shape_of k) v) ≡ lines_at d b (named_lines (shape_of k) name v)
 field_below k d b name v h =
@@ -118,7 +118,7 @@ field_below k d b name v h =
     rw e (ap (λ (t : List ℕ). t ++ lines_at (suc d) false (block_lines (shape_of k) v)) (sym (append_assoc (lead d b ++ name) (codes ":") (codes "\n"))) ∙ sym (several_lines k d b name v h))
 
 behind_named : (d : ℕ) (b : Bool) (xs ys : List Line) → HasLine xs → lines_at d b (xs ++ ys) ≡ lines_at d b xs ++ lines_at d false ys
-behind_named d b xs ys h = rw h.is (laid_behind d b h.first h.others ys)
+behind_named d b xs ys h = rw h.is (laid_after d b h.first h.others ys)
 
 -- the lines of the next field, and of those after it
 pub field_turn : (d : ℕ) (b : Bool) (p : List ℕ) (fields : List Field) (words : List ℕ) (i word : ℕ) (f : Field) → i < length fields → i < length words → word ≡ get_or words i 0 → fields_sound p (drop i fields) (drop i words) ≡ true → is_null (value_at p (get_or fields i f).kind word) ≡ false
@@ -146,7 +146,7 @@ pub text_put : (d : ℕ) (b : Bool) (name : Line) (p : List ℕ) (w : ℕ) (byte
     → ((lead d b ++ name) ++ codes ": ") ++ lines_at d true (text_form bytes ∷ []) ≡ lines_at d b (unless_absent (value_at p Text w) (named_lines (shape_of Text) name (value_at p Text w)))
 text_put d b name p w bytes e some =
     ap (λ (ls : List Line). ((lead d b ++ name) ++ codes ": ") ++ lines_at d true ls) (sym (text_lines p w bytes e some))
-    ∙ field_behind Text d b name (value_at p Text w) refl ∙ sym (some_put d b (value_at p Text w) _ some)
+    ∙ field_after Text d b name (value_at p Text w) refl ∙ sym (some_put d b (value_at p Text w) _ some)
 
 pub null_turn : (d : ℕ) (b : Bool) (p : List ℕ) (fields : List Field) (words : List ℕ) (i : ℕ) (f : Field) → i < length fields → i < length words → fields_sound p (drop i fields) (drop i words) ≡ true → is_null (value_at p (get_or fields i f).kind (get_or words i 0)) ≡ true
     → lines_at d b (fields_left p fields words i) ≡ lines_at d b (fields_left p fields words (i + 1))

@@ -9,7 +9,7 @@ abbrev pub margin : ℕ → List ℕ
 margin zero = []
 margin (suc depth) = codes "  " ++ margin depth
 
--- the missing front of the next line: nothing if the line has begun
+-- the spaces still to be written before the next line: none if its front is written already
 abbrev pub lead : ℕ → Bool → List ℕ
 lead depth true = []
 lead depth false = margin depth

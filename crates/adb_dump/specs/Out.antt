@@ -22,7 +22,7 @@ AreLineLengths payload lens = (word len : ℕ) → get nat_cmp lens word ≡ Som
 
 -- lengths that were right for a payload before a call are right after it, if the payload has this text
 -- for the word
-abbrev pub StayLineLengths : BTreeMap ℕ ℕ → BTreeMap ℕ ℕ → ℕ → List ℕ → Type 0
-StayLineLengths old new word text = (payload : List ℕ)
+abbrev pub KeepLineLengths : BTreeMap ℕ ℕ → BTreeMap ℕ ℕ → ℕ → List ℕ → Type 0
+KeepLineLengths old new word text = (payload : List ℕ)
     → text ≡ text_in (value_at payload Text word)
     → AreLineLengths payload old → AreLineLengths payload new

@@ -198,7 +198,7 @@ pub(crate) struct Count {
 }
 
 impl Count {
-    ghost use Rattle.adb_dump.specs.Out.{AreLineLengths, StayLineLengths};
+    ghost use Rattle.adb_dump.specs.Out.{AreLineLengths, KeepLineLengths};
 
     /// A count of no bytes.
     pub(crate) fn new(alloc: Global) -> Count
@@ -234,7 +234,7 @@ impl Count {
             → text.now ≡ text_in (value_at payload Kinds.Text word)
             → AreLineLengths payload self.old.lens → len ≡ length (text_form text.now)) }
         // The other remembered lengths are right too, if they were.
-        ensures kept { StayLineLengths self.old.lens self.new.lens word text.now }
+        ensures kept { KeepLineLengths self.old.lens self.new.lens word text.now }
         ensures put { self.new.len ≡ self.old.len }
     {
         if let Some(len) = self.kept_len(word) {

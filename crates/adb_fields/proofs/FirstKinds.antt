@@ -81,8 +81,8 @@ numbered-append n (x ∷ xs) ys =
     let e : n + 1 + length xs ≡ n + suc (length xs) = omega arith in
     ap (λ rest. record { name = x; position = n } ∷ rest) (numbered-append (n + 1) xs ys ∙ ap (λ k. numbered_from (n + 1) xs ++ numbered_from k ys) e)
 
-pub texts_behind : (a b : List (List ℕ)) (one two : List NameWithPosition) (m : ℕ) → one ≡ numbered_from 1 a → m ≡ length a → two ≡ one ++ numbered_from (m + 1) b → two ≡ numbered_from 1 (a ++ b)
-texts_behind a b one two m e l h =
+pub texts_after : (a b : List (List ℕ)) (one two : List NameWithPosition) (m : ℕ) → one ≡ numbered_from 1 a → m ≡ length a → two ≡ one ++ numbered_from (m + 1) b → two ≡ numbered_from 1 (a ++ b)
+texts_after a b one two m e l h =
     let f : m + 1 ≡ 1 + length a = omega arith in
     h ∙ ((λ i. e i ++ numbered_from (f i) b) ∙ sym (numbered-append 1 a b))
 

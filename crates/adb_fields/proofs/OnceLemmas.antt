@@ -12,7 +12,7 @@ use Rattle.adb_fields.specs.FirstPair.{IsPair}
 use Rattle.adb_fields.specs.FirstPair.{IsIn}
 use Rattle.adb_view.specs.FieldIndexes.{DIR_NAME, FILE_NAME, IDB_PACKAGES, INTENT_WRITES}
 use Rattle.adb_fields.specs.Repeated.{field_number, numbered_from, all_at, by_list_from, twice, twice_in_one, in_two, entries_at, folder_twice, file_twice, package_twice, path_in_two, name_twice, repeated_at, inside_fault, between_fault, repeated_fault}
-use Rattle.adb_fields.specs.Once.{AreDistinctNames, AllDistinct, IsInOneOf, AreApart, StandOnceInside, StandOnceBetween, NamesStandOnce}
+use Rattle.adb_fields.specs.Once.{AreDistinctNames, AllDistinct, IsInOneOf, AreApart, HaveNoRepeatInside, HaveNoRepeatBetween, HasNoRepeatedName}
 use Rattle.adb_fields.proofs.Members.{in-front, in-behind, in-either, in-map, from-map}
 use Rattle.adb_fields.proofs.FirstPair.{first_pair-first}
 
@@ -22,17 +22,17 @@ abbrev NoPair : List NameWithPosition → Type 0
 NoPair names = (q : Pair) → ¬ IsPair names q
 
 -- a name after is at a later position
-pub record StandsAt (name : List ℕ) (n : ℕ) (names : List NameWithPosition) : Type 0 where
+pub record IsInTreeAt (name : List ℕ) (n : ℕ) (names : List NameWithPosition) : Type 0 where
   pub one : NameWithPosition
   pub inside : IsIn one names
   pub alike : name ≡ one.name
   pub later : n ≤ one.position
 
-stands : (name : List ℕ) (n : ℕ) (names : List (List ℕ)) → IsIn name names → StandsAt name n (numbered_from n names)
-stands name n [] h = absurd h
-stands name n (x ∷ xs) (inl e) = record { one = record { name = x; position = n }; inside = inl refl; alike = e; later = omega arith }
-stands name n (x ∷ xs) (inr h) =
-    let r = stands name (n + 1) xs h in
+located : (name : List ℕ) (n : ℕ) (names : List (List ℕ)) → IsIn name names → IsInTreeAt name n (numbered_from n names)
+located name n [] h = absurd h
+located name n (x ∷ xs) (inl e) = record { one = record { name = x; position = n }; inside = inl refl; alike = e; later = omega arith }
+located name n (x ∷ xs) (inr h) =
+    let r = located name (n + 1) xs h in
     let l : n + 1 ≤ r.one.position = r.later in
     record { one = r.one; inside = inr r.inside; alike = r.alike; later = omega arith }
 
@@ -61,7 +61,7 @@ distinct : (n : ℕ) (names : List (List ℕ)) → NoPair (numbered_from n names
 distinct n [] h = tt
 distinct n (x ∷ xs) h = (
   λ k.
-      let r = stands x (n + 1) xs k in
+      let r = located x (n + 1) xs k in
       let l : n + 1 ≤ r.one.position = r.later in
       h _ (pair_of_two (numbered_from n (x ∷ xs)) (record { name = x; position = n }) r.one (inl refl) (inr r.inside) r.alike (omega arith)),
   distinct (n + 1) xs (λ q k. h q (wider (record { name = x; position = n }) (numbered_from (n + 1) xs) q k)),
@@ -128,7 +128,7 @@ none_each (names ∷ lists) d = none_earlier (twice names) (twice_in_one lists) 
 
 -- ---- between several lists
 
-stands_in_one : (name : List ℕ) (n : ℕ) (lists : List (List (List ℕ))) → IsInOneOf name lists → StandsAt name n (by_list_from n lists)
+stands_in_one : (name : List ℕ) (n : ℕ) (lists : List (List (List ℕ))) → IsInOneOf name lists → IsInTreeAt name n (by_list_from n lists)
 stands_in_one name n [] h = absurd h
 stands_in_one name n (names ∷ lists) (inl h) = record {
   one = record { name = name; position = n };
@@ -229,28 +229,28 @@ none_both : (a b : Option Cause) → a ≡ None → b ≡ None → option_or a b
 none_both None b e f = f
 none_both (Some c) b e f = absurd (cc)
 
-inside_once : (packages : List Plain) → inside_fault packages ≡ None → StandOnceInside packages
+inside_once : (packages : List Plain) → inside_fault packages ≡ None → HaveNoRepeatInside packages
 inside_once packages e =
     let (a, b) = both_none (repeated_at (field_number Dir DIR_NAME) (folder_twice packages)) (repeated_at (field_number File FILE_NAME) (file_twice packages)) e in
     record { folders = each_none _ (at_none (field_number Dir DIR_NAME) (folder_twice packages) a); files = each_none _ (at_none (field_number File FILE_NAME) (file_twice packages) b) }
 
-once_inside : (packages : List Plain) → StandOnceInside packages → inside_fault packages ≡ None
+once_inside : (packages : List Plain) → HaveNoRepeatInside packages → inside_fault packages ≡ None
 once_inside packages d =
     none_both (repeated_at (field_number Dir DIR_NAME) (folder_twice packages)) (repeated_at (field_number File FILE_NAME) (file_twice packages)) (none_at (field_number Dir DIR_NAME) (folder_twice packages) (none_each _ d.folders)) (none_at (field_number File FILE_NAME) (file_twice packages) (none_each _ d.files))
 
-between_once : (packages : List Plain) → between_fault packages ≡ None → StandOnceBetween packages
+between_once : (packages : List Plain) → between_fault packages ≡ None → HaveNoRepeatBetween packages
 between_once packages e =
     let (a, b) = both_none (repeated_at (field_number Idb IDB_PACKAGES) (package_twice packages)) (repeated_at (field_number File FILE_NAME) (path_in_two packages)) e in
     record { packages_once = twice_none _ (at_none (field_number Idb IDB_PACKAGES) (package_twice packages) a); paths_once = two_none _ (at_none (field_number File FILE_NAME) (path_in_two packages) b) }
 
-once_between : (packages : List Plain) → StandOnceBetween packages → between_fault packages ≡ None
+once_between : (packages : List Plain) → HaveNoRepeatBetween packages → between_fault packages ≡ None
 once_between packages d =
     none_both (repeated_at (field_number Idb IDB_PACKAGES) (package_twice packages)) (repeated_at (field_number File FILE_NAME) (path_in_two packages)) (none_at (field_number Idb IDB_PACKAGES) (package_twice packages) (none_twice _ d.packages_once)) (none_at (field_number File FILE_NAME) (path_in_two packages) (none_two _ d.paths_once))
 
-database_once : (packages : List Plain) → option_or (inside_fault packages) (between_fault packages) ≡ None → StandOnceInside packages × StandOnceBetween packages
+database_once : (packages : List Plain) → option_or (inside_fault packages) (between_fault packages) ≡ None → HaveNoRepeatInside packages × HaveNoRepeatBetween packages
 database_once packages e = let (a, b) = both_none (inside_fault packages) (between_fault packages) e in (inside_once packages a, between_once packages b)
 
-pub names_once : (which : Which) (v : Plain) → (repeated_fault which v ≡ None) ↔ NamesStandOnce which v
+pub names_once : (which : Which) (v : Plain) → (repeated_fault which v ≡ None) ↔ HasNoRepeatedName which v
 unfolding repeated_fault
 names_once Dep v = (λ e. tt, λ d. refl)
 names_once Acl v = (λ e. tt, λ d. refl)

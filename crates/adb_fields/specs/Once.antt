@@ -32,7 +32,7 @@ AreApart (names ∷ lists) = ((name : List ℕ) → IsIn name names → ¬ IsInO
     × AreApart lists
 
 -- no package lists a folder twice, and no folder lists a file twice
-pub record StandOnceInside (packages : List Plain) : Type 0 where
+pub record HaveNoRepeatInside (packages : List Plain) : Type 0 where
   -- each package lists a folder once
   pub folders : AllDistinct (map (λ pkg. map name_of (folders_in pkg)) packages)
   -- each folder lists a file once
@@ -40,7 +40,7 @@ pub record StandOnceInside (packages : List Plain) : Type 0 where
       (flat_map (λ pkg. map (λ folder. map name_of (files_in folder)) (folders_in pkg)) packages)
 
 -- no two packages have one name, and no two list one path
-pub record StandOnceBetween (packages : List Plain) : Type 0 where
+pub record HaveNoRepeatBetween (packages : List Plain) : Type 0 where
   -- each package occurs once
   pub packages_once : AreDistinctNames (map package_name packages)
   -- no path is in two packages
@@ -48,10 +48,10 @@ pub record StandOnceBetween (packages : List Plain) : Type 0 where
 
 -- no name that must not repeat occurs twice in a container, by the table of its root; other tables
 -- demand nothing
-abbrev pub NamesStandOnce : Which → Plain → Type 0
-NamesStandOnce Package v = StandOnceInside (v ∷ [])
-NamesStandOnce Idb v = StandOnceInside (entries_at IDB_PACKAGES v)
-    × StandOnceBetween (entries_at IDB_PACKAGES v)
-NamesStandOnce Intent v = AreDistinctNames (map text_in (entries_at INTENT_REMOVALS v)
+abbrev pub HasNoRepeatedName : Which → Plain → Type 0
+HasNoRepeatedName Package v = HaveNoRepeatInside (v ∷ [])
+HasNoRepeatedName Idb v = HaveNoRepeatInside (entries_at IDB_PACKAGES v)
+    × HaveNoRepeatBetween (entries_at IDB_PACKAGES v)
+HasNoRepeatedName Intent v = AreDistinctNames (map text_in (entries_at INTENT_REMOVALS v)
     ++ map text_in (entries_at INTENT_WRITES v))
-NamesStandOnce which v = Unit {0}
+HasNoRepeatedName which v = Unit {0}

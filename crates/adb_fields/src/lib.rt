@@ -33,4 +33,4 @@ pub use reads::{
     field_word, hash_field, hash_word, int_field, int_word, object_words, objects_field,
     objects_word, text_field, text_word, texts_field, texts_word, word_or_null,
 };
-pub use repeated::{no_name_is_repeated_where_each_stands_once, repeated_names};
+pub use repeated::{no_repeated_name_is_reported_if_there_is_none, repeated_names};

@@ -11,7 +11,7 @@ ghost use Rattle.adb_fields.specs.ListsOf.{AreListsOf};
 ghost use Rattle.adb_view.specs.ShapedPayload.{shaped_value, table_of};
 ghost use Rattle.adb_view.specs.FieldIndexes.{INTENT_REMOVALS, INTENT_WRITES};
 ghost use Rattle.adb_fields.specs.Repeated.{between_fault, field_number, file_twice, files_in, folder_twice, folders_in, inside_fault, name_of, name_twice, package_twice, path_in_two, repeated_at, repeated_fault, twice, twice_in_one};
-ghost use Rattle.adb_fields.specs.Once.{NamesStandOnce};
+ghost use Rattle.adb_fields.specs.Once.{HasNoRepeatedName};
 ghost use Rattle.adb_view.specs.Plain.{Plain};
 ghost use Rattle.adb_view.specs.declared.tables.Which.{Which};
 ghost use Rattle.adb_fields.specs.NamedTexts.{plains_at};
@@ -283,7 +283,7 @@ fn file_twice(alloc: Global, adb: Adb<'_>, packages: Arr<'_>) -> Result<Option<P
 }
 
 /// A law: no repeated name is reported if and only if each name occurs once.
-pub fn no_name_is_repeated_where_each_stands_once()
+pub fn no_repeated_name_is_reported_if_there_is_none()
     ensures { (which : Which) (value : Plain) → (repeated_fault which value ≡ None)
-        ↔ NamesStandOnce which value }
+        ↔ HasNoRepeatedName which value }
 {}

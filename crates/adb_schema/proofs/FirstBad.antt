@@ -8,8 +8,8 @@ use Rattle.adb_schema.specs.FirstBad.{IsFirstBadOf}
 use Rattle.adb_schema.specs.FirstBad.{IsFirstBad}
 
 -- one leaf more in front
-behind_kept : (x : Leaf) (xs : List Leaf) (c : Cause) → keeps_rule x ≡ true → IsFirstBad xs c → IsFirstBad (x ∷ xs) c
-behind_kept x xs c kept f = record {
+after_kept : (x : Leaf) (xs : List Leaf) (c : Cause) → keeps_rule x ≡ true → IsFirstBad xs c → IsFirstBad (x ∷ xs) c
+after_kept x xs c kept f = record {
   i = suc f.i;
   leaf = f.leaf;
   at = f.at;
@@ -24,7 +24,7 @@ behind_kept x xs c kept f = record {
 
 told : (x : Leaf) (xs : List Leaf) (b : Bool) → keeps_rule x ≡ b → (o : Option Cause) → IsFirstBadOf xs o → IsFirstBadOf (x ∷ xs) (if b then o else Some (BadText (number_of_leaf x)))
 told x xs true e None h = rw (e, h) refl
-told x xs true e (Some c) h = behind_kept x xs c e h
+told x xs true e (Some c) h = after_kept x xs c e h
 told x xs false e o h = record {
   i = 0;
   leaf = x;

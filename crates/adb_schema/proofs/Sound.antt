@@ -7,7 +7,7 @@ use Rattle.adb_block.specs.declared.block.BlockKind.{BlockKind}
 use Rattle.adb_block.specs.Framing.{HeadFields, Step, ended, failed, block, step_by_size, step_by_order, step_by_head, next_step, head_of, kind_of_number}
 use Rattle.adb_block.specs.Piece.{Piece, comes_after, least_payload}
 use Rattle.adb_block.specs.Header.{header_of}
-use Rattle.adb_block.specs.Standing.{start_of}
+use Rattle.adb_block.specs.ReaderPosition.{start_of}
 use Rattle.adb_block.specs.Reading.{Reading, done, fault, more as further, reading_by_step, reading_from, reading_of}
 use Rattle.adb_view.specs.Head.{head_fault, root_of}
 use Rattle.adb_view.specs.Plain.{Plain, null, Shape, plain_of, IsNormal}
@@ -18,11 +18,11 @@ use Rattle.adb_view.specs.Walk.{shape_fault}
 use Rattle.adb_view.specs.Values.{value_at}
 use Rattle.adb_view.specs.declared.tables.Which.{Which}
 use Rattle.adb_view.specs.declared.tables.Kind.TheVariants as Kinds
-use Rattle.adb_fields.specs.Once.{NamesStandOnce}
+use Rattle.adb_fields.specs.Once.{HasNoRepeatedName}
 use Rattle.adb_fields.specs.Repeated.{repeated_fault}
 use Rattle.adb_schema.specs.Texts.{text_fault}
 use Rattle.adb_schema.specs.SoundValues.{KeepsRules}
-use Rattle.adb_schema.specs.Soundness.{blocks_fault, file_fault, first_fault, first_payload, payload_behind, payload_fault, payload_in, rest_fault, root_value, schema_fault}
+use Rattle.adb_schema.specs.Soundness.{blocks_fault, file_fault, first_fault, first_payload, payload_after_header, payload_fault, payload_in, rest_fault, root_value, schema_fault}
 use Rattle.adb_schema.specs.SoundContainers.{IsSoundValue}
 
 -- ---- the first of two tests
@@ -46,30 +46,30 @@ IsReadAt which (fault c) = ⊥
 IsReadAt which (further b at r) = payload_fault which b.payload ≡ None
 
 -- before the first block nothing ends
-abbrev pub GoesOn : Step → Type 0
-GoesOn ended = ⊥
-GoesOn (failed c) = Unit {0}
-GoesOn (block b size) = Unit {0}
+abbrev pub CountsOnlyRise : Step → Type 0
+CountsOnlyRise ended = ⊥
+CountsOnlyRise (failed c) = Unit {0}
+CountsOnlyRise (block b size) = Unit {0}
 
-if_on : (b : Bool) (s t : Step) → GoesOn s → GoesOn t → GoesOn (if b then s else t)
+if_on : (b : Bool) (s t : Step) → CountsOnlyRise s → CountsOnlyRise t → CountsOnlyRise (if b then s else t)
 if_on true s t h g = h
 if_on false s t h g = g
 
-ordered_on : (last : Option BlockKind) (at : ℕ) (bytes : List ℕ) (head : HeadFields) (kind : Option BlockKind) → GoesOn (step_by_order last at bytes head kind)
+ordered_on : (last : Option BlockKind) (at : ℕ) (bytes : List ℕ) (head : HeadFields) (kind : Option BlockKind) → CountsOnlyRise (step_by_order last at bytes head kind)
 ordered_on last at bytes head None = tt
 ordered_on last at bytes head (Some kind) =
     if_on (comes_after last kind) (step_by_size at bytes head kind) (failed _)
     (if_on (nat_lt head.raw head.len || nat_lt (length bytes) head.raw) (failed _) (if nat_lt (head.raw - head.len) (least_payload kind) then failed _ else block _ _) tt (if_on (nat_lt (head.raw - head.len) (least_payload kind)) (failed _) (block _ _) tt tt)) tt
 
-headed_on : (last : Option BlockKind) (at : ℕ) (bytes : List ℕ) (head : Option HeadFields) → GoesOn (step_by_head last at bytes head)
+headed_on : (last : Option BlockKind) (at : ℕ) (bytes : List ℕ) (head : Option HeadFields) → CountsOnlyRise (step_by_head last at bytes head)
 headed_on last at bytes None = tt
 headed_on last at bytes (Some head) = ordered_on last at bytes head (kind_of_number head.kind)
 
-step_on : (at : ℕ) (bytes : List ℕ) → GoesOn (next_step None at bytes)
+step_on : (at : ℕ) (bytes : List ℕ) → CountsOnlyRise (next_step None at bytes)
 unfolding next_step
 step_on at bytes = if_on (length bytes == 0) _ _ tt (headed_on None at bytes (head_of bytes))
 
-stepped_read : (which : Which) (rest : Plain → Reading → Option Cause) (at : ℕ) (f : Piece → ℕ → Reading) (s : Step) → GoesOn s → blocks_fault rest which (reading_by_step at f s) ≡ None → IsReadAt which (reading_by_step at f s)
+stepped_read : (which : Which) (rest : Plain → Reading → Option Cause) (at : ℕ) (f : Piece → ℕ → Reading) (s : Step) → CountsOnlyRise s → blocks_fault rest which (reading_by_step at f s) ≡ None → IsReadAt which (reading_by_step at f s)
 stepped_read which rest at f ended g h = absurd g
 stepped_read which rest at f (failed c) g h = some_none c h
 stepped_read which rest at f (block b size) g h = or_first (payload_fault which b.payload) _ h
@@ -79,7 +79,7 @@ read_payload which done h = absurd h
 read_payload which (fault c) h = absurd h
 read_payload which (further b at r) h = h
 
-file_payload : (rest : Plain → Reading → Option Cause) (which : Which) (file : List ℕ) (header : Result ℕ Cause) → file_fault rest which file header ≡ None → payload_fault which (payload_behind file header) ≡ None
+file_payload : (rest : Plain → Reading → Option Cause) (which : Which) (file : List ℕ) (header : Result ℕ Cause) → file_fault rest which file header ≡ None → payload_fault which (payload_after_header file header) ≡ None
 unfolding reading_of reading_from
 file_payload rest which file (Err c) h = absurd (some_none c h)
 file_payload rest which file (Ok schema) h =
@@ -96,7 +96,7 @@ pub record Laws : Type 1 where
   pub visited : (p : List ℕ) (s : Shape) (w : ℕ) → (shape_fault p s w ≡ None) ↔ ((is_some (plain_of p s w) ≡ true) × (length (visits p s w) ≤ MOST_VALUES))
   pub shaped : (p : List ℕ) (s : Shape) (w : ℕ) → IfSome (plain_of p s w) (HasShape s)
   pub kept : (which : Which) (v : Plain) → (text_fault which v ≡ None) ↔ KeepsRules which v
-  pub once : (which : Which) (v : Plain) → (repeated_fault which v ≡ None) ↔ NamesStandOnce which v
+  pub once : (which : Which) (v : Plain) → (repeated_fault which v ≡ None) ↔ HasNoRepeatedName which v
 
 found : (P : Plain → Type 0) (o : Option Plain) → is_some o ≡ true → IfSome o P → P (unwrap_or o null)
 found P (Some v) e h = h

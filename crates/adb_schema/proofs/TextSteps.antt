@@ -61,8 +61,8 @@ first_bad-append (x ∷ xs) ys = go (keeps_rule x) (first_bad-append xs ys)
 pub behind_good : (xs ys : List Leaf) → first_bad xs ≡ None → first_bad (xs ++ ys) ≡ first_bad ys
 behind_good xs ys e = first_bad-append xs ys ∙ ap (λ o. option_or o (first_bad ys)) e
 
-behind_bad : (xs ys : List Leaf) (c : Cause) → first_bad xs ≡ Some c → first_bad (xs ++ ys) ≡ Some c
-behind_bad xs ys c e = first_bad-append xs ys ∙ ap (λ o. option_or o (first_bad ys)) e
+after_bad : (xs ys : List Leaf) (c : Cause) → first_bad xs ≡ Some c → first_bad (xs ++ ys) ≡ Some c
+after_bad xs ys c e = first_bad-append xs ys ∙ ap (λ o. option_or o (first_bad ys)) e
 
 -- ---- the entries of an array
 
@@ -107,7 +107,7 @@ entries_more p k f ws i lt h good =
 pub entries_stop : (p : List ℕ) (k : Kind) (f : Plain → List Leaf) (ws : List ℕ) (i : ℕ) (c : Cause) → i < length ws → are_all_sound p k (drop i ws) ≡ true → first_bad (f (value_at p k (get_or ws i 0))) ≡ Some c
     → first_bad (each_leaf f (values_at p k (drop i ws))) ≡ Some c
 entries_stop p k f ws i c lt h bad =
-    ap (λ vs. first_bad (each_leaf f vs)) (values_here p k ws i lt h) ∙ behind_bad (f (value_at p k (get_or ws i 0))) (each_leaf f (values_at p k (drop (i + 1) ws))) c bad
+    ap (λ vs. first_bad (each_leaf f vs)) (values_here p k ws i lt h) ∙ after_bad (f (value_at p k (get_or ws i 0))) (each_leaf f (values_at p k (drop (i + 1) ws))) c bad
 
 pub entries_end : (p : List ℕ) (k : Kind) (f : Plain → List Leaf) (ws : List ℕ) (i : ℕ) → length ws ≤ i → first_bad (each_leaf f (values_at p k (drop i ws))) ≡ None
 unfolding values_at
@@ -159,7 +159,7 @@ fields_more fs field_number a vs i d lt good =
 pub fields_stop : (fs : List Field) (field_number : ℕ) (a : Surroundings) (vs : Plains) (i : ℕ) (d : Field) (c : Cause) → i < length fs → first_bad (leaves (shape_of (get_or fs i d).kind) field_number a (nth vs i)) ≡ Some c
     → first_bad (field_leaves (shapes_of (drop i fs)) field_number a (behind i vs)) ≡ Some c
 fields_stop fs field_number a vs i d c lt bad =
-    ap first_bad (field_here fs field_number a vs i d lt) ∙ behind_bad (leaves (shape_of (get_or fs i d).kind) field_number a (nth vs i)) (field_leaves (shapes_of (drop (i + 1) fs)) (field_number + 1) a (behind (i + 1) vs)) c bad
+    ap first_bad (field_here fs field_number a vs i d lt) ∙ after_bad (leaves (shape_of (get_or fs i d).kind) field_number a (nth vs i)) (field_leaves (shapes_of (drop (i + 1) fs)) (field_number + 1) a (behind (i + 1) vs)) c bad
 
 pub fields_end : (fs : List Field) (field_number : ℕ) (a : Surroundings) (vs : Plains) (i : ℕ) → length fs ≤ i → first_bad (field_leaves (shapes_of (drop i fs)) field_number a vs) ≡ None
 unfolding field_leaves

@@ -15,10 +15,10 @@ IsReadFault Memory reported = Unit {0}
 
 -- the first block of a reading has this payload, which passes its tests, and `later` is the reading
 -- after it
-abbrev pub IsBehindFirst : Which → List ℕ → Reading → Reading → Type 0
-IsBehindFirst which payload done later = ⊥
-IsBehindFirst which payload (fault c) later = ⊥
-IsBehindFirst which payload (more b at r) later = (payload ≡ b.payload)
+abbrev pub IsAfterFirstBlock : Which → List ℕ → Reading → Reading → Type 0
+IsAfterFirstBlock which payload done later = ⊥
+IsAfterFirstBlock which payload (fault c) later = ⊥
+IsAfterFirstBlock which payload (more b at r) later = (payload ≡ b.payload)
     × (payload_fault which b.payload ≡ None) × (r ≡ later)
 
 -- why the first block of a reading is refused: by its framing, or by its payload; None if it is

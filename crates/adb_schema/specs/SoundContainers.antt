@@ -7,7 +7,7 @@ use Rattle.adb_view.specs.Shaped.{HasShape}
 use Rattle.adb_view.specs.Schema.{shape_of}
 use Rattle.adb_view.specs.declared.tables.Which.{Which}
 use Rattle.adb_view.specs.declared.tables.Kind.TheVariants.{Obj}
-use Rattle.adb_fields.specs.Once.{NamesStandOnce}
+use Rattle.adb_fields.specs.Once.{HasNoRepeatedName}
 use Rattle.adb_schema.specs.SoundValues.{KeepsRules}
 use Rattle.adb_schema.specs.Soundness.{first_fault}
 
@@ -19,7 +19,7 @@ pub record IsSoundValue (which : Which) (v : Plain) : Type 0 where
   -- each text and number obeys the rule of its field
   pub rules : KeepsRules which v
   -- no name repeats
-  pub once : NamesStandOnce which v
+  pub once : HasNoRepeatedName which v
 
 -- a file passes every test as a container with this table at its root
 abbrev pub IsSound : Which → List ℕ → Type 0

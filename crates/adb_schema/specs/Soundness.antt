@@ -7,7 +7,7 @@ use Rattle.std.specs.Int.{w32, from_le_bytes}
 use Rattle.base_core.specs.declared.cause.Cause.{Cause}
 use Rattle.base_core.specs.declared.cause.Cause.TheVariants.{Truncated, WrongSchema, DataOrder}
 use Rattle.adb_block.specs.Header.{header_of}
-use Rattle.adb_block.specs.Standing.{start_of}
+use Rattle.adb_block.specs.ReaderPosition.{start_of}
 use Rattle.adb_block.specs.Reading.{Reading, done, fault, more, reading_of}
 use Rattle.adb_block.specs.declared.block.BlockKind.{BlockKind}
 use Rattle.adb_block.specs.declared.block.BlockKind.TheVariants.{Contents}
@@ -123,10 +123,10 @@ first_payload (fault c) = []
 first_payload (more b at r) = b.payload
 
 -- the payload of the first block after a header; empty if the header has a fault
-abbrev pub payload_behind : List ℕ → Result ℕ Cause → List ℕ
-payload_behind file (Ok schema) = first_payload (reading_of (start_of schema file))
-payload_behind file (Err c) = []
+abbrev pub payload_after_header : List ℕ → Result ℕ Cause → List ℕ
+payload_after_header file (Ok schema) = first_payload (reading_of (start_of schema file))
+payload_after_header file (Err c) = []
 
 -- the payload of the first block of a file; empty if it has none
 unfoldable pub payload_in : List ℕ → List ℕ
-payload_in file = payload_behind file (header_of file)
+payload_in file = payload_after_header file (header_of file)

@@ -16,14 +16,14 @@ ghost use Rattle.adb_view.specs.declared.tables.Which.{Which};
 ghost use Rattle.adb_schema.specs.SoundContainers.{IsSoundValue};
 ghost use Rattle.adb_schema.specs.Soundness.{block_fault, file_pair, first_fault, further_fault, payload_fault, is_schema_wanted, payload_in, rest_fault, root_value, schema_word, undue_contents};
 ghost use Rattle.adb_schema.specs.ReadFaults.{first_block_fault};
-ghost use Rattle.adb_schema.specs.ReadFaults.{IsBehindFirst};
+ghost use Rattle.adb_schema.specs.ReadFaults.{IsAfterFirstBlock};
 ghost use Rattle.adb_schema.specs.ReadFaults.{IsReadFault};
 ghost use Rattle.adb_schema.specs.SoundContainers.{IsSound};
 
 use crate::checked::Checked;
 use crate::text_walk::no_text_is_bad_where_each_keeps_its_rule;
 use adb_block::{Block, BlockKind, Blocks};
-use adb_fields::{no_name_is_repeated_where_each_stands_once, repeated_names};
+use adb_fields::{no_repeated_name_is_reported_if_there_is_none, repeated_names};
 use adb_view::{
     Adb, Which, shape, values_are_normal, values_have_their_shape,
     values_of_few_visits_have_no_fault,
@@ -160,7 +160,8 @@ fn read_first<'a>(
         (λ fault. IsReadFault fault (first_block_fault which (reading_of blocks.old))) }
     ensures table { IfOk result (λ checked. which_of checked ≡ which) }
     ensures behind { IfOk result
-        (λ checked. IsBehindFirst which (payload_of (adb_of checked.shaped)) (reading_of blocks.old)
+        (λ checked. IsAfterFirstBlock which (payload_of (adb_of checked.shaped)) (reading_of
+        blocks.old)
         (reading_of blocks.new)) }
 {
     match blocks.next()? {
@@ -276,5 +277,5 @@ pub fn sound_containers_hold_sound_values()
     values_have_their_shape();
     values_are_normal();
     no_text_is_bad_where_each_keeps_its_rule();
-    no_name_is_repeated_where_each_stands_once();
+    no_repeated_name_is_reported_if_there_is_none();
 }

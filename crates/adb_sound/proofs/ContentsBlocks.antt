@@ -7,7 +7,7 @@ use Rattle.base_core.specs.declared.cause.Cause.{Cause}
 use Rattle.adb_block.specs.Piece.{Piece}
 use Rattle.adb_block.specs.Reading.{Reading, done, fault, more}
 use Rattle.adb_block.specs.AllBlocks.{with_block, pieces_of}
-use Rattle.adb_block.specs.Container.{MayStand}
+use Rattle.adb_block.specs.Container.{CanBeWrittenAfter}
 use Rattle.adb_block.specs.declared.block.BlockKind.TheVariants as Kinds
 use Rattle.adb_schema.specs.Soundness.{file_pair}
 use Rattle.pkg_core.specs.Contents.{Expected, Contents, contents_bytes, contents_block_fault, contents_fault, fault_in, expected_fault, files_by_blocks, has_positions_of, unless_fault, with_next}
@@ -84,10 +84,10 @@ blocks_good (e ∷ es) (c ∷ cs) r p small all =
     (ap (λ (o : Option Cause). fault_in (unless_fault o (with_next (contents_payload c) (λ left. files_by_blocks left first.later) (e ∷ es)))) good ∙ blocks_good es cs first.later first.others small.2 all.1)
 
 -- and they may follow the value
-more_contents : (cs : List Contents) → AreShort cs → MayStand (Some Kinds.Contents) (map contents_piece cs)
+more_contents : (cs : List Contents) → AreShort cs → CanBeWrittenAfter (Some Kinds.Contents) (map contents_piece cs)
 more_contents [] short = tt
 more_contents (c ∷ cs) short = (record { order = refl; long = omega arith }, omega (arith, short.0), more_contents cs short.1)
 
-pub contents_stand : (cs : List Contents) → AreShort cs → MayStand (Some Kinds.Adb) (map contents_piece cs)
+pub contents_stand : (cs : List Contents) → AreShort cs → CanBeWrittenAfter (Some Kinds.Adb) (map contents_piece cs)
 contents_stand [] short = tt
 contents_stand (c ∷ cs) short = (record { order = refl; long = omega arith }, omega (arith, short.0), more_contents cs short.1)

@@ -4,11 +4,11 @@ use Rattle.std.specs.Prelude.{map}
 use Rattle.base_core.specs.declared.cause.Cause.{Cause}
 use Rattle.adb_block.specs.Piece.{Piece}
 use Rattle.adb_block.specs.Header.{header_of}
-use Rattle.adb_block.specs.Standing.{start_of}
+use Rattle.adb_block.specs.ReaderPosition.{start_of}
 use Rattle.adb_block.specs.Reading.{Reading, reading_of}
 use Rattle.adb_block.specs.AllBlocks.{pieces_of}
 use Rattle.adb_view.specs.Plain.{Plain}
-use Rattle.adb_schema.specs.Soundness.{first_payload, payload_behind, payload_in, root_value, schema_word}
+use Rattle.adb_schema.specs.Soundness.{first_payload, payload_after_header, payload_in, root_value, schema_word}
 use Rattle.adb_schema.specs.declared.read.TheConstants.{PACKAGE_WORD}
 use Rattle.adb_view.specs.declared.tables.Which.{Which}
 use Rattle.adb_view.specs.declared.tables.Which.TheVariants.{Package}
@@ -16,7 +16,7 @@ use Rattle.adb_write.specs.Canonical.{canonical, write, empty_layout}
 use Rattle.adb_write.specs.File.{adb_piece, file_of}
 use Rattle.pkg_core.specs.Contents.{Expected, Contents, contents_in, expected_contents, files_by_blocks, unless_fault, with_next}
 use Rattle.pkg_core.specs.GoodContents.{AreContentsOf}
-use Rattle.pkg_core.specs.Whole.{files_behind, files_by_header, files_in_file, package_with_contents}
+use Rattle.pkg_core.specs.Whole.{files_after_first, files_by_header, files_in_file, package_with_contents}
 use Rattle.adb_sound.specs.Container.{contents_payload, contents_piece, container_of, package_by}
 use Rattle.adb_sound.specs.Root.{IsRootOf}
 use Rattle.adb_sound.proofs.ContentsBlocks.{IsFirstOf, block_good, contents_stand, first_of, none_of_blocks}
@@ -50,7 +50,7 @@ laid laws which schema v contents word g short =
 payload_back : (schema : ℕ) (v : Plain) (contents : List Contents) → IsLaid schema v contents → payload_in (container_of schema v contents) ≡ canonical v
 unfolding payload_in
 payload_back schema v contents l =
-    ap (payload_behind (container_of schema v contents)) l.header ∙ ap first_payload l.first.is
+    ap (payload_after_header (container_of schema v contents)) l.header ∙ ap first_payload l.first.is
 
 root_back : Lower → (which : Which) (schema : ℕ) (v : Plain) (contents : List Contents) → IsRootOf which v → IsLaid schema v contents → root_value which (payload_in (container_of schema v contents)) ≡ v
 root_back laws which schema v contents g l = ap (root_value which) (payload_back schema v contents l) ∙ value_is laws which v g
@@ -87,6 +87,6 @@ package_back laws v contents g all short =
     let by_root = ap (λ (u : Plain). contents_in (files_by_blocks (expected_contents u) l.first.later)) (value_is laws Package v g) in
     let back : contents_in (files_in_file file) ≡ contents =
     ap (λ o. contents_in (files_by_header file o)) l.header
-    ∙ ap (λ r. contents_in (files_behind r)) l.first.is
+    ∙ ap (λ r. contents_in (files_after_first r)) l.first.is
     ∙ by_root ∙ read in
     λ k. record { value = value k; contents = back k }

@@ -3,9 +3,9 @@ use Rattle.std.proofs.Common.{◌≡◌, ◌≢◌, ℕ, ◌^◌, ◌<◌, List,
 use Rattle.std.specs.Prelude.{map}
 use Rattle.adb_block.specs.Piece.{Piece}
 use Rattle.adb_block.specs.Header.{header_of}
-use Rattle.adb_block.specs.Standing.{start_of}
+use Rattle.adb_block.specs.ReaderPosition.{start_of}
 use Rattle.adb_block.specs.Reading.{Reading, done, more, reading_of}
-use Rattle.adb_block.specs.AllBlocks.{pieces_of, rest_of, blocks_behind, blocks_of}
+use Rattle.adb_block.specs.AllBlocks.{pieces_of, rest_of, blocks_after_header, blocks_of}
 use Rattle.adb_view.specs.Plain.{Plain}
 use Rattle.adb_schema.specs.Soundness.{blocks_fault, file_fault, further_fault, payload_fault, root_value, schema_word}
 use Rattle.adb_schema.specs.Soundness as S
@@ -16,7 +16,7 @@ use Rattle.adb_write.specs.Canonical.{canonical, write, empty_layout}
 use Rattle.adb_write.specs.File.{adb_piece, file_of}
 use Rattle.pkg_core.specs.Contents.{Contents, expected_contents}
 use Rattle.pkg_core.specs.GoodContents.{AreContentsOf}
-use Rattle.pkg_core.specs.Whole.{behind_fault, container_fault, fault_by_header, root_of_schema, fault_by_schema, whole_fault}
+use Rattle.pkg_core.specs.Whole.{fault_after_first, container_fault, fault_by_header, root_of_schema, fault_by_schema, whole_fault}
 use Rattle.adb_sound.specs.Container.{contents_piece, container_of}
 use Rattle.adb_sound.specs.Root.{IsRootOf}
 use Rattle.adb_sound.proofs.LaidSizes.{AreShort, laid_short}
@@ -47,25 +47,25 @@ word_is Intent schema e = let same : INTENT_WORD ≡ schema = cc in subst (IsWor
 -- ---- by its header, and then by its blocks
 
 whole_good : (which : Which) (schema : ℕ) (file : List ℕ) → IsWord which schema → header_of file ≡ Ok schema
-    → blocks_fault (behind_fault which) which (reading_of (start_of schema file)) ≡ None → container_fault file ≡ None
+    → blocks_fault (fault_after_first which) which (reading_of (start_of schema file)) ≡ None → container_fault file ≡ None
 unfolding container_fault whole_fault
 whole_good which schema file word h blocks =
     ap (fault_by_header file) h
     ∙ (ap (fault_by_schema file schema) word.root
-    ∙ (ap (file_fault (behind_fault which) which file) h
-    ∙ none_of (S.schema_fault which schema) (blocks_fault (behind_fault which) which (reading_of (start_of schema file))) word.wanted blocks))
+    ∙ (ap (file_fault (fault_after_first which) which file) h
+    ∙ none_of (S.schema_fault which schema) (blocks_fault (fault_after_first which) which (reading_of (start_of schema file))) word.wanted blocks))
 
 blocks_by_first : (which : Which) (r : Reading) (b : Piece) (at : ℕ) (later : Reading) → r ≡ more b at later → payload_fault which b.payload ≡ None
-    → behind_fault which (root_value which b.payload) later ≡ None → blocks_fault (behind_fault which) which r ≡ None
-blocks_by_first which r b at later is payload behind = ap (blocks_fault (behind_fault which) which) is ∙ none_of _ _ payload behind
+    → fault_after_first which (root_value which b.payload) later ≡ None → blocks_fault (fault_after_first which) which r ≡ None
+blocks_by_first which r b at later is payload behind = ap (blocks_fault (fault_after_first which) which) is ∙ none_of _ _ payload behind
 
 -- the reader gives these blocks
 pub reading_is : (file : List ℕ) (schema : ℕ) (pieces : List Piece) → header_of file ≡ Ok schema → blocks_of file ≡ Ok pieces → pieces_of (reading_of (start_of schema file)) ≡ Ok pieces
 unfolding blocks_of rest_of
-reading_is file schema pieces h b = sym (ap (blocks_behind file) h) ∙ b
+reading_is file schema pieces h b = sym (ap (blocks_after_header file) h) ∙ b
 
 pub laid_good : Lower → (which : Which) (schema : ℕ) (v : Plain) (contents : List Contents) → IsWord which schema → IsRootOf which v → AreShort contents
-    → ((r : Reading) → pieces_of r ≡ Ok (map contents_piece contents) → behind_fault which v r ≡ None)
+    → ((r : Reading) → pieces_of r ≡ Ok (map contents_piece contents) → fault_after_first which v r ≡ None)
     → container_fault (container_of schema v contents) ≡ None
 laid_good laws which schema v contents word g short behind =
     let pieces : List Piece = adb_piece (canonical v) ∷ map contents_piece contents in
@@ -75,7 +75,7 @@ laid_good laws which schema v contents word g short behind =
     let read = laws.read (container_of schema v contents) schema pieces spelled in
     let r : Reading = reading_of (start_of schema (container_of schema v contents)) in
     let first = first_of r (adb_piece (canonical v)) (map contents_piece contents) (reading_is (container_of schema v contents) schema pieces read.0 read.1) in
-    let rest = ap (λ (u : Plain). behind_fault which u first.later) (value_is laws which v g) ∙ behind first.later first.others in
+    let rest = ap (λ (u : Plain). fault_after_first which u first.later) (value_is laws which v g) ∙ behind first.later first.others in
     whole_good which schema (container_of schema v contents) word read.0 (blocks_by_first which r (adb_piece (canonical v)) first.at first.later first.is (payload_good laws which v g) rest)
 
 -- ---- a package, and the others
@@ -86,7 +86,7 @@ package_good laws v contents g all short =
     laid_good laws Package PACKAGE_WORD v contents (word_is Package PACKAGE_WORD refl) g (laid_short PACKAGE_WORD v contents short)
     (λ r p. blocks_good (expected_contents v) contents r p (expected_below (2 ^ 32) v (omega arith)) all)
 
-behind_good : (which : Which) (schema : ℕ) (v : Plain) → schema_word which ≡ Some schema → which ≢ Package → behind_fault which v done ≡ None
+behind_good : (which : Which) (schema : ℕ) (v : Plain) → schema_word which ≡ Some schema → which ≢ Package → fault_after_first which v done ≡ None
 unfolding further_fault
 behind_good Dep schema v e ne = absurd cc
 behind_good Acl schema v e ne = absurd cc
@@ -102,4 +102,4 @@ behind_good Intent schema v e ne = refl
 pub value_good : Lower → (which : Which) (schema : ℕ) (v : Plain) → schema_word which ≡ Some schema → which ≢ Package → IsRootOf which v → container_fault (file_of schema (canonical v)) ≡ None
 value_good laws which schema v word ne g =
     laid_good laws which schema v [] (word_is which schema word) g tt
-    (λ r p. subst (λ (q : Reading). behind_fault which v q ≡ None) (sym (none_of_blocks r p)) (behind_good which schema v word ne))
+    (λ r p. subst (λ (q : Reading). fault_after_first which v q ≡ None) (sym (none_of_blocks r p)) (behind_good which schema v word ne))

@@ -61,7 +61,7 @@ pub fn a_package_of_a_good_value_and_its_contents_is_sound()
 
 /// A law: the contents of files are complete in their blocks, and these in the container. So
 /// contents are no longer than the container.
-pub fn contents_stand_in_their_container()
+pub fn contents_are_in_their_container()
     ensures blocks { (contents : List Contents)
         → contents_size contents ≤ length (flat_map block_bytes (map contents_piece contents)) }
     ensures container { (schema : ℕ) (v : Plain) (contents : List Contents)

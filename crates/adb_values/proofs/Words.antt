@@ -4,7 +4,7 @@ use Rattle.adb_view.specs.Plain.{Plain, null, int, blob, arr, obj, Plains, none,
 use Rattle.adb_write.specs.Again.{HasWholeItems, IsWordOfBlob}
 use Rattle.adb_write.specs.Canonical.{Cell, in_place, apart, blob_cell}
 use Rattle.adb_write.specs.DepthFirst.{WritesValue}
-use Rattle.adb_write.specs.Writing.{Writing, call, blob_call, arr_call, obj_call, calls, calls_all, is_over}
+use Rattle.adb_write.specs.Writing.{Writing, call, blob_call, arr_call, obj_call, calls, calls_all, is_past_limit}
 use Rattle.adb_write.proofs.DepthFirst.{calls_arr, calls_blob, calls_obj}
 use Rattle.adb_write.proofs.Kept.{LeavesWords, arr_keeps, blob_keeps, int_keeps, new_word, obj_keeps}
 use Rattle.adb_values.specs.Drafts.{DraftState, draft_by, draft_with, draft_with_all, draft_with_open_list}
@@ -13,15 +13,15 @@ use Rattle.adb_values.proofs.Taken.{takes_all}
 
 -- ---- a blob that is added by its word
 
-over_call : (c : Cell) (w : Writing) → is_over w ≡ true → ◌≡◌ {A = ℕ × Writing} (call c w) (0, w)
+over_call : (c : Cell) (w : Writing) → is_past_limit w ≡ true → ◌≡◌ {A = ℕ × Writing} (call c w) (0, w)
 unfolding call
 over_call (in_place word) w o = rw o refl
 over_call (apart i) w o = rw o refl
 
-pub written_again : (b : List ℕ) (word x : ℕ) (w : Writing) → IsWordOfBlob w b word → (is_over w ≡ false → x ≡ word) → (is_over w ≡ true → x ≡ 0) → WritesValue w (blob_value b) x w
-written_again b word x w is within over = go (is_over w) refl
+pub written_again : (b : List ℕ) (word x : ℕ) (w : Writing) → IsWordOfBlob w b word → (is_past_limit w ≡ false → x ≡ word) → (is_past_limit w ≡ true → x ≡ 0) → WritesValue w (blob_value b) x w
+written_again b word x w is within over = go (is_past_limit w) refl
   where
-    go : (past : Bool) → is_over w ≡ past → WritesValue w (blob_value b) x w
+    go : (past : Bool) → is_past_limit w ≡ past → WritesValue w (blob_value b) x w
     go true o = record { is = ap (λ (k : ℕ). (k, w)) (over o) ∙ sym (over_call (blob_cell b) w o) ∙ sym (calls_blob b w) }
     go false o = record { is = ap (λ (k : ℕ). (k, w)) (within o) ∙ sym (is o) ∙ sym (calls_blob b w) }
 

@@ -10,7 +10,7 @@ ghost use Rattle.adb_values.specs.LastList.{last_start, last_word};
 ghost use Rattle.adb_values.specs.Words.{HasBlob};
 ghost use Rattle.adb_values.specs.Written.{IsWrittenAs};
 ghost use Rattle.adb_write.specs.Canonical.{written_of, MOST_BYTES};
-ghost use Rattle.adb_write.specs.Writing.{is_over};
+ghost use Rattle.adb_write.specs.Writing.{is_past_limit};
 
 use adb_view::Val;
 use adb_write::{WriteFault, Writer};
@@ -174,8 +174,8 @@ impl Draft {
 
 /// This word, or NULL if the writer passed a limit, as its calls return then.
 fn word_unless_over(writer: &Writer, word: Val) -> Val
-    ensures within { is_over writer.now ≡ false → result ≡ word }
-    ensures over { is_over writer.now ≡ true → result ≡ 0 }
+    ensures within { is_past_limit writer.now ≡ false → result ≡ word }
+    ensures over { is_past_limit writer.now ≡ true → result ≡ 0 }
 {
     if writer.passes_limit() {
         return Val::of(0);

@@ -9,7 +9,7 @@ use Rattle.std.proofs.lemmas.Slice.Eq.{bytes_eq-Decides}
 use Rattle.adb_view.specs.Plain.{Plain, null, int, blob, arr, obj, Plains, none, more, IsNormal, AreNormal, count_of}
 use Rattle.adb_view.specs.Readers.{ARRAY, OBJECT}
 use Rattle.adb_write.specs.Canonical.{gap, Item, WrittenItem, Cell, in_place, apart, int_item, int_cell, blob_item, blob_cell, run_bytes, run_item, run_cell, trimmed_words, Layout, empty_layout, end_offset, is_equal_item, word_of_item, put_new, put_unless, put_item, put_cell, put_run, write, write_all, payload_with_root, MOST_BYTES}
-use Rattle.adb_write.specs.Again.{front_len, TellsItsLength, IsThere, HasAllItems, len_by}
+use Rattle.adb_write.specs.Again.{front_len, HasLengthInFront, IsThere, HasAllItems, len_by}
 use Rattle.adb_write.specs.Size.{entries_of, entries_of_all, with_entries}
 use Rattle.adb_write.proofs.Found.{equal_kind, equal_bytes, equal_within}
 use Rattle.adb_write.proofs.Placed.{wide8, wide16, wide32, wide64}
@@ -21,10 +21,10 @@ use Rattle.adb_write.proofs.Overflow.{entries_in, int_entries, blob_entries, run
 
 abbrev pub IsFramedCell : Cell → Type 0
 IsFramedCell (in_place w) = Unit {0}
-IsFramedCell (apart i) = TellsItsLength i
+IsFramedCell (apart i) = HasLengthInFront i
 
 -- two items of one kind that are at one place are equal
-same_bytes : (i j : Item) (x : List ℕ) → TellsItsLength i → TellsItsLength j → i.kind ≡ j.kind → take (length i.bytes) x ≡ i.bytes → take (length j.bytes) x ≡ j.bytes → i.bytes ≡ j.bytes
+same_bytes : (i j : Item) (x : List ℕ) → HasLengthInFront i → HasLengthInFront j → i.kind ≡ j.kind → take (length i.bytes) x ≡ i.bytes → take (length j.bytes) x ≡ j.bytes → i.bytes ≡ j.bytes
 same_bytes i j x f g kind a b =
     let front : take (front_len i.kind) i.bytes ≡ take (front_len j.kind) j.bytes =
     ap (take (front_len i.kind)) (sym a) ∙ take-take (front_len i.kind) (length i.bytes) x f.long ∙ ap (λ (k : ℕ). take (front_len k) x) kind ∙ sym (take-take (front_len j.kind) (length j.bytes) x g.long) ∙ ap (take (front_len j.kind)) b in
@@ -33,14 +33,14 @@ same_bytes i j x f g kind a b =
 
 -- ---- each item is framed
 
-int_framed : (n : ℕ) → TellsItsLength (int_item n)
+int_framed : (n : ℕ) → HasLengthInFront (int_item n)
 int_framed n = go (ltb n (2 ^ 32))
   where
-    go : (a : Bool) → TellsItsLength (cond a (record { kind = 2; align = 4; bytes = to_le_bytes w32 n; entries = 0 }) (record { kind = 3; align = 8; bytes = to_le_bytes w64 n; entries = 0 }))
+    go : (a : Bool) → HasLengthInFront (cond a (record { kind = 2; align = 4; bytes = to_le_bytes w32 n; entries = 0 }) (record { kind = 3; align = 8; bytes = to_le_bytes w64 n; entries = 0 }))
     go true = record { some = omega (arith, wide32.len n); long = omega (arith, wide32.len n); len = wide32.len n }
     go false = record { some = omega (arith, wide64.len n); long = omega (arith, wide64.len n); len = wide64.len n }
 
-pub blob_framed : (b : List ℕ) → length b < 2 ^ 32 → TellsItsLength (blob_item b)
+pub blob_framed : (b : List ℕ) → length b < 2 ^ 32 → HasLengthInFront (blob_item b)
 blob_framed b few =
     elim (cases_lt (length b) (2 ^ 8)) [
       | inl a ↦
@@ -49,7 +49,7 @@ blob_framed b few =
           let is : blob_item b ≡ i = rw t refl in
           let total = length-append (to_le_bytes w8 (length b)) b in
           let front : from_le_bytes w8 (take 1 (to_le_bytes w8 (length b) ++ b)) ≡ length b = ap (from_le_bytes w8) (take_at (to_le_bytes w8 (length b)) b 1 (wide8.len (length b))) ∙ wide8.again (length b) a in
-          subst TellsItsLength (sym is) (record { some = omega (arith, total, wide8.len (length b)); long = omega (arith, total, wide8.len (length b)); len = omega (arith, total, wide8.len (length b), front) })
+          subst HasLengthInFront (sym is) (record { some = omega (arith, total, wide8.len (length b)); long = omega (arith, total, wide8.len (length b)); len = omega (arith, total, wide8.len (length b), front) })
       | inr a ↦
           let t : ltb (length b) (2 ^ 8) ≡ false = le-ltb _ _ a in
           elim (cases_lt (length b) (2 ^ 16)) [
@@ -59,24 +59,24 @@ blob_framed b few =
                 let is : blob_item b ≡ i = rw (t, u) refl in
                 let total = length-append (to_le_bytes w16 (length b)) b in
                 let front : from_le_bytes w16 (take 2 (to_le_bytes w16 (length b) ++ b)) ≡ length b = ap (from_le_bytes w16) (take_at (to_le_bytes w16 (length b)) b 2 (wide16.len (length b))) ∙ wide16.again (length b) c in
-                subst TellsItsLength (sym is) (record { some = omega (arith, total, wide16.len (length b)); long = omega (arith, total, wide16.len (length b)); len = omega (arith, total, wide16.len (length b), front) })
+                subst HasLengthInFront (sym is) (record { some = omega (arith, total, wide16.len (length b)); long = omega (arith, total, wide16.len (length b)); len = omega (arith, total, wide16.len (length b), front) })
             | inr c ↦
                 let u : ltb (length b) (2 ^ 16) ≡ false = le-ltb _ _ c in
                 let i : Item = record { kind = 10; align = 4; bytes = to_le_bytes w32 (length b) ++ b; entries = 0 } in
                 let is : blob_item b ≡ i = rw (t, u) refl in
                 let total = length-append (to_le_bytes w32 (length b)) b in
                 let front : from_le_bytes w32 (take 4 (to_le_bytes w32 (length b) ++ b)) ≡ length b = ap (from_le_bytes w32) (take_at (to_le_bytes w32 (length b)) b 4 (wide32.len (length b))) ∙ wide32.again (length b) few in
-                subst TellsItsLength (sym is) (record { some = omega (arith, total, wide32.len (length b)); long = omega (arith, total, wide32.len (length b)); len = omega (arith, total, wide32.len (length b), front) })
+                subst HasLengthInFront (sym is) (record { some = omega (arith, total, wide32.len (length b)); long = omega (arith, total, wide32.len (length b)); len = omega (arith, total, wide32.len (length b), front) })
           ]
     ]
 
 run_front : (ws : List ℕ) → suc (length ws) < 2 ^ 32 → from_le_bytes w32 (take 4 (run_bytes ws)) ≡ suc (length ws)
 run_front ws few = ap (from_le_bytes w32) (take_at (to_le_bytes w32 (suc (length ws))) (flat_map (to_le_bytes w32) ws) 4 (wide32.len (suc (length ws)))) ∙ wide32.again (suc (length ws)) few
 
-array_framed : (ws : List ℕ) → suc (length ws) < 2 ^ 32 → TellsItsLength (run_item ARRAY ws)
+array_framed : (ws : List ℕ) → suc (length ws) < 2 ^ 32 → HasLengthInFront (run_item ARRAY ws)
 array_framed ws few = record { some = omega (arith, run_long ws); long = omega (arith, run_long ws); len = omega (arith, run_long ws, run_front ws few) }
 
-object_framed : (ws : List ℕ) → suc (length ws) < 2 ^ 32 → TellsItsLength (run_item OBJECT ws)
+object_framed : (ws : List ℕ) → suc (length ws) < 2 ^ 32 → HasLengthInFront (run_item OBJECT ws)
 object_framed ws few = record { some = omega (arith, run_long ws); long = omega (arith, run_long ws); len = omega (arith, run_long ws, run_front ws few) }
 
 -- ---- and so is each cell that fits
@@ -125,7 +125,7 @@ there_more : (body q : List ℕ) (x : WrittenItem) → IsThere body x → IsTher
 there_more body q x t = record { what = t.what; framed = t.framed; equal = equal_more body q t.what x t.framed.some t.equal }
 
 -- items that are equal to one written item have one kind and the same bytes
-one_item : (body : List ℕ) (i j : Item) (x : WrittenItem) → TellsItsLength i → TellsItsLength j → is_equal_item body i x ≡ true → is_equal_item body j x ≡ true → (i.kind ≡ j.kind) × (i.bytes ≡ j.bytes)
+one_item : (body : List ℕ) (i j : Item) (x : WrittenItem) → HasLengthInFront i → HasLengthInFront j → is_equal_item body i x ≡ true → is_equal_item body j x ≡ true → (i.kind ≡ j.kind) × (i.bytes ≡ j.bytes)
 one_item body i j x f g a b =
     let kind : i.kind ≡ j.kind = sym (equal_kind body i x a) ∙ equal_kind body j x b in
     (kind, same_bytes i j (drop x.offset body) f g kind (equal_bytes body i x a) (equal_bytes body j x b))
@@ -135,7 +135,7 @@ same_test body i j x kind bytes =
     ap (λ (k : ℕ). eqb x.kind k && bytes_eq (take (length i.bytes) (drop x.offset body)) i.bytes) kind
     ∙ ap (λ (b : List ℕ). eqb x.kind j.kind && bytes_eq (take (length b) (drop x.offset body)) b) bytes
 
-equal_stays : (body q : List ℕ) (i : Item) (x : WrittenItem) → TellsItsLength i → IsThere body x → is_equal_item body i x ≡ is_equal_item (body ++ q) i x
+equal_stays : (body q : List ℕ) (i : Item) (x : WrittenItem) → HasLengthInFront i → IsThere body x → is_equal_item body i x ≡ is_equal_item (body ++ q) i x
 equal_stays body q i x f t = go (is_equal_item body i x) (is_equal_item (body ++ q) i x) refl refl
   where
     go : (a b : Bool) → is_equal_item body i x ≡ a → is_equal_item (body ++ q) i x ≡ b → a ≡ b
@@ -158,7 +158,7 @@ all_from P Q f (x ∷ xs) h = (f x h.0, all_from P Q f xs h.1)
 
 -- what is found in the one is the same in the other
 pub record Keeps (out later : Layout) : Type 0 where
-  pub found : (i : Item) (x : WrittenItem) → TellsItsLength i → find (is_equal_item out.body i) out.items ≡ Some x → find (is_equal_item later.body i) later.items ≡ Some x
+  pub found : (i : Item) (x : WrittenItem) → HasLengthInFront i → find (is_equal_item out.body i) out.items ≡ Some x → find (is_equal_item later.body i) later.items ≡ Some x
 
 keeps_itself : (out : Layout) → Keeps out out
 keeps_itself out = record { found = λ i x f e. e }
@@ -182,7 +182,7 @@ new_equal i out =
     (ap (λ (x : List ℕ). take (length i.bytes) (drop (length out.body + gap i.align (end_offset out)) x)) (sym (append_assoc out.body zeros i.bytes))
     ∙ ap (take (length i.bytes)) (drop_at (out.body ++ zeros) i.bytes (length out.body + gap i.align (end_offset out)) at) ∙ take_all (length i.bytes) i.bytes (omega arith))
 
-new_whole : (i : Item) (out : Layout) → TellsItsLength i → HasAllItems out → HasAllItems (put_new i out).1
+new_whole : (i : Item) (out : Layout) → HasLengthInFront i → HasAllItems out → HasAllItems (put_new i out).1
 new_whole i out f w = record {
   all = (
     record { what = i; framed = f; equal = new_equal i out },
@@ -190,10 +190,10 @@ new_whole i out f w = record {
   );
 }
 
-new_keeps : (i : Item) (out : Layout) → TellsItsLength i → HasAllItems out → find (is_equal_item out.body i) out.items ≡ None → Keeps out (put_new i out).1
+new_keeps : (i : Item) (out : Layout) → HasLengthInFront i → HasAllItems out → find (is_equal_item out.body i) out.items ≡ None → Keeps out (put_new i out).1
 new_keeps i out f w absent = record { found = λ j x g e. go j x g e (is_equal_item (out.body ++ added i out) j (new_item i out)) refl }
   where
-    go : (j : Item) (x : WrittenItem) → TellsItsLength j → find (is_equal_item out.body j) out.items ≡ Some x → (b : Bool) → is_equal_item (out.body ++ added i out) j (new_item i out) ≡ b
+    go : (j : Item) (x : WrittenItem) → HasLengthInFront j → find (is_equal_item out.body j) out.items ≡ Some x → (b : Bool) → is_equal_item (out.body ++ added i out) j (new_item i out) ≡ b
         → cond b (Some (new_item i out)) (find (is_equal_item (out.body ++ added i out) j) out.items) ≡ Some x
     go j x g e true h =
         let same = one_item (out.body ++ added i out) i j (new_item i out) f g (new_equal i out) h in
@@ -208,7 +208,7 @@ pub record Stays (out later : Layout) : Type 0 where
   pub whole : HasAllItems later
   pub keeps : Keeps out later
 
-put_item_stays : (i : Item) (out : Layout) → TellsItsLength i → HasAllItems out → Stays out (put_item i out).1
+put_item_stays : (i : Item) (out : Layout) → HasLengthInFront i → HasAllItems out → Stays out (put_item i out).1
 put_item_stays i out f w = go (find (is_equal_item out.body i) out.items) refl
   where
     go : (found : Option WrittenItem) → find (is_equal_item out.body i) out.items ≡ found → Stays out (put_unless found i out).1

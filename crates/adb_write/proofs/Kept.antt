@@ -3,8 +3,8 @@ use Rattle.std.proofs.Common.{◌≡◌, ℕ, ◌+◌, ◌<◌, ◌≤◌, Bool,
 use Rattle.std.specs.Prelude.{find}
 use Rattle.adb_view.specs.Readers.{ARRAY, OBJECT}
 use Rattle.adb_write.specs.Canonical.{gap, Item, WrittenItem, Cell, in_place, apart, int_cell, blob_item, blob_cell, run_cell, trimmed_words, Layout, end_offset, is_equal_item, word_of_item, put_unless, put_item, layout_counts, passes, MOST_BYTES}
-use Rattle.adb_write.specs.Writing.{Writing, empty_writing, writing_by, is_over, layout_of, writing_of, unless_over, call, int_call, blob_call, arr_call, obj_call}
-use Rattle.adb_write.specs.Again.{HasWholeItems, TellsItsLength, HasAllItems, IsWholeWriting, IsWordOfBlob}
+use Rattle.adb_write.specs.Writing.{Writing, empty_writing, writing_by, is_past_limit, layout_of, writing_of, unless_past_limit, call, int_call, blob_call, arr_call, obj_call}
+use Rattle.adb_write.specs.Again.{HasWholeItems, HasLengthInFront, HasAllItems, IsWholeWriting, IsWordOfBlob}
 use Rattle.adb_write.proofs.Again.{array_cell_framed, blob_cell_framed, blob_framed, int_cell_framed, IsFoundAgain, IsFramedCell, Keeps, nothing_whole, object_cell_framed, put_cell_stays, put_item_found}
 use Rattle.adb_write.proofs.AnyOrder.{call_stored, fits_of}
 use Rattle.adb_write.proofs.Found.{equal_bytes, equal_within, find-passes}
@@ -13,19 +13,19 @@ use Rattle.adb_write.proofs.StoredWords.{blob_long}
 
 -- ---- what a call leaves
 
-call_bytes : (c : Cell) (w : Writing) → w.bytes ≡ 8 + length w.body → is_over (call c w).1 ≡ false → (call c w).1.bytes ≡ 8 + length (call c w).1.body
+call_bytes : (c : Cell) (w : Writing) → w.bytes ≡ 8 + length w.body → is_past_limit (call c w).1 ≡ false → (call c w).1.bytes ≡ 8 + length (call c w).1.body
 unfolding call
 call_bytes (in_place word) w e o = e
-call_bytes (apart i) w e o = go (is_over w) o
+call_bytes (apart i) w e o = go (is_past_limit w) o
   where
     past : (b : Bool) (r : ℕ × Layout) → passes (layout_counts r.1) ≡ b
-        → is_over (cond {A = ℕ × Writing} b (0, record (writing_of r.1) { body = w.body; items = w.items }) (r.0, writing_of r.1)).1 ≡ false
+        → is_past_limit (cond {A = ℕ × Writing} b (0, record (writing_of r.1) { body = w.body; items = w.items }) (r.0, writing_of r.1)).1 ≡ false
         → (cond {A = ℕ × Writing} b (0, record (writing_of r.1) { body = w.body; items = w.items }) (r.0, writing_of r.1)).1.bytes ≡ 8 + length (cond {A = ℕ × Writing} b (0, record (writing_of r.1) { body = w.body; items = w.items }) (r.0, writing_of r.1)).1.body
     past true r q f = absurd cc
     past false r q f = refl
 
-    go : (b : Bool) → is_over (cond {A = ℕ × Writing} b (0, w) (unless_over w (put_item i (layout_of w)))).1 ≡ false
-        → (cond {A = ℕ × Writing} b (0, w) (unless_over w (put_item i (layout_of w)))).1.bytes ≡ 8 + length (cond {A = ℕ × Writing} b (0, w) (unless_over w (put_item i (layout_of w)))).1.body
+    go : (b : Bool) → is_past_limit (cond {A = ℕ × Writing} b (0, w) (unless_past_limit w (put_item i (layout_of w)))).1 ≡ false
+        → (cond {A = ℕ × Writing} b (0, w) (unless_past_limit w (put_item i (layout_of w)))).1.bytes ≡ 8 + length (cond {A = ℕ × Writing} b (0, w) (unless_past_limit w (put_item i (layout_of w)))).1.body
     go true f = e
     go false f = past (passes (layout_counts (put_item i (layout_of w)).1)) (put_item i (layout_of w)) refl f
 
@@ -33,7 +33,7 @@ record Left (c : Cell) (w : Writing) : Type 0 where
   pub whole : IsWholeWriting (call c w).1
   pub keeps : Keeps (layout_of w) (layout_of (call c w).1)
 
-left : (c : Cell) (w : Writing) → IsFramedCell c → IsWholeWriting w → is_over (call c w).1 ≡ false → Left c w
+left : (c : Cell) (w : Writing) → IsFramedCell c → IsWholeWriting w → is_past_limit (call c w).1 ≡ false → Left c w
 left c w f g o =
     let s = call_stored c w o in
     let t = put_cell_stays c (layout_of w) f g.whole in
@@ -44,50 +44,50 @@ left c w f g o =
 
 -- ---- each cell that is written is framed
 
-blob_is_framed : (b : List ℕ) (w : Writing) → is_over (blob_call b w).1 ≡ false → IsFramedCell (blob_cell b)
+blob_is_framed : (b : List ℕ) (w : Writing) → is_past_limit (blob_call b w).1 ≡ false → IsFramedCell (blob_cell b)
 blob_is_framed [] w o = tt
 blob_is_framed (x ∷ xs) w o = blob_cell_framed (x ∷ xs) (layout_of w) (call_stored (blob_cell (x ∷ xs)) w o).fits
 
-array_is_framed : (ws : List ℕ) (w : Writing) → is_over (call (run_cell ARRAY ws) w).1 ≡ false → IsFramedCell (run_cell ARRAY ws)
+array_is_framed : (ws : List ℕ) (w : Writing) → is_past_limit (call (run_cell ARRAY ws) w).1 ≡ false → IsFramedCell (run_cell ARRAY ws)
 array_is_framed [] w o = tt
 array_is_framed (x ∷ xs) w o = array_cell_framed (x ∷ xs) (layout_of w) (call_stored (run_cell ARRAY (x ∷ xs)) w o).fits
 
-object_is_framed : (ws : List ℕ) (w : Writing) → is_over (call (run_cell OBJECT ws) w).1 ≡ false → IsFramedCell (run_cell OBJECT ws)
+object_is_framed : (ws : List ℕ) (w : Writing) → is_past_limit (call (run_cell OBJECT ws) w).1 ≡ false → IsFramedCell (run_cell OBJECT ws)
 object_is_framed [] w o = tt
 object_is_framed (x ∷ xs) w o = object_cell_framed (x ∷ xs) (layout_of w) (call_stored (run_cell OBJECT (x ∷ xs)) w o).fits
 
 -- ---- an item that is found is written again for nothing
 
-found_call : (i : Item) (there : WrittenItem) (w : Writing) → IsWholeWriting w → is_over w ≡ false → i.entries ≡ 0 → find (is_equal_item w.body i) w.items ≡ Some there → ◌≡◌ {A = ℕ × Writing} (call (apart i) w) (word_of_item there, w)
+found_call : (i : Item) (there : WrittenItem) (w : Writing) → IsWholeWriting w → is_past_limit w ≡ false → i.entries ≡ 0 → find (is_equal_item w.body i) w.items ≡ Some there → ◌≡◌ {A = ℕ × Writing} (call (apart i) w) (word_of_item there, w)
 unfolding call
 found_call i there w g o none found =
     let put : ◌≡◌ {A = ℕ × Layout} (put_item i (layout_of w)) (word_of_item there, record (layout_of w) { values = w.values + i.entries }) = ap (λ (f : Option WrittenItem). put_unless f i (layout_of w)) found in
     let same : w.values + i.entries ≡ w.values = omega (arith, none) in
     let again : ◌≡◌ {A = ℕ × Layout} (put_item i (layout_of w)) (word_of_item there, layout_of w) = put ∙ ap (λ (n : ℕ). (word_of_item there, record (layout_of w) { values = n })) same in
     let fine : passes (8 + length w.body, w.values) ≡ false = ap (λ (n : ℕ). passes (n, w.values)) (sym g.bytes) ∙ o in
-    let stays : ◌≡◌ {A = ℕ × Writing} (unless_over w (word_of_item there, layout_of w)) (word_of_item there, w) =
+    let stays : ◌≡◌ {A = ℕ × Writing} (unless_past_limit w (word_of_item there, layout_of w)) (word_of_item there, w) =
     rw fine (ap (λ (n : ℕ). (word_of_item there, writing_by w.body w.items n w.values)) (sym g.bytes)) in
-    rw o (ap (unless_over w) again ∙ stays)
+    rw o (ap (unless_past_limit w) again ∙ stays)
 
-call_step : (i : Item) (w : Writing) → is_over w ≡ false → ◌≡◌ {A = ℕ × Writing} (call (apart i) w) (unless_over w (put_item i (layout_of w)))
+call_step : (i : Item) (w : Writing) → is_past_limit w ≡ false → ◌≡◌ {A = ℕ × Writing} (call (apart i) w) (unless_past_limit w (put_item i (layout_of w)))
 unfolding call
 call_step i w o = rw o refl
 
 -- an item that is not found changes the writer
-new_call : (i : Item) (w : Writing) (word : ℕ) → is_over w ≡ false → 0 < length i.bytes → find (is_equal_item w.body i) w.items ≡ None → ◌≡◌ {A = ℕ × Writing} (call (apart i) w) (word, w) → ⊥
+new_call : (i : Item) (w : Writing) (word : ℕ) → is_past_limit w ≡ false → 0 < length i.bytes → find (is_equal_item w.body i) w.items ≡ None → ◌≡◌ {A = ℕ × Writing} (call (apart i) w) (word, w) → ⊥
 new_call i w word o some absent e =
     let put : ◌≡◌ {A = ℕ × Layout} (put_item i (layout_of w)) (put_unless None i (layout_of w)) = ap (λ (f : Option WrittenItem). put_unless f i (layout_of w)) absent in
-    go (passes (layout_counts (put_unless None i (layout_of w)).1)) refl (sym (ap (unless_over w) put) ∙ sym (call_step i w o) ∙ e)
+    go (passes (layout_counts (put_unless None i (layout_of w)).1)) refl (sym (ap (unless_past_limit w) put) ∙ sym (call_step i w o) ∙ e)
   where
     go : (b : Bool) → passes (layout_counts (put_unless None i (layout_of w)).1) ≡ b
         → ◌≡◌ {A = ℕ × Writing} (cond {A = ℕ × Writing} b (0, record (writing_of (put_unless None i (layout_of w)).1) { body = w.body; items = w.items }) ((put_unless None i (layout_of w)).0, writing_of (put_unless None i (layout_of w)).1)) (word, w) → ⊥
-    go true q f = let over : true ≡ is_over w = sym q ∙ ap (λ (r : ℕ × Writing). is_over r.1) f in absurd cc
+    go true q f = let over : true ≡ is_past_limit w = sym q ∙ ap (λ (r : ℕ × Writing). is_past_limit r.1) f in absurd cc
     go false q f =
         let zeros : List ℕ = replicate (gap i.align (end_offset (layout_of w))) 0 in
         let len : length (w.body ++ (zeros ++ i.bytes)) ≡ length w.body = ap (λ (r : ℕ × Writing). length r.1.body) f in
         absurd (omega (arith, len, some, length-append w.body (zeros ++ i.bytes), length-append zeros i.bytes))
 
-found_framed : (b : List ℕ) (there : WrittenItem) (w : Writing) → IsWholeWriting w → is_over w ≡ false → find (is_equal_item w.body (blob_item b)) w.items ≡ Some there → TellsItsLength (blob_item b)
+found_framed : (b : List ℕ) (there : WrittenItem) (w : Writing) → IsWholeWriting w → is_past_limit w ≡ false → find (is_equal_item w.body (blob_item b)) w.items ≡ Some there → HasLengthInFront (blob_item b)
 found_framed b there w g o found =
     let equal = find-passes (is_equal_item w.body (blob_item b)) w.items there found in
     let long = blob_long b in
@@ -99,13 +99,13 @@ found_framed b there w g o found =
 
 empty_call : (w : Writing) → ◌≡◌ {A = ℕ × Writing} (blob_call [] w) (0, w)
 unfolding call
-empty_call w = ap (λ (x : ℕ). (x, w)) (same (is_over w))
+empty_call w = ap (λ (x : ℕ). (x, w)) (same (is_past_limit w))
   where
     same : (b : Bool) → ◌≡◌ {A = ℕ} (cond {A = ℕ} b 0 0) 0
     same true = refl
     same false = refl
 
-word_stays : (b : List ℕ) (word : ℕ) (w later : Writing) → IsWholeWriting w → IsWholeWriting later → Keeps (layout_of w) (layout_of later) → is_over w ≡ false → is_over later ≡ false
+word_stays : (b : List ℕ) (word : ℕ) (w later : Writing) → IsWholeWriting w → IsWholeWriting later → Keeps (layout_of w) (layout_of later) → is_past_limit w ≡ false → is_past_limit later ≡ false
     → ◌≡◌ {A = ℕ × Writing} (blob_call b w) (word, w) → ◌≡◌ {A = ℕ × Writing} (blob_call b later) (word, later)
 word_stays [] word w later g h k o p e =
     let zero : 0 ≡ word = ap (λ (r : ℕ × Writing). r.0) (sym (empty_call w) ∙ e) in
@@ -126,7 +126,7 @@ pub record LeavesWords (w later : Writing) : Type 0 where
   pub whole : HasWholeItems later
   pub words : (b : List ℕ) (word : ℕ) → IsWordOfBlob w b word → IsWordOfBlob later b word
 
-kept : (c : Cell) (w : Writing) → (is_over (call c w).1 ≡ false → IsFramedCell c) → HasWholeItems w → LeavesWords w (call c w).1
+kept : (c : Cell) (w : Writing) → (is_past_limit (call c w).1 ≡ false → IsFramedCell c) → HasWholeItems w → LeavesWords w (call c w).1
 kept c w framed h = record {
   whole = λ o. (left c w (framed o) (h (call_stored c w o).before) o).whole;
   words = λ b word is o.

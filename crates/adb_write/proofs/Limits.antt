@@ -5,7 +5,7 @@ use Rattle.std.specs.Prelude.{find}
 use Rattle.adb_view.specs.Plain.{Plain, null, int, blob, arr, obj, Plains, none, more}
 use Rattle.adb_view.specs.Readers.{ARRAY, OBJECT}
 use Rattle.adb_write.specs.Canonical.{Cell, in_place, apart, int_cell, blob_cell, run_cell, trimmed_words, Layout, empty_layout, put_cell, put_run, write, write_all, payload_with_root, canonical, PayloadCounts, layout_counts, passes, trace, trace_all, overflow_of, or_overflow, written_of}
-use Rattle.adb_write.specs.Writing.{Writing, empty_writing, writing_counts, is_over, writing_of, call, finish_result, calls, calls_all}
+use Rattle.adb_write.specs.Writing.{Writing, empty_writing, writing_counts, is_past_limit, writing_of, call, finish_result, calls, calls_all}
 
 find-none : (xs ys : List PayloadCounts) → find passes xs ≡ None → find passes (xs ++ ys) ≡ find passes ys
 find-none [] ys e = refl
@@ -25,7 +25,7 @@ find-some (x ∷ xs) ys c e = go (passes x) (λ f. find-some xs ys c f) e
 
 -- ---- past a limit nothing changes
 
-call-over : (c : Cell) (w : Writing) → is_over w ≡ true → call c w ≡ (0, w)
+call-over : (c : Cell) (w : Writing) → is_past_limit w ≡ true → call c w ≡ (0, w)
 unfolding call
 call-over (in_place word) w o = rw o refl
 call-over (apart i) w o = rw o refl
@@ -33,7 +33,7 @@ call-over (apart i) w o = rw o refl
 mutual
   unfolding calls
 
-  calls-over : (v : Plain) (w : Writing) → is_over w ≡ true → (calls v w).1 ≡ w
+  calls-over : (v : Plain) (w : Writing) → is_past_limit w ≡ true → (calls v w).1 ≡ w
   calls-over null w o = refl
   calls-over (int n) w o = ap (λ (r : ℕ × Writing). r.1) (call-over (int_cell n) w o)
   calls-over (blob b) w o = ap (λ (r : ℕ × Writing). r.1) (call-over (blob_cell b) w o)
@@ -44,7 +44,7 @@ mutual
       let s = calls_all-over vs w o in
       ap (λ (r : ℕ × Writing). r.1) (call-over (run_cell OBJECT (trimmed_words (calls_all vs w).0)) (calls_all vs w).1 (rw s o)) ∙ s
 
-  calls_all-over : (vs : Plains) (w : Writing) → is_over w ≡ true → (calls_all vs w).1 ≡ w
+  calls_all-over : (vs : Plains) (w : Writing) → is_past_limit w ≡ true → (calls_all vs w).1 ≡ w
   calls_all-over none w o = refl
   calls_all-over (more v vs) w o = let s = calls-over v w o in calls_all-over vs (calls v w).1 (rw s o) ∙ s
 
@@ -56,7 +56,7 @@ pub record Within (out : Layout) : Type 0 where
 
 -- either all is written, or the writer follows the first value past a limit
 abbrev pub Ends : {A : Type 0} → List PayloadCounts → A × Writing → A × Layout → Type 0
-Ends writing_counts r s = ((find passes writing_counts ≡ None) × (r.0 ≡ s.0) × (r.1 ≡ writing_of s.1) × Within s.1) ⊎ ((c : PayloadCounts) × (find passes writing_counts ≡ Some c) × ((r.1.bytes, r.1.values) ≡ c) × (is_over r.1 ≡ true))
+Ends writing_counts r s = ((find passes writing_counts ≡ None) × (r.0 ≡ s.0) × (r.1 ≡ writing_of s.1) × Within s.1) ⊎ ((c : PayloadCounts) × (find passes writing_counts ≡ Some c) × ((r.1.bytes, r.1.values) ≡ c) × (is_past_limit r.1 ≡ true))
 
 call-ends : (c : Cell) (out : Layout) → Within out → Ends (layout_counts (put_cell c out).1 ∷ []) (call c (writing_of out)) (put_cell c out)
 unfolding call
@@ -70,7 +70,7 @@ call-ends (apart i) out w = rw w.fine (go (passes (layout_counts (put_cell (apar
 
 -- ---- all calls
 
-then_ends : {A B : Type 0} (xs ys : List PayloadCounts) (r : A × Writing) (s : A × Layout) (r' : B × Writing) (s' : B × Layout) → Ends xs r s → (r.0 ≡ s.0 → r.1 ≡ writing_of s.1 → Within s.1 → Ends ys r' s') → (is_over r.1 ≡ true → r'.1 ≡ r.1) → Ends (xs ++ ys) r' s'
+then_ends : {A B : Type 0} (xs ys : List PayloadCounts) (r : A × Writing) (s : A × Layout) (r' : B × Writing) (s' : B × Layout) → Ends xs r s → (r.0 ≡ s.0 → r.1 ≡ writing_of s.1 → Within s.1 → Ends ys r' s') → (is_past_limit r.1 ≡ true → r'.1 ≡ r.1) → Ends (xs ++ ys) r' s'
 then_ends xs ys r s r' s' (inl a) f g =
     elim (f a.1 a.2 a.3) [
       | inl b ↦ inl (find-none xs ys a.0 ∙ b.0, b.1, b.2, b.3)
@@ -130,7 +130,7 @@ calls-written v = go (calls-end v empty_layout start_fine)
     fitting : (r : ℕ × Writing) (s : ℕ × Layout) → r.0 ≡ s.0 → r.1 ≡ writing_of s.1 → Within s.1 → finish_result r.0 r.1 ≡ Ok (payload_with_root s.0 s.1)
     fitting r s word state w = let fine = w.fine in rw (word, state, fine) refl
 
-    past : (word : ℕ) (w : Writing) → is_over w ≡ true → finish_result word w ≡ Err (writing_counts w)
+    past : (word : ℕ) (w : Writing) → is_past_limit w ≡ true → finish_result word w ≡ Err (writing_counts w)
     past word w o = rw o refl
 
     go : Ends (trace v empty_layout) (calls v empty_writing) (write v empty_layout) → finish_result (calls v empty_writing).0 (calls v empty_writing).1 ≡ or_overflow (canonical v) (overflow_of v)

@@ -12,16 +12,16 @@ use Rattle.std.proofs.lemmas.Cmp.{nat_list_cmp_total}
 use Rattle.std.proofs.lemmas.List.{drop_more, length-append, length-take, length-drop, drop-drop, get_or-map, length-map, map-set}
 use Rattle.std.proofs.lemmas.List.Edits.{get_or-insert_below}
 use Rattle.adb_write.specs.Keys.{key_at, HaveRisingKeys}
-use Rattle.adb_write.specs.WordPages.{page_at, words_before, words_behind, IsSlotIn, IsSameSlot, AreFilled, HALF, with_split, begins_above, AllCompare, IsPageAt, IsPageFor, IsFoundIn, IsBetween}
+use Rattle.adb_write.specs.WordPages.{page_at, words_before, words_from_slot, IsSlotIn, IsSameSlot, AreFilled, HALF, with_split, begins_above, AllCompare, IsPageAt, IsPageFor, IsFoundIn, IsBetween}
 use Rattle.adb_write.specs.declared.word_pages.Slot.{Slot}
 use Rattle.adb_write.proofs.Rising.{cmp, flipped, IsBelow, less_chain, all_both, all_last, all_into, all_front, all_back, rising_none, rising_head, rising_rest, rising_first, rising_last}
 
 -- ---- a slot parts the words
 
-pub parts_at : (pages : List (List ℕ)) (k index : ℕ) → words_before pages k index ++ words_behind pages k index ≡ concat pages
+pub parts_at : (pages : List (List ℕ)) (k index : ℕ) → words_before pages k index ++ words_from_slot pages k index ≡ concat pages
 parts_at [] k index = refl
 parts_at (page ∷ pages) zero index = sym (append_assoc (take index page) (drop index page) (concat pages)) ∙ ap (λ (x : List ℕ). x ++ concat pages) (take-append-drop index page)
-parts_at (page ∷ pages) (suc k) index = append_assoc page (words_before pages k index) (words_behind pages k index) ∙ ap (λ (x : List ℕ). page ++ x) (parts_at pages k index)
+parts_at (page ∷ pages) (suc k) index = append_assoc page (words_before pages k index) (words_from_slot pages k index) ∙ ap (λ (x : List ℕ). page ++ x) (parts_at pages k index)
 
 pub before_split : (pages : List (List ℕ)) (k index : ℕ) → words_before pages k index ≡ words_before pages k 0 ++ take index (page_at pages k)
 before_split [] k zero = refl
@@ -29,15 +29,15 @@ before_split [] k (suc index) = refl
 before_split (page ∷ pages) zero index = refl
 before_split (page ∷ pages) (suc k) index = ap (λ (x : List ℕ). page ++ x) (before_split pages k index) ∙ sym (append_assoc page (words_before pages k 0) (take index (page_at pages k)))
 
-from_start : (pages : List (List ℕ)) → words_behind pages 0 0 ≡ concat pages
+from_start : (pages : List (List ℕ)) → words_from_slot pages 0 0 ≡ concat pages
 from_start [] = refl
 from_start (page ∷ pages) = refl
 
-pub behind_split : (pages : List (List ℕ)) (k index : ℕ) → words_behind pages k index ≡ drop index (page_at pages k) ++ words_behind pages (suc k) 0
-behind_split [] k zero = refl
-behind_split [] k (suc index) = refl
-behind_split (page ∷ pages) zero index = ap (λ (x : List ℕ). drop index page ++ x) (sym (from_start pages))
-behind_split (page ∷ pages) (suc k) index = behind_split pages k index
+pub after_split : (pages : List (List ℕ)) (k index : ℕ) → words_from_slot pages k index ≡ drop index (page_at pages k) ++ words_from_slot pages (suc k) 0
+after_split [] k zero = refl
+after_split [] k (suc index) = refl
+after_split (page ∷ pages) zero index = ap (λ (x : List ℕ). drop index page ++ x) (sym (from_start pages))
+after_split (page ∷ pages) (suc k) index = after_split pages k index
 
 -- ---- pages that begin above a key
 
@@ -65,20 +65,20 @@ above_on p key (page ∷ pages) f r zero j upto within e = all_above p key (page
 above_on p key (page ∷ pages) f r (suc i) zero upto within e = absurd (omega arith)
 above_on p key (page ∷ pages) f r (suc i) (suc j) upto within e = above_on p key pages f.1 (rising_last p page (concat pages) r) i j (omega arith) (omega arith) e
 
-pub above_behind : (p key : List ℕ) (pages : List (List ℕ)) (k : ℕ) → HaveRisingKeys p (concat pages) → k < length pages → begins_above p key (page_at pages k) ≡ true → AllCompare Less p key (words_behind pages k 0)
-above_behind p key [] k r within e = absurd (omega arith)
-above_behind p key (page ∷ pages) zero r within e = above p key page (concat pages) r e
-above_behind p key (page ∷ pages) (suc k) r within e = above_behind p key pages k (rising_last p page (concat pages) r) (omega arith) e
+pub above_after : (p key : List ℕ) (pages : List (List ℕ)) (k : ℕ) → HaveRisingKeys p (concat pages) → k < length pages → begins_above p key (page_at pages k) ≡ true → AllCompare Less p key (words_from_slot pages k 0)
+above_after p key [] k r within e = absurd (omega arith)
+above_after p key (page ∷ pages) zero r within e = above p key page (concat pages) r e
+above_after p key (page ∷ pages) (suc k) r within e = above_after p key pages k (rising_last p page (concat pages) r) (omega arith) e
 
-pub behind_last : (pages : List (List ℕ)) (k : ℕ) → length pages ≤ k → words_behind pages k 0 ≡ []
+pub behind_last : (pages : List (List ℕ)) (k : ℕ) → length pages ≤ k → words_from_slot pages k 0 ≡ []
 behind_last [] k past = refl
 behind_last (page ∷ pages) zero past = absurd (omega arith)
 behind_last (page ∷ pages) (suc k) past = behind_last pages k (omega arith)
 
-pub behind_less : (p key : List ℕ) (pages : List (List ℕ)) (k : ℕ) → AllCompare Less p key (words_behind pages k 0) → AllCompare Less p key (words_behind pages (suc k) 0)
-behind_less p key [] k a = tt
-behind_less p key (page ∷ pages) zero a = subst (AllCompare Less p key) (sym (from_start pages)) (all_last (λ v. cmp key (key_at p v) ≡ Less) page (concat pages) a)
-behind_less p key (page ∷ pages) (suc k) a = behind_less p key pages k a
+pub after_less : (p key : List ℕ) (pages : List (List ℕ)) (k : ℕ) → AllCompare Less p key (words_from_slot pages k 0) → AllCompare Less p key (words_from_slot pages (suc k) 0)
+after_less p key [] k a = tt
+after_less p key (page ∷ pages) zero a = subst (AllCompare Less p key) (sym (from_start pages)) (all_last (λ v. cmp key (key_at p v) ≡ Less) page (concat pages) a)
+after_less p key (page ∷ pages) (suc k) a = after_less p key pages k a
 
 -- ---- pages in front of one that does not begin above a key
 
@@ -135,10 +135,10 @@ slot_index (page ∷ next ∷ pages) (suc k) index some i = slot_index (next ∷
 
 -- ---- one word more in a page
 
-pub inserted : (pages : List (List ℕ)) (k index w : ℕ) → k < length pages → concat (set pages k (insert (page_at pages k) index w)) ≡ words_before pages k index ++ w ∷ words_behind pages k index
+pub inserted : (pages : List (List ℕ)) (k index w : ℕ) → k < length pages → concat (set pages k (insert (page_at pages k) index w)) ≡ words_before pages k index ++ w ∷ words_from_slot pages k index
 inserted [] k index w within = absurd (omega arith)
 inserted (page ∷ pages) zero index w within = append_assoc (take index page) (w ∷ drop index page) (concat pages)
-inserted (page ∷ pages) (suc k) index w within = ap (λ (x : List ℕ). page ++ x) (inserted pages k index w (omega arith)) ∙ sym (append_assoc page (words_before pages k index) (w ∷ words_behind pages k index))
+inserted (page ∷ pages) (suc k) index w within = ap (λ (x : List ℕ). page ++ x) (inserted pages k index w (omega arith)) ∙ sym (append_assoc page (words_before pages k index) (w ∷ words_from_slot pages k index))
 
 pub filled_set : (pages : List (List ℕ)) (k : ℕ) (page : List ℕ) → AreFilled pages → 0 < length page → AreFilled (set pages k page)
 filled_set [] k page f some = tt
@@ -205,38 +205,38 @@ lower_before_same [] k index upto = refl
 lower_before_same (page ∷ pages) zero index upto = take_take index HALF page upto
 lower_before_same (page ∷ pages) (suc k) index upto = ap (λ (x : List ℕ). page ++ x) (lower_before_same pages k index upto)
 
-lower_behind_same : (pages : List (List ℕ)) (k index : ℕ) → index ≤ HALF → words_behind (with_split pages k) k index ≡ words_behind pages k index
-lower_behind_same [] k index upto = refl
-lower_behind_same (page ∷ pages) zero index upto = sym (append_assoc (drop index (take HALF page)) (drop HALF page) (concat pages)) ∙ ap (λ (x : List ℕ). x ++ concat pages) (drop_take index HALF page upto)
-lower_behind_same (page ∷ pages) (suc k) index upto = lower_behind_same pages k index upto
+lower_after_same : (pages : List (List ℕ)) (k index : ℕ) → index ≤ HALF → words_from_slot (with_split pages k) k index ≡ words_from_slot pages k index
+lower_after_same [] k index upto = refl
+lower_after_same (page ∷ pages) zero index upto = sym (append_assoc (drop index (take HALF page)) (drop HALF page) (concat pages)) ∙ ap (λ (x : List ℕ). x ++ concat pages) (drop_take index HALF page upto)
+lower_after_same (page ∷ pages) (suc k) index upto = lower_after_same pages k index upto
 
 upper_before_same : (pages : List (List ℕ)) (k n i : ℕ) → i ≡ HALF + n → words_before (with_split pages k) (suc k) n ≡ words_before pages k i
 upper_before_same [] k n i is = refl
 upper_before_same (page ∷ pages) zero n i is = take_on HALF n i page is
 upper_before_same (page ∷ pages) (suc k) n i is = ap (λ (x : List ℕ). page ++ x) (upper_before_same pages k n i is)
 
-upper_behind_same : (pages : List (List ℕ)) (k n i : ℕ) → i ≡ HALF + n → words_behind (with_split pages k) (suc k) n ≡ words_behind pages k i
-upper_behind_same [] k n i is = refl
-upper_behind_same (page ∷ pages) zero n i is = ap (λ (x : List ℕ). x ++ concat pages) (drop-drop n HALF page ∙ ap (λ (m : ℕ). drop m page) (sym is))
-upper_behind_same (page ∷ pages) (suc k) n i is = upper_behind_same pages k n i is
+upper_after_same : (pages : List (List ℕ)) (k n i : ℕ) → i ≡ HALF + n → words_from_slot (with_split pages k) (suc k) n ≡ words_from_slot pages k i
+upper_after_same [] k n i is = refl
+upper_after_same (page ∷ pages) zero n i is = ap (λ (x : List ℕ). x ++ concat pages) (drop-drop n HALF page ∙ ap (λ (m : ℕ). drop m page) (sym is))
+upper_after_same (page ∷ pages) (suc k) n i is = upper_after_same pages k n i is
 
 pub lower_slot : (pages new : List (List ℕ)) (k index : ℕ) → new ≡ with_split pages k → k < length pages → HALF < length (page_at pages k) → index ≤ HALF
-    → IsSlotIn new k index × (words_before new k index ≡ words_before pages k index) × (words_behind new k index ≡ words_behind pages k index)
+    → IsSlotIn new k index × (words_before new k index ≡ words_before pages k index) × (words_from_slot new k index ≡ words_from_slot pages k index)
 lower_slot pages new k index is within full upto =
     let long : index ≤ length (page_at (with_split pages k) k) = omega (arith, ap length (split_lower pages k), length-take HALF (page_at pages k)) in
-    subst (λ (ps : List (List ℕ)). IsSlotIn ps k index × (words_before ps k index ≡ words_before pages k index) × (words_behind ps k index ≡ words_behind pages k index)) (sym is)
-    (slot_in (with_split pages k) k index (omega (arith, split_long pages k within)) long, lower_before_same pages k index upto, lower_behind_same pages k index upto)
+    subst (λ (ps : List (List ℕ)). IsSlotIn ps k index × (words_before ps k index ≡ words_before pages k index) × (words_from_slot ps k index ≡ words_from_slot pages k index)) (sym is)
+    (slot_in (with_split pages k) k index (omega (arith, split_long pages k within)) long, lower_before_same pages k index upto, lower_after_same pages k index upto)
 
 pub upper_slot : (pages new : List (List ℕ)) (k index : ℕ) → new ≡ with_split pages k → k < length pages → index ≤ length (page_at pages k) → HALF < index
-    → IsSlotIn new (k + 1) (index - HALF) × (words_before new (k + 1) (index - HALF) ≡ words_before pages k index) × (words_behind new (k + 1) (index - HALF) ≡ words_behind pages k index)
+    → IsSlotIn new (k + 1) (index - HALF) × (words_before new (k + 1) (index - HALF) ≡ words_before pages k index) × (words_from_slot new (k + 1) (index - HALF) ≡ words_from_slot pages k index)
 upper_slot pages new k index is within upto past =
     let n : ℕ = index - HALF in
     let whole : index ≡ HALF + n = omega arith in
     let next : suc k ≡ k + 1 = omega arith in
     let long : n ≤ length (page_at (with_split pages k) (suc k)) = omega (arith, ap length (split_upper pages k), length-drop HALF (page_at pages k)) in
-    subst (λ (ps : List (List ℕ)). IsSlotIn ps (k + 1) n × (words_before ps (k + 1) n ≡ words_before pages k index) × (words_behind ps (k + 1) n ≡ words_behind pages k index)) (sym is)
-    (subst (λ (m : ℕ). IsSlotIn (with_split pages k) m n × (words_before (with_split pages k) m n ≡ words_before pages k index) × (words_behind (with_split pages k) m n ≡ words_behind pages k index)) next
-    (slot_in (with_split pages k) (suc k) n (omega (arith, split_long pages k within)) long, upper_before_same pages k n index whole, upper_behind_same pages k n index whole))
+    subst (λ (ps : List (List ℕ)). IsSlotIn ps (k + 1) n × (words_before ps (k + 1) n ≡ words_before pages k index) × (words_from_slot ps (k + 1) n ≡ words_from_slot pages k index)) (sym is)
+    (subst (λ (m : ℕ). IsSlotIn (with_split pages k) m n × (words_before (with_split pages k) m n ≡ words_before pages k index) × (words_from_slot (with_split pages k) m n ≡ words_from_slot pages k index)) next
+    (slot_in (with_split pages k) (suc k) n (omega (arith, split_long pages k within)) long, upper_before_same pages k n index whole, upper_after_same pages k n index whole))
 
 -- ---- the pages as vectors have them
 
@@ -280,7 +280,7 @@ upper_copy f old k front xs r within none is here =
 
 -- one word more in a vector
 pub insert_vectors : {V : Type 0} (f : V → List ℕ) (old : List V) (k index w : ℕ) (t r : V) → k < length old → r ≡ get_or old k r → f t ≡ insert (f r) index w
-    → concat (map f (set old k t)) ≡ words_before (map f old) k index ++ w ∷ words_behind (map f old) k index
+    → concat (map f (set old k t)) ≡ words_before (map f old) k index ++ w ∷ words_from_slot (map f old) k index
 insert_vectors f old k index w t r within here is =
     ap concat (map-set f old k t ∙ ap (set (map f old) k) (is ∙ ap (λ (p : List ℕ). insert p index w) (ap f here ∙ sym (page_of_map f old k r within))))
     ∙ inserted (map f old) k index w (omega (arith, length-map old f))
@@ -306,7 +306,7 @@ slot_long f old k index r within here inside =
 
 pub same_words : (pages new : List (List ℕ)) (slot there : Slot) → IsSameSlot pages slot new there → concat new ≡ concat pages
 same_words pages new slot there same =
-    sym (parts_at new there.page there.index) ∙ ap (λ (x : List ℕ). x ++ words_behind new there.page there.index) same.before
+    sym (parts_at new there.page there.index) ∙ ap (λ (x : List ℕ). x ++ words_from_slot new there.page there.index) same.before
     ∙ ap (λ (x : List ℕ). words_before pages slot.page slot.index ++ x) same.behind ∙ parts_at pages slot.page slot.index
 
 -- ---- the page for a key
@@ -316,7 +316,7 @@ page_for_first p key [] r e = record { inside = (refl, refl); lower = tt; higher
 page_for_first p key (page ∷ pages) r e = record {
   inside = omega arith;
   lower = tt;
-  higher = behind_less p key (page ∷ pages) 0 (above_behind p key (page ∷ pages) 0 r (omega arith) (e (omega arith)));
+  higher = after_less p key (page ∷ pages) 0 (above_after p key (page ∷ pages) 0 r (omega arith) (e (omega arith)));
 }
 
 pub page_for_next : (p key : List ℕ) (pages : List (List ℕ)) (k : ℕ) → AreFilled pages → HaveRisingKeys p (concat pages) → k < length pages → begins_above p key (page_at pages k) ≡ false
@@ -325,7 +325,7 @@ page_for_next p key pages k f r within low high = record {
   inside = slot_in pages k 0 within (omega arith);
   lower = lower_before p key pages k f r within low;
   higher = elim (cases_lt (suc k) (length pages)) [
-    | inl more ↦ above_behind p key pages (suc k) r more (high more)
+    | inl more ↦ above_after p key pages (suc k) r more (high more)
     | inr last ↦ subst (AllCompare Less p key) (sym (behind_last pages (suc k) last)) tt
   ];
 }
@@ -389,10 +389,10 @@ page_for f p key vs (suc r) k filled rising upto is point =
 pub found_at : (p : List ℕ) (pages : List (List ℕ)) (key : List ℕ) (k index w : ℕ) → index < length (page_at pages k) → w ≡ get_or (page_at pages k) index w → cmp key (key_at p w) ≡ Equal → IsFoundIn p (concat pages) key w
 found_at p pages key k index w within here equal = record {
   before = words_before pages k index;
-  behind = drop (index + 1) (page_at pages k) ++ words_behind pages (suc k) 0;
+  behind = drop (index + 1) (page_at pages k) ++ words_from_slot pages (suc k) 0;
   is = sym (parts_at pages k index)
-      ∙ ap (λ (x : List ℕ). words_before pages k index ++ x) (behind_split pages k index
-      ∙ ap (λ (x : List ℕ). x ++ words_behind pages (suc k) 0) (drop_more (page_at pages k) index w within ∙ ap (λ (v : ℕ). v ∷ drop (index + 1) (page_at pages k)) (sym here)));
+      ∙ ap (λ (x : List ℕ). words_before pages k index ++ x) (after_split pages k index
+      ∙ ap (λ (x : List ℕ). x ++ words_from_slot pages (suc k) 0) (drop_more (page_at pages k) index w within ∙ ap (λ (v : ℕ). v ∷ drop (index + 1) (page_at pages k)) (sym here)));
   equal = equal;
 }
 
@@ -401,7 +401,7 @@ pub between_at : (p : List ℕ) (pages : List (List ℕ)) (key : List ℕ) (k in
 between_at p pages key k index page inside low high = record {
   inside = inside;
   lower = subst (AllCompare Greater p key) (sym (before_split pages k index)) (all_both (λ v. cmp key (key_at p v) ≡ Greater) (words_before pages k 0) (take index (page_at pages k)) page.lower low);
-  higher = subst (AllCompare Less p key) (sym (behind_split pages k index)) (all_both (λ v. cmp key (key_at p v) ≡ Less) (drop index (page_at pages k)) (words_behind pages (suc k) 0) high page.higher);
+  higher = subst (AllCompare Less p key) (sym (after_split pages k index)) (all_both (λ v. cmp key (key_at p v) ≡ Less) (drop index (page_at pages k)) (words_from_slot pages (suc k) 0) high page.higher);
 }
 
 -- the words of one page rise

@@ -12,7 +12,7 @@ use Rattle.adb_view.specs.Readers.{kind_of, low_of, inside, counted_at, counted_
 use Rattle.adb_write.specs.Canonical.{gap, Item, WrittenItem, Cell, in_place, apart, int_cell, blob_cell, run_cell, run_bytes, keep_word, trimmed_words, Layout, empty_layout, end_offset, is_equal_item, word_of_item, put_new, put_unless, put_item, put_cell, put_run, write, write_all, payload_with_root, canonical, MOST_BYTES}
 use Rattle.adb_view.specs.Shaped.{Each, HasShape, HaveShapes}
 use Rattle.adb_view.proofs.Normal.{trimmed-more}
-use Rattle.adb_write.specs.StandsFor.{Holds, HoldAll, IsWordOf}
+use Rattle.adb_write.specs.Denotes.{Holds, HoldAll, IsWordOf}
 use Rattle.adb_write.proofs.Found.{find-passes, equal_kind, equal_bytes, equal_within, equal_stands}
 use Rattle.adb_write.proofs.Placed.{Stands, Stands-append, wide8, wide16, wide32, wide64, number_stands, counted_stands, run_stands, words_len, place, placed_stands, word_kind, word_low}
 
@@ -237,7 +237,7 @@ pub record Leads (p : List ℕ) (i : Item) (w : ℕ) : Type 0 where
   pub nonzero : w ≢ 0
   pub small : w < 2 ^ 32
   pub kind_is : kind_of w ≡ i.kind
-  pub stands : (back : List ℕ) × Stands p (low_of w) (i.bytes ++ back)
+  pub located : (back : List ℕ) × Stands p (low_of w) (i.bytes ++ back)
 
 new_leads : (i : Item) (out : Layout) (root : ℕ) → 0 < i.kind → i.kind < 15 → end_offset (put_new i out).1 ≤ MOST_BYTES → Leads (payload_with_root root (put_new i out).1) i (put_new i out).0
 new_leads i out root pos few fits =
@@ -250,7 +250,7 @@ new_leads i out root pos few fits =
       nonzero = λ e. absurd (omega arith);
       small = omega arith;
       kind_is = word_kind i.kind (place i out) at;
-      stands = ([], rw (word_low i.kind (place i out) at, append-nil) (placed_stands i out root));
+      located = ([], rw (word_low i.kind (place i out) at, append-nil) (placed_stands i out root));
     }
 
 -- a written item's word leads to each item that is equal to it
@@ -264,7 +264,7 @@ found_leads i out root there pos few some fits e =
       nonzero = λ z. absurd (omega arith);
       small = omega arith;
       kind_is = word_kind there.kind (8 + there.offset) at ∙ kind;
-      stands = (drop (length i.bytes) (drop there.offset out.body), rw (word_low there.kind (8 + there.offset) at) (equal_stands out i there root some e));
+      located = (drop (length i.bytes) (drop there.offset out.body), rw (word_low there.kind (8 + there.offset) at) (equal_stands out i there root some e));
     }
 
 pub placed_leads : (i : Item) (out : Layout) (root : ℕ) → 0 < i.kind → i.kind < 15 → 0 < length i.bytes → end_offset (put_item i out).1 ≤ MOST_BYTES → Leads (payload_with_root root (put_item i out).1) i (put_item i out).0
@@ -278,20 +278,20 @@ placed_leads i out root pos few some fits = go (find (is_equal_item out.body i) 
 -- more bytes at the end change nothing
 pub Leads-append : (p q : List ℕ) (i : Item) (w : ℕ) → Leads p i w → Leads (p ++ q) i w
 Leads-append p q i w l =
-    let (back, s) = l.stands in
-    record { nonzero = l.nonzero; small = l.small; kind_is = l.kind_is; stands = (back ++ q, subst (Stands (p ++ q) (low_of w)) (append_assoc i.bytes back q) (Stands-append p q (low_of w) (i.bytes ++ back) s)) }
+    let (back, s) = l.located in
+    record { nonzero = l.nonzero; small = l.small; kind_is = l.kind_is; located = (back ++ q, subst (Stands (p ++ q) (low_of w)) (append_assoc i.bytes back q) (Stands-append p q (low_of w) (i.bytes ++ back) s)) }
 
 pub int_of-32 : (p : List ℕ) (w n : ℕ) → n < 2 ^ 32 → Leads p (record { kind = 2; align = 4; bytes = to_le_bytes w32 n; entries = 0 }) w → int_of p w ≡ Ok n
 unfolding int_of
 int_of-32 p w n lt l =
     let t0 : eqb w 0 ≡ false = neq-eqb w 0 l.nonzero in
-    rw (t0, l.kind_is, number_stands w32 (2 ^ 32) wide32 p (low_of w) n l.stands.0 lt l.stands.1) refl
+    rw (t0, l.kind_is, number_stands w32 (2 ^ 32) wide32 p (low_of w) n l.located.0 lt l.located.1) refl
 
 pub int_of-64 : (p : List ℕ) (w n : ℕ) → n < 2 ^ 64 → Leads p (record { kind = 3; align = 8; bytes = to_le_bytes w64 n; entries = 0 }) w → int_of p w ≡ Ok n
 unfolding int_of
 int_of-64 p w n lt l =
     let t0 : eqb w 0 ≡ false = neq-eqb w 0 l.nonzero in
-    rw (t0, l.kind_is, number_stands w64 (2 ^ 64) wide64 p (low_of w) n l.stands.0 lt l.stands.1) refl
+    rw (t0, l.kind_is, number_stands w64 (2 ^ 64) wide64 p (low_of w) n l.located.0 lt l.located.1) refl
 
 int_of-short : (p : List ℕ) (n : ℕ) → n < 2 ^ 28 → int_of p (2 ^ 28 + n) ≡ Ok n
 unfolding int_of
@@ -303,22 +303,22 @@ int_of-short p n lt =
 
 pub blob_of-8 : (p : List ℕ) (w : ℕ) (b : List ℕ) → length b < 2 ^ 8 → Leads p (record { kind = 8; align = 1; bytes = to_le_bytes w8 (length b) ++ b; entries = 0 }) w → blob_of p w ≡ Ok b
 unfolding blob_of
-blob_of-8 p w b lt l = let t0 : eqb w 0 ≡ false = neq-eqb w 0 l.nonzero in rw (t0, l.kind_is, counted_stands w8 (2 ^ 8) wide8 p (low_of w) b l.stands.0 lt l.stands.1) refl
+blob_of-8 p w b lt l = let t0 : eqb w 0 ≡ false = neq-eqb w 0 l.nonzero in rw (t0, l.kind_is, counted_stands w8 (2 ^ 8) wide8 p (low_of w) b l.located.0 lt l.located.1) refl
 
 pub blob_of-16 : (p : List ℕ) (w : ℕ) (b : List ℕ) → length b < 2 ^ 16 → Leads p (record { kind = 9; align = 2; bytes = to_le_bytes w16 (length b) ++ b; entries = 0 }) w → blob_of p w ≡ Ok b
 unfolding blob_of
-blob_of-16 p w b lt l = let t0 : eqb w 0 ≡ false = neq-eqb w 0 l.nonzero in rw (t0, l.kind_is, counted_stands w16 (2 ^ 16) wide16 p (low_of w) b l.stands.0 lt l.stands.1) refl
+blob_of-16 p w b lt l = let t0 : eqb w 0 ≡ false = neq-eqb w 0 l.nonzero in rw (t0, l.kind_is, counted_stands w16 (2 ^ 16) wide16 p (low_of w) b l.located.0 lt l.located.1) refl
 
 pub blob_of-32 : (p : List ℕ) (w : ℕ) (b : List ℕ) → length b < 2 ^ 32 → Leads p (record { kind = 10; align = 4; bytes = to_le_bytes w32 (length b) ++ b; entries = 0 }) w → blob_of p w ≡ Ok b
 unfolding blob_of
-blob_of-32 p w b lt l = let t0 : eqb w 0 ≡ false = neq-eqb w 0 l.nonzero in rw (t0, l.kind_is, counted_stands w32 (2 ^ 32) wide32 p (low_of w) b l.stands.0 lt l.stands.1) refl
+blob_of-32 p w b lt l = let t0 : eqb w 0 ≡ false = neq-eqb w 0 l.nonzero in rw (t0, l.kind_is, counted_stands w32 (2 ^ 32) wide32 p (low_of w) b l.located.0 lt l.located.1) refl
 
 pub run_of-placed : (kind : ℕ) (p : List ℕ) (w : ℕ) (ws : List ℕ) → AllByRecursion (λ w. w < 2 ^ 32) ws → suc (length ws) < 2 ^ 32 → Leads p (record { kind = kind; align = 4; bytes = run_bytes ws; entries = length ws }) w → run_of kind p w ≡ Ok ws
 unfolding run_of
 run_of-placed kind p w ws small few l =
     let t0 : eqb w 0 ≡ false = neq-eqb w 0 l.nonzero in
     let t1 : eqb (kind_of w) kind ≡ true = eq-eqb _ _ l.kind_is in
-    rw (t0, t1, run_stands p (low_of w) ws l.stands.0 small few l.stands.1) refl
+    rw (t0, t1, run_stands p (low_of w) ws l.located.0 small few l.located.1) refl
 
 -- ---- each kind of cell
 

@@ -138,7 +138,7 @@ placed_leads p what w s =
       nonzero = λ z. absurd (omega (arith, s.behind_head));
       small = omega (arith, s.kind);
       kind_is = s.kind;
-      stands = (
+      located = (
         drop (length bytes) (drop (low_of w) p),
         record {
           inside = omega arith;

@@ -9,7 +9,7 @@ use Rattle.adb_write.specs.Canonical.{empty_layout, write, canonical, MOST_BYTES
 use Rattle.adb_write.specs.Size.{size_of, entries_of, entries_of_all, value_count}
 use Rattle.base_core.specs.declared.cause.Cause.{Cause}
 use Rattle.adb_view.specs.Shaped.{Each, HasShape, HaveShapes}
-use Rattle.adb_write.specs.StandsFor.{Holds, HoldAll}
+use Rattle.adb_write.specs.Denotes.{Holds, HoldAll}
 use Rattle.adb_write.proofs.RoundTrip.{write-made, root_again}
 
 null_run : (kind : ℕ) (p : List ℕ) (w : ℕ) → w ≡ 0 → or_empty (run_of kind p w) ≡ []

@@ -3,7 +3,7 @@ use Rattle.std.proofs.Common.{◌≡◌, ◌<◌, ℕ, ◌+◌, ◌*◌, ◌^◌
 use Rattle.std.specs.Prelude.{find, option_map}
 use Rattle.std.proofs.lemmas.List.{length-append, length-replicate}
 use Rattle.adb_write.specs.Canonical.{gap, Item, WrittenItem, apart, in_place, is_equal_item, word_of_item, blob_cell, run_cell, Layout, put_new, put_unless, put_item, layout_counts, passes}
-use Rattle.adb_write.specs.Writing.{Writing, Grows, layout_of, writing_of, unless_over, call, writing_by}
+use Rattle.adb_write.specs.Writing.{Writing, Grows, layout_of, writing_of, unless_past_limit, call, writing_by}
 use Rattle.adb_write.specs.WriterState.{FindsWord}
 
 pub call_past : (i : Item) (body : List ℕ) (items : List WrittenItem) (bytes values : ℕ) → passes (bytes, values) ≡ true → call (apart i) (writing_by body items bytes values) ≡ (0, writing_by body items bytes values)
@@ -19,15 +19,15 @@ call_null w = go (passes (w.bytes, w.values))
     go false = refl
 
 -- within the limits a call takes the step of the layout
-call_steps : (i : Item) (w : Writing) → passes (w.bytes, w.values) ≡ false → call (apart i) w ≡ unless_over w (put_item i (layout_of w))
+call_steps : (i : Item) (w : Writing) → passes (w.bytes, w.values) ≡ false → call (apart i) w ≡ unless_past_limit w (put_item i (layout_of w))
 unfolding call
 call_steps i w fine = rw fine refl
 
 -- ---- an item that is equal to a written one
 
 call_step_found : (i : Item) (w : Writing) (there : WrittenItem) → passes (w.bytes, w.values) ≡ false → find (is_equal_item w.body i) w.items ≡ Some there
-    → call (apart i) w ≡ unless_over w (word_of_item there, record (layout_of w) { values = w.values + i.entries })
-call_step_found i w there fine found = call_steps i w fine ∙ ap (λ (o : Option WrittenItem). unless_over w (put_unless o i (layout_of w))) found
+    → call (apart i) w ≡ unless_past_limit w (word_of_item there, record (layout_of w) { values = w.values + i.entries })
+call_step_found i w there fine found = call_steps i w fine ∙ ap (λ (o : Option WrittenItem). unless_past_limit w (put_unless o i (layout_of w))) found
 
 pub repeat_stops : (i : Item) (body : List ℕ) (items : List WrittenItem) (bytes values : ℕ) (there : WrittenItem) → passes (bytes, values) ≡ false → bytes ≡ 8 + length body
     → find (is_equal_item body i) items ≡ Some there → passes (bytes, values + i.entries) ≡ true
@@ -54,8 +54,8 @@ abbrev pub written_at : Item → List ℕ → WrittenItem
 written_at i body = record { kind = i.kind; offset = length body + gap i.align (8 + length body) }
 
 call_step_new : (i : Item) (w : Writing) → passes (w.bytes, w.values) ≡ false → find (is_equal_item w.body i) w.items ≡ None
-    → call (apart i) w ≡ unless_over w (put_new i (layout_of w))
-call_step_new i w fine none = call_steps i w fine ∙ ap (λ (o : Option WrittenItem). unless_over w (put_unless o i (layout_of w))) none
+    → call (apart i) w ≡ unless_past_limit w (put_new i (layout_of w))
+call_step_new i w fine none = call_steps i w fine ∙ ap (λ (o : Option WrittenItem). unless_past_limit w (put_unless o i (layout_of w))) none
 
 placed_counts : (i : Item) (body : List ℕ) (items : List WrittenItem) (bytes values : ℕ) → bytes ≡ 8 + length body → layout_counts (put_new i (layout_of (writing_by body items bytes values))).1 ≡ (end_of i bytes, values + i.entries)
 placed_counts i body items bytes values e =

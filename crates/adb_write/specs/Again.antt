@@ -6,7 +6,7 @@ use Rattle.std.specs.Prelude.{◌≡◌, ℕ, ◌+◌, ◌*◌, ◌<◌, ◌≤�
 use Rattle.std.specs.List.{AllByRecursion}
 use Rattle.std.specs.Int.{w8, w16, w32, from_le_bytes}
 use Rattle.adb_write.specs.Canonical.{Item, Layout, WrittenItem, is_equal_item}
-use Rattle.adb_write.specs.Writing.{Writing, blob_call, is_over, layout_of}
+use Rattle.adb_write.specs.Writing.{Writing, blob_call, is_past_limit, layout_of}
 
 -- how many bytes at the front of an item of this kind give its length (the kinds 8 and 9 are blobs
 -- whose length has 1 or 2 bytes)
@@ -25,7 +25,7 @@ len_by kind front =
     4 * from_le_bytes w32 front
 
 -- an item whose kind and first bytes give its length
-pub record TellsItsLength (i : Item) : Type 0 where
+pub record HasLengthInFront (i : Item) : Type 0 where
   -- it has bytes
   pub some : 0 < length i.bytes
   -- the bytes that give its length are all there
@@ -36,7 +36,7 @@ pub record TellsItsLength (i : Item) : Type 0 where
 -- an item that gives its length is at the place of the written item
 pub record IsThere (body : List ℕ) (x : WrittenItem) : Type 0 where
   pub what : Item
-  pub framed : TellsItsLength what
+  pub framed : HasLengthInFront what
   pub equal : is_equal_item body what x ≡ true
 
 -- each written item of a layout is in its bytes
@@ -50,9 +50,9 @@ pub record IsWholeWriting (w : Writing) : Type 0 where
 
 -- unless it passed a limit, a writer has all its items
 abbrev pub HasWholeItems : Writing → Type 0
-HasWholeItems w = is_over w ≡ false → IsWholeWriting w
+HasWholeItems w = is_past_limit w ≡ false → IsWholeWriting w
 
 -- unless the writer passed a limit, a call for this blob returns this word and changes nothing
 abbrev pub IsWordOfBlob : Writing → List ℕ → ℕ → Type 0
 IsWordOfBlob w bytes word =
-    is_over w ≡ false → ◌≡◌ {A = ℕ × Writing} (blob_call bytes w) (word, w)
+    is_past_limit w ≡ false → ◌≡◌ {A = ℕ × Writing} (blob_call bytes w) (word, w)

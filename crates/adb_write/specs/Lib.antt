@@ -7,7 +7,7 @@ pub mod File
 pub mod Size
 pub mod Writing
 pub mod DepthFirst
-pub mod StandsFor
+pub mod Denotes
 pub mod Again
 pub mod Items
 pub mod Keys

@@ -21,10 +21,10 @@ words_before (page ∷ pages) zero index = take index page
 words_before (page ∷ pages) (suc k) index = page ++ words_before pages k index
 
 -- the locators of all pages that are at the index in the page at k, or after it
-abbrev pub words_behind : List (List ℕ) → ℕ → ℕ → List ℕ
-words_behind [] k index = []
-words_behind (page ∷ pages) zero index = drop index page ++ concat pages
-words_behind (page ∷ pages) (suc k) index = words_behind pages k index
+abbrev pub words_from_slot : List (List ℕ) → ℕ → ℕ → List ℕ
+words_from_slot [] k index = []
+words_from_slot (page ∷ pages) zero index = drop index page ++ concat pages
+words_from_slot (page ∷ pages) (suc k) index = words_from_slot pages k index
 
 -- the locators of the page at k, counted from 0; none if there is no such page
 abbrev pub page_at : List (List ℕ) → ℕ → List ℕ
@@ -46,7 +46,7 @@ pub record IsSameSlot (old : List (List ℕ)) (slot : Slot) (new : List (List �
     (there : Slot) : Type 0 where
   pub inside : IsSlotIn new there.page there.index
   pub before : words_before new there.page there.index ≡ words_before old slot.page slot.index
-  pub behind : words_behind new there.page there.index ≡ words_behind old slot.page slot.index
+  pub behind : words_from_slot new there.page there.index ≡ words_from_slot old slot.page slot.index
 
 -- how many locators remain in a page that is split: half of a full one of 512
 abbrev pub HALF : ℕ
@@ -83,7 +83,7 @@ pub record IsBetween (payload : List ℕ) (pages : List (List ℕ)) (key : List 
   -- all before it have lower keys
   pub lower : AllCompare Greater payload key (words_before pages slot.page slot.index)
   -- all after it have higher keys
-  pub higher : AllCompare Less payload key (words_behind pages slot.page slot.index)
+  pub higher : AllCompare Less payload key (words_from_slot pages slot.page slot.index)
 
 -- the page at k is the one into which a locator with this key belongs
 pub record IsPageFor (payload : List ℕ) (pages : List (List ℕ)) (key : List ℕ)
@@ -92,7 +92,7 @@ pub record IsPageFor (payload : List ℕ) (pages : List (List ℕ)) (key : List 
   -- all pages before it have lower keys
   pub lower : AllCompare Greater payload key (words_before pages k 0)
   -- all pages after it have higher keys
-  pub higher : AllCompare Less payload key (words_behind pages (suc k) 0)
+  pub higher : AllCompare Less payload key (words_from_slot pages (suc k) 0)
 
 -- the page at k begins at or before this key, and the next one after it, if there is a next one
 pub record IsPageAt (payload : List ℕ) (pages : List (List ℕ)) (key : List ℕ)

@@ -5,7 +5,7 @@ use Rattle.std.specs.Prelude.{◌≡◌, ℕ, ◌+◌, ◌-◌, ◌^◌, ◌<◌
 use Rattle.std.specs.List.{AllByRecursion, concat}
 use Rattle.adb_view.specs.Readers.{kind_of, low_of}
 use Rattle.adb_write.specs.Canonical.{Item, WrittenItem, is_equal_item, word_of_item, int_item, blob_item, run_item, PayloadCounts, passes}
-use Rattle.adb_write.specs.Writing.{Writing, is_over}
+use Rattle.adb_write.specs.Writing.{Writing, is_past_limit}
 use Rattle.adb_write.specs.Items.{list_kind}
 use Rattle.adb_write.specs.Keys.{HaveRisingKeys, blob_fingerprint, fingerprint_of_locator, list_fingerprint, word_of_locator}
 use Rattle.adb_write.specs.WordPages.{AreFilled}
@@ -113,4 +113,4 @@ abbrev pub IsFinished : {A : Type 0} → (A → List ℕ) → Writing → Result
     → Result (List ℕ) PayloadCounts → Type 0
 IsFinished view w (Ok payload) answer = answer ≡ Ok (view payload)
 IsFinished view w (Err (TooLarge bytes values)) answer = answer ≡ Err (bytes, values)
-IsFinished view w (Err Memory) answer = (is_over w ≡ false) × (w.body ≡ [])
+IsFinished view w (Err Memory) answer = (is_past_limit w ≡ false) × (w.body ≡ [])

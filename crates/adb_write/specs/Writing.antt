@@ -32,8 +32,8 @@ abbrev pub writing_counts : Writing → PayloadCounts
 writing_counts w = (w.bytes, w.values)
 
 -- whether a writer passed a limit
-abbrev pub is_over : Writing → Bool
-is_over w = passes (writing_counts w)
+abbrev pub is_past_limit : Writing → Bool
+is_past_limit w = passes (writing_counts w)
 
 -- the items and the counts of a writer, as a layout
 abbrev pub layout_of : Writing → Layout
@@ -45,8 +45,8 @@ writing_of out = writing_by out.body out.items (layout_counts out).0 (layout_cou
 
 -- the effect of a call that makes `r` of a writer's layout: past a limit its value is only counted, and
 -- the word is NULL
-abbrev pub unless_over : Writing → ℕ × Layout → ℕ × Writing
-unless_over w r =
+abbrev pub unless_past_limit : Writing → ℕ × Layout → ℕ × Writing
+unless_past_limit w r =
     if passes (layout_counts r.1)
     then (0, record (writing_of r.1) { body = w.body; items = w.items })
     else (r.0, writing_of r.1)
@@ -54,8 +54,9 @@ unless_over w r =
 -- the result and the effect of one call: the value's word, or NULL from the first value on that passes
 -- a limit. A value that its word contains adds nothing
 unfoldable pub call : Cell → Writing → ℕ × Writing
-call (in_place word) w = ((if is_over w then 0 else word), w)
-call (apart i) w = if is_over w then (0, w) else unless_over w (put_cell (apart i) (layout_of w))
+call (in_place word) w = ((if is_past_limit w then 0 else word), w)
+call (apart i) w = if is_past_limit w then (0, w) else unless_past_limit w (put_cell (apart i)
+    (layout_of w))
 
 -- a writer has more bytes at a later moment, so it needed memory
 abbrev pub Grows : Writing → Writing → Type 0
@@ -80,7 +81,7 @@ obj_call ws w = call (run_cell OBJECT (trimmed_words ws)) w
 -- how a writer ends: with the payload with this root, or with the counts of one that passed a limit
 abbrev pub finish_result : ℕ → Writing → Result (List ℕ) PayloadCounts
 finish_result root w =
-    if is_over w then Err (writing_counts w) else Ok (payload_with_root root (layout_of w))
+    if is_past_limit w then Err (writing_counts w) else Ok (payload_with_root root (layout_of w))
 
 -- the result and the effect of the calls that write a value depth first, each word being used once
 unfoldable mutual

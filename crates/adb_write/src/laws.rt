@@ -9,10 +9,10 @@ ghost use Rattle.adb_block.specs.Container.{Spells};
 ghost use Rattle.adb_write.specs.File.{adb_piece, file_of};
 ghost use Rattle.adb_write.specs.Canonical.{Layout, empty_layout, end_offset, write, canonical, passes, overflow_of, written_of, payload_with_root, MOST_BYTES};
 ghost use Rattle.adb_write.specs.Size.{size_of, entries_of, value_count, with_entries};
-ghost use Rattle.adb_write.specs.Writing.{Writing, empty_writing, is_over, layout_of, int_call, blob_call, arr_call, obj_call, finish_result};
+ghost use Rattle.adb_write.specs.Writing.{Writing, empty_writing, is_past_limit, layout_of, int_call, blob_call, arr_call, obj_call, finish_result};
 ghost use Rattle.adb_write.specs.DepthFirst.{WritesValue, WritesValues, push};
 ghost use Rattle.adb_view.specs.Shaped.{HasShape};
-ghost use Rattle.adb_write.specs.StandsFor.{StandsFor, AllStandFor};
+ghost use Rattle.adb_write.specs.Denotes.{Denotes, AllDenote};
 
 use adb_block::what_is_written_is_spelled;
 
@@ -57,43 +57,43 @@ pub fn a_value_written_depth_first_is_canonical()
 /// A word that represents a value keeps representing it, in whatever order calls are made.
 pub fn a_word_keeps_its_value()
     ensures int { (n : ℕ) (w : Writing) (v : Plain) (word : ℕ)
-        → StandsFor w v word → StandsFor (int_call n w).1 v word }
+        → Denotes w v word → Denotes (int_call n w).1 v word }
     ensures blob { (bytes : List ℕ) (w : Writing) (v : Plain) (word : ℕ)
-        → StandsFor w v word → StandsFor (blob_call bytes w).1 v word }
+        → Denotes w v word → Denotes (blob_call bytes w).1 v word }
     ensures arr { (words : List ℕ) (w : Writing) (v : Plain) (word : ℕ)
-        → StandsFor w v word → StandsFor (arr_call words w).1 v word }
+        → Denotes w v word → Denotes (arr_call words w).1 v word }
     ensures obj { (words : List ℕ) (w : Writing) (v : Plain) (word : ℕ)
-        → StandsFor w v word → StandsFor (obj_call words w).1 v word }
+        → Denotes w v word → Denotes (obj_call words w).1 v word }
 {}
 
 /// NULL represents Null. Each returned word represents the value of the call: an integer, a blob,
 /// or an array or object of the values that its words represent.
-pub fn an_answer_stands_for_its_value()
-    ensures null { (w : Writing) → StandsFor w null 0 }
+pub fn an_answer_denotes_its_value()
+    ensures null { (w : Writing) → Denotes w null 0 }
     ensures int { (n : ℕ) (w : Writing) → n < 2 ^ 64
-        → StandsFor (int_call n w).1 (int n) (int_call n w).0 }
+        → Denotes (int_call n w).1 (int n) (int_call n w).0 }
     ensures blob { (bytes : List ℕ) (w : Writing)
-        → StandsFor (blob_call bytes w).1 (blob_value bytes) (blob_call bytes w).0 }
+        → Denotes (blob_call bytes w).1 (blob_value bytes) (blob_call bytes w).0 }
     ensures arr { (vs : Plains) (words : List ℕ) (w : Writing)
-        → AllStandFor w vs words
-        → StandsFor (arr_call words w).1 (arr_value vs) (arr_call words w).0 }
+        → AllDenote w vs words
+        → Denotes (arr_call words w).1 (arr_value vs) (arr_call words w).0 }
     ensures obj { (vs : Plains) (words : List ℕ) (w : Writing)
-        → AllStandFor w vs words
-        → StandsFor (obj_call words w).1 (obj_value vs) (obj_call words w).0 }
+        → AllDenote w vs words
+        → Denotes (obj_call words w).1 (obj_value vs) (obj_call words w).0 }
 {}
 
 /// A word is read as the value that it represents, in the payload of a writer within its limits,
 /// whatever the root will be.
 pub fn a_word_is_read_as_its_value()
     ensures { (shape : Shape) (v : Plain) (word : ℕ) (w : Writing)
-        → StandsFor w v word → is_over w ≡ false → IsNormal v → HasShape shape v
+        → Denotes w v word → is_past_limit w ≡ false → IsNormal v → HasShape shape v
         → (root : ℕ) → plain_of (payload_with_root root (layout_of w)) shape word ≡ Some v }
 {}
 
 /// A finished payload is read back: its value is the one that the root's word represents.
 pub fn a_finished_payload_is_read_back()
     ensures { (shape : Shape) (v : Plain) (root : ℕ) (w : Writing) (payload : List ℕ)
-        → finish_result root w ≡ Ok payload → StandsFor w v root → IsNormal v → HasShape shape v
+        → finish_result root w ≡ Ok payload → Denotes w v root → IsNormal v → HasShape shape v
         → value_of payload shape ≡ Some v }
 {}
 

@@ -11,7 +11,7 @@
 //! - `File`: the file around a payload;
 //! - `Writing`: a writer, and the effect of each call;
 //! - `DepthFirst`: what a writer did between two moments;
-//! - `StandsFor`: what a word represents.
+//! - `Denotes`: what a word represents.
 //!
 //! The rules are in `docs/formats.md`, "Canonical layout".
 #![tactic(auto)]
@@ -28,7 +28,7 @@ pub use laws::{
     a_canonical_payload_is_read_back, a_canonical_payload_is_visited_once, a_file_is_spelled,
     a_finished_payload_is_read_back, a_value_is_stored_once, a_value_is_written_up_to_both_limits,
     a_value_overflows_exactly_past_a_limit, a_value_written_depth_first_is_canonical,
-    a_word_is_read_as_its_value, a_word_keeps_its_value, an_answer_stands_for_its_value,
+    a_word_is_read_as_its_value, a_word_keeps_its_value, an_answer_denotes_its_value,
     values_are_written_depth_first,
 };
 pub use writer::{WriteFault, Writer, file_of};

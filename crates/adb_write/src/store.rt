@@ -9,7 +9,7 @@ ghost use Rattle.std.specs.Prelude.{◌≡◌, ◌≤◌, ◌-◌, [], ◌∷◌
 ghost use Rattle.std.specs.List.{concat};
 ghost use Rattle.adb_write.specs.Items.{item_of};
 ghost use Rattle.adb_write.specs.Keys.{fingerprint_of, key_of, locator_of, HaveRisingKeys};
-ghost use Rattle.adb_write.specs.WordPages.{AreFilled, pages_of, words_before, words_behind, IsSlotIn, FindsIn};
+ghost use Rattle.adb_write.specs.WordPages.{AreFilled, pages_of, words_before, words_from_slot, IsSlotIn, FindsIn};
 ghost use Rattle.adb_write.specs.WriterState.{HasHead, AreStored};
 
 use crate::item::Parts;
@@ -75,7 +75,7 @@ impl Store {
         ensures words { OnOk result (concat (pages_of self.new.words)
             ≡ words_before (pages_of self.old.words) slot.page slot.index
             ++ locator_of (fingerprint_of parts.now) word
-            ∷ words_behind (pages_of self.old.words) slot.page slot.index) }
+            ∷ words_from_slot (pages_of self.old.words) slot.page slot.index) }
         ensures same_bytes { OnErr result (self.new.payload.items ≡ self.old.payload.items) }
         ensures same_words { OnErr result
             (concat (pages_of self.new.words) ≡ concat (pages_of self.old.words)) }

@@ -22,7 +22,7 @@ ghost use Rattle.adb_write.specs.Keys.{key_at, key_with, HaveRisingKeys};
 ghost use Rattle.std.specs.Bool.{OnTrue};
 ghost use Rattle.std.specs.Ordering.{nat_cmp, is_lt};
 ghost use Rattle.std.specs.Cmp.Lexicographic.{slice_cmp};
-ghost use Rattle.adb_write.specs.WordPages.{AreFilled, HALF, page_at, pages_of, words_before, words_behind, with_split, IsSlotIn, IsSameSlot, AllCompare, FindsIn, SearchesPage, IsPageAt, IsPageFor, begins_above};
+ghost use Rattle.adb_write.specs.WordPages.{AreFilled, HALF, page_at, pages_of, words_before, words_from_slot, with_split, IsSlotIn, IsSameSlot, AllCompare, FindsIn, SearchesPage, IsPageAt, IsPageFor, begins_above};
 ghost use Rattle.std.specs.declared.cmp.Ordering.TheVariants.{Less, Greater};
 
 use crate::first_locators::FirstLocators;
@@ -114,7 +114,7 @@ impl WordPages {
             return likely;
         }
         self.pages
-            .partition_point(|page| !begins_behind(page, adb, parts, fingerprint))
+            .partition_point(|page| !begins_after(page, adb, parts, fingerprint))
             .saturating_sub(1)
     }
 
@@ -127,11 +127,11 @@ impl WordPages {
         let Some(here) = self.pages.get(page) else {
             return false;
         };
-        if begins_behind(here, adb, parts, fingerprint) {
+        if begins_after(here, adb, parts, fingerprint) {
             return false;
         }
         match self.pages.get(page + 1) {
-            Some(next) => begins_behind(next, adb, parts, fingerprint),
+            Some(next) => begins_after(next, adb, parts, fingerprint),
             None => true,
         }
     }
@@ -143,7 +143,7 @@ impl WordPages {
         ensures filled { AreFilled (pages_of self.new) }
         ensures ok { OnOk result (concat (pages_of self.new)
             ≡ words_before (pages_of self.old) slot.page slot.index
-            ++ locator ∷ words_behind (pages_of self.old) slot.page slot.index) }
+            ++ locator ∷ words_from_slot (pages_of self.old) slot.page slot.index) }
         ensures err { OnErr result (concat (pages_of self.new) ≡ concat (pages_of self.old)) }
     {
         if self.pages.is_empty() {
@@ -235,7 +235,7 @@ fn is_before(adb: &Adb<'_>, parts: &Parts<'_>, fingerprint: u64, locator: u64) -
 }
 
 /// Whether a page begins after an item, in the order of keys.
-fn begins_behind(page: &[u64], adb: &Adb<'_>, parts: &Parts<'_>, fingerprint: u64) -> bool
+fn begins_after(page: &[u64], adb: &Adb<'_>, parts: &Parts<'_>, fingerprint: u64) -> bool
     ensures { result ≡ begins_above (payload_of adb.now) (key_with fingerprint parts.now) page.now }
 {
     match page.first() {

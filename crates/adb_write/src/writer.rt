@@ -6,7 +6,7 @@ ghost use Rattle.std.specs.Prelude.{◌≡◌, ◌<◌, ◌≤◌, ◌+◌, ◌^
 ghost use Rattle.adb_write.specs.Canonical.{MOST_BYTES, passes, gap, in_place, apart, run_cell, trimmed_words};
 ghost use Rattle.adb_view.specs.Plain.{Plains, int, blob_value, arr_value, obj_value};
 ghost use Rattle.adb_write.specs.DepthFirst.{WritesValue, WritesValues};
-ghost use Rattle.adb_write.specs.Writing.{Writing, Grows, empty_writing, is_over, call, int_call, blob_call, arr_call, obj_call, finish_result};
+ghost use Rattle.adb_write.specs.Writing.{Writing, Grows, empty_writing, is_past_limit, call, int_call, blob_call, arr_call, obj_call, finish_result};
 ghost use Rattle.adb_write.specs.Items.{list_kind, item_of, HasNumbersInRange};
 ghost use Rattle.adb_write.specs.WriterState.{IsFinished, FindsWord};
 ghost use Rattle.adb_write.specs.File.{file_of};
@@ -128,7 +128,7 @@ impl Writer {
 
     /// Whether a limit was passed, so that nothing more is written.
     pub fn passes_limit(&self) -> bool
-        ensures { result ≡ is_over self.now }
+        ensures { result ≡ is_past_limit self.now }
     {
         self.counts.passes()
     }
@@ -272,7 +272,7 @@ impl Writer {
     /// Counts the entries of an item that equals a written one, and returns that one's word, or
     /// NULL if they pass the limit.
     fn repeat(&mut self, parts: &Parts<'_>, word: Val) -> Val
-        requires fine { is_over self.old ≡ false }
+        requires fine { is_past_limit self.old ≡ false }
         requires found { FindsWord (item_of parts.now) self.old word }
         ensures { (result, self.new) ≡ call (apart (item_of parts.now)) self.old }
     {

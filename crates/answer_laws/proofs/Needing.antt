@@ -167,22 +167,22 @@ in_before before name at =
     let t = text_of package_name before name (risen name (map package_name before) at) in
     passes_any (is_package_named name) before t.element t.listed ((bytes_eq-Decides (package_name t.element) name).1 (sym t.is))
 
-pub kept_lines : (before : List Plain) (selected : List Candidate) (to_go : List (List ℕ)) → AreNamedOnce selected
-    → HasKeptLines before selected to_go (stay_lines before selected to_go)
-kept_lines before selected to_go once =
-    let candidates : List (List ℕ) = filter (was_installed before) (names_in_order to_go) in
+pub kept_lines : (before : List Plain) (selected : List Candidate) (to_remove : List (List ℕ)) → AreNamedOnce selected
+    → HasKeptLines before selected to_remove (stay_lines before selected to_remove)
+kept_lines before selected to_remove once =
+    let candidates : List (List ℕ) = filter (was_installed before) (names_in_order to_remove) in
     let names : List (List ℕ) = filter (has_selected selected) candidates in
     record {
       names = names;
-      order = rising.pairs_from_rises names (filter_rises (has_selected selected) candidates (filter_rises (was_installed before) (names_in_order to_go) (order_rises to_go)));
+      order = rising.pairs_from_rises names (filter_rises (has_selected selected) candidates (filter_rises (was_installed before) (names_in_order to_remove) (order_rises to_remove)));
       each = λ name. (
         λ at.
             let s = from_filter (has_selected selected) candidates name (risen name names at) in
-            let b = from_filter (was_installed before) (names_in_order to_go) name s.0 in
-            (listed name to_go (from_order name to_go b.0), was_in before name b.1, selected_in selected name s.1),
+            let b = from_filter (was_installed before) (names_in_order to_remove) name s.0 in
+            (listed name to_remove (from_order name to_remove b.0), was_in before name b.1, selected_in selected name s.1),
         λ all.
             listed name names (in_filter (has_selected selected) candidates name
-            (in_filter (was_installed before) (names_in_order to_go) name (in_order name to_go (risen name to_go all.0)) (in_before before name all.1))
+            (in_filter (was_installed before) (names_in_order to_remove) name (in_order name to_remove (risen name to_remove all.0)) (in_before before name all.1))
             (in_selected selected name all.2)),
       );
       text_is = lines_of selected once candidates;

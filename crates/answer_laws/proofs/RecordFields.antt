@@ -14,7 +14,7 @@ use Rattle.dep_core.specs.Spelling.{SpellsDependency}
 use Rattle.make_info.specs.Fields.{FieldValue}
 use Rattle.make_info.specs.Information.{plain_value}
 use Rattle.make_info.specs.Values.{plains_of_list}
-use Rattle.make_laws.specs.SaidOfFields.{TellsAll, TellsAsList, TellsFirst}
+use Rattle.make_laws.specs.SaidOfFields.{HasAllValues, HasValuesAsList, HasFirstValue}
 use Rattle.v2_lines.specs.InfoFields.{adds_to_list, field_of_letter, letter_of}
 use Rattle.v2_lines.specs.Lines.{RecordLine, info_line, folder_line, folder_access_line, file_line, file_access_line, file_hash_line, other_line, record_line_of}
 use Rattle.v2_lines.specs.declared.field.InfoField.{InfoField}
@@ -22,7 +22,7 @@ use Rattle.v2_lines.specs.declared.field.InfoField.TheVariants as Letters
 use Rattle.v2_core.specs.Database.{joined_value, record_info_value, record_value, single_value, value_of_first, value_of_line, values_for}
 use Rattle.v2_core.specs.Reading.{with_text}
 use Rattle.v2_core.specs.Records.{InfoLine, ListedFolder, Record, has_line_of, info_by, is_line_of, record_of_parts, with_info, with_info_line, with_path_line, with_record_line}
-use Rattle.answer_laws.specs.TextLetters.{SayOfLines, TellsLines, is_list_letter, told_of_letter, record_with_lines}
+use Rattle.answer_laws.specs.TextLetters.{SayOfLines, HasValuesOfLines, is_list_letter, letter_value_in_package, record_with_lines}
 use Rattle.std.proofs.lemmas.Bool.{eq-eqb}
 use Rattle.adb_view.specs.Plain.{Plains}
 use Rattle.adb_view.specs.declared.tables.Which.TheVariants.{Package, PkgInfo}
@@ -145,9 +145,9 @@ same_letter g f e =
     cc
 
 Tells : InfoField → List InfoLine → Type 0
-Tells f info = TellsFirst (values_of f info) (single_value f info)
+Tells f info = HasFirstValue (values_of f info) (single_value f info)
 
-first_tells : (values : List FieldValue) → TellsFirst values (value_of_first values)
+first_tells : (values : List FieldValue) → HasFirstValue values (value_of_first values)
 first_tells [] = refl
 first_tells (v ∷ vs) = refl
 
@@ -167,9 +167,9 @@ with_own f v info more false once is e =
     find-append (is_line_of f) info (info_by f v ∷ [])
     ∙ ap (λ (o : Option InfoLine). option_or o (find (is_line_of f) (info_by f v ∷ []))) before.1
     ∙ ap (λ (b : Bool). cond b (Some (info_by f v)) None) (own_line f) in
-    subst (λ (i : List InfoLine). TellsFirst (values_of f i) (single_value f i)) same
-    (subst (λ (x : List FieldValue). TellsFirst x (single_value f (info ++ info_by f v ∷ []))) (sym values)
-    (subst (λ (o : Option InfoLine). TellsFirst v (value_of_line o)) (sym found) (first_tells v)))
+    subst (λ (i : List InfoLine). HasFirstValue (values_of f i) (single_value f i)) same
+    (subst (λ (x : List FieldValue). HasFirstValue x (single_value f (info ++ info_by f v ∷ []))) (sym values)
+    (subst (λ (o : Option InfoLine). HasFirstValue v (value_of_line o)) (sym found) (first_tells v)))
   where
     own_line : (f : InfoField) → (letter_of f == letter_of f) ≡ true
     own_line f = eq-eqb (letter_of f) (letter_of f) refl
@@ -187,9 +187,9 @@ with_other f g v info more other is tells =
     find-append (is_line_of f) info (info_by g v ∷ [])
     ∙ ap (λ (b : Bool). option_or (find (is_line_of f) info) (cond b (Some (info_by g v)) None)) other
     ∙ or_nothing (find (is_line_of f) info) in
-    subst (λ (i : List InfoLine). TellsFirst (values_of f i) (single_value f i)) (sym is)
-    (subst (λ (x : List FieldValue). TellsFirst x (single_value f (info ++ info_by g v ∷ []))) (sym values)
-    (subst (λ (o : Option InfoLine). TellsFirst (values_of f info) (value_of_line o)) (sym found) tells))
+    subst (λ (i : List InfoLine). HasFirstValue (values_of f i) (single_value f i)) (sym is)
+    (subst (λ (x : List FieldValue). HasFirstValue x (single_value f (info ++ info_by g v ∷ []))) (sym values)
+    (subst (λ (o : Option InfoLine). HasFirstValue (values_of f info) (value_of_line o)) (sym found) tells))
 
 with_line : (f : InfoField) (l : RecordLine) (info more : List InfoLine) → adds_to_list f ≡ false → with_info_line l info ≡ Some more → Tells f info → Tells f more
 unfolding Tells
@@ -245,21 +245,21 @@ in_info info i = nth_obj (info_parts info) i
 pub of_info : (r : Record) (name : List ℕ) (v : Plain) → field_named PkgInfo name (record_info_value r.info) ≡ v → field_named PkgInfo name (field_named Package (codes "info") (record_value r)) ≡ v
 of_info r name v e = ap (field_named PkgInfo name) (info_is r) ∙ e
 
-tells_single : (f : InfoField) (info : List InfoLine) (v : Plain) → v ≡ single_value f info → Tells f info → TellsFirst (values_of f info) v
+tells_single : (f : InfoField) (info : List InfoLine) (v : Plain) → v ≡ single_value f info → Tells f info → HasFirstValue (values_of f info) v
 unfolding Tells
-tells_single f info v e tells = subst (TellsFirst (values_of f info)) (sym e) tells
+tells_single f info v e tells = subst (HasFirstValue (values_of f info)) (sym e) tells
 
 pub as_list : (vs : List Plain) → list_of (plains_of_list vs) ≡ vs
 as_list [] = refl
 as_list (v ∷ vs) = ap (λ (l : List Plain). v ∷ l) (as_list vs)
 
-tells_joined : (f : InfoField) (info : List InfoLine) (v : Plain) → v ≡ joined_value f info → TellsAll (values_of f info) v
+tells_joined : (f : InfoField) (info : List InfoLine) (v : Plain) → v ≡ joined_value f info → HasAllValues (values_of f info) v
 tells_joined f info v e =
     ap (λ (u : Plain). list_of (entries_in u)) e
     ∙ ap list_of (entries_arr (plains_of_list (map plain_value (values_of f info))))
     ∙ as_list (map plain_value (values_of f info))
 
-package_tells : (f : InfoField) (r : Record) → (adds_to_list f ≡ false → Tells f r.info) → TellsAsList (is_list_letter f) (values_of f r.info) (told_of_letter f (record_value r))
+package_tells : (f : InfoField) (r : Record) → (adds_to_list f ≡ false → Tells f r.info) → HasValuesAsList (is_list_letter f) (values_of f r.info) (letter_value_in_package f (record_value r))
 package_tells Letters.Hashes r tells = tells_single Letters.Hashes r.info _ (of_info r (codes "hashes") _ (in_info r.info 2)) (tells refl)
 package_tells Letters.Name r tells = tells_single Letters.Name r.info _ (of_info r (codes "name") _ (in_info r.info 0)) (tells refl)
 package_tells Letters.Version r tells = tells_single Letters.Version r.info _ (of_info r (codes "version") _ (in_info r.info 1)) (tells refl)
@@ -284,11 +284,11 @@ unfolding Tells
 nothing_told f = refl
 
 module _ (spelled : (t : List ℕ) (d : Dependency) → dependency_of t ≡ Some d → SpellsDependency t d) (read : (t : List ℕ) (d : Dependency) → SpellsDependency t d → dependency_of t ≡ Some d) where
-  pub letters_tell : (lines : List (List ℕ)) (r : Record) (f : InfoField) → record_with_lines empty_record lines ≡ Some r → TellsLines f lines (record_value r)
+  pub letters_tell : (lines : List (List ℕ)) (r : Record) (f : InfoField) → record_with_lines empty_record lines ≡ Some r → HasValuesOfLines f lines (record_value r)
   letters_tell lines r f e = record {
     said = flat_map (given f) lines;
     say = say_lines spelled read f lines empty_record r e;
-    tells = subst (λ (v : List FieldValue). TellsAsList (is_list_letter f) v (told_of_letter f (record_value r)))
+    tells = subst (λ (v : List FieldValue). HasValuesAsList (is_list_letter f) v (letter_value_in_package f (record_value r)))
         (values_after f lines empty_record r e)
         (package_tells f r (λ once. tells_after f lines empty_record r once e (nothing_told f)));
   }

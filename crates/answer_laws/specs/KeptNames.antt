@@ -54,11 +54,11 @@ kept_text selected name =
 
 -- a text with one line for each name that was to be removed, was installed and is selected, and no
 -- other, in byte order of the names
-pub record HasKeptLines (before : List Plain) (selected : List Candidate) (to_go : List (List ℕ))
+pub record HasKeptLines (before : List Plain) (selected : List Candidate) (to_remove : List (List ℕ))
     (text : List ℕ) : Type 0 where
   pub names : List (List ℕ)
   pub order : IsRising names
   pub each : (name : List ℕ) → IsIn name names
-      ↔ (IsIn name to_go × IsIn name (map package_name before)
+      ↔ (IsIn name to_remove × IsIn name (map package_name before)
       × IsIn name (map (λ (c : Candidate). c.name) selected))
   pub text_is : text ≡ report_lines (map (kept_text selected) names)

@@ -48,38 +48,39 @@ pub record HasSum (sizes : List ℕ) (text : List ℕ) : Type 0 where
 -- a configuration file that the user changed: a new file is laid beside it, or it is kept though its
 -- package is removed
 pub data ChangedFile : Type 0 where
-  laid_beside : List ℕ → ChangedFile
+  aside_listing_at : List ℕ → ChangedFile
   kept : List ℕ → ChangedFile
 
 -- the path of a changed configuration file
 abbrev pub changed_path : ChangedFile → List ℕ
-changed_path (laid_beside path) = path
+changed_path (aside_listing_at path) = path
 changed_path (kept path) = path
 
 -- what is reported of a changed configuration file
 abbrev pub changed_file_text : ChangedFile → List ℕ
-changed_file_text (laid_beside path) =
+changed_file_text (aside_listing_at path) =
     path ++ codes ".apk-new installed; " ++ path ++ codes " was changed"
 changed_file_text (kept path) = path ++ codes " kept; it was changed"
 
 -- a text has a line for each of these configuration files, in byte order of the paths
 pub record HasConfigurationLines (beside kept_paths : List (List ℕ)) (text : List ℕ) : Type 0 where
   pub changed : List ChangedFile
-  pub same : IsPermutation (map laid_beside beside ++ map kept kept_paths) changed
+  pub same : IsPermutation (map aside_listing_at beside ++ map kept kept_paths) changed
   pub order : IsSorted bytes_cmp (map changed_path changed)
   pub text_is : text ≡ report_lines (map changed_file_text changed)
 
 -- ---- the sections
 
 -- a text has the sections of a simulated report, in their order
-pub record HasSimulatedSections (r : Replacement) (to_go : List (List ℕ)) (text : List ℕ) : Type 0 where
-  pub changes : List ℕ
-  pub numbered : HasNumberedLines (changes_of r) changes
-  pub stays : List ℕ
-  pub kept_lines : HasKeptLines r.before r.selected to_go stays
-  pub last : List ℕ
-  pub sum : HasSum (map (λ (c : Candidate). size_when_installed c.info) r.selected) last
-  pub text_is : text ≡ changes ++ stays ++ last
+pub record HasSimulatedSections (r : Replacement) (to_remove : List (List ℕ)) (text : List ℕ) : Type 0
+  where
+    pub changes : List ℕ
+    pub numbered : HasNumberedLines (changes_of r) changes
+    pub stays : List ℕ
+    pub kept_lines : HasKeptLines r.before r.selected to_remove stays
+    pub last : List ℕ
+    pub sum : HasSum (map (λ (c : Candidate). size_when_installed c.info) r.selected) last
+    pub text_is : text ≡ changes ++ stays ++ last
 
 -- a text has the sections of the report of a change that is made, in their order
 pub record HasSections (r : Replacement) (wishes : ChangeWishes) (change : FileChange) (files : Files)
@@ -87,7 +88,7 @@ pub record HasSections (r : Replacement) (wishes : ChangeWishes) (change : FileC
   pub changes : List ℕ
   pub numbered : HasNumberedLines (changes_of r) changes
   pub stays : List ℕ
-  pub kept_lines : HasKeptLines r.before r.selected wishes.to_go stays
+  pub kept_lines : HasKeptLines r.before r.selected wishes.to_remove stays
   pub configuration : List ℕ
   pub configured : HasConfigurationLines (aside_of change files) (kept_of change files) configuration
   pub triggers : List ℕ

@@ -12,7 +12,7 @@ use Rattle.make_info.specs.Fields.{FieldValue, text}
 use Rattle.make_info.specs.declared.field.Field.TheVariants as Options
 use Rattle.make_laws.specs.NamedFields.{field_named}
 use Rattle.make_laws.specs.OptionGrammar.{SaysNumber, SaysOfField}
-use Rattle.make_laws.specs.SaidOfFields.{TellsAsList}
+use Rattle.make_laws.specs.SaidOfFields.{HasValuesAsList}
 use Rattle.v2_core.specs.Reading.{with_text}
 use Rattle.v2_core.specs.Records.{Record}
 use Rattle.v2_lines.specs.declared.field.InfoField.{InfoField}
@@ -76,10 +76,10 @@ is_list_letter f = false
 
 -- the value of a letter's field in a package: in its information, except the priority in replacing,
 -- which is a field of the package
-abbrev pub told_of_letter : InfoField → Plain → Plain
-told_of_letter Letters.ReplacesPriority pkg =
+abbrev pub letter_value_in_package : InfoField → Plain → Plain
+letter_value_in_package Letters.ReplacesPriority pkg =
     field_named Package (letter_field_name Letters.ReplacesPriority) pkg
-told_of_letter f pkg =
+letter_value_in_package f pkg =
     field_named PkgInfo (letter_field_name f) (field_named Package (codes "info") pkg)
 
 -- ---- what a value says
@@ -145,10 +145,10 @@ record_with_lines r (line ∷ lines) =
 
 -- the field of a package has what the lines of its letter give: all values for a list, otherwise the
 -- first
-pub record TellsLines (f : InfoField) (lines : List (List ℕ)) (pkg : Plain) : Type 0 where
+pub record HasValuesOfLines (f : InfoField) (lines : List (List ℕ)) (pkg : Plain) : Type 0 where
   pub said : List FieldValue
   pub say : SayOfLines f lines said
-  pub tells : TellsAsList (is_list_letter f) said (told_of_letter f pkg)
+  pub tells : HasValuesAsList (is_list_letter f) said (letter_value_in_package f pkg)
 
 -- a line has a letter that is not listed, before a colon
 pub record IsOfOtherLetter (line : List ℕ) : Type 0 where

@@ -21,7 +21,7 @@ pub fn a_kept_package_is_required_by_those_that_need_it()
 /// A name has a line "stays" exactly if it was to be removed, was installed and is still selected;
 /// it has one, and the lines are in byte order of the names.
 pub fn a_name_stays_if_it_is_still_selected()
-    ensures { (before : List Plain) (selected : List Candidate) (to_go : List (List ℕ))
+    ensures { (before : List Plain) (selected : List Candidate) (to_remove : List (List ℕ))
         → AreNamedOnce selected
-        → HasKeptLines before selected to_go (stay_lines before selected to_go) }
+        → HasKeptLines before selected to_remove (stay_lines before selected to_remove) }
 {}

@@ -4,7 +4,7 @@
 ghost use Rattle.std.specs.Prelude.{◌≡◌, ◌↔◌, ℕ, List, Some, codes, map};
 ghost use Rattle.adb_view.specs.Plain.{null};
 ghost use Rattle.adb_view.specs.declared.tables.Which.TheVariants.{File, Idb, Package, PkgInfo};
-ghost use Rattle.answer_laws.specs.TextLetters.{IsOfOtherLetter, TellsLines, record_with_lines};
+ghost use Rattle.answer_laws.specs.TextLetters.{IsOfOtherLetter, HasValuesOfLines, record_with_lines};
 ghost use Rattle.make_laws.specs.NamedFields.{entries_named, field_named};
 ghost use Rattle.v2_core.specs.Database.{listed_file_value, record_value, value_of_records};
 ghost use Rattle.v2_core.specs.Records.{ListedFile, Record, empty_record};
@@ -17,7 +17,8 @@ use dep_core::{read_texts_are_spelled, spelled_texts_are_read};
 /// values, in their order, another field the one value, if there is a line.
 pub fn each_letter_gives_its_field()
     ensures { (lines : List (List ℕ)) (r : Record) (f : InfoField)
-        → record_with_lines empty_record lines ≡ Some r → TellsLines f lines (record_value r) }
+        → record_with_lines empty_record lines ≡ Some r
+        → HasValuesOfLines f lines (record_value r) }
 {
     read_texts_are_spelled();
     spelled_texts_are_read();

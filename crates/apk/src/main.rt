@@ -9,9 +9,10 @@ mod process;
 
 use apk_front::{Answer, Refusal, RootAccess, access_for, status};
 use headline::apk_as_promised;
+use hint_core::explain;
 use host_files::{Lock, write_path};
 use host_tree::HostTree;
-use process::{HostSink, WordsFault, words_of};
+use process::{HostSink, WordsFault, take_stack, words_of};
 use std::io;
 use std::io::Write;
 use std::process::ExitCode;
@@ -40,6 +41,9 @@ fn main(rt: HostRuntime) -> ExitCode {
             return ExitCode::from(TOO_MANY_WORDS);
         }
     };
+    if take_stack(rt.alloc(), words.len()).is_err() {
+        return out_of_memory(&rt);
+    }
     let Ok(access) = access_for(rt.alloc(), &words) else {
         return out_of_memory(&rt);
     };
@@ -54,13 +58,16 @@ fn main(rt: HostRuntime) -> ExitCode {
         Answer::Refused(Refusal::Usage { place }) => {
             let _ = explain_usage(&words, *place, &mut err);
         }
+        Answer::Refused(refusal) => {
+            let _ = explain(rt.alloc(), &words, refusal, &mut tree, &mut err);
+        }
         _ => {}
     }
     tree.leave();
     ExitCode::from(status(&answer))
 }
 
-/// Exits if there is no memory even for the arguments.
+/// Exits if there is no memory even for the arguments, or for the stack.
 fn out_of_memory(rt: &HostRuntime) -> ExitCode {
     let _ = rt.stderr().write_all(b"ERROR: out of memory\n");
     ExitCode::from(NO_MEMORY)
@@ -82,7 +89,7 @@ fn tell_why(rt: &HostRuntime, tree: &HostTree<'_, HostRuntime>) -> io::Result<()
     if let Some(failure) = tree.failure() {
         failure.print(rt.alloc(), &mut to)?;
     }
-    if let Some(name) = tree.unsynced_target() {
+    if let Some(name) = tree.maybe_renamed_name() {
         to.write_all(b"apk: ")?;
         write_path(name, &mut to)?;
         to.write_all(b" may have its new contents already\n")?;

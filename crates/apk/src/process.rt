@@ -18,6 +18,10 @@ const MOST_WORDS: usize = 4294967294;
 /// with 4,096 bytes, so an argument may have about two gigabytes.
 const MOST_DOUBLINGS: u32 = 20;
 
+/// How many bytes of stack a run takes before it does anything else. The deepest run of the tests
+/// needs some 280,000.
+const STACK: usize = 524_288;
+
 /// Why the words are not read.
 #[derive(Drop)]
 pub enum WordsFault {
@@ -49,6 +53,32 @@ pub fn words_of(rt: &impl Env, alloc: Global) -> Result<Words, WordsFault> {
         words.push(&buffer[..len])?;
     }
     Err(WordsFault::TooMany)
+}
+
+/// Takes the stack that a run needs, so that a limit on memory is met here, and not by a signal in
+/// the middle of a change. The host kills a program whose stack cannot grow. So as much memory is
+/// asked for first, and given back: where the host has it, the stack can grow by as much.
+///
+/// `seed` is a number that no compiler knows, so that the stack is touched in fact.
+pub fn take_stack(alloc: Global, seed: usize) -> Result<(), AllocError> {
+    let mut room = Vec::with_capacity(alloc, STACK)?;
+    room.push(1)?;
+    room.push(0)?;
+    let mark = room[seed % 2];
+    drop(room);
+    // The bytes are 0 and 1; the test keeps the call.
+    if touch_stack(seed, mark) > 1 {
+        return Err(AllocError);
+    }
+    Ok(())
+}
+
+/// Fills a part of the stack with zeros and one mark, and returns one of these bytes.
+#[inline(never)]
+fn touch_stack(seed: usize, mark: u8) -> u8 {
+    let mut stack = [0u8; STACK];
+    stack[seed % STACK] = mark;
+    stack[seed / 2 % STACK]
 }
 
 // Reads an argument into the buffer, which grows until it fits, and returns its length, or None if

@@ -4,24 +4,25 @@ use Rattle.std.specs.Prelude.{is_some, All, IsErrOf, OnOk}
 use Rattle.std.proofs.lemmas.Bool.{false≢true}
 use Rattle.std.proofs.lemmas.List.{append_cancel_right}
 use Rattle.std.proofs.lemmas.List.Elements.{All-append, All-cons, All-head, All-nil, All-tail, All-weaker}
-use Rattle.base_core.specs.Calls.{HasNow}
-use Rattle.base_core.specs.Crash.{IsOrderly, Since}
+use Rattle.base_core.specs.Calls.{HoldsNow}
+use Rattle.base_core.specs.Crash.{Since}
+use Rattle.base_core.specs.Undone.{IsDurable}
 use Rattle.base_core.specs.Files.{Files}
 use Rattle.base_core.specs.Restart.{EachMoment}
 use Rattle.base_core.specs.Tree.{TreeState, files_of}
 use Rattle.base_core.specs.declared.cause.Cause.{Cause}
 use Rattle.base_core.specs.declared.tree.TreeFault.{TreeFault}
 use Rattle.base_core.specs.declared.tree.TreeFault.TheVariants.{Memory as NoMemory}
-use Rattle.journal_core.specs.Kept.{HasOldOrNewBytes, IsLessWaiting, ShownNamesLast}
-use Rattle.journal_core.specs.Quiet.{IsQuiet, IsStill}
-use Rattle.journal_core.specs.Recovery.{IsOldOrNew, IsSettled, RestsOn, intent_name, intent_of, state_of}
-use Rattle.journal_core.specs.Replacing.{IsReplacing}
-use Rattle.journal_core.specs.Staged.{IsEmptyStage, IsOnTheWay, unstaged_files}
+use Rattle.journal_core.specs.Kept.{HasOldOrNewBytes, JournalOnlyShrinks, ShownNamesAreDurable}
+use Rattle.journal_core.specs.Quiet.{EachCrashLeavesOld, StateIsUnchanged}
+use Rattle.journal_core.specs.Recovery.{EachCrashLeavesOldOrNew, EachCrashLeaves, StateDependsOn, intent_name, intent_of, state_of}
+use Rattle.journal_core.specs.Replacing.{IsMomentOfReplacing}
+use Rattle.journal_core.specs.Staged.{IsEmptyStage, IsOldUntilCommit, unstaged_files}
 use Rattle.outcome.specs.Effect.{Effect, does_recover}
 use Rattle.outcome.specs.Outcome.{Outcome}
 use Rattle.outcome.specs.Work.{recovery_fault, work_files}
-use Rattle.apk_front.specs.Moments.{AreOnTheWay, AreReadOnTheWay, AreSafe, CanRecover, HasNothingToRecover, IsAtRest, IsBehindRecovery, IsReadAtWork, IsRecovering, Settles, SettlesUnrecovered, UnreadNamesLast, ignored_but}
-use Rattle.apk_front.specs.Runs.{AreReadAtWork, IsRun, IsWholeRun, IsWithoutCommit}
+use Rattle.apk_front.specs.Moments.{MomentsLeadTo, AreReadDuringRun, AreOldOrLeadToOutcome, CanRecover, HasNothingToRecover, IsDurableState, IsRecoveringOrNext, IsReadDuringWork, IsRecovering, MakesDurable, MakesDurableWithoutRecovery, NamesAreDurableWithoutIntentExcept, ignored_but}
+use Rattle.apk_front.specs.Runs.{AreReadDuringWork, IsRun, IsWholeRun, IsWithoutCommit}
 use Rattle.apk_front.proofs.Runs.{History, Judged, Leaves, err_ok, on_ok, settled_before, since_weaker}
 
 -- ---- laws
@@ -30,17 +31,17 @@ abbrev pub Ignored : Type 0
 Ignored = List ℕ → Bool
 
 pub record AreLaws : Type 0 where
-  pub none : (ignored : Ignored) (v : TreeState) → IsOrderly (RestsOn ignored) v → IsStill ignored v v
-  pub calls : (ignored : Ignored) (v w : TreeState) (old between new : History) → Since (IsStill ignored v) old between → IsStill ignored v w → Since (IsStill ignored w) between new → Since (IsStill ignored v) old new
-  pub lasts : (ignored : Ignored) (files : Files) (a b : TreeState) → IsSettled ignored files a → IsQuiet ignored a b → IsSettled ignored files b
-  pub quiet : (ignored : Ignored) (a b : TreeState) (new : Files) → IsQuiet ignored a b → IsOldOrNew ignored a new b
-  pub behind : (ignored : Ignored) (a b c : TreeState) (new : Files) → IsQuiet ignored a b → IsOldOrNew ignored b new c → IsOldOrNew ignored a new c
-  pub still : (ignored : Ignored) (files : Files) (start v : TreeState) (earlier : History) → IsStill ignored start v → IsOnTheWay ignored files start earlier v
-  pub before : (ignored : Ignored) (files : Files) (start v w : TreeState) (earlier first : History) → IsStill ignored start v → IsOnTheWay ignored files v earlier w → IsOnTheWay ignored files start (earlier ++ first) w
+  pub none : (ignored : Ignored) (v : TreeState) → IsDurable (StateDependsOn ignored) v → StateIsUnchanged ignored v v
+  pub calls : (ignored : Ignored) (v w : TreeState) (old between new : History) → Since (StateIsUnchanged ignored v) old between → StateIsUnchanged ignored v w → Since (StateIsUnchanged ignored w) between new → Since (StateIsUnchanged ignored v) old new
+  pub lasts : (ignored : Ignored) (files : Files) (a b : TreeState) → EachCrashLeaves ignored files a → EachCrashLeavesOld ignored a b → EachCrashLeaves ignored files b
+  pub quiet : (ignored : Ignored) (a b : TreeState) (new : Files) → EachCrashLeavesOld ignored a b → EachCrashLeavesOldOrNew ignored a new b
+  pub behind : (ignored : Ignored) (a b c : TreeState) (new : Files) → EachCrashLeavesOld ignored a b → EachCrashLeavesOldOrNew ignored b new c → EachCrashLeavesOldOrNew ignored a new c
+  pub is_unchanged : (ignored : Ignored) (files : Files) (start v : TreeState) (earlier : History) → StateIsUnchanged ignored start v → IsOldUntilCommit ignored files start earlier v
+  pub before : (ignored : Ignored) (files : Files) (start v w : TreeState) (earlier first : History) → StateIsUnchanged ignored start v → IsOldUntilCommit ignored files v earlier w → IsOldUntilCommit ignored files start (earlier ++ first) w
 
 -- at each moment of a call nothing happens to the state
 abbrev pub IsCalm : TreeState → History → History → Type 0
-IsCalm v old now = (ignored : Ignored) → IsOrderly (RestsOn ignored) v → Since (IsStill ignored v) old now
+IsCalm v old now = (ignored : Ignored) → IsDurable (StateDependsOn ignored) v → Since (StateIsUnchanged ignored v) old now
 
 -- ---- the newest moment
 
@@ -48,20 +49,20 @@ abbrev pub first_or : TreeState → History → TreeState
 first_or v [] = v
 first_or v (w ∷ h) = w
 
-newest_of : AreLaws → (ignored : Ignored) (v u : TreeState) (rest more added : History) → IsOrderly (RestsOn ignored) v → u ∷ more ≡ added ++ v ∷ rest → All (IsStill ignored v) added → IsStill ignored v u
-newest_of laws ignored v u rest more [] orderly is each = subst (IsStill ignored v) (sym (ap (first_or v) is)) (laws.none ignored v orderly)
-newest_of laws ignored v u rest more (m ∷ added) orderly is each = subst (IsStill ignored v) (sym (ap (first_or v) is)) (All-head (IsStill ignored v) m added each)
+newest_of : AreLaws → (ignored : Ignored) (v u : TreeState) (rest more added : History) → IsDurable (StateDependsOn ignored) v → u ∷ more ≡ added ++ v ∷ rest → All (StateIsUnchanged ignored v) added → StateIsUnchanged ignored v u
+newest_of laws ignored v u rest more [] is_durable is each = subst (StateIsUnchanged ignored v) (sym (ap (first_or v) is)) (laws.none ignored v is_durable)
+newest_of laws ignored v u rest more (m ∷ added) is_durable is each = subst (StateIsUnchanged ignored v) (sym (ap (first_or v) is)) (All-head (StateIsUnchanged ignored v) m added each)
 
-newest : AreLaws → (ignored : Ignored) (v u : TreeState) (rest more : History) → IsOrderly (RestsOn ignored) v → Since (IsStill ignored v) (v ∷ rest) (u ∷ more) → IsStill ignored v u
-newest laws ignored v u rest more orderly since = newest_of laws ignored v u rest more since.added orderly since.is since.each
+newest : AreLaws → (ignored : Ignored) (v u : TreeState) (rest more : History) → IsDurable (StateDependsOn ignored) v → Since (StateIsUnchanged ignored v) (v ∷ rest) (u ∷ more) → StateIsUnchanged ignored v u
+newest laws ignored v u rest more is_durable since = newest_of laws ignored v u rest more since.added is_durable since.is since.each
 
 -- whatever the history is
-pub newest_orderly : AreLaws → (ignored : Ignored) (v : TreeState) (rest now : History) → IsOrderly (RestsOn ignored) v → Since (IsStill ignored v) (v ∷ rest) now → HasNow now (IsOrderly (RestsOn ignored))
-newest_orderly laws ignored v rest now orderly since = by_added since.added since.is since.each
+pub newest_durable : AreLaws → (ignored : Ignored) (v : TreeState) (rest now : History) → IsDurable (StateDependsOn ignored) v → Since (StateIsUnchanged ignored v) (v ∷ rest) now → HoldsNow now (IsDurable (StateDependsOn ignored))
+newest_durable laws ignored v rest now is_durable since = by_added since.added since.is since.each
   where
-    by_added : (added : History) → now ≡ added ++ v ∷ rest → All (IsStill ignored v) added → HasNow now (IsOrderly (RestsOn ignored))
-    by_added [] is each = subst (λ (h : History). HasNow h (IsOrderly (RestsOn ignored))) (sym is) orderly
-    by_added (m ∷ added) is each = subst (λ (h : History). HasNow h (IsOrderly (RestsOn ignored))) (sym is) (All-head (IsStill ignored v) m added each).orderly
+    by_added : (added : History) → now ≡ added ++ v ∷ rest → All (StateIsUnchanged ignored v) added → HoldsNow now (IsDurable (StateDependsOn ignored))
+    by_added [] is each = subst (λ (h : History). HoldsNow h (IsDurable (StateDependsOn ignored))) (sym is) is_durable
+    by_added (m ∷ added) is each = subst (λ (h : History). HoldsNow h (IsDurable (StateDependsOn ignored))) (sym is) (All-head (StateIsUnchanged ignored v) m added each).is_durable
 
 -- ---- moments in a row
 
@@ -72,43 +73,43 @@ since_both P Q R old mid now p q first then = record {
   each = All-append R then.added first.added (All-weaker Q R q then.added then.each) (All-weaker P R p first.added first.each);
 }
 
-still_replaces : AreLaws → (ignored : Ignored) (files : Files) (v w : TreeState) → IsStill ignored v w → IsReplacing ignored files v w
-still_replaces laws ignored files v w still = record { orderly = still.orderly; old_or_new = laws.quiet ignored v w files still.quiet; made = still.made }
+still_replaces : AreLaws → (ignored : Ignored) (files : Files) (v w : TreeState) → StateIsUnchanged ignored v w → IsMomentOfReplacing ignored files v w
+still_replaces laws ignored files v w is_unchanged = record { is_durable = is_unchanged.is_durable; old_or_new = laws.quiet ignored v w files is_unchanged.quiet; made = is_unchanged.made }
 
-replaces_from : AreLaws → (ignored : Ignored) (files : Files) (v u w : TreeState) → IsStill ignored v u → IsReplacing ignored files u w → IsReplacing ignored files v w
-replaces_from laws ignored files v u w still there = record { orderly = there.orderly; old_or_new = laws.behind ignored v u w files still.quiet there.old_or_new; made = omega (arith, still.made, there.made) }
+replaces_from : AreLaws → (ignored : Ignored) (files : Files) (v u w : TreeState) → StateIsUnchanged ignored v u → IsMomentOfReplacing ignored files u w → IsMomentOfReplacing ignored files v w
+replaces_from laws ignored files v u w is_unchanged there = record { is_durable = there.is_durable; old_or_new = laws.behind ignored v u w files is_unchanged.quiet there.old_or_new; made = omega (arith, is_unchanged.made, there.made) }
 
-each_still : AreLaws → (ignored : Ignored) (files : Files) (v : TreeState) (first : History) → All (IsStill ignored v) first → EachMoment (IsOnTheWay ignored files v) first
+each_still : AreLaws → (ignored : Ignored) (files : Files) (v : TreeState) (first : History) → All (StateIsUnchanged ignored v) first → EachMoment (IsOldUntilCommit ignored files v) first
 each_still laws ignored files v [] each = tt
-each_still laws ignored files v (m ∷ first) each = (laws.still ignored files v m first (All-head (IsStill ignored v) m first each), each_still laws ignored files v first (All-tail (IsStill ignored v) m first each))
+each_still laws ignored files v (m ∷ first) each = (laws.is_unchanged ignored files v m first (All-head (StateIsUnchanged ignored v) m first each), each_still laws ignored files v first (All-tail (StateIsUnchanged ignored v) m first each))
 
-each_behind : AreLaws → (ignored : Ignored) (files : Files) (v u : TreeState) (added first : History) → IsStill ignored v u → EachMoment (IsOnTheWay ignored files v) first → EachMoment (IsOnTheWay ignored files u) added → EachMoment (IsOnTheWay ignored files v) (added ++ first)
-each_behind laws ignored files v u [] first still earlier each = earlier
-each_behind laws ignored files v u (m ∷ added) first still earlier (here, others) = (laws.before ignored files v u m added first still here, each_behind laws ignored files v u added first still earlier others)
+each_behind : AreLaws → (ignored : Ignored) (files : Files) (v u : TreeState) (added first : History) → StateIsUnchanged ignored v u → EachMoment (IsOldUntilCommit ignored files v) first → EachMoment (IsOldUntilCommit ignored files u) added → EachMoment (IsOldUntilCommit ignored files v) (added ++ first)
+each_behind laws ignored files v u [] first is_unchanged earlier each = earlier
+each_behind laws ignored files v u (m ∷ added) first is_unchanged earlier (here, others) = (laws.before ignored files v u m added first is_unchanged here, each_behind laws ignored files v u added first is_unchanged earlier others)
 
-way_behind : AreLaws → (makes : Bool) (ignored : Ignored) (files : Files) (v u : TreeState) (old mid now : History) → IsStill ignored v u → Since (IsStill ignored v) old mid → AreOnTheWay makes ignored files u mid now → AreOnTheWay makes ignored files v old now
-way_behind laws true ignored files v u old mid now still first way =
-    since_both (IsStill ignored v) (IsReplacing ignored files u) (IsReplacing ignored files v) old mid now (still_replaces laws ignored files v) (λ w there. replaces_from laws ignored files v u w still there) first way
-way_behind laws false ignored files v u old mid now still first way = record {
+way_after : AreLaws → (makes : Bool) (ignored : Ignored) (files : Files) (v u : TreeState) (old mid now : History) → StateIsUnchanged ignored v u → Since (StateIsUnchanged ignored v) old mid → MomentsLeadTo makes ignored files u mid now → MomentsLeadTo makes ignored files v old now
+way_after laws true ignored files v u old mid now is_unchanged first way =
+    since_both (StateIsUnchanged ignored v) (IsMomentOfReplacing ignored files u) (IsMomentOfReplacing ignored files v) old mid now (still_replaces laws ignored files v) (λ w there. replaces_from laws ignored files v u w is_unchanged there) first way
+way_after laws false ignored files v u old mid now is_unchanged first way = record {
   added = way.added ++ first.added;
   is = way.is ∙ ap (λ h. way.added ++ h) first.is ∙ sym (append_assoc way.added first.added old);
-  each = each_behind laws ignored files v u way.added first.added still (each_still laws ignored files v first.added first.each) way.each;
+  each = each_behind laws ignored files v u way.added first.added is_unchanged (each_still laws ignored files v first.added first.each) way.each;
 }
 
-safe_behind : AreLaws → (A B : Outcome → Type 0) (makes : Bool) (ignored : Ignored) (v u : TreeState) (old mid now : History) → ((o : Outcome) → A o → B o) → IsStill ignored v u → Since (IsStill ignored v) old mid
-    → AreSafe A makes ignored u mid now → AreSafe B makes ignored v old now
-safe_behind laws A B makes ignored v u old mid now into still first (inl then) = inl (laws.calls ignored v u old mid now first still then)
-safe_behind laws A B makes ignored v u old mid now into still first (inr (o, one, commits, way)) = inr (o, into o one, commits, way_behind laws makes ignored o.files v u old mid now still first way)
+safe_after : AreLaws → (A B : Outcome → Type 0) (makes : Bool) (ignored : Ignored) (v u : TreeState) (old mid now : History) → ((o : Outcome) → A o → B o) → StateIsUnchanged ignored v u → Since (StateIsUnchanged ignored v) old mid
+    → AreOldOrLeadToOutcome A makes ignored u mid now → AreOldOrLeadToOutcome B makes ignored v old now
+safe_after laws A B makes ignored v u old mid now into is_unchanged first (inl then) = inl (laws.calls ignored v u old mid now first is_unchanged then)
+safe_after laws A B makes ignored v u old mid now into is_unchanged first (inr (o, one, commits, way)) = inr (o, into o one, commits, way_after laws makes ignored o.files v u old mid now is_unchanged first way)
 
 -- ---- what lasts
 
-settled_same : (ignored : Ignored) (v u : TreeState) → IsSettled ignored (files_of v) u → state_of ignored (files_of u) ≡ state_of ignored (files_of v) → IsSettled ignored (files_of u) u
+settled_same : (ignored : Ignored) (v u : TreeState) → EachCrashLeaves ignored (files_of v) u → state_of ignored (files_of u) ≡ state_of ignored (files_of v) → EachCrashLeaves ignored (files_of u) u
 settled_same ignored v u settled reads = λ image is. settled image is ∙ sym reads
 
-settles_behind : AreLaws → (effect : Effect) (ignored : Ignored) (v u : TreeState) (o : Outcome) → IsStill ignored v u → (IsSome (intent_of (files_of v)) → IsSettled ignored (files_of v) u) → Settles effect ignored v o → SettlesUnrecovered ignored u o
-settles_behind laws effect ignored v u o still found (inl (inl commits)) = inl commits
-settles_behind laws effect ignored v u o still found (inl (inr before)) = inr (settled_same ignored v u (laws.lasts ignored (files_of v) v u before still.quiet) still.reads)
-settles_behind laws effect ignored v u o still found (inr (recovers, some)) = inr (settled_same ignored v u (found some) still.reads)
+settles_after : AreLaws → (effect : Effect) (ignored : Ignored) (v u : TreeState) (o : Outcome) → StateIsUnchanged ignored v u → (IsSome (intent_of (files_of v)) → EachCrashLeaves ignored (files_of v) u) → MakesDurable effect ignored v o → MakesDurableWithoutRecovery ignored u o
+settles_after laws effect ignored v u o is_unchanged found (inl (inl commits)) = inl commits
+settles_after laws effect ignored v u o is_unchanged found (inl (inr before)) = inr (settled_same ignored v u (laws.lasts ignored (files_of v) v u before is_unchanged.quiet) is_unchanged.reads)
+settles_after laws effect ignored v u o is_unchanged found (inr (recovers, some)) = inr (settled_same ignored v u (found some) is_unchanged.reads)
 
 -- ---- a run that recovers nothing
 
@@ -132,23 +133,23 @@ abbrev pub BytesAs : TreeState → TreeState → Type 0
 BytesAs v w = HasOldOrNewBytes (files_of v) (unstaged_files (files_of v)) w
 
 -- as soon as no intent is read, a crash undoes no change of a name that does not wait
-abbrev pub LastsUnread : TreeState → Type 0
-LastsUnread w = w.names intent_name ≡ None → ShownNamesLast w
+abbrev pub NamesAreDurableWithoutIntent : TreeState → Type 0
+NamesAreDurableWithoutIntent w = w.names intent_name ≡ None → ShownNamesAreDurable w
 
 -- what a recovery says, whatever it answers
 pub record IsRecovery (v : TreeState) (old mid : History) : Type 0 where
   pub calm : IsCalm v old mid
   pub reads : Since (RecoversAs v) old mid
   pub bytes : Since (BytesAs v) old mid
-  pub waiting : Since (IsLessWaiting v) old mid
-  pub last : IsSome (v.names intent_name) → Since LastsUnread old mid
+  pub waiting : Since (JournalOnlyShrinks v) old mid
+  pub last : IsSome (v.names intent_name) → Since NamesAreDurableWithoutIntent old mid
   pub idle : v.names intent_name ≡ None → IsEmptyStage v.names → mid ≡ old
 
 -- and where it ended well
 pub record IsRecovered (v : TreeState) (old mid : History) : Type 0 where
   pub recovery : IsRecovery v old mid
-  pub files : HasNow mid (λ w. (files_of w ≡ unstaged_files (files_of v)) × (w.names intent_name ≡ None))
-  pub settled : (ignored : Ignored) → IsOrderly (RestsOn ignored) v → IsSome (intent_of (files_of v)) → HasNow mid (IsSettled ignored (files_of v))
+  pub files : HoldsNow mid (λ w. (files_of w ≡ unstaged_files (files_of v)) × (w.names intent_name ≡ None))
+  pub settled : (ignored : Ignored) → IsDurable (StateDependsOn ignored) v → IsSome (intent_of (files_of v)) → HoldsNow mid (EachCrashLeaves ignored (files_of v))
 
 nothing_done : (effect : Effect) (v : TreeState) (P : Type 0) → does_recover effect ≡ true → (v.names intent_name ≡ None → IsEmptyStage v.names → P) → HasNothingToRecover effect v → P
 nothing_done effect v P recovers idle (inl not_so) = absurd (false≢true (sym not_so ∙ recovers))
@@ -167,70 +168,70 @@ since_and P Q old now p q =
 
 recovering : (v : TreeState) (old mid : History) → IsRecovery v old mid → Since (IsRecovering v) old mid
 recovering v old mid recovery =
-    since_weaker (λ w. RecoversAs v w × (BytesAs v w × IsLessWaiting v w)) (IsRecovering v) old mid (λ w all. record { reads = all.0; bytes = all.1.0; waiting = all.1.1 })
-    (since_and (RecoversAs v) (λ w. BytesAs v w × IsLessWaiting v w) old mid recovery.reads (since_and (BytesAs v) (IsLessWaiting v) old mid recovery.bytes recovery.waiting))
+    since_weaker (λ w. RecoversAs v w × (BytesAs v w × JournalOnlyShrinks v w)) (IsRecovering v) old mid (λ w all. record { reads = all.0; bytes = all.1.0; waiting = all.1.1 })
+    (since_and (RecoversAs v) (λ w. BytesAs v w × JournalOnlyShrinks v w) old mid recovery.reads (since_and (BytesAs v) (JournalOnlyShrinks v) old mid recovery.bytes recovery.waiting))
 
-reads_behind : (A B : Outcome → Type 0) (effect : Effect) (output : Option (List ℕ)) (v u : TreeState) (old mid now : History) → does_recover effect ≡ true → files_of u ≡ work_files effect (files_of v) → ((o : Outcome) → A o → B o)
-    → Since (IsRecovering v) old mid → AreReadAtWork A effect output u mid now → AreReadOnTheWay B effect output v old now
-reads_behind A B effect output v u old mid now recovers work into first (inl same) =
-    inl (since_both (IsRecovering v) (λ w. files_of w ≡ files_of u) (IsBehindRecovery effect (λ w. files_of w ≡ work_files effect (files_of v)) v) old mid now (λ w r. inl (recovers, r)) (λ w is. inr (is ∙ work)) first same)
-reads_behind A B effect output v u old mid now recovers work into first (inr (o, one, commits, at_work)) =
+reads_after : (A B : Outcome → Type 0) (effect : Effect) (output : Option (List ℕ)) (v u : TreeState) (old mid now : History) → does_recover effect ≡ true → files_of u ≡ work_files effect (files_of v) → ((o : Outcome) → A o → B o)
+    → Since (IsRecovering v) old mid → AreReadDuringWork A effect output u mid now → AreReadDuringRun B effect output v old now
+reads_after A B effect output v u old mid now recovers work into first (inl same) =
+    inl (since_both (IsRecovering v) (λ w. files_of w ≡ files_of u) (IsRecoveringOrNext effect (λ w. files_of w ≡ work_files effect (files_of v)) v) old mid now (λ w r. inl (recovers, r)) (λ w is. inr (is ∙ work)) first same)
+reads_after A B effect output v u old mid now recovers work into first (inr (o, one, commits, at_work)) =
     inr (
       o,
       into o one,
       commits,
-      since_both (IsRecovering v) (IsReadAtWork effect output o.files (files_of u)) (IsBehindRecovery effect (IsReadAtWork effect output o.files (work_files effect (files_of v))) v) old mid now
+      since_both (IsRecovering v) (IsReadDuringWork effect output o.files (files_of u)) (IsRecoveringOrNext effect (IsReadDuringWork effect output o.files (work_files effect (files_of v))) v) old mid now
           (λ w r. inl (recovers, r))
-          (λ w is. inr (subst (λ (f : Files). IsReadAtWork effect output o.files f w) work is)) first at_work,
+          (λ w is. inr (subst (λ (f : Files). IsReadDuringWork effect output o.files f w) work is)) first at_work,
     )
 
 -- ---- the names
 
-unread_last : (output : Option (List ℕ)) (w : TreeState) → LastsUnread w → UnreadNamesLast output w
+unread_last : (output : Option (List ℕ)) (w : TreeState) → NamesAreDurableWithoutIntent w → NamesAreDurableWithoutIntentExcept output w
 unread_last output w last none map among q off no_intent unstaged = last none map among q no_intent unstaged
 
 none_some : (o : Option ℕ) → o ≡ None → IsSome o → ⊥
 none_some o none some = false≢true (sym (ap (λ (p : Option ℕ). is_some p) none) ∙ some)
 
-newest_last : (v u : TreeState) (rest more added : History) → IsSome (v.names intent_name) → u ∷ more ≡ added ++ v ∷ rest → All LastsUnread added → u.names intent_name ≡ None → ShownNamesLast u
+newest_last : (v u : TreeState) (rest more added : History) → IsSome (v.names intent_name) → u ∷ more ≡ added ++ v ∷ rest → All NamesAreDurableWithoutIntent added → u.names intent_name ≡ None → ShownNamesAreDurable u
 newest_last v u rest more [] some is each none = absurd (none_some (v.names intent_name) (sym (ap (λ (h : History). (first_or v h).names intent_name) is) ∙ none) some)
 newest_last v u rest more (m ∷ added) some is each none =
     let same : u ≡ m = ap (first_or v) is in
-    subst ShownNamesLast (sym same) (All-head LastsUnread m added each (subst (λ (w : TreeState). w.names intent_name ≡ None) same none))
+    subst ShownNamesAreDurable (sym same) (All-head NamesAreDurableWithoutIntent m added each (subst (λ (w : TreeState). w.names intent_name ≡ None) same none))
 
-last_behind : (output : Option (List ℕ)) (v u : TreeState) (rest more now : History) → IsRecovery v (v ∷ rest) (u ∷ more) → u.names intent_name ≡ None → (ShownNamesLast u → Since (UnreadNamesLast output) (u ∷ more) now)
-    → IsSome (v.names intent_name) → Since (UnreadNamesLast output) (v ∷ rest) now
-last_behind output v u rest more now recovery none then some =
+last_after : (output : Option (List ℕ)) (v u : TreeState) (rest more now : History) → IsRecovery v (v ∷ rest) (u ∷ more) → u.names intent_name ≡ None → (ShownNamesAreDurable u → Since (NamesAreDurableWithoutIntentExcept output) (u ∷ more) now)
+    → IsSome (v.names intent_name) → Since (NamesAreDurableWithoutIntentExcept output) (v ∷ rest) now
+last_after output v u rest more now recovery none then some =
     let first = recovery.last some in
     let here = newest_last v u rest more first.added some first.is first.each none in
-    since_both LastsUnread (UnreadNamesLast output) (UnreadNamesLast output) (v ∷ rest) (u ∷ more) now (unread_last output) (λ w last. last) first (then here)
+    since_both NamesAreDurableWithoutIntent (NamesAreDurableWithoutIntentExcept output) (NamesAreDurableWithoutIntentExcept output) (v ∷ rest) (u ∷ more) now (unread_last output) (λ w last. last) first (then here)
 
 -- ---- the recovery ended well
 
 no_fault_to_recover : (effect : Effect) (files : Files) (P : Type 0) → recovery_fault effect files ≡ None → IsSome (recovery_fault effect files) → P
 no_fault_to_recover effect files P none some = absurd (false≢true (sym (ap (λ (o : Option Cause). is_some o) none) ∙ some))
 
-pub whole_behind : AreLaws → (A B : Outcome → Type 0) (effect : Effect) (output : Option (List ℕ)) (judged : Judged) (v u : TreeState) (rest more now : History)
+pub whole_after : AreLaws → (A B : Outcome → Type 0) (effect : Effect) (output : Option (List ℕ)) (judged : Judged) (v u : TreeState) (rest more now : History)
     → does_recover effect ≡ true → recovery_fault effect (files_of v) ≡ None → files_of u ≡ work_files effect (files_of v) → u.names intent_name ≡ None → ((o : Outcome) → A o → B o) → ((o : Outcome) → B o → A o)
     → IsRecovered v (v ∷ rest) (u ∷ more) → IsRun A effect output judged u (u ∷ more) now → StaysWithout (u ∷ more) now judged → IsWholeRun B effect output judged v (v ∷ rest) now
-whole_behind laws A B effect output judged v u rest more now recovers good work none into from recovered run memory =
+whole_after laws A B effect output judged v u rest more now recovers good work none into from recovered run memory =
     let calm = recovered.recovery.calm in
-    let still : (ignored : Ignored) → IsOrderly (RestsOn ignored) v → IsStill ignored v u = λ ignored orderly. newest laws ignored v u rest more orderly (calm ignored orderly) in
+    let is_unchanged : (ignored : Ignored) → IsDurable (StateDependsOn ignored) v → StateIsUnchanged ignored v u = λ ignored is_durable. newest laws ignored v u rest more is_durable (calm ignored is_durable) in
     let same : HasNothingToRecover effect v → u ∷ more ≡ v ∷ rest = λ nothing. nothing_done effect v (u ∷ more ≡ v ∷ rest) recovers recovered.recovery.idle nothing in
     record {
-      moments = λ ignored orderly hides.
-          safe_behind laws A B (is_some output) ignored v u (v ∷ rest) (u ∷ more) now into (still ignored orderly) (calm ignored orderly) (run.moments ignored (still ignored orderly).orderly hides);
-      orderly = λ ignored orderly hides. run.orderly ignored (still ignored orderly).orderly hides;
-      settled = λ ignored o orderly hides one lasts.
-          run.settled ignored o (still ignored orderly).orderly hides (from o one)
-          (settles_behind laws effect ignored v u o (still ignored orderly) (recovered.settled ignored orderly) lasts);
-      at_rest = λ ignored o orderly hides one commits. run.at_rest ignored o (still ignored orderly).orderly hides (from o one) commits;
-      left = λ without ignored orderly.
-          subst (λ (h : History). Since (IsStill ignored v) (v ∷ rest) h) (sym (unwritten A B effect output judged u (u ∷ more) now from run memory without)) (calm ignored orderly);
+      moments = λ ignored is_durable hides.
+          safe_after laws A B (is_some output) ignored v u (v ∷ rest) (u ∷ more) now into (is_unchanged ignored is_durable) (calm ignored is_durable) (run.moments ignored (is_unchanged ignored is_durable).is_durable hides);
+      is_durable = λ ignored is_durable hides. run.is_durable ignored (is_unchanged ignored is_durable).is_durable hides;
+      settled = λ ignored o is_durable hides one lasts.
+          run.settled ignored o (is_unchanged ignored is_durable).is_durable hides (from o one)
+          (settles_after laws effect ignored v u o (is_unchanged ignored is_durable) (recovered.settled ignored is_durable) lasts);
+      durable_state = λ ignored o is_durable hides one commits. run.durable_state ignored o (is_unchanged ignored is_durable).is_durable hides (from o one) commits;
+      left = λ without ignored is_durable.
+          subst (λ (h : History). Since (StateIsUnchanged ignored v) (v ∷ rest) h) (sym (unwritten A B effect output judged u (u ∷ more) now from run memory without)) (calm ignored is_durable);
       idle = λ without nothing. unwritten A B effect output judged u (u ∷ more) now from run memory without ∙ same nothing;
       bad = λ some. no_fault_to_recover effect (files_of v) (now ≡ v ∷ rest) good some;
-      reads = reads_behind A B effect output v u (v ∷ rest) (u ∷ more) now recovers work into (recovering v (v ∷ rest) (u ∷ more) recovered.recovery) run.reads;
-      last = last_behind output v u rest more now recovered.recovery none run.last;
+      reads = reads_after A B effect output v u (v ∷ rest) (u ∷ more) now recovers work into (recovering v (v ∷ rest) (u ∷ more) recovered.recovery) run.reads;
+      last = last_after output v u rest more now recovered.recovery none run.last;
       leaves = λ o one. run.leaves o (from o one);
     }
 
@@ -238,23 +239,23 @@ whole_behind laws A B effect output judged v u rest more now recovers good work 
 pub whole_failed : AreLaws → (IsOne : Outcome → Type 0) (effect : Effect) (output : Option (List ℕ)) (judged : Judged) (e : TreeFault) (v : TreeState) (rest now : History) → does_recover effect ≡ true → judged ≡ Err e
     → IsRecovery v (v ∷ rest) now → (IsSome (recovery_fault effect (files_of v)) → now ≡ v ∷ rest) → IsWholeRun IsOne effect output judged v (v ∷ rest) now
 whole_failed laws IsOne effect output judged e v rest now recovers failed recovery bad = record {
-  moments = λ ignored orderly hides. inl (recovery.calm ignored orderly);
-  orderly = λ ignored orderly hides. newest_orderly laws ignored v rest now orderly (recovery.calm ignored orderly);
-  settled = λ ignored o orderly hides one lasts. err_ok (HasNow now (IsSettled ignored o.files)) judged e failed;
-  at_rest = λ ignored o orderly hides one commits. err_ok (HasNow now (IsAtRest (ignored_but output ignored) o.files)) judged e failed;
-  left = λ without ignored orderly. recovery.calm ignored orderly;
+  moments = λ ignored is_durable hides. inl (recovery.calm ignored is_durable);
+  is_durable = λ ignored is_durable hides. newest_durable laws ignored v rest now is_durable (recovery.calm ignored is_durable);
+  settled = λ ignored o is_durable hides one lasts. err_ok (HoldsNow now (EachCrashLeaves ignored o.files)) judged e failed;
+  durable_state = λ ignored o is_durable hides one commits. err_ok (HoldsNow now (IsDurableState (ignored_but output ignored) o.files)) judged e failed;
+  left = λ without ignored is_durable. recovery.calm ignored is_durable;
   idle = λ without nothing. nothing_done effect v (now ≡ v ∷ rest) recovers recovery.idle nothing;
   bad = bad;
-  reads = inl (since_weaker (IsRecovering v) (IsBehindRecovery effect (λ w. files_of w ≡ work_files effect (files_of v)) v) (v ∷ rest) now (λ w r. inl (recovers, r)) (recovering v (v ∷ rest) now recovery));
-  last = λ some. since_weaker LastsUnread (UnreadNamesLast output) (v ∷ rest) now (unread_last output) (recovery.last some);
-  leaves = λ o one. err_ok (HasNow now (λ w. files_of w ≡ o.files)) judged e failed;
+  reads = inl (since_weaker (IsRecovering v) (IsRecoveringOrNext effect (λ w. files_of w ≡ work_files effect (files_of v)) v) (v ∷ rest) now (λ w r. inl (recovers, r)) (recovering v (v ∷ rest) now recovery));
+  last = λ some. since_weaker NamesAreDurableWithoutIntent (NamesAreDurableWithoutIntentExcept output) (v ∷ rest) now (unread_last output) (recovery.last some);
+  leaves = λ o one. err_ok (HoldsNow now (λ w. files_of w ≡ o.files)) judged e failed;
 }
 
 -- an outcome leaves the files, and no intent is found to be done
 abbrev pub LeavesAll : Effect → TreeState → Outcome → Type 0
 LeavesAll effect v o = Leaves (files_of v) o × (CanRecover effect v → ⊥)
 
-settled_left : (effect : Effect) (ignored : Ignored) (v : TreeState) (o : Outcome) → LeavesAll effect v o → Settles effect ignored v o → IsSettled ignored (files_of v) v
+settled_left : (effect : Effect) (ignored : Ignored) (v : TreeState) (o : Outcome) → LeavesAll effect v o → MakesDurable effect ignored v o → EachCrashLeaves ignored (files_of v) v
 settled_left effect ignored v o (leaves, never) (inl settles) = settled_before ignored v o leaves.1 settles
 settled_left effect ignored v o (leaves, never) (inr can) = absurd (never can)
 
@@ -262,17 +263,17 @@ settled_left effect ignored v o (leaves, never) (inr can) = absurd (never can)
 pub whole_idle : (IsOne : Outcome → Type 0) (effect : Effect) (output : Option (List ℕ)) (judged : Judged) (v : TreeState) (rest now : History) → now ≡ v ∷ rest → ((o : Outcome) → IsOne o → OnOk judged (LeavesAll effect v o))
     → IsWholeRun IsOne effect output judged v (v ∷ rest) now
 whole_idle IsOne effect output judged v rest now same all = record {
-  moments = λ ignored orderly hides. inl (none_since (IsStill ignored v) (v ∷ rest) now same);
-  orderly = λ ignored orderly hides. subst (λ (h : History). HasNow h (IsOrderly (RestsOn ignored))) (sym same) orderly;
-  settled = λ ignored o orderly hides one lasts.
+  moments = λ ignored is_durable hides. inl (none_since (StateIsUnchanged ignored v) (v ∷ rest) now same);
+  is_durable = λ ignored is_durable hides. subst (λ (h : History). HoldsNow h (IsDurable (StateDependsOn ignored))) (sym same) is_durable;
+  settled = λ ignored o is_durable hides one lasts.
       on_ok judged
-      (λ left. subst (λ (h : History). HasNow h (IsSettled ignored o.files)) (sym same) (subst (λ (f : Files). IsSettled ignored f v) (sym left.0.0) (settled_left effect ignored v o left lasts)))
+      (λ left. subst (λ (h : History). HoldsNow h (EachCrashLeaves ignored o.files)) (sym same) (subst (λ (f : Files). EachCrashLeaves ignored f v) (sym left.0.0) (settled_left effect ignored v o left lasts)))
       (all o one);
-  at_rest = λ ignored o orderly hides one commits. on_ok judged (λ left. absurd (false≢true (sym left.0.1 ∙ commits))) (all o one);
-  left = λ without ignored orderly. none_since (IsStill ignored v) (v ∷ rest) now same;
+  durable_state = λ ignored o is_durable hides one commits. on_ok judged (λ left. absurd (false≢true (sym left.0.1 ∙ commits))) (all o one);
+  left = λ without ignored is_durable. none_since (StateIsUnchanged ignored v) (v ∷ rest) now same;
   idle = λ without nothing. same;
   bad = λ some. same;
-  reads = inl (none_since (IsBehindRecovery effect (λ w. files_of w ≡ work_files effect (files_of v)) v) (v ∷ rest) now same);
-  last = λ some. none_since (UnreadNamesLast output) (v ∷ rest) now same;
-  leaves = λ o one. on_ok judged (λ left. subst (λ (h : History). HasNow h (λ w. files_of w ≡ o.files)) (sym same) (sym left.0.0)) (all o one);
+  reads = inl (none_since (IsRecoveringOrNext effect (λ w. files_of w ≡ work_files effect (files_of v)) v) (v ∷ rest) now same);
+  last = λ some. none_since (NamesAreDurableWithoutIntentExcept output) (v ∷ rest) now same;
+  leaves = λ o one. on_ok judged (λ left. subst (λ (h : History). HoldsNow h (λ w. files_of w ≡ o.files)) (sym same) (sym left.0.0)) (all o one);
 }

@@ -4,28 +4,29 @@ use Rattle.std.specs.Prelude.{if◌then◌else◌, IfOk, OnOk}
 use Rattle.std.proofs.lemmas.Bool.{false≢true}
 use Rattle.adb_schema.specs.Soundness.{first_fault, payload_in, root_value}
 use Rattle.adb_view.specs.declared.tables.Which.TheVariants.{Intent as IntentTable}
-use Rattle.base_core.specs.Calls.{HasNow, IfObservable}
-use Rattle.base_core.specs.Crash.{IsOrderly, Since}
+use Rattle.base_core.specs.Calls.{HoldsNow, IfObservable}
+use Rattle.base_core.specs.Crash.{Since}
+use Rattle.base_core.specs.Undone.{IsDurable}
 use Rattle.base_core.specs.Files.{Files, no_names}
 use Rattle.base_core.specs.Tree.{TreeState, files_of}
 use Rattle.base_core.specs.declared.cause.Cause.{Cause}
 use Rattle.command_core.specs.Command.{CommandLine}
-use Rattle.journal_core.specs.Kept.{IsLessWaiting}
-use Rattle.journal_core.specs.Recovery.{IsSettled, RestsOn, intent_at, intent_name, intent_of, intent_unless, read_intent, recovered_files}
-use Rattle.journal_core.specs.Staged.{HasRoomToReplay, IsEmptyStage, IsIntentFault, unstaged_files}
+use Rattle.journal_core.specs.Kept.{JournalOnlyShrinks}
+use Rattle.journal_core.specs.Recovery.{EachCrashLeaves, StateDependsOn, intent_at, intent_name, intent_of, intent_unless, read_intent, recovered_files}
+use Rattle.journal_core.specs.Staged.{AreReplayPathsFree, IsEmptyStage, IsIntentFault, unstaged_files}
 use Rattle.journal_core.specs.declared.fault.RecoverFault.{RecoverFault}
 use Rattle.journal_core.specs.declared.fault.RecoverFault.TheVariants.{IntentBad as BadIntent}
-use Rattle.outcome.specs.Commands.{IsFoundOutcomeOf, IsFoundOver, IsOutcomeOf, IsOutcomeOver, IsOutcomeUnless}
+use Rattle.outcome.specs.Commands.{IsPossibleOutcomeOf, IsPossibleOutcomeOn, IsOutcomeOf, IsOutcomeOn, IsOutcomeUnlessBadIntent}
 use Rattle.outcome.specs.Effect.{Effect, Computes, Reads, Tells, Makes, Changes, does_recover, effect_of}
 use Rattle.outcome.specs.Outcome.{Outcome, just_refusal}
 use Rattle.outcome.specs.Work.{fault_of_intent, recovery_fault, work_files}
 use Rattle.report_core.specs.declared.refusal.Refusal.TheVariants.{IntentBad}
-use Rattle.apk_front.specs.Moments.{HasRoomToWrite, LeavesRoomFor}
-use Rattle.apk_front.specs.Runs.{HasNothingWaiting, IfNothingWaits, IsRun, IsWholeRun}
+use Rattle.apk_front.specs.Moments.{ArePathsToWriteFree, AreOutcomePathsFree}
+use Rattle.apk_front.specs.Runs.{HasNothingStaged, IfNothingStaged, IsRun, IsWholeRun}
 use Rattle.apk_front.specs.Verdicts.{ReportsOne, as_outcome}
 use Rattle.apk_front.specs.declared.answer.Verdict.{Verdict}
 use Rattle.apk_front.proofs.Carried.{Ones, RoomFor, Wholes}
-use Rattle.apk_front.proofs.AfterRecovery.{AreLaws, BytesAs, IsCalm, IsRecovery, LastsUnread, LeavesAll, RecoversAs, StaysWithout, whole_behind, whole_failed, whole_idle}
+use Rattle.apk_front.proofs.AfterRecovery.{AreLaws, BytesAs, IsCalm, IsRecovery, NamesAreDurableWithoutIntent, LeavesAll, RecoversAs, StaysWithout, whole_after, whole_failed, whole_idle}
 use Rattle.apk_front.proofs.Runs.{History, Judged, Leaves, none_is_some}
 
 -- ---- a command that recovers
@@ -91,58 +92,58 @@ LeavesUnstaged v w = (files_of w ≡ unstaged_files (files_of v)) × (w.names in
 
 into : (command : CommandLine) (v u : TreeState) (o : Outcome) → does_recover (effect_of command.applet) ≡ true → IsGood v → LeavesUnstaged v u → Ones command u o → Wholes command v o
 into command v u o recovering good left one =
-    subst (λ (fault : Option Cause). IsOutcomeUnless fault command (files_of v) o) (sym (good_is (effect_of command.applet) (files_of v) recovering good))
-    (subst (λ (f : Files). IsOutcomeOver command f o) (left.0 ∙ sym (work_is (effect_of command.applet) (files_of v) recovering)) one)
+    subst (λ (fault : Option Cause). IsOutcomeUnlessBadIntent fault command (files_of v) o) (sym (good_is (effect_of command.applet) (files_of v) recovering good))
+    (subst (λ (f : Files). IsOutcomeOn command f o) (left.0 ∙ sym (work_is (effect_of command.applet) (files_of v) recovering)) one)
 
 from : (command : CommandLine) (v u : TreeState) (o : Outcome) → does_recover (effect_of command.applet) ≡ true → IsGood v → LeavesUnstaged v u → Wholes command v o → Ones command u o
 from command v u o recovering good left one =
-    subst (λ (f : Files). IsOutcomeOver command f o) (sym (left.0 ∙ sym (work_is (effect_of command.applet) (files_of v) recovering)))
-    (subst (λ (fault : Option Cause). IsOutcomeUnless fault command (files_of v) o) (good_is (effect_of command.applet) (files_of v) recovering good) one)
+    subst (λ (f : Files). IsOutcomeOn command f o) (sym (left.0 ∙ sym (work_is (effect_of command.applet) (files_of v) recovering)))
+    (subst (λ (fault : Option Cause). IsOutcomeUnlessBadIntent fault command (files_of v) o) (good_is (effect_of command.applet) (files_of v) recovering good) one)
 
 -- nothing waits then
-pub nothing_waits : (v u : TreeState) → LeavesUnstaged v u → HasNothingWaiting u
+pub nothing_waits : (v u : TreeState) → LeavesUnstaged v u → HasNothingStaged u
 nothing_waits v u left = (left.1, λ q staged. ap (λ (f : Files). f q) left.0 ∙ ap (λ b. if b then None else recovered_files (files_of v) q) staged)
 
-pub behind_found : (command : CommandLine) (old mid : History) (judged : Judged) → does_recover (effect_of command.applet) ≡ true → IfObservable old IsGood → IfObservable old (λ v. HasNow mid (LeavesUnstaged v))
-    → IfOk judged (λ verdict. IfNothingWaits mid (λ u. ReportsOne (Ones command u) verdict)) → IfOk judged (λ verdict. IfObservable old (λ v. ReportsOne (Wholes command v) verdict))
-behind_found command old mid (Err e) recovering good left found = tt
-behind_found command [] mid (Ok verdict) recovering good left found = tt
-behind_found command (v ∷ rest) [] (Ok verdict) recovering good left found = absurd left
-behind_found command (v ∷ rest) (u ∷ more) (Ok verdict) recovering good left found =
+pub after_found : (command : CommandLine) (old mid : History) (judged : Judged) → does_recover (effect_of command.applet) ≡ true → IfObservable old IsGood → IfObservable old (λ v. HoldsNow mid (LeavesUnstaged v))
+    → IfOk judged (λ verdict. IfNothingStaged mid (λ u. ReportsOne (Ones command u) verdict)) → IfOk judged (λ verdict. IfObservable old (λ v. ReportsOne (Wholes command v) verdict))
+after_found command old mid (Err e) recovering good left found = tt
+after_found command [] mid (Ok verdict) recovering good left found = tt
+after_found command (v ∷ rest) [] (Ok verdict) recovering good left found = absurd left
+after_found command (v ∷ rest) (u ∷ more) (Ok verdict) recovering good left found =
     let (o, one, reports) = found (nothing_waits v u left) in
     (o, into command v u o recovering good left one, reports)
 
-pub behind_read : (command : CommandLine) (judged : Judged) → IfOk judged (ReportsOne (IsFoundOver command)) → IfOk judged (ReportsOne (IsFoundOutcomeOf (Ok command)))
+pub behind_read : (command : CommandLine) (judged : Judged) → IfOk judged (ReportsOne (IsPossibleOutcomeOn command)) → IfOk judged (ReportsOne (IsPossibleOutcomeOf command))
 behind_read command (Err e) found = tt
 behind_read command (Ok verdict) (o, one, reports) = (o, inl one, reports)
 
 abbrev pub Settled : History → TreeState → Type 0
-Settled mid v = (ignored : List ℕ → Bool) → IsOrderly (RestsOn ignored) v → IsSome (intent_of (files_of v)) → HasNow mid (IsSettled ignored (files_of v))
+Settled mid v = (ignored : List ℕ → Bool) → IsDurable (StateDependsOn ignored) v → IsSome (intent_of (files_of v)) → HoldsNow mid (EachCrashLeaves ignored (files_of v))
 
 abbrev pub Idle : History → History → TreeState → Type 0
 Idle old mid v = v.names intent_name ≡ None → IsEmptyStage v.names → mid ≡ old
 
 pub behind_run : AreLaws → (command : CommandLine) (output : Option (List ℕ)) (judged : Judged) (old mid now : History) → does_recover (effect_of command.applet) ≡ true
-    → IfObservable old (λ v. IsRecovery v old mid) → IfObservable old IsGood → IfObservable old (λ v. HasNow mid (LeavesUnstaged v)) → IfObservable old (Settled mid)
-    → IfNothingWaits mid (λ u. IsRun (Ones command u) (effect_of command.applet) output judged u mid now) → IfNothingWaits mid (λ u. StaysWithout mid now judged)
+    → IfObservable old (λ v. IsRecovery v old mid) → IfObservable old IsGood → IfObservable old (λ v. HoldsNow mid (LeavesUnstaged v)) → IfObservable old (Settled mid)
+    → IfNothingStaged mid (λ u. IsRun (Ones command u) (effect_of command.applet) output judged u mid now) → IfNothingStaged mid (λ u. StaysWithout mid now judged)
     → IfObservable old (λ v. IsWholeRun (Wholes command v) (effect_of command.applet) output judged v old now)
 behind_run laws command output judged [] mid now recovering recovery good left settled run memory = tt
 behind_run laws command output judged (v ∷ rest) [] now recovering recovery good left settled run memory = absurd left
 behind_run laws command output judged (v ∷ rest) (u ∷ more) now recovering recovery good left settled run memory =
-    whole_behind laws (Ones command u) (Wholes command v) (effect_of command.applet) output judged v u rest more now recovering
+    whole_after laws (Ones command u) (Wholes command v) (effect_of command.applet) output judged v u rest more now recovering
     (good_is (effect_of command.applet) (files_of v) recovering good) (left.0 ∙ sym (work_is (effect_of command.applet) (files_of v) recovering)) left.1
     (λ o one. into command v u o recovering good left one) (λ o one. from command v u o recovering good left one) (record { recovery = recovery; files = left; settled = settled })
     (run (nothing_waits v u left)) (memory (nothing_waits v u left))
 
-pub behind_proper : (command : CommandLine) (output : Option (List ℕ)) (old mid : History) (first second last : ℕ) → does_recover (effect_of command.applet) ≡ true → IfObservable old IsGood → IfObservable old (λ v. HasNow mid (LeavesUnstaged v))
-    → IfObservable old (λ v. HasRoomToReplay (files_of v) → second ≡ first) → IfNothingWaits mid (λ u. RoomFor (Ones command u) (effect_of command.applet) output (files_of u) → last ≡ second)
-    → IfObservable old (λ v. LeavesRoomFor (effect_of command.applet) output (Wholes command v) (files_of v) → last ≡ first)
-behind_proper command output [] mid first second last recovering good left before after = tt
-behind_proper command output (v ∷ rest) [] first second last recovering good left before after = absurd left
-behind_proper command output (v ∷ rest) (u ∷ more) first second last recovering good left before after = λ room.
+pub after_proper : (command : CommandLine) (output : Option (List ℕ)) (old mid : History) (first second last : ℕ) → does_recover (effect_of command.applet) ≡ true → IfObservable old IsGood → IfObservable old (λ v. HoldsNow mid (LeavesUnstaged v))
+    → IfObservable old (λ v. AreReplayPathsFree (files_of v) → second ≡ first) → IfNothingStaged mid (λ u. RoomFor (Ones command u) (effect_of command.applet) output (files_of u) → last ≡ second)
+    → IfObservable old (λ v. AreOutcomePathsFree (effect_of command.applet) output (Wholes command v) (files_of v) → last ≡ first)
+after_proper command output [] mid first second last recovering good left before after = tt
+after_proper command output (v ∷ rest) [] first second last recovering good left before after = absurd left
+after_proper command output (v ∷ rest) (u ∷ more) first second last recovering good left before after = λ room.
     after (nothing_waits v u left)
     (λ o one commits.
-    subst (HasRoomToWrite (effect_of command.applet) output) (sym (left.0 ∙ sym (work_is (effect_of command.applet) (files_of v) recovering)))
+    subst (ArePathsToWriteFree (effect_of command.applet) output) (sym (left.0 ∙ sym (work_is (effect_of command.applet) (files_of v) recovering)))
     (room.1 o (into command v u o recovering good left one) commits))
     ∙ before (room.0 recovering)
 
@@ -157,7 +158,7 @@ SaysBad fault old mid = (cause : Cause) → fault ≡ BadIntent cause → (mid �
 
 bad_one : (command : CommandLine) (files : Files) (cause : Cause) → does_recover (effect_of command.applet) ≡ true → IsIntentFault files cause → IsOutcomeOf (Ok command) files (just_refusal files (IntentBad cause))
 bad_one command files cause recovering bad =
-    subst (λ (fault : Option Cause). IsOutcomeUnless fault command files (just_refusal files (IntentBad cause))) (sym (bad_is (effect_of command.applet) files cause recovering bad)) refl
+    subst (λ (fault : Option Cause). IsOutcomeUnlessBadIntent fault command files (just_refusal files (IntentBad cause))) (sym (bad_is (effect_of command.applet) files cause recovering bad)) refl
 
 pub refused_found : (command : CommandLine) (fault : RecoverFault) (old mid : History) (judged : Judged) → does_recover (effect_of command.applet) ≡ true → SaysBad fault old mid → IfOk judged (IsRefused fault)
     → IfOk judged (λ verdict. IfObservable old (λ v. ReportsOne (Wholes command v) verdict))
@@ -167,7 +168,7 @@ refused_found command fault (v ∷ rest) mid (Ok verdict) recovering bad (cause,
     (just_refusal (files_of v) (IntentBad cause), bad_one command (files_of v) cause recovering (bad cause is).1, same (files_of v))
 
 pub refused_read : (command : CommandLine) (fault : RecoverFault) (judged : Judged) → does_recover (effect_of command.applet) ≡ true → ((cause : Cause) → fault ≡ BadIntent cause → (file : List ℕ) × (first_fault IntentTable file ≡ Some cause)) → IfOk judged (IsRefused fault)
-    → IfOk judged (ReportsOne (IsFoundOutcomeOf (Ok command)))
+    → IfOk judged (ReportsOne (IsPossibleOutcomeOf command))
 refused_read command fault (Err e) recovering found refused = tt
 refused_read command fault (Ok verdict) recovering found (cause, is, same) =
     let (file, bad) = found cause is in
@@ -180,7 +181,7 @@ bad_unread files cause (file, at, is) = ap intent_at at ∙ ap (λ (fault : Opti
 
 bad_leaves : (command : CommandLine) (v : TreeState) (cause : Cause) (o : Outcome) → does_recover (effect_of command.applet) ≡ true → IsIntentFault (files_of v) cause → Wholes command v o → LeavesAll (effect_of command.applet) v o
 bad_leaves command v cause o recovering bad one =
-    let is : o ≡ just_refusal (files_of v) (IntentBad cause) = subst (λ (fault : Option Cause). IsOutcomeUnless fault command (files_of v) o) (bad_is (effect_of command.applet) (files_of v) cause recovering bad) one in
+    let is : o ≡ just_refusal (files_of v) (IntentBad cause) = subst (λ (fault : Option Cause). IsOutcomeUnlessBadIntent fault command (files_of v) o) (bad_is (effect_of command.applet) (files_of v) cause recovering bad) one in
     (subst (Leaves (files_of v)) (sym is) (refl, refl), λ can. none_is_some (intent_of (files_of v)) (bad_unread (files_of v) cause bad) can.1)
 
 pub refused_run : AreLaws → (command : CommandLine) (fault : RecoverFault) (output : Option (List ℕ)) (judged : Judged) (old mid : History) → does_recover (effect_of command.applet) ≡ true
@@ -194,12 +195,12 @@ refused_run laws command fault output (Err e) (v ∷ rest) mid recovering recove
     (λ some. let (cause, is) = bad_found (effect_of command.applet) (files_of v) some in idle cause is)
 
 -- what a recovery says of each moment
-pub is_recovery : (old mid : History) → IfObservable old (λ v. IsCalm v old mid) → IfObservable old (λ v. Since (RecoversAs v) old mid) → IfObservable old (λ v. Since (BytesAs v) old mid) → IfObservable old (λ v. Since (IsLessWaiting v) old mid)
-    → IfObservable old (λ v. IsSome (v.names intent_name) → Since LastsUnread old mid) → IfObservable old (Idle old mid) → IfObservable old (λ v. IsRecovery v old mid)
+pub is_recovery : (old mid : History) → IfObservable old (λ v. IsCalm v old mid) → IfObservable old (λ v. Since (RecoversAs v) old mid) → IfObservable old (λ v. Since (BytesAs v) old mid) → IfObservable old (λ v. Since (JournalOnlyShrinks v) old mid)
+    → IfObservable old (λ v. IsSome (v.names intent_name) → Since NamesAreDurableWithoutIntent old mid) → IfObservable old (Idle old mid) → IfObservable old (λ v. IsRecovery v old mid)
 is_recovery [] mid calm reads bytes waiting last idle = tt
 is_recovery (v ∷ rest) mid calm reads bytes waiting last idle = record { calm = calm; reads = reads; bytes = bytes; waiting = waiting; last = last; idle = idle }
 
-pub refused_proper : (Room : TreeState → Type 0) (old : History) (P : Type 0) → ((v : TreeState) → Room v → HasRoomToReplay (files_of v)) → IfObservable old (λ v. HasRoomToReplay (files_of v) → P) → IfObservable old (λ v. Room v → P)
+pub refused_proper : (Room : TreeState → Type 0) (old : History) (P : Type 0) → ((v : TreeState) → Room v → AreReplayPathsFree (files_of v)) → IfObservable old (λ v. AreReplayPathsFree (files_of v) → P) → IfObservable old (λ v. Room v → P)
 refused_proper Room [] P f proper = tt
 refused_proper Room (v ∷ rest) P f proper = λ room. proper (f v room)
 

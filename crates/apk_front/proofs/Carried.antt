@@ -2,8 +2,9 @@
 use Rattle.std.proofs.Common.{◌≡◌, inl, inr, ℕ, Bool, true, false, List, [], ◌∷◌, Option, Some, None, IsSome, Result, Ok, Err, refl, sym, ap, subst, ◌∙◌}
 use Rattle.std.proofs.lemmas.Bool.{false≢true}
 use Rattle.std.specs.Prelude.{if◌then◌else◌, is_some, IfOk, IsErrOf, IsTrue, MatchResult, OnOk}
-use Rattle.base_core.specs.Calls.{HasNow, IfObservable}
-use Rattle.base_core.specs.Crash.{IsOrderly, Since}
+use Rattle.base_core.specs.Calls.{HoldsNow, IfObservable}
+use Rattle.base_core.specs.Crash.{Since}
+use Rattle.base_core.specs.Undone.{IsDurable}
 use Rattle.base_core.specs.Faults.{Counts, IsNoFault}
 use Rattle.base_core.specs.Files.{Files, no_names}
 use Rattle.base_core.specs.Read.{OnlyReads}
@@ -12,18 +13,18 @@ use Rattle.base_core.specs.Tree.{TreeState, files_of}
 use Rattle.base_core.specs.declared.cause.Cause.{Cause}
 use Rattle.base_core.specs.declared.tree.TreeFault.{TreeFault}
 use Rattle.base_core.specs.declared.tree.TreeFault.TheVariants.{Disk, Memory as NoMemory}
-use Rattle.journal_core.specs.Quiet.{IsStill}
-use Rattle.journal_core.specs.Recovery.{IsSettled, RestsOn, intent_name}
+use Rattle.journal_core.specs.Quiet.{StateIsUnchanged}
+use Rattle.journal_core.specs.Recovery.{EachCrashLeaves, StateDependsOn, intent_name}
 use Rattle.make_info.specs.Output.{output_name}
 use Rattle.package_files.specs.Sources.{AreNamesFor, values_with}
 use Rattle.command_core.specs.declared.values.TheConstants.{FILES}
 use Rattle.make_index.specs.Files.{AreFiles}
 use Rattle.make_info.specs.Reads.{Reads}
 use Rattle.outcome.specs.Make.{mkndx, mkpkg}
-use Rattle.outcome.specs.Commands.{IsFoundOutcomeOf, IsFoundOver, IsOutcomeOf, IsOutcomeOver, reads_in, applet_outcome, command_outcome, computing_outcome, effect_outcome, reading_outcome}
+use Rattle.outcome.specs.Commands.{IsPossibleOutcomeOf, IsPossibleOutcomeOn, IsOutcomeOf, IsOutcomeOn, reads_in, computing_outcome, effect_outcome, reading_outcome}
 use Rattle.outcome.specs.Given.{Given, IsChosenFor, IsClashBy, IsGiven, IsListingFor, MayBeGiven, MayBeListedFor, MayClash, nothing_given}
-use Rattle.outcome.specs.Effect.{Effect, Computes, Reads as OnlyReading, Tells, Makes, Changes, does_only_read, does_recover, does_rest_on_words, effect_by, effect_of, output, output_by, output_if, reads_only, rests_on_words}
-use Rattle.outcome.specs.Words.{IsFoundOutcome, IsFoundOutcomeBy, IsOutcome, IsOutcomeBy}
+use Rattle.outcome.specs.Effect.{Effect, Computes, Reads as OnlyReading, Tells, Makes, Changes, does_only_read, does_recover, ignores_files, effect_by, effect_of, output, output_by, output_if, reads_only, depends_only_on_arguments}
+use Rattle.outcome.specs.Words.{IsPossibleOutcome, IsOutcome}
 use Rattle.outcome.specs.Work.{recovery_fault}
 use Rattle.outcome.specs.Outcome.{Outcome, just_refusal, just_report, outcome_of, report_unless}
 use Rattle.report_core.specs.declared.refusal.Refusal.{Refusal}
@@ -40,10 +41,10 @@ use Rattle.command_core.specs.declared.operands.Operand.{Operand}
 use Rattle.outcome.proofs.Looking.{look_leaves}
 use Rattle.apk_front.specs.Answers.{answer_by}
 use Rattle.apk_front.specs.Effects.{access_of}
-use Rattle.apk_front.specs.Moments.{AnswersOutcome, AreReadOnTheWay, AreSafe, CommitsNothing, HasNothingToRecover, HasRoomToWrite, HidesScratchOf, IsAtRest, IsLeftUndone, LeavesAtRest, LeavesLasting, LeavesRoom, LeavesRoomFor, LeavesSettled, Settles, UnreadNamesLast, ignored_but}
-use Rattle.apk_front.specs.Runs.{IfNothingWaits, IsRun, IsWholeRun, IsWithoutCommit}
+use Rattle.apk_front.specs.Moments.{AnswersOutcome, AreReadDuringRun, AreOldOrLeadToOutcome, CommitsNothing, HasNothingToRecover, ArePathsToWriteFree, IgnoresScratchOf, IsDurableState, IsNotCarriedOut, LeavesDurableState, LeavesDurableOnceAnswered, AreRunPathsFree, AreOutcomePathsFree, LeavesDurable, MakesDurable, NamesAreDurableWithoutIntentExcept, ignored_but}
+use Rattle.apk_front.specs.Runs.{IfNothingStaged, IsRun, IsWholeRun, IsWithoutCommit}
 use Rattle.apk_front.specs.Containers.{IsIndexOutcome, IsPackageOutcome}
-use Rattle.apk_front.specs.Verdicts.{IsPrinted, IsShown, Reports, ReportsOne, as_outcome}
+use Rattle.apk_front.specs.Verdicts.{IsPrinted, IsShown, Reports, ReportsOne, as_outcome, looked_outcome}
 use Rattle.apk_front.specs.declared.answer.Answer.{Answer}
 use Rattle.apk_front.specs.declared.answer.Answer.TheVariants.{Ok as Done, Refused, TreeFault as TreeFailed, OutFault, Memory}
 use Rattle.apk_front.specs.declared.answer.Verdict.{Verdict}
@@ -56,20 +57,20 @@ use Rattle.apk_front.proofs.Runs.{History, Judged, Leaves, ok_always, run_among}
 -- ---- an applet that only reads
 
 abbrev pub Ones : CommandLine → TreeState → Outcome → Type 0
-Ones command v = IsOutcomeOver command (files_of v)
+Ones command v = IsOutcomeOn command (files_of v)
 
 -- the outcomes of a command that may first recover
 abbrev pub Wholes : CommandLine → TreeState → Outcome → Type 0
 Wholes command v = IsOutcomeOf (Ok command) (files_of v)
 
-pub look_found : (command : CommandLine) (old : History) (judged : Judged) → does_only_read (effect_of command.applet) ≡ true → IfOk judged (λ verdict. IfObservable old (λ v. as_outcome (files_of v) verdict ≡ command_outcome command nothing_given (reads_in (files_of v)) (files_of v)))
+pub look_found : (command : CommandLine) (old : History) (judged : Judged) → does_only_read (effect_of command.applet) ≡ true → IfOk judged (λ verdict. IfObservable old (λ v. as_outcome (files_of v) verdict ≡ looked_outcome command (reads_in (files_of v)) (files_of v)))
     → IfOk judged (λ verdict. IfObservable old (λ v. ReportsOne (Wholes command v) verdict))
 look_found command old (Err e) reads found = tt
 look_found command [] (Ok verdict) reads found = tt
 look_found command (v ∷ rest) (Ok verdict) reads found =
     (as_outcome (files_of v) verdict, of_over command (files_of v) (as_outcome (files_of v) verdict) (reads_without (effect_of command.applet) reads) (nothing_given, none_given command (reads_in (files_of v)) (files_of v) reads, found), refl)
 
-pub look_read : (command : CommandLine) (judged : Judged) → does_only_read (effect_of command.applet) ≡ true → IfOk judged (λ verdict. (read : Reads) × (as_outcome no_names verdict ≡ command_outcome command nothing_given read no_names)) → IfOk judged (ReportsOne (IsFoundOutcomeOf (Ok command)))
+pub look_read : (command : CommandLine) (judged : Judged) → does_only_read (effect_of command.applet) ≡ true → IfOk judged (λ verdict. (read : Reads) × (as_outcome no_names verdict ≡ looked_outcome command read no_names)) → IfOk judged (ReportsOne (IsPossibleOutcomeOf command))
 look_read command (Err e) reads found = tt
 look_read command (Ok verdict) reads (read, is) = (as_outcome no_names verdict, inl (nothing_given, read, no_names, none_by_some command read no_names reads, inl is), refl)
 
@@ -113,115 +114,115 @@ makes_package command same = sym (ap effect_of same)
 makes_index : (command : CommandLine) → Mkndx ≡ command.applet → effect_of command.applet ≡ Makes
 makes_index command same = sym (ap effect_of same)
 
-package_one : (command : CommandLine) (files : Files) (o : Outcome) → Mkpkg ≡ command.applet → IsPackageOutcome command files o → IsOutcomeOver command files o
+package_one : (command : CommandLine) (files : Files) (o : Outcome) → Mkpkg ≡ command.applet → IsPackageOutcome command files o → IsOutcomeOn command files o
 package_one command files o same (names, are, is) =
-    (listed names, given_of_names command files names (makes_package command same) (subst (λ (a : Applet). IsListingFor a command files names) same are), is ∙ ap (λ (a : Applet). applet_outcome a command (listed names) (reads_in files) files) same)
+    (listed names, given_of_names command files names (makes_package command same) (subst (λ (a : Applet). IsListingFor a command files names) same are), is ∙ ap (λ (a : Applet). effect_outcome (effect_of a) a command (listed names) (reads_in files) files) same)
 
-one_package : (command : CommandLine) (files : Files) (o : Outcome) → Mkpkg ≡ command.applet → IsOutcomeOver command files o → IsPackageOutcome command files o
+one_package : (command : CommandLine) (files : Files) (o : Outcome) → Mkpkg ≡ command.applet → IsOutcomeOn command files o → IsPackageOutcome command files o
 one_package command files o same (given, are, is) =
-    (given.names, subst (λ (a : Applet). IsListingFor a command files given.names) (sym same) are.names, is ∙ ap (λ (a : Applet). applet_outcome a command given (reads_in files) files) (sym same))
+    (given.names, subst (λ (a : Applet). IsListingFor a command files given.names) (sym same) are.names, is ∙ ap (λ (a : Applet). effect_outcome (effect_of a) a command given (reads_in files) files) (sym same))
 
-index_one : (command : CommandLine) (files : Files) (o : Outcome) → Mkndx ≡ command.applet → IsIndexOutcome command files o → IsOutcomeOver command files o
+index_one : (command : CommandLine) (files : Files) (o : Outcome) → Mkndx ≡ command.applet → IsIndexOutcome command files o → IsOutcomeOn command files o
 index_one command files o same is =
-    (listed [], given_of_names command files [] (makes_index command same) (subst (λ (a : Applet). IsListingFor a command files []) same refl), is ∙ ap (λ (a : Applet). applet_outcome a command (listed []) (reads_in files) files) same)
+    (listed [], given_of_names command files [] (makes_index command same) (subst (λ (a : Applet). IsListingFor a command files []) same refl), is ∙ ap (λ (a : Applet). effect_outcome (effect_of a) a command (listed []) (reads_in files) files) same)
 
-one_index : (command : CommandLine) (files : Files) (o : Outcome) → Mkndx ≡ command.applet → IsOutcomeOver command files o → IsIndexOutcome command files o
-one_index command files o same (given, are, is) = is ∙ ap (λ (a : Applet). applet_outcome a command given (reads_in files) files) (sym same)
+one_index : (command : CommandLine) (files : Files) (o : Outcome) → Mkndx ≡ command.applet → IsOutcomeOn command files o → IsIndexOutcome command files o
+one_index command files o same (given, are, is) = is ∙ ap (λ (a : Applet). effect_outcome (effect_of a) a command given (reads_in files) files) (sym same)
 
 reports_among : (A B : TreeState → Outcome → Type 0) (old : History) (judged : Judged) → ((v : TreeState) (o : Outcome) → A v o → B v o) → IfOk judged (λ verdict. IfObservable old (λ v. ReportsOne (A v) verdict))
-    → IfOk judged (λ verdict. IfNothingWaits old (λ v. ReportsOne (B v) verdict))
+    → IfOk judged (λ verdict. IfNothingStaged old (λ v. ReportsOne (B v) verdict))
 reports_among A B old (Err e) f found = tt
 reports_among A B [] (Ok verdict) f found = tt
 reports_among A B (v ∷ rest) (Ok verdict) f (o, one, reports) = λ nothing. (o, f v o one, reports)
 
 pub package_found_one : (command : CommandLine) (old : History) (judged : Judged) → Mkpkg ≡ command.applet → IfOk judged (λ verdict. IfObservable old (λ v. ReportsOne (IsPackageOutcome command (files_of v)) verdict))
-    → IfOk judged (λ verdict. IfNothingWaits old (λ v. ReportsOne (Ones command v) verdict))
+    → IfOk judged (λ verdict. IfNothingStaged old (λ v. ReportsOne (Ones command v) verdict))
 package_found_one command old judged same found = reports_among (λ v. IsPackageOutcome command (files_of v)) (Ones command) old judged (λ v o one. package_one command (files_of v) o same one) found
 
 pub index_found_one : (command : CommandLine) (old : History) (judged : Judged) → Mkndx ≡ command.applet → IfOk judged (λ verdict. IfObservable old (λ v. ReportsOne (IsIndexOutcome command (files_of v)) verdict))
-    → IfOk judged (λ verdict. IfNothingWaits old (λ v. ReportsOne (Ones command v) verdict))
+    → IfOk judged (λ verdict. IfNothingStaged old (λ v. ReportsOne (Ones command v) verdict))
 index_found_one command old judged same found = reports_among (λ v. IsIndexOutcome command (files_of v)) (Ones command) old judged (λ v o one. index_one command (files_of v) o same one) found
 
 pub package_read_one : (command : CommandLine) (judged : Judged) → Mkpkg ≡ command.applet → IfOk judged (λ verdict. (names : List (List ℕ)) × AreNamesFor (values_with FILES command.values) names × (read : Reads) × Reports verdict (mkpkg read no_names command names))
-    → IfOk judged (ReportsOne (IsFoundOver command))
+    → IfOk judged (ReportsOne (IsPossibleOutcomeOn command))
 package_read_one command (Err e) same found = tt
 package_read_one command (Ok verdict) same (names, named, read, reports) =
-    (mkpkg read no_names command names, (listed names, read, no_names, given_by_some command read no_names names (makes_package command same) (subst (λ (a : Applet). MayBeListedFor a command names) same named), inl (ap (λ (a : Applet). applet_outcome a command (listed names) read no_names) same)), reports)
+    (mkpkg read no_names command names, (listed names, read, no_names, given_by_some command read no_names names (makes_package command same) (subst (λ (a : Applet). MayBeListedFor a command names) same named), inl (ap (λ (a : Applet). effect_outcome (effect_of a) a command (listed names) read no_names) same)), reports)
 
 pub index_read_one : (command : CommandLine) (judged : Judged) → Mkndx ≡ command.applet → IfOk judged (λ verdict. (read : Reads) × AreFiles read 0 command.operands × Reports verdict (mkndx read no_names command))
-    → IfOk judged (ReportsOne (IsFoundOver command))
+    → IfOk judged (ReportsOne (IsPossibleOutcomeOn command))
 index_read_one command (Err e) same found = tt
 index_read_one command (Ok verdict) same (read, files, reports) =
-    (mkndx read no_names command, (listed [], read, no_names, given_by_some command read no_names [] (makes_index command same) (subst (λ (a : Applet). MayBeListedFor a command []) same refl), inl (ap (λ (a : Applet). applet_outcome a command (listed []) read no_names) same)), reports)
+    (mkndx read no_names command, (listed [], read, no_names, given_by_some command read no_names [] (makes_index command same) (subst (λ (a : Applet). MayBeListedFor a command []) same refl), inl (ap (λ (a : Applet). effect_outcome (effect_of a) a command (listed []) read no_names) same)), reports)
 
 runs_among : (A B : TreeState → Outcome → Type 0) (out : Option (List ℕ)) (judged : Judged) (old now : History) → ((v : TreeState) (o : Outcome) → A v o → B v o) → ((v : TreeState) (o : Outcome) → B v o → A v o)
-    → IfObservable old (λ v. IsRun (A v) Makes out judged v old now) → IfNothingWaits old (λ v. IsRun (B v) Makes out judged v old now)
+    → IfObservable old (λ v. IsRun (A v) Makes out judged v old now) → IfNothingStaged old (λ v. IsRun (B v) Makes out judged v old now)
 runs_among A B out judged [] now into from run = tt
 runs_among A B out judged (v ∷ rest) now into from run = λ nothing. run_among (A v) (B v) Makes out judged v (v ∷ rest) now (into v) (from v) run
 
 pub package_run : (command : CommandLine) (judged : Judged) (old now : History) → Mkpkg ≡ command.applet → IfObservable old (λ v. IsRun (IsPackageOutcome command (files_of v)) Makes (output_name command) judged v old now)
-    → IfNothingWaits old (λ v. IsRun (Ones command v) (effect_of command.applet) (output_if (effect_of command.applet) command) judged v old now)
+    → IfNothingStaged old (λ v. IsRun (Ones command v) (effect_of command.applet) (output_if (effect_of command.applet) command) judged v old now)
 package_run command judged old now same run =
-    subst (λ (a : Applet). IfNothingWaits old (λ v. IsRun (Ones command v) (effect_of a) (output_if (effect_of a) command) judged v old now)) same
+    subst (λ (a : Applet). IfNothingStaged old (λ v. IsRun (Ones command v) (effect_of a) (output_if (effect_of a) command) judged v old now)) same
     (runs_among (λ v. IsPackageOutcome command (files_of v)) (Ones command) (output_name command) judged old now (λ v o one. package_one command (files_of v) o same one) (λ v o one. one_package command (files_of v) o same one) run)
 
 pub index_run : (command : CommandLine) (judged : Judged) (old now : History) → Mkndx ≡ command.applet → IfObservable old (λ v. IsRun (IsIndexOutcome command (files_of v)) Makes (output_name command) judged v old now)
-    → IfNothingWaits old (λ v. IsRun (Ones command v) (effect_of command.applet) (output_if (effect_of command.applet) command) judged v old now)
+    → IfNothingStaged old (λ v. IsRun (Ones command v) (effect_of command.applet) (output_if (effect_of command.applet) command) judged v old now)
 index_run command judged old now same run =
-    subst (λ (a : Applet). IfNothingWaits old (λ v. IsRun (Ones command v) (effect_of a) (output_if (effect_of a) command) judged v old now)) same
+    subst (λ (a : Applet). IfNothingStaged old (λ v. IsRun (Ones command v) (effect_of a) (output_if (effect_of a) command) judged v old now)) same
     (runs_among (λ v. IsIndexOutcome command (files_of v)) (Ones command) (output_name command) judged old now (λ v o one. index_one command (files_of v) o same one) (λ v o one. one_index command (files_of v) o same one) run)
 
 -- where memory ran out nothing was written
-pub undone_anyway : (old : History) (P : Type 0) → P → IfNothingWaits old (λ v. P)
+pub undone_anyway : (old : History) (P : Type 0) → P → IfNothingStaged old (λ v. P)
 undone_anyway [] P p = tt
 undone_anyway (v ∷ rest) P p = λ nothing. p
 
 -- room for each of some outcomes
 abbrev pub RoomFor : (Outcome → Type 0) → Effect → Option (List ℕ) → Files → Type 0
-RoomFor IsOne effect out files = (o : Outcome) → IsOne o → o.commits ≡ true → HasRoomToWrite effect out files
+RoomFor IsOne effect out files = (o : Outcome) → IsOne o → o.commits ≡ true → ArePathsToWriteFree effect out files
 
-rooms_among : (A B : TreeState → Outcome → Type 0) (out : Option (List ℕ)) (old : History) (P : Type 0) → ((v : TreeState) (o : Outcome) → A v o → B v o) → IfObservable old (λ v. RoomFor (A v) Makes out (files_of v) → P) → IfNothingWaits old (λ v. RoomFor (B v) Makes out (files_of v) → P)
+rooms_among : (A B : TreeState → Outcome → Type 0) (out : Option (List ℕ)) (old : History) (P : Type 0) → ((v : TreeState) (o : Outcome) → A v o → B v o) → IfObservable old (λ v. RoomFor (A v) Makes out (files_of v) → P) → IfNothingStaged old (λ v. RoomFor (B v) Makes out (files_of v) → P)
 rooms_among A B out [] P f proper = tt
 rooms_among A B out (v ∷ rest) P f proper = λ nothing room. proper (λ o one commits. room o (f v o one) commits)
 
 pub package_proper : (command : CommandLine) (old : History) (P : Type 0) → Mkpkg ≡ command.applet → IfObservable old (λ v. RoomFor (IsPackageOutcome command (files_of v)) Makes (output_name command) (files_of v) → P)
-    → IfNothingWaits old (λ v. RoomFor (Ones command v) (effect_of command.applet) (output_if (effect_of command.applet) command) (files_of v) → P)
+    → IfNothingStaged old (λ v. RoomFor (Ones command v) (effect_of command.applet) (output_if (effect_of command.applet) command) (files_of v) → P)
 package_proper command old P same proper =
-    subst (λ (a : Applet). IfNothingWaits old (λ v. RoomFor (Ones command v) (effect_of a) (output_if (effect_of a) command) (files_of v) → P)) same
+    subst (λ (a : Applet). IfNothingStaged old (λ v. RoomFor (Ones command v) (effect_of a) (output_if (effect_of a) command) (files_of v) → P)) same
     (rooms_among (λ v. IsPackageOutcome command (files_of v)) (Ones command) (output_name command) old P (λ v o one. package_one command (files_of v) o same one) proper)
 
 pub index_proper : (command : CommandLine) (old : History) (P : Type 0) → Mkndx ≡ command.applet → IfObservable old (λ v. RoomFor (IsIndexOutcome command (files_of v)) Makes (output_name command) (files_of v) → P)
-    → IfNothingWaits old (λ v. RoomFor (Ones command v) (effect_of command.applet) (output_if (effect_of command.applet) command) (files_of v) → P)
+    → IfNothingStaged old (λ v. RoomFor (Ones command v) (effect_of command.applet) (output_if (effect_of command.applet) command) (files_of v) → P)
 index_proper command old P same proper =
-    subst (λ (a : Applet). IfNothingWaits old (λ v. RoomFor (Ones command v) (effect_of a) (output_if (effect_of a) command) (files_of v) → P)) same
+    subst (λ (a : Applet). IfNothingStaged old (λ v. RoomFor (Ones command v) (effect_of a) (output_if (effect_of a) command) (files_of v) → P)) same
     (rooms_among (λ v. IsIndexOutcome command (files_of v)) (Ones command) (output_name command) old P (λ v o one. index_one command (files_of v) o same one) proper)
 
 -- ---- the words
 
 -- the outcomes of each command, `demo` too
 abbrev pub OfCommand : CommandLine → TreeState → Outcome → Type 0
-OfCommand command v = IsOutcomeBy (Ok command) (files_of v)
+OfCommand command v = IsOutcome (Ok command) (files_of v)
 
 pub by_command : (words : List (List ℕ)) (command : CommandLine) (old : History) (judged : Judged) → command_of words ≡ Ok command → IfOk judged (λ verdict. IfObservable old (λ v. ReportsOne (OfCommand command v) verdict))
-    → IfOk judged (λ verdict. IfObservable old (λ v. ReportsOne (IsOutcome words (files_of v)) verdict))
-by_command words command old judged is found = subst (λ (r : Result CommandLine ℕ). IfOk judged (λ verdict. IfObservable old (λ v. ReportsOne (IsOutcomeBy r (files_of v)) verdict))) (sym is) found
+    → IfOk judged (λ verdict. IfObservable old (λ v. ReportsOne (IsOutcome (command_of words) (files_of v)) verdict))
+by_command words command old judged is found = subst (λ (r : Result CommandLine ℕ). IfOk judged (λ verdict. IfObservable old (λ v. ReportsOne (IsOutcome r (files_of v)) verdict))) (sym is) found
 
 pub run_by_command : (words : List (List ℕ)) (command : CommandLine) (judged : Judged) (old now : History) → command_of words ≡ Ok command
     → IfObservable old (λ v. IsWholeRun (OfCommand command v) (effect_of command.applet) (output_if (effect_of command.applet) command) judged v old now) → Runs words judged old now
-run_by_command words command judged old now is run = subst (λ (r : Result CommandLine ℕ). IfObservable old (λ v. IsWholeRun (IsOutcomeBy r (files_of v)) (effect_by r) (output_by r) judged v old now)) (sym is) run
+run_by_command words command judged old now is run = subst (λ (r : Result CommandLine ℕ). IfObservable old (λ v. IsWholeRun (IsOutcome r (files_of v)) (effect_by r) (output_by r) judged v old now)) (sym is) run
 
 pub proper_by_command : (words : List (List ℕ)) (command : CommandLine) (old : History) (P : Type 0) → command_of words ≡ Ok command
-    → IfObservable old (λ v. LeavesRoomFor (effect_of command.applet) (output_if (effect_of command.applet) command) (OfCommand command v) (files_of v) → P) → IfObservable old (λ v. LeavesRoom words (files_of v) → P)
-proper_by_command words command old P is proper = subst (λ (r : Result CommandLine ℕ). IfObservable old (λ v. LeavesRoomFor (effect_by r) (output_by r) (IsOutcomeBy r (files_of v)) (files_of v) → P)) (sym is) proper
+    → IfObservable old (λ v. AreOutcomePathsFree (effect_of command.applet) (output_if (effect_of command.applet) command) (OfCommand command v) (files_of v) → P) → IfObservable old (λ v. AreRunPathsFree words (files_of v) → P)
+proper_by_command words command old P is proper = subst (λ (r : Result CommandLine ℕ). IfObservable old (λ v. AreOutcomePathsFree (effect_by r) (output_by r) (IsOutcome r (files_of v)) (files_of v) → P)) (sym is) proper
 
-pub found_by_command : (words : List (List ℕ)) (command : CommandLine) (judged : Judged) → command_of words ≡ Ok command → IfOk judged (ReportsOne (IsFoundOutcomeBy (Ok command))) → IfOk judged (ReportsOne (IsFoundOutcome words))
-found_by_command words command judged is found = subst (λ (r : Result CommandLine ℕ). IfOk judged (ReportsOne (IsFoundOutcomeBy r))) (sym is) found
+pub found_by_command : (words : List (List ℕ)) (command : CommandLine) (judged : Judged) → command_of words ≡ Ok command → IfOk judged (ReportsOne (IsPossibleOutcome (Ok command))) → IfOk judged (ReportsOne (IsPossibleOutcome (command_of words)))
+found_by_command words command judged is found = subst (λ (r : Result CommandLine ℕ). IfOk judged (ReportsOne (IsPossibleOutcome r))) (sym is) found
 
 pub words_by_command : (words : List (List ℕ)) (command : CommandLine) (judged : Judged) → command_of words ≡ Ok command
-    → (IsTrue (does_rest_on_words (effect_of command.applet)) → MatchResult judged (λ verdict. (files : Files) → IsOutcomeBy (Ok command) files (as_outcome files verdict)) (λ fault. fault ≡ NoMemory))
-    → IsTrue (rests_on_words (command_of words)) → MatchResult judged (λ verdict. (files : Files) → IsOutcome words files (as_outcome files verdict)) (λ fault. fault ≡ NoMemory)
+    → (IsTrue (ignores_files (effect_of command.applet)) → MatchResult judged (λ verdict. (files : Files) → IsOutcome (Ok command) files (as_outcome files verdict)) (λ fault. fault ≡ NoMemory))
+    → IsTrue (depends_only_on_arguments (command_of words)) → MatchResult judged (λ verdict. (files : Files) → IsOutcome (command_of words) files (as_outcome files verdict)) (λ fault. fault ≡ NoMemory)
 words_by_command words command judged is found =
-    subst (λ (r : Result CommandLine ℕ). IsTrue (rests_on_words r) → MatchResult judged (λ verdict. (files : Files) → IsOutcomeBy r files (as_outcome files verdict)) (λ fault. fault ≡ NoMemory)) (sym is) found
+    subst (λ (r : Result CommandLine ℕ). IsTrue (depends_only_on_arguments r) → MatchResult judged (λ verdict. (files : Files) → IsOutcome r files (as_outcome files verdict)) (λ fault. fault ≡ NoMemory)) (sym is) found
 
 pub same_by_command : (words : List (List ℕ)) (command : CommandLine) (P : Type 0) → command_of words ≡ Ok command → (IsTrue (does_only_read (effect_of command.applet)) → P) → IsTrue (reads_only (command_of words)) → P
 same_by_command words command P is same = subst (λ (r : Result CommandLine ℕ). IsTrue (reads_only r) → P) (sym is) same
@@ -234,35 +235,35 @@ pub usage_run : (words : List (List ℕ)) (q : ℕ) (fault : WordsFault) (judged
 usage_run words q fault judged [] is of = tt
 usage_run words q fault judged (v ∷ rest) is of =
     let read : command_of words ≡ Err q = subst (λ (f : WordsFault). IsWordsFault f (command_of words)) is of in
-    whole_idle (IsOutcome words (files_of v)) (effect_by (command_of words)) (output words) judged v rest (v ∷ rest) refl
-    (λ o one. let is_refused : o ≡ just_refusal (files_of v) (Usage q) = subst (λ (r : Result CommandLine ℕ). IsOutcomeBy r (files_of v) o) read one in
+    whole_idle (IsOutcome (command_of words) (files_of v)) (effect_by (command_of words)) (output words) judged v rest (v ∷ rest) refl
+    (λ o one. let is_refused : o ≡ just_refusal (files_of v) (Usage q) = subst (λ (r : Result CommandLine ℕ). IsOutcome r (files_of v) o) read one in
     ok_always (LeavesAll (effect_by (command_of words)) v o) judged (subst (Leaves (files_of v)) (sym is_refused) (refl, refl), λ can. usage_recovers_not (command_of words) q read can.0))
 
 pub failed_run : (words : List (List ℕ)) (e : TreeFault) (old : History) → Runs words (Err e) old old
 failed_run words e [] = tt
-failed_run words e (v ∷ rest) = whole_idle (IsOutcome words (files_of v)) (effect_by (command_of words)) (output words) (Err e) v rest (v ∷ rest) refl (λ o one. tt)
+failed_run words e (v ∷ rest) = whole_idle (IsOutcome (command_of words) (files_of v)) (effect_by (command_of words)) (output words) (Err e) v rest (v ∷ rest) refl (λ o one. tt)
 
 -- ---- the answer
 
 pub reads_by : (words : List (List ℕ)) (judged : Judged) (old now : History) → Runs words judged old now
-    → IfObservable old (λ v. AreReadOnTheWay (IsOutcome words (files_of v)) (effect_by (command_of words)) (output words) v old now)
+    → IfObservable old (λ v. AreReadDuringRun (IsOutcome (command_of words) (files_of v)) (effect_by (command_of words)) (output words) v old now)
 reads_by words judged [] now run = tt
 reads_by words judged (v ∷ rest) now run = run.reads
 
 pub last_by : (words : List (List ℕ)) (judged : Judged) (old now : History) → Runs words judged old now
-    → IfObservable old (λ v. IsSome (v.names intent_name) → Since (UnreadNamesLast (output words)) old now)
+    → IfObservable old (λ v. IsSome (v.names intent_name) → Since (NamesAreDurableWithoutIntentExcept (output words)) old now)
 last_by words judged [] now run = tt
 last_by words judged (v ∷ rest) now run = run.last
 
 pub crash_by : (words : List (List ℕ)) (judged : Judged) (old now : History) → Runs words judged old now
-    → IfObservable old (λ v. (ignored : List ℕ → Bool) → IsOrderly (RestsOn ignored) v → HidesScratchOf (output words) ignored → AreSafe (IsOutcome words (files_of v)) (is_some (output words)) ignored v old now)
+    → IfObservable old (λ v. (ignored : List ℕ → Bool) → IsDurable (StateDependsOn ignored) v → IgnoresScratchOf (output words) ignored → AreOldOrLeadToOutcome (IsOutcome (command_of words) (files_of v)) (is_some (output words)) ignored v old now)
 crash_by words judged [] now run = tt
 crash_by words judged (v ∷ rest) now run = run.moments
 
-pub orderly_by : (words : List (List ℕ)) (judged : Judged) (old now : History) → Runs words judged old now
-    → IfObservable old (λ v. (ignored : List ℕ → Bool) → IsOrderly (RestsOn ignored) v → HidesScratchOf (output words) ignored → HasNow now (IsOrderly (RestsOn ignored)))
-orderly_by words judged [] now run = tt
-orderly_by words judged (v ∷ rest) now run = run.orderly
+pub durable_by : (words : List (List ℕ)) (judged : Judged) (old now : History) → Runs words judged old now
+    → IfObservable old (λ v. (ignored : List ℕ → Bool) → IsDurable (StateDependsOn ignored) v → IgnoresScratchOf (output words) ignored → HoldsNow now (IsDurable (StateDependsOn ignored)))
+durable_by words judged [] now run = tt
+durable_by words judged (v ∷ rest) now run = run.is_durable
 
 -- ---- the outcome is carried out
 
@@ -275,7 +276,7 @@ the_refusal None r same = cc
 the_refusal (Some x) r same = cc
 
 lasting_shown : (IsOne : Outcome → Type 0) (effect : Effect) (ignored : List ℕ → Bool) (v : TreeState) (now : History) (verdict : Verdict) (o : Outcome) (answer : Answer) (out err : SinkChange) → IsOne o → Reports verdict o
-    → LeavesSettled effect ignored v now o → IsPrinted (as_outcome o.files verdict) answer out err → LeavesLasting IsOne effect ignored v now answer
+    → LeavesDurable effect ignored v now o → IsPrinted (as_outcome o.files verdict) answer out err → LeavesDurableOnceAnswered IsOne effect ignored v now answer
 lasting_shown IsOne effect ignored v now verdict o Done out err one reports lasts printed =
     (o, one, sym (ap (λ (x : Outcome). x.refusal) reports) ∙ no_refusal verdict.refusal printed.same, lasts)
 lasting_shown IsOne effect ignored v now verdict o (Refused r) out err one reports lasts printed =
@@ -285,17 +286,17 @@ lasting_shown IsOne effect ignored v now verdict o TreeFailed out err one report
 lasting_shown IsOne effect ignored v now verdict o Memory out err one reports lasts printed = tt
 
 lasting_judged : (IsOne : Outcome → Type 0) (effect : Effect) (ignored : List ℕ → Bool) (v : TreeState) (now : History) (judged : Judged) (answer : Answer) (out err : SinkChange) → IfOk judged (ReportsOne IsOne) → IsShown judged answer out err
-    → ((o : Outcome) → IsOne o → Settles effect ignored v o → OnOk judged (HasNow now (IsSettled ignored o.files))) → LeavesLasting IsOne effect ignored v now answer
+    → ((o : Outcome) → IsOne o → MakesDurable effect ignored v o → OnOk judged (HoldsNow now (EachCrashLeaves ignored o.files))) → LeavesDurableOnceAnswered IsOne effect ignored v now answer
 lasting_judged IsOne effect ignored v now (Ok verdict) answer out err (o, one, reports) is_shown settled = lasting_shown IsOne effect ignored v now verdict o answer out err one reports (settled o one) (is_shown o.files)
-lasting_judged IsOne effect ignored v now (Err Disk) answer out err found is_shown settled = subst (LeavesLasting IsOne effect ignored v now) (sym is_shown.0) tt
-lasting_judged IsOne effect ignored v now (Err NoMemory) answer out err found is_shown settled = subst (LeavesLasting IsOne effect ignored v now) (sym is_shown.0) tt
+lasting_judged IsOne effect ignored v now (Err Disk) answer out err found is_shown settled = subst (LeavesDurableOnceAnswered IsOne effect ignored v now) (sym is_shown.0) tt
+lasting_judged IsOne effect ignored v now (Err NoMemory) answer out err found is_shown settled = subst (LeavesDurableOnceAnswered IsOne effect ignored v now) (sym is_shown.0) tt
 
-pub settled_by : (words : List (List ℕ)) (judged : Judged) (answer : Answer) (out err : SinkChange) (old now : History) → IsShown judged answer out err → IfOk judged (λ verdict. IfObservable old (λ v. ReportsOne (IsOutcome words (files_of v)) verdict)) → Runs words judged old now
-    → IfObservable old (λ v. (ignored : List ℕ → Bool) → IsOrderly (RestsOn ignored) v → HidesScratchOf (output words) ignored → LeavesLasting (IsOutcome words (files_of v)) (effect_by (command_of words)) ignored v now answer)
+pub settled_by : (words : List (List ℕ)) (judged : Judged) (answer : Answer) (out err : SinkChange) (old now : History) → IsShown judged answer out err → IfOk judged (λ verdict. IfObservable old (λ v. ReportsOne (IsOutcome (command_of words) (files_of v)) verdict)) → Runs words judged old now
+    → IfObservable old (λ v. (ignored : List ℕ → Bool) → IsDurable (StateDependsOn ignored) v → IgnoresScratchOf (output words) ignored → LeavesDurableOnceAnswered (IsOutcome (command_of words) (files_of v)) (effect_by (command_of words)) ignored v now answer)
 settled_by words judged answer out err [] now is_shown found run = tt
-settled_by words judged answer out err (v ∷ rest) now is_shown found run = λ ignored orderly hides.
-    lasting_judged (IsOutcome words (files_of v)) (effect_by (command_of words)) ignored v now judged answer out err (found_at v rest judged (λ verdict w. ReportsOne (IsOutcome words (files_of w)) verdict) found) is_shown
-    (λ o one lasts. run.settled ignored o orderly hides one lasts)
+settled_by words judged answer out err (v ∷ rest) now is_shown found run = λ ignored is_durable hides.
+    lasting_judged (IsOutcome (command_of words) (files_of v)) (effect_by (command_of words)) ignored v now judged answer out err (found_at v rest judged (λ verdict w. ReportsOne (IsOutcome (command_of words) (files_of w)) verdict) found) is_shown
+    (λ o one lasts. run.settled ignored o is_durable hides one lasts)
 
 -- ---- nothing is committed
 
@@ -305,35 +306,35 @@ refused_answer (Some x) r same = refl
 
 -- a refusal commits nothing
 abbrev pub RefusesAll : Type 0
-RefusesAll = (words : List (List ℕ)) (files : Files) (o : Outcome) → IsOutcome words files o → IsSome o.refusal → o.commits ≡ false
+RefusesAll = (words : List (List ℕ)) (files : Files) (o : Outcome) → IsOutcome (command_of words) files o → IsSome o.refusal → o.commits ≡ false
 
-undone_without : RefusesAll → (words : List (List ℕ)) (v : TreeState) (judged : Judged) (answer : Answer) (out err : SinkChange) → IsShown judged answer out err → IfOk judged (ReportsOne (IsOutcome words (files_of v))) → IsLeftUndone answer → IsWithoutCommit (IsOutcome words (files_of v)) judged
+undone_without : RefusesAll → (words : List (List ℕ)) (v : TreeState) (judged : Judged) (answer : Answer) (out err : SinkChange) → IsShown judged answer out err → IfOk judged (ReportsOne (IsOutcome (command_of words) (files_of v))) → IsNotCarriedOut answer → IsWithoutCommit (IsOutcome (command_of words) (files_of v)) judged
 undone_without law words v (Ok verdict) Done out err is_shown found undone = absurd undone
 undone_without law words v (Ok verdict) (Refused r) out err is_shown (o, one, reports) undone =
     inr (o, one, law words (files_of v) o one (subst (λ (x : Option Refusal). IsSome x) (ap (λ (x : Outcome). x.refusal) reports) (refused_answer verdict.refusal r (is_shown no_names).same)))
 undone_without law words v (Ok verdict) TreeFailed out err is_shown found undone = absurd undone
 undone_without law words v (Ok verdict) OutFault out err is_shown found undone = absurd undone
 undone_without law words v (Ok verdict) Memory out err is_shown found undone = absurd (is_shown no_names)
-undone_without law words v (Err Disk) answer out err is_shown found undone = absurd (subst IsLeftUndone is_shown.0 undone)
+undone_without law words v (Err Disk) answer out err is_shown found undone = absurd (subst IsNotCarriedOut is_shown.0 undone)
 undone_without law words v (Err NoMemory) answer out err is_shown found undone = inl refl
 
-without : RefusesAll → (words : List (List ℕ)) (v : TreeState) (judged : Judged) (answer : Answer) (out err : SinkChange) → IsShown judged answer out err → IfOk judged (ReportsOne (IsOutcome words (files_of v))) → CommitsNothing (IsOutcome words (files_of v)) answer → IsWithoutCommit (IsOutcome words (files_of v)) judged
+without : RefusesAll → (words : List (List ℕ)) (v : TreeState) (judged : Judged) (answer : Answer) (out err : SinkChange) → IsShown judged answer out err → IfOk judged (ReportsOne (IsOutcome (command_of words) (files_of v))) → CommitsNothing (IsOutcome (command_of words) (files_of v)) answer → IsWithoutCommit (IsOutcome (command_of words) (files_of v)) judged
 without law words v judged answer out err is_shown found (inl undone) = undone_without law words v judged answer out err is_shown found undone
 without law words v judged answer out err is_shown found (inr one) = inr one
 
 abbrev pub FindsOne : List (List ℕ) → Judged → History → Type 0
-FindsOne words judged old = IfOk judged (λ verdict. IfObservable old (λ v. ReportsOne (IsOutcome words (files_of v)) verdict))
+FindsOne words judged old = IfOk judged (λ verdict. IfObservable old (λ v. ReportsOne (IsOutcome (command_of words) (files_of v)) verdict))
 
-found_first : (words : List (List ℕ)) (judged : Judged) (v : TreeState) (rest : History) → FindsOne words judged (v ∷ rest) → IfOk judged (ReportsOne (IsOutcome words (files_of v)))
-found_first words judged v rest found = found_at v rest judged (λ verdict w. ReportsOne (IsOutcome words (files_of w)) verdict) found
+found_first : (words : List (List ℕ)) (judged : Judged) (v : TreeState) (rest : History) → FindsOne words judged (v ∷ rest) → IfOk judged (ReportsOne (IsOutcome (command_of words) (files_of v)))
+found_first words judged v rest found = found_at v rest judged (λ verdict w. ReportsOne (IsOutcome (command_of words) (files_of w)) verdict) found
 
 pub idle_by : RefusesAll → (words : List (List ℕ)) (judged : Judged) (answer : Answer) (out err : SinkChange) (old now : History) → IsShown judged answer out err → FindsOne words judged old → Runs words judged old now
-    → IfObservable old (λ v. CommitsNothing (IsOutcome words (files_of v)) answer → HasNothingToRecover (effect_by (command_of words)) v → now ≡ old)
+    → IfObservable old (λ v. CommitsNothing (IsOutcome (command_of words) (files_of v)) answer → HasNothingToRecover (effect_by (command_of words)) v → now ≡ old)
 idle_by law words judged answer out err [] now is_shown found run = tt
 idle_by law words judged answer out err (v ∷ rest) now is_shown found run = λ nothing. run.idle (without law words v judged answer out err is_shown (found_first words judged v rest found) nothing)
 
 pub left_by : RefusesAll → (words : List (List ℕ)) (judged : Judged) (answer : Answer) (out err : SinkChange) (old now : History) → IsShown judged answer out err → FindsOne words judged old → Runs words judged old now
-    → IfObservable old (λ v. CommitsNothing (IsOutcome words (files_of v)) answer → (ignored : List ℕ → Bool) → IsOrderly (RestsOn ignored) v → Since (IsStill ignored v) old now)
+    → IfObservable old (λ v. CommitsNothing (IsOutcome (command_of words) (files_of v)) answer → (ignored : List ℕ → Bool) → IsDurable (StateDependsOn ignored) v → Since (StateIsUnchanged ignored v) old now)
 left_by law words judged answer out err [] now is_shown found run = tt
 left_by law words judged answer out err (v ∷ rest) now is_shown found run = λ nothing. run.left (without law words v judged answer out err is_shown (found_first words judged v rest found) nothing)
 
@@ -345,18 +346,18 @@ bad_by words judged (v ∷ rest) now run = run.bad
 -- ---- the output counts again
 
 rest_of : (IsOne : Outcome → Type 0) (output : Option (List ℕ)) (ignored : List ℕ → Bool) (now : History) (judged : Judged) (answer : Answer) (out err : SinkChange) → IfOk judged (ReportsOne IsOne) → IsShown judged answer out err → AnswersOutcome answer
-    → ((o : Outcome) → IsOne o → o.commits ≡ true → OnOk judged (HasNow now (IsAtRest (ignored_but output ignored) o.files))) → LeavesAtRest IsOne output ignored now
+    → ((o : Outcome) → IsOne o → o.commits ≡ true → OnOk judged (HoldsNow now (IsDurableState (ignored_but output ignored) o.files))) → LeavesDurableState IsOne output ignored now
 rest_of IsOne output ignored now (Ok verdict) answer out err (o, one, reports) is_shown answers rests = (o, one, λ commits. rests o one commits)
 rest_of IsOne output ignored now (Err Disk) answer out err found is_shown answers rests = absurd (subst AnswersOutcome is_shown.0 answers)
 rest_of IsOne output ignored now (Err NoMemory) answer out err found is_shown answers rests = absurd (subst AnswersOutcome is_shown.0 answers)
 
 pub rest_by : (words : List (List ℕ)) (judged : Judged) (answer : Answer) (out err : SinkChange) (old now : History) → IsShown judged answer out err → FindsOne words judged old → Runs words judged old now
-    → IfObservable old (λ v. (ignored : List ℕ → Bool) → IsOrderly (RestsOn ignored) v → HidesScratchOf (output words) ignored → AnswersOutcome answer → LeavesAtRest (IsOutcome words (files_of v)) (output words) ignored now)
+    → IfObservable old (λ v. (ignored : List ℕ → Bool) → IsDurable (StateDependsOn ignored) v → IgnoresScratchOf (output words) ignored → AnswersOutcome answer → LeavesDurableState (IsOutcome (command_of words) (files_of v)) (output words) ignored now)
 rest_by words judged answer out err [] now is_shown found run = tt
-rest_by words judged answer out err (v ∷ rest) now is_shown found run = λ ignored orderly hides answers.
-    rest_of (IsOutcome words (files_of v)) (output words) ignored now judged answer out err (found_first words judged v rest found) is_shown answers (λ o one commits. run.at_rest ignored o orderly hides one commits)
+rest_by words judged answer out err (v ∷ rest) now is_shown found run = λ ignored is_durable hides answers.
+    rest_of (IsOutcome (command_of words) (files_of v)) (output words) ignored now judged answer out err (found_first words judged v rest found) is_shown answers (λ o one commits. run.durable_state ignored o is_durable hides one commits)
 
-pub usage_reported : (words : List (List ℕ)) (old : History) (verdict : Verdict) → ((v : TreeState) → IsOutcome words (files_of v) (as_outcome (files_of v) verdict)) → IfObservable old (λ v. ReportsOne (IsOutcome words (files_of v)) verdict)
+pub usage_reported : (words : List (List ℕ)) (old : History) (verdict : Verdict) → ((v : TreeState) → IsOutcome (command_of words) (files_of v) (as_outcome (files_of v) verdict)) → IfObservable old (λ v. ReportsOne (IsOutcome (command_of words) (files_of v)) verdict)
 usage_reported words [] verdict is = tt
 usage_reported words (v ∷ rest) verdict is = (as_outcome (files_of v) verdict, is v, refl)
 
@@ -386,7 +387,7 @@ recovers_else Tells writes = refl
 recovers_else Makes writes = refl
 recovers_else Changes writes = refl
 
-pub not_on_words : (effect : Effect) → does_only_read effect ≡ false → IsTrue (does_rest_on_words effect) → ⊥
+pub not_on_words : (effect : Effect) → does_only_read effect ≡ false → IsTrue (ignores_files effect) → ⊥
 not_on_words Computes writes rests = cc (writes)
 not_on_words OnlyReading writes rests = cc (rests)
 not_on_words Tells writes rests = cc (rests)
@@ -397,22 +398,22 @@ not_on_words Changes writes rests = cc (rests)
 
 -- what is judged is the outcome, whatever is read and whatever the files are
 abbrev pub Ran : CommandLine → Verdict → Type 0
-Ran command verdict = (read : Reads) (files : Files) → as_outcome files verdict ≡ command_outcome command nothing_given read files
+Ran command verdict = (read : Reads) (files : Files) → as_outcome files verdict ≡ looked_outcome command read files
 
-pub ran_found : (old : History) (command : CommandLine) (verdict : Verdict) → Ran command verdict → IfObservable old (λ v. as_outcome (files_of v) verdict ≡ command_outcome command nothing_given (reads_in (files_of v)) (files_of v))
+pub ran_found : (old : History) (command : CommandLine) (verdict : Verdict) → Ran command verdict → IfObservable old (λ v. as_outcome (files_of v) verdict ≡ looked_outcome command (reads_in (files_of v)) (files_of v))
 ran_found [] command verdict ran = tt
 ran_found (v ∷ old) command verdict ran = ran (reads_in (files_of v)) (files_of v)
 
-pub ran_read : (command : CommandLine) (verdict : Verdict) → Ran command verdict → (read : Reads) × (as_outcome no_names verdict ≡ command_outcome command nothing_given read no_names)
+pub ran_read : (command : CommandLine) (verdict : Verdict) → Ran command verdict → (read : Reads) × (as_outcome no_names verdict ≡ looked_outcome command read no_names)
 ran_read command verdict ran = (λ k name. None, ran (λ k name. None) no_names)
 
-pub ran_by_words : (command : CommandLine) (verdict : Verdict) → Ran command verdict → (files : Files) → as_outcome files verdict ≡ command_outcome command nothing_given (reads_in files) files
+pub ran_by_words : (command : CommandLine) (verdict : Verdict) → Ran command verdict → (files : Files) → as_outcome files verdict ≡ looked_outcome command (reads_in files) files
 ran_by_words command verdict ran files = ran (reads_in files) files
 
 -- by the applet as it is read of the command
 ran_as : (command : CommandLine) (applet : Applet) (asked : Applet) (verdict : Verdict) → applet ≡ command.applet → applet ≡ asked
-    → ((read : Reads) (files : Files) → as_outcome files verdict ≡ applet_outcome asked command nothing_given read files) → Ran command verdict
-ran_as command applet asked verdict same is ran read files = ran read files ∙ ap (λ (a : Applet). applet_outcome a command nothing_given read files) (sym is ∙ same)
+    → ((read : Reads) (files : Files) → as_outcome files verdict ≡ effect_outcome (effect_of asked) asked command nothing_given read files) → Ran command verdict
+ran_as command applet asked verdict same is ran read files = ran read files ∙ ap (λ (a : Applet). effect_outcome (effect_of a) a command nothing_given read files) (sym is ∙ same)
 
 pub help_ran : (command : CommandLine) (applet : Applet) (operands : List Operand) (text : List ℕ) (verdict : Verdict) → applet ≡ command.applet → applet ≡ Help → operands ≡ command.operands → text ≡ help_text operands
     → ((files : Files) → as_outcome files verdict ≡ just_report files text) → Ran command verdict

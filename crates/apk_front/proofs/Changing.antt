@@ -2,8 +2,8 @@
 use Rattle.std.proofs.Common.{◌≡◌, ◌⊎◌, inl, inr, ℕ, Bool, true, false, List, [], ◌∷◌, ◌++◌, Option, None, Result, Ok, Err, refl, sym, ap, subst, ◌∙◌}
 use Rattle.std.specs.Prelude.{IfOk, IsErrOf, OnOk, IfErr}
 use Rattle.std.proofs.lemmas.Bool.{false≢true}
-use Rattle.base_core.specs.Calls.{HasNow}
-use Rattle.base_core.specs.Crash.{IsOrderly}
+use Rattle.base_core.specs.Calls.{HoldsNow}
+use Rattle.base_core.specs.Undone.{IsDurable}
 use Rattle.base_core.specs.Faults.{Counts, HasCause, IsNoFault}
 use Rattle.base_core.specs.Files.{Files}
 use Rattle.base_core.specs.Restart.{EachMoment, SinceBy}
@@ -17,27 +17,27 @@ use Rattle.change_outcome.specs.ChangeOutcome.{ChangeDone}
 use Rattle.command_core.specs.Command.{CommandLine}
 use Rattle.command_core.specs.declared.command.Applet.{Applet}
 use Rattle.command_core.specs.declared.command.Applet.TheVariants.{Add, Del, Fix, Upgrade}
-use Rattle.engine_core.specs.ChangeRun.{ComesTo, DoesCommit, IsChangeRun, IsCommit, IsFoundChanged, IsNoneOrCommit, report_as_is, report_in}
-use Rattle.engine_core.specs.Changed.{IsClashFor, IsClashForOver, change_of_command, packages_found, selected_for}
+use Rattle.engine_core.specs.ChangeRun.{CarriesOut, DoesCommit, IsChangeRun, IsCommit, IsChangedSinceTested, IsUnchangedOrCommit, report_as_is, report_of_result}
+use Rattle.engine_core.specs.Changed.{IsClashFor, IsClashForAmong, change_of_command, found_packages, selected_for}
 use Rattle.engine_core.specs.Choice.{IsChoiceFrom}
 use Rattle.engine_core.specs.Runs.{IsRunCounted}
 use Rattle.engine_core.specs.Selecting.{pool_for}
 use Rattle.journal_core.specs.Kept.{HasOldOrNewBytes}
-use Rattle.journal_core.specs.Recovery.{IsSettled, RestsOn, intent_name}
-use Rattle.journal_core.specs.Staged.{IsOnTheWay}
+use Rattle.journal_core.specs.Recovery.{EachCrashLeaves, StateDependsOn, intent_name}
+use Rattle.journal_core.specs.Staged.{IsOldUntilCommit}
 use Rattle.make_info.specs.Reads.{Reads}
 use Rattle.path_clashes.specs.Clash.{NamePair}
 use Rattle.report_core.specs.declared.refusal.Refusal.{Refusal}
-use Rattle.stage_run.specs.StageRun.{IsReadInChange, IsStageRunDone, LastsUnread}
+use Rattle.stage_run.specs.StageRun.{IsReadDuringChange, IsStageRunComplete, NamesAreDurableWithoutIntent}
 use Rattle.outcome.proofs.Applets.{change_is}
 use Rattle.outcome.specs.Changing.{change_outcome}
-use Rattle.outcome.specs.Commands.{IsFoundOver, IsOutcomeOver, applet_outcome, reads_in}
+use Rattle.outcome.specs.Commands.{IsPossibleOutcomeOn, IsOutcomeOn, effect_outcome, reads_in}
 use Rattle.outcome.specs.Effect.{Effect, Changes, effect_of, output_if}
 use Rattle.outcome.specs.Given.{Given, IsChosenFor, IsClashBy, IsGiven, IsListingFor, MayBeGiven, MayBeListedFor, MayClash}
 use Rattle.outcome.specs.Outcome.{Outcome, just_refusal, just_report}
-use Rattle.apk_front.specs.Moments.{IsAtRest, IsReadAtWork, UnreadNamesLast}
-use Rattle.apk_front.specs.Runs.{HasNothingWaiting, IfNothingWaits, IsRun}
-use Rattle.apk_front.specs.Told.{IsToldAs}
+use Rattle.apk_front.specs.Moments.{IsDurableState, IsReadDuringWork, NamesAreDurableWithoutIntentExcept}
+use Rattle.apk_front.specs.Runs.{HasNothingStaged, IfNothingStaged, IsRun}
+use Rattle.apk_front.specs.Told.{IsVerdictOnChange}
 use Rattle.apk_front.specs.Verdicts.{Reports, ReportsOne, as_outcome}
 use Rattle.apk_front.specs.declared.answer.Verdict.{Verdict}
 use Rattle.apk_front.proofs.AfterRecovery.{StaysWithout}
@@ -48,10 +48,10 @@ abbrev pub Answered : Type 0
 Answered = Result (List ℕ) Refused
 
 abbrev pub HaveOne : Type 0
-HaveOne = (command : CommandLine) (files : Files) (a b : Outcome) → IsOutcomeOver command files a → IsOutcomeOver command files b → a ≡ b
+HaveOne = (command : CommandLine) (files : Files) (a b : Outcome) → IsOutcomeOn command files a → IsOutcomeOn command files b → a ≡ b
 
 abbrev pub HaveIdle : Type 0
-HaveIdle = (command : CommandLine) (files : Files) (o : Outcome) → IsOutcomeOver command files o → o.commits ≡ false → o.files ≡ files
+HaveIdle = (command : CommandLine) (files : Files) (o : Outcome) → IsOutcomeOn command files o → o.commits ≡ false → o.files ≡ files
 
 -- ---- what is given
 
@@ -72,18 +72,18 @@ are_given command read files chosen clash changes choice first =
     let (list, chosen_so, clash_so) = parts_given command.applet command read files chosen clash changes choice first in
     record { names = list; chosen = chosen_so; clash = clash_so }
 
-parts_by_some : (applet : Applet) (command : CommandLine) (read : Reads) (files standing : Files) (chosen : Option (List ℕ)) (clash : Option NamePair) → effect_of applet ≡ Changes → IsChoiceFrom (pool_for command read) chosen
-    → IsClashForOver command read files standing chosen clash → MayBeListedFor applet command [] × IsChosenFor (effect_of applet) command read chosen × MayClash (effect_of applet) command read files chosen clash
-parts_by_some Add command read files standing chosen clash changes choice first = (refl, choice, (standing, first))
-parts_by_some Del command read files standing chosen clash changes choice first = (refl, choice, (standing, first))
-parts_by_some Upgrade command read files standing chosen clash changes choice first = (refl, choice, (standing, first))
-parts_by_some Fix command read files standing chosen clash changes choice first = (refl, choice, (standing, first))
-parts_by_some other command read files standing chosen clash changes choice first = absurd (cc)
+parts_by_some : (applet : Applet) (command : CommandLine) (read : Reads) (files present_files : Files) (chosen : Option (List ℕ)) (clash : Option NamePair) → effect_of applet ≡ Changes → IsChoiceFrom (pool_for command read) chosen
+    → IsClashForAmong command read files present_files chosen clash → MayBeListedFor applet command [] × IsChosenFor (effect_of applet) command read chosen × MayClash (effect_of applet) command read files chosen clash
+parts_by_some Add command read files present_files chosen clash changes choice first = (refl, choice, (present_files, first))
+parts_by_some Del command read files present_files chosen clash changes choice first = (refl, choice, (present_files, first))
+parts_by_some Upgrade command read files present_files chosen clash changes choice first = (refl, choice, (present_files, first))
+parts_by_some Fix command read files present_files chosen clash changes choice first = (refl, choice, (present_files, first))
+parts_by_some other command read files present_files chosen clash changes choice first = absurd (cc)
 
-may_be_given : (command : CommandLine) (read : Reads) (files standing : Files) (chosen : Option (List ℕ)) (clash : Option NamePair) → effect_of command.applet ≡ Changes → IsChoiceFrom (pool_for command read) chosen
-    → IsClashForOver command read files standing chosen clash → MayBeGiven command read files (given_by chosen clash)
-may_be_given command read files standing chosen clash changes choice first =
-    let (list, chosen_so, clash_so) = parts_by_some command.applet command read files standing chosen clash changes choice first in
+may_be_given : (command : CommandLine) (read : Reads) (files present_files : Files) (chosen : Option (List ℕ)) (clash : Option NamePair) → effect_of command.applet ≡ Changes → IsChoiceFrom (pool_for command read) chosen
+    → IsClashForAmong command read files present_files chosen clash → MayBeGiven command read files (given_by chosen clash)
+may_be_given command read files present_files chosen clash changes choice first =
+    let (list, chosen_so, clash_so) = parts_by_some command.applet command read files present_files chosen clash changes choice first in
     record { names = list; chosen = chosen_so; clash = clash_so }
 
 -- what the command comes to
@@ -91,31 +91,31 @@ abbrev Wanted : Type 0
 Wanted = Result ChangeDone Refusal
 
 applet_is : (applet : Applet) (command : CommandLine) (read : Reads) (files : Files) (chosen : Option (List ℕ)) (clash : Option NamePair) → effect_of applet ≡ Changes
-    → change_outcome files (change_of_command command read files chosen clash) ≡ applet_outcome applet command (given_by chosen clash) read files
+    → change_outcome files (change_of_command command read files chosen clash) ≡ effect_outcome (effect_of applet) applet command (given_by chosen clash) read files
 applet_is applet command read files chosen clash changes = change_is applet command (given_by chosen clash) read files changes
 
 -- ---- what is told
 
-done_report : (wanted : Wanted) (report : List ℕ) → report_in wanted ≡ Ok report → (done : ChangeDone) × (wanted ≡ Ok done) × (done.report ≡ report)
+done_report : (wanted : Wanted) (report : List ℕ) → report_of_result wanted ≡ Ok report → (done : ChangeDone) × (wanted ≡ Ok done) × (done.report ≡ report)
 done_report (Ok done) report is = (done, refl, cc (is))
 done_report (Err refusal) report is = absurd (cc (is))
 
-refused_as : (wanted : Wanted) (refusal : Refusal) → report_in wanted ≡ Err refusal → wanted ≡ Err refusal
+refused_as : (wanted : Wanted) (refusal : Refusal) → report_of_result wanted ≡ Err refusal → wanted ≡ Err refusal
 refused_as (Ok done) refusal is = absurd (cc (is))
 refused_as (Err other) refusal is = let same : other ≡ refusal = cc in ap (λ (r : Refusal). Err r) same
 
-reports_done : (verdict : Verdict) (files : Files) (wanted : Wanted) (report : List ℕ) → report_in wanted ≡ Ok report → ((files : Files) → as_outcome files verdict ≡ just_report files report) → Reports verdict (change_outcome files wanted)
+reports_done : (verdict : Verdict) (files : Files) (wanted : Wanted) (report : List ℕ) → report_of_result wanted ≡ Ok report → ((files : Files) → as_outcome files verdict ≡ just_report files report) → Reports verdict (change_outcome files wanted)
 reports_done verdict files wanted report is told =
     let (done, done_is, same) = done_report wanted report is in
     subst (λ (w : Wanted). Reports verdict (change_outcome files w)) (sym done_is)
     (ap (λ (o : Outcome). record o { commits = done.commits }) (told done.files) ∙ ap (λ (text : List ℕ). record (just_report done.files text) { commits = done.commits }) (sym same))
 
-reports_refusal : (verdict : Verdict) (files : Files) (wanted : Wanted) (refusal : Refusal) → report_in wanted ≡ Err refusal → ((files : Files) → as_outcome files verdict ≡ just_refusal files refusal) → Reports verdict (change_outcome files wanted)
+reports_refusal : (verdict : Verdict) (files : Files) (wanted : Wanted) (refusal : Refusal) → report_of_result wanted ≡ Err refusal → ((files : Files) → as_outcome files verdict ≡ just_refusal files refusal) → Reports verdict (change_outcome files wanted)
 reports_refusal verdict files wanted refusal is told =
     subst (λ (w : Wanted). Reports verdict (change_outcome files w)) (sym (refused_as wanted refusal is)) (ap (λ (o : Outcome). record o { commits = false }) (told files))
 
 -- what was answered as wanted is reported so
-reports_wanted : (answer : Answered) (verdict : Verdict) (files : Files) (wanted : Wanted) → AgreesUnlessDisk report_as_is answer (report_in wanted) → IsToldAs answer (Ok verdict) → Reports verdict (change_outcome files wanted)
+reports_wanted : (answer : Answered) (verdict : Verdict) (files : Files) (wanted : Wanted) → AgreesUnlessDisk report_as_is answer (report_of_result wanted) → IsVerdictOnChange answer (Ok verdict) → Reports verdict (change_outcome files wanted)
 reports_wanted (Ok report) verdict files wanted agrees told = reports_done verdict files wanted report agrees told
 reports_wanted (Err (IsRefused refusal)) verdict files wanted agrees told = reports_refusal verdict files wanted refusal agrees told
 reports_wanted (Err Disk) verdict files wanted agrees told = absurd (cc (told))
@@ -131,9 +131,9 @@ does_commit : (files : Files) (wanted : Wanted) → (change_outcome files wanted
 does_commit files (Ok done) commits = commits
 does_commit files (Err refusal) commits = false≢true commits
 
-told_refusal : (answer : Answered) (refusal : Refusal) (verdict : Verdict) (files : Files) → answer ≡ Err (IsRefused refusal) → IsToldAs answer (Ok verdict) → Reports verdict (just_refusal files refusal)
+told_refusal : (answer : Answered) (refusal : Refusal) (verdict : Verdict) (files : Files) → answer ≡ Err (IsRefused refusal) → IsVerdictOnChange answer (Ok verdict) → Reports verdict (just_refusal files refusal)
 told_refusal answer refusal verdict files is told =
-    let so : IsToldAs (Err (IsRefused refusal)) (Ok verdict) = subst (λ (a : Answered). IsToldAs a (Ok verdict)) is told in
+    let so : IsVerdictOnChange (Err (IsRefused refusal)) (Ok verdict) = subst (λ (a : Answered). IsVerdictOnChange a (Ok verdict)) is told in
     ap (λ (o : Outcome). record o { commits = false }) (so files)
 
 module _ (command : CommandLine) (changes : effect_of command.applet ≡ Changes) (old now : History) (a b : Counts) (answer : Answered) (run : IsChangeRun command old now a b answer) where
@@ -143,10 +143,10 @@ module _ (command : CommandLine) (changes : effect_of command.applet ≡ Changes
   abbrev wanted : Wanted
   wanted = change_of_command command run.read run.files run.chosen run.clash
 
-  found_so : (verdict : Verdict) → IsToldAs answer (Ok verdict) → AgreesUnlessDisk report_as_is answer (report_in wanted) ⊎ IsFoundChanged (packages_found command run.read (selected_for command run.read run.chosen)) wanted old answer → ReportsOne (IsFoundOver command) verdict
+  found_so : (verdict : Verdict) → IsVerdictOnChange answer (Ok verdict) → AgreesUnlessDisk report_as_is answer (report_of_result wanted) ⊎ IsChangedSinceTested (found_packages command run.read (selected_for command run.read run.chosen)) wanted old answer → ReportsOne (IsPossibleOutcomeOn command) verdict
   found_so verdict told (inl agrees) = (
     change_outcome run.files wanted,
-    (found, run.read, run.files, may_be_given command run.read run.files run.standing run.chosen run.clash changes run.choice run.is_clash, inl (applet_is command.applet command run.read run.files run.chosen run.clash changes)),
+    (found, run.read, run.files, may_be_given command run.read run.files run.present_files run.chosen run.clash changes run.choice run.is_clash, inl (applet_is command.applet command run.read run.files run.chosen run.clash changes)),
     reports_wanted answer verdict run.files wanted agrees told,
   )
   found_so verdict told (inr spoiled) = (
@@ -155,7 +155,7 @@ module _ (command : CommandLine) (changes : effect_of command.applet ≡ Changes
       found,
       run.read,
       run.files,
-      may_be_given command run.read run.files run.standing run.chosen run.clash changes run.choice run.is_clash,
+      may_be_given command run.read run.files run.present_files run.chosen run.clash changes run.choice run.is_clash,
       inr (record {
         changes = changes;
         commits = ap (λ (o : Outcome). o.commits) (sym (applet_is command.applet command run.read run.files run.chosen run.clash changes)) ∙ commits_so run.files wanted spoiled.commits;
@@ -167,7 +167,7 @@ module _ (command : CommandLine) (changes : effect_of command.applet ≡ Changes
     told_refusal answer spoiled.refusal verdict run.files spoiled.is told,
   )
 
-  pub change_read : (judged : Judged) → IsToldAs answer judged → IfOk judged (ReportsOne (IsFoundOver command))
+  pub change_read : (judged : Judged) → IsVerdictOnChange answer judged → IfOk judged (ReportsOne (IsPossibleOutcomeOn command))
   change_read (Err e) told = tt
   change_read (Ok verdict) told = found_so verdict told run.comes.told
 
@@ -178,12 +178,12 @@ pub record IsRunAt (command : CommandLine) (v : TreeState) (old now : History) (
   pub chosen : Option (List ℕ)
   pub clash : Option NamePair
   pub given : IsGiven command (reads_in (files_of v)) (files_of v) (given_by chosen clash)
-  pub comes : ComesTo (packages_found command (reads_in (files_of v)) (selected_for command (reads_in (files_of v)) chosen)) (change_of_command command (reads_in (files_of v)) (files_of v) chosen clash) old now a b answer
+  pub comes : CarriesOut (found_packages command (reads_in (files_of v)) (selected_for command (reads_in (files_of v)) chosen)) (change_of_command command (reads_in (files_of v)) (files_of v) chosen clash) old now a b answer
 
 abbrev RunFacts : CommandLine → History → History → Counts → Counts → Answered → Option (List ℕ) → Option NamePair → Reads → Files → Files → Type 0
-RunFacts command old now a b answer chosen clash read files standing =
-    IsChoiceFrom (pool_for command read) chosen × IsClashForOver command read files standing chosen clash
-    × ComesTo (packages_found command read (selected_for command read chosen)) (change_of_command command read files chosen clash) old now a b answer
+RunFacts command old now a b answer chosen clash read files present_files =
+    IsChoiceFrom (pool_for command read) chosen × IsClashForAmong command read files present_files chosen clash
+    × CarriesOut (found_packages command read (selected_for command read chosen)) (change_of_command command read files chosen clash) old now a b answer
 
 run_at : (command : CommandLine) → effect_of command.applet ≡ Changes → (v : TreeState) (rest now : History) (a b : Counts) (answer : Answered) → IsChangeRun command (v ∷ rest) now a b answer → IsRunAt command v (v ∷ rest) now a b answer
 run_at command changes v rest now a b answer run = record {
@@ -200,24 +200,24 @@ run_at command changes v rest now a b answer run = record {
     both =
         subst (λ (read : Reads). RunFacts command (v ∷ rest) now a b answer run.chosen run.clash read (files_of v) (files_of v)) same_reads
         (subst (λ (files : Files). RunFacts command (v ∷ rest) now a b answer run.chosen run.clash run.read files (files_of v)) run.there
-        (subst (λ (standing : Files). RunFacts command (v ∷ rest) now a b answer run.chosen run.clash run.read run.files standing) run.stand (run.choice, run.is_clash, run.comes)))
+        (subst (λ (present_files : Files). RunFacts command (v ∷ rest) now a b answer run.chosen run.clash run.read run.files present_files) run.stand (run.choice, run.is_clash, run.comes)))
 
 -- no answer but want of memory and a fault of the tree is judged as one
-told_error : (answer : Answered) (e : TreeFault) → IsToldAs answer (Err e) → ((e ≡ Trees.Disk) × (answer ≡ Err Disk)) ⊎ ((e ≡ Trees.Memory) × (answer ≡ Err Memory))
+told_error : (answer : Answered) (e : TreeFault) → IsVerdictOnChange answer (Err e) → ((e ≡ Trees.Disk) × (answer ≡ Err Disk)) ⊎ ((e ≡ Trees.Memory) × (answer ≡ Err Memory))
 told_error (Ok report) e told = absurd told
 told_error (Err (IsRefused refusal)) e told = absurd told
 told_error (Err Disk) e told = inl (cc (told), refl)
 told_error (Err Memory) e told = inr (cc (told), refl)
 
 -- an error of a change that is carried out is a fault of the tree
-told_ok : (P : Type 0) (answer : Answered) (judged : Judged) → IsToldAs answer judged → IfErr answer (λ refused. refused ≡ Disk) → OnOk answer P → OnOk judged P
+told_ok : (P : Type 0) (answer : Answered) (judged : Judged) → IsVerdictOnChange answer judged → IfErr answer (λ refused. refused ≡ Disk) → OnOk answer P → OnOk judged P
 told_ok P answer (Err e) told err ok = tt
 told_ok P (Ok report) (Ok verdict) told err ok = ok
 told_ok P (Err refused) (Ok verdict) told err ok =
-    absurd (let disk : IsToldAs (Err Disk) (Ok verdict) = subst (λ (r : Refused). IsToldAs (Err r) (Ok verdict)) err told in cc (disk))
+    absurd (let disk : IsVerdictOnChange (Err Disk) (Ok verdict) = subst (λ (r : Refused). IsVerdictOnChange (Err r) (Ok verdict)) err told in cc (disk))
 
 module _ (command : CommandLine) (changes : effect_of command.applet ≡ Changes) (unique : HaveOne) (leaves : HaveIdle) (v : TreeState) (rest now : History) (a b : Counts) (answer : Answered) (judged : Judged)
-    (told : IsToldAs answer judged) (run : IsRunAt command v (v ∷ rest) now a b answer) (nothing : HasNothingWaiting v) where
+    (told : IsVerdictOnChange answer judged) (run : IsRunAt command v (v ∷ rest) now a b answer) (nothing : HasNothingStaged v) where
   abbrev asked : Wanted
   asked = change_of_command command (reads_in (files_of v)) (files_of v) run.chosen run.clash
 
@@ -230,15 +230,15 @@ module _ (command : CommandLine) (changes : effect_of command.applet ≡ Changes
   the_one : (o : Outcome) → Ones command v o → outcome ≡ o
   the_one o one = unique command (files_of v) outcome o is_one one
 
-  told_so : AgreesUnlessDisk report_as_is answer (report_in asked)
+  told_so : AgreesUnlessDisk report_as_is answer (report_of_result asked)
   told_so = elim run.comes.told [ inl agrees ↦ agrees | inr spoiled ↦ absurd (spoiled.unseen nothing.0 nothing.1) ]
 
   reports : (verdict : Verdict) → judged ≡ Ok verdict → ReportsOne (Ones command v) verdict
-  reports verdict is = (outcome, is_one, reports_wanted answer verdict (files_of v) asked told_so (subst (λ (j : Judged). IsToldAs answer j) is told))
+  reports verdict is = (outcome, is_one, reports_wanted answer verdict (files_of v) asked told_so (subst (λ (j : Judged). IsVerdictOnChange answer j) is told))
 
   -- ---- nothing was written
 
-  idle_commits : (answer : Answered) (wanted : Wanted) → AgreesUnlessDisk report_as_is answer (report_in wanted) → OnOk answer (DoesCommit wanted → ⊥) → (judged : Judged) → IsToldAs answer judged → OnOk judged ((change_outcome (files_of v) wanted).commits ≡ false)
+  idle_commits : (answer : Answered) (wanted : Wanted) → AgreesUnlessDisk report_as_is answer (report_of_result wanted) → OnOk answer (DoesCommit wanted → ⊥) → (judged : Judged) → IsVerdictOnChange answer judged → OnOk judged ((change_outcome (files_of v) wanted).commits ≡ false)
   idle_commits answer wanted agrees never (Err e) told = tt
   idle_commits (Ok report) wanted agrees never (Ok verdict) told = not_so (change_outcome (files_of v) wanted).commits refl
     where
@@ -266,59 +266,59 @@ module _ (command : CommandLine) (changes : effect_of command.applet ≡ Changes
     files_of_one : (o : Outcome) → Ones command v o → commit.done.files ≡ o.files
     files_of_one o one = sym files_are ∙ ap (λ (x : Outcome). x.files) (the_one o one)
 
-    done_so : OnOk judged (IsStageRunDone commit.done.files v now)
-    done_so = told_ok (IsStageRunDone commit.done.files v now) answer judged told commit.err commit.ok
+    done_so : OnOk judged (IsStageRunComplete commit.done.files v now)
+    done_so = told_ok (IsStageRunComplete commit.done.files v now) answer judged told commit.err commit.ok
 
-    left_orderly : (ignored : List ℕ → Bool) → IsOrderly (RestsOn ignored) v → HasNow now (IsOrderly (RestsOn ignored))
-    left_orderly ignored orderly = by_added (commit.run.moments ignored orderly).added (commit.run.moments ignored orderly).is (commit.run.moments ignored orderly).each
+    left_durable : (ignored : List ℕ → Bool) → IsDurable (StateDependsOn ignored) v → HoldsNow now (IsDurable (StateDependsOn ignored))
+    left_durable ignored is_durable = by_added (commit.run.moments ignored is_durable).added (commit.run.moments ignored is_durable).is (commit.run.moments ignored is_durable).each
       where
-        by_added : (added : History) → now ≡ added ++ v ∷ rest → EachMoment (IsOnTheWay ignored commit.done.files v) added → HasNow now (IsOrderly (RestsOn ignored))
-        by_added [] is each = subst (λ (h : History). HasNow h (IsOrderly (RestsOn ignored))) (sym is) orderly
-        by_added (m ∷ added) is each = subst (λ (h : History). HasNow h (IsOrderly (RestsOn ignored))) (sym is) each.0.orderly
+        by_added : (added : History) → now ≡ added ++ v ∷ rest → EachMoment (IsOldUntilCommit ignored commit.done.files v) added → HoldsNow now (IsDurable (StateDependsOn ignored))
+        by_added [] is each = subst (λ (h : History). HoldsNow h (IsDurable (StateDependsOn ignored))) (sym is) is_durable
+        by_added (m ∷ added) is each = subst (λ (h : History). HoldsNow h (IsDurable (StateDependsOn ignored))) (sym is) each.0.is_durable
 
-    at_work : (w : TreeState) → IsReadInChange commit.done.files (files_of v) w → IsReadAtWork Changes None outcome.files (files_of v) w
+    at_work : (w : TreeState) → IsReadDuringChange commit.done.files (files_of v) w → IsReadDuringWork Changes None outcome.files (files_of v) w
     at_work w (inl waiting) = inl waiting
     at_work w (inr (inl by_intent)) = inr (inl (record { changes = refl; intent = by_intent.intent; leads = by_intent.leads ∙ sym files_are; bytes = subst (λ (f : Files). HasOldOrNewBytes (files_of v) f w) (sym files_are) by_intent.bytes }))
     at_work w (inr (inr is)) = inr (inr (is ∙ sym files_are))
 
-    rests : (ignored : List ℕ → Bool) (h : History) (files : Files) → HasNow h (IsOrderly (RestsOn ignored)) → HasNow h (IsSettled ignored files) → HasNow h (IsAtRest ignored files)
-    rests ignored [] files orderly settled = absurd orderly
-    rests ignored (w ∷ h) files orderly settled = record { orderly = orderly; settled = settled }
+    rests : (ignored : List ℕ → Bool) (h : History) (files : Files) → HoldsNow h (IsDurable (StateDependsOn ignored)) → HoldsNow h (EachCrashLeaves ignored files) → HoldsNow h (IsDurableState ignored files)
+    rests ignored [] files is_durable settled = absurd is_durable
+    rests ignored (w ∷ h) files is_durable settled = record { is_durable = is_durable; settled = settled }
 
     commit_run : IsRun (Ones command v) Changes None judged v (v ∷ rest) now
     commit_run = record {
-      moments = λ ignored orderly hides. inr (outcome, is_one, commits_are, subst (λ (f : Files). SinceBy (IsOnTheWay ignored f v) (v ∷ rest) now) (sym files_are) (commit.run.moments ignored orderly));
-      orderly = λ ignored orderly hides. left_orderly ignored orderly;
-      settled = λ ignored o orderly hides one lasts. on_ok judged (λ done. subst (λ (f : Files). HasNow now (IsSettled ignored f)) (files_of_one o one) (done.settled ignored orderly)) done_so;
-      at_rest = λ ignored o orderly hides one commits.
-          on_ok judged (λ done. subst (λ (f : Files). HasNow now (IsAtRest ignored f)) (files_of_one o one) (rests ignored now commit.done.files (left_orderly ignored orderly) (done.settled ignored orderly))) done_so;
-      reads = inr (outcome, is_one, commits_are, since_weaker (IsReadInChange commit.done.files (files_of v)) (IsReadAtWork Changes None outcome.files (files_of v)) (v ∷ rest) now at_work commit.run.reads);
-      last = λ last. since_weaker LastsUnread (UnreadNamesLast None) (v ∷ rest) now (λ w lasts none map among q off no_intent unstaged. lasts none map among q no_intent unstaged) (commit.run.last last);
+      moments = λ ignored is_durable hides. inr (outcome, is_one, commits_are, subst (λ (f : Files). SinceBy (IsOldUntilCommit ignored f v) (v ∷ rest) now) (sym files_are) (commit.run.moments ignored is_durable));
+      is_durable = λ ignored is_durable hides. left_durable ignored is_durable;
+      settled = λ ignored o is_durable hides one lasts. on_ok judged (λ done. subst (λ (f : Files). HoldsNow now (EachCrashLeaves ignored f)) (files_of_one o one) (done.settled ignored is_durable)) done_so;
+      durable_state = λ ignored o is_durable hides one commits.
+          on_ok judged (λ done. subst (λ (f : Files). HoldsNow now (IsDurableState ignored f)) (files_of_one o one) (rests ignored now commit.done.files (left_durable ignored is_durable) (done.settled ignored is_durable))) done_so;
+      reads = inr (outcome, is_one, commits_are, since_weaker (IsReadDuringChange commit.done.files (files_of v)) (IsReadDuringWork Changes None outcome.files (files_of v)) (v ∷ rest) now at_work commit.run.reads);
+      last = λ last. since_weaker NamesAreDurableWithoutIntent (NamesAreDurableWithoutIntentExcept None) (v ∷ rest) now (λ w lasts none map among q off no_intent unstaged. lasts none map among q no_intent unstaged) (commit.run.last last);
       leaves = λ o one. on_ok judged (λ done. reads_now now o one done.reads) done_so;
       idle = λ o one idle. absurd (false≢true (sym idle ∙ (sym (ap (λ (x : Outcome). x.commits) (the_one o one)) ∙ commits_are)));
     }
       where
-        reads_now : (h : History) (o : Outcome) → Ones command v o → HasNow h (λ w. (files_of w ≡ commit.done.files) × (w.names intent_name ≡ None)) → HasNow h (λ w. files_of w ≡ o.files)
+        reads_now : (h : History) (o : Outcome) → Ones command v o → HoldsNow h (λ w. (files_of w ≡ commit.done.files) × (w.names intent_name ≡ None)) → HoldsNow h (λ w. files_of w ≡ o.files)
         reads_now [] o one none = none
         reads_now (w ∷ h) o one (is, absent) = is ∙ files_of_one o one
 
   -- ---- either
 
-  run_so : IsNoneOrCommit asked v (v ∷ rest) now answer → IsRun (Ones command v) Changes None judged v (v ∷ rest) now
+  run_so : IsUnchangedOrCommit asked v (v ∷ rest) now answer → IsRun (Ones command v) Changes None judged v (v ∷ rest) now
   run_so (inl (same, never)) = idle_run same never
   run_so (inr commit) = commit_run commit
 
   pub change_run_at : IsRun (Ones command v) Changes None judged v (v ∷ rest) now
   change_run_at = run_so (run.comes.run nothing.0 nothing.1)
 
-  no_memory_behind : IsNoneOrCommit asked v (v ∷ rest) now answer → answer ≡ Err Memory → now ≡ v ∷ rest
-  no_memory_behind (inl (same, never)) is = same
-  no_memory_behind (inr commit) is = absurd (let disk : Memory ≡ Disk = subst (λ (r : Answered). IfErr r (λ refused. refused ≡ Disk)) is commit.err in cc)
+  no_memory_after : IsUnchangedOrCommit asked v (v ∷ rest) now answer → answer ≡ Err Memory → now ≡ v ∷ rest
+  no_memory_after (inl (same, never)) is = same
+  no_memory_after (inr commit) is = absurd (let disk : Memory ≡ Disk = subst (λ (r : Answered). IfErr r (λ refused. refused ≡ Disk)) is commit.err in cc)
 
   pub change_undone_at : StaysWithout (v ∷ rest) now judged
-  change_undone_at none = no_memory_behind (run.comes.run nothing.0 nothing.1) (memory_of answer judged told none)
+  change_undone_at none = no_memory_after (run.comes.run nothing.0 nothing.1) (memory_of answer judged told none)
     where
-      memory_of : (answer : Answered) (judged : Judged) → IsToldAs answer judged → IsErrOf judged Trees.Memory → answer ≡ Err Memory
+      memory_of : (answer : Answered) (judged : Judged) → IsVerdictOnChange answer judged → IsErrOf judged Trees.Memory → answer ≡ Err Memory
       memory_of answer (Ok verdict) told none = absurd (cc (none))
       memory_of answer (Err e) told none =
           let e_is : e ≡ Trees.Memory = cc in
@@ -333,25 +333,25 @@ module _ (command : CommandLine) (changes : effect_of command.applet ≡ Changes
   abbrev effect : Effect
   effect = effect_of command.applet
 
-  pub change_found : (old now : History) (a b : Counts) (answer : Answered) (judged : Judged) → IsToldAs answer judged → IsChangeRun command old now a b answer → IfOk judged (λ verdict. IfNothingWaits old (λ v. ReportsOne (Ones command v) verdict))
+  pub change_found : (old now : History) (a b : Counts) (answer : Answered) (judged : Judged) → IsVerdictOnChange answer judged → IsChangeRun command old now a b answer → IfOk judged (λ verdict. IfNothingStaged old (λ v. ReportsOne (Ones command v) verdict))
   change_found old now a b answer (Err e) told run = tt
   change_found [] now a b answer (Ok verdict) told run = tt
   change_found (v ∷ rest) now a b answer (Ok verdict) told run = λ nothing.
       reports command changes unique leaves v rest now a b answer (Ok verdict) told (run_at command changes v rest now a b answer run) nothing verdict refl
 
-  pub change_run : (old now : History) (a b : Counts) (answer : Answered) (judged : Judged) → IsToldAs answer judged → IsChangeRun command old now a b answer
-      → IfNothingWaits old (λ v. IsRun (Ones command v) (effect_of command.applet) (output_if (effect_of command.applet) command) judged v old now)
+  pub change_run : (old now : History) (a b : Counts) (answer : Answered) (judged : Judged) → IsVerdictOnChange answer judged → IsChangeRun command old now a b answer
+      → IfNothingStaged old (λ v. IsRun (Ones command v) (effect_of command.applet) (output_if (effect_of command.applet) command) judged v old now)
   change_run [] now a b answer judged told run = tt
   change_run (v ∷ rest) now a b answer judged told run = λ nothing.
       subst (λ (e : Effect). IsRun (Ones command v) e (output_if e command) judged v (v ∷ rest) now) (sym changes)
       (change_run_at command changes unique leaves v rest now a b answer judged told (run_at command changes v rest now a b answer run) nothing)
 
-  pub change_undone : (old now : History) (a b : Counts) (answer : Answered) (judged : Judged) → IsToldAs answer judged → IsChangeRun command old now a b answer → IfNothingWaits old (λ v. StaysWithout old now judged)
+  pub change_undone : (old now : History) (a b : Counts) (answer : Answered) (judged : Judged) → IsVerdictOnChange answer judged → IsChangeRun command old now a b answer → IfNothingStaged old (λ v. StaysWithout old now judged)
   change_undone [] now a b answer judged told run = tt
   change_undone (v ∷ rest) now a b answer judged told run = λ nothing. change_undone_at command changes unique leaves v rest now a b answer judged told (run_at command changes v rest now a b answer run) nothing
 
-  pub change_proper : (old now : History) (a b : Counts) (answer : Answered) (judged : Judged) → IsToldAs answer judged → IsChangeRun command old now a b answer
-      → IfNothingWaits old (λ v. RoomFor (Ones command v) (effect_of command.applet) (output_if (effect_of command.applet) command) (files_of v) → b.misuses ≡ a.misuses)
+  pub change_proper : (old now : History) (a b : Counts) (answer : Answered) (judged : Judged) → IsVerdictOnChange answer judged → IsChangeRun command old now a b answer
+      → IfNothingStaged old (λ v. RoomFor (Ones command v) (effect_of command.applet) (output_if (effect_of command.applet) command) (files_of v) → b.misuses ≡ a.misuses)
   change_proper [] now a b answer judged told run = tt
   change_proper (v ∷ rest) now a b answer judged told run = λ nothing.
       subst (λ (e : Effect). RoomFor (Ones command v) e (output_if e command) (files_of v) → b.misuses ≡ a.misuses) (sym changes)
@@ -359,20 +359,20 @@ module _ (command : CommandLine) (changes : effect_of command.applet ≡ Changes
 
 -- ---- the counts
 
-pub change_disk : (answer : Answered) (judged : Judged) (a b : Counts) → IsToldAs answer judged → IsRunCounted a b answer → IsErrOf judged Trees.Disk → HasCause a b
+pub change_disk : (answer : Answered) (judged : Judged) (a b : Counts) → IsVerdictOnChange answer judged → IsRunCounted a b answer → IsErrOf judged Trees.Disk → HasCause a b
 change_disk answer (Ok verdict) a b told counted none = absurd (cc (none))
 change_disk answer (Err e) a b told counted none =
     let e_is : e ≡ Trees.Disk = cc in
     elim (told_error answer e told) [ inl disk ↦ counted.disk disk.1 | inr memory ↦ absurd (let same : Trees.Memory ≡ Trees.Disk = sym memory.0 ∙ e_is in cc) ]
 
-pub change_kept : (answer : Answered) (judged : Judged) (a b : Counts) → IsToldAs answer judged → IsRunCounted a b answer → OnOk judged (IsNoFault a b)
+pub change_kept : (answer : Answered) (judged : Judged) (a b : Counts) → IsVerdictOnChange answer judged → IsRunCounted a b answer → OnOk judged (IsNoFault a b)
 change_kept answer (Err e) a b told counted = tt
 change_kept (Ok report) (Ok verdict) a b told counted = counted.kept
 change_kept (Err (IsRefused refusal)) (Ok verdict) a b told counted = counted.others (λ is. cc (is))
 change_kept (Err Disk) (Ok verdict) a b told counted = absurd (cc (told))
 change_kept (Err Memory) (Ok verdict) a b told counted = absurd (cc (told))
 
-pub change_memory : (answer : Answered) (judged : Judged) (a b : Counts) → IsToldAs answer judged → IsRunCounted a b answer → IsErrOf judged Trees.Memory → IsNoFault a b
+pub change_memory : (answer : Answered) (judged : Judged) (a b : Counts) → IsVerdictOnChange answer judged → IsRunCounted a b answer → IsErrOf judged Trees.Memory → IsNoFault a b
 change_memory answer (Ok verdict) a b told counted none = absurd (cc (none))
 change_memory answer (Err e) a b told counted none =
     let e_is : e ≡ Trees.Memory = cc in

@@ -28,9 +28,9 @@ use Rattle.report_core.specs.declared.refusal.Refusal.TheVariants.{Reserved, Res
 use Rattle.command_core.specs.Command.{CommandLine}
 use Rattle.command_core.specs.Files.{without_dot}
 use Rattle.command_core.specs.declared.values.OptionValue.{OptionValue}
-use Rattle.apk_front.specs.Moments.{HasRoomFor}
+use Rattle.apk_front.specs.Moments.{IsOutputPathFreeIfAny}
 use Rattle.apk_front.specs.Runs.{IsRun}
-use Rattle.apk_front.specs.Containers.{IsIndexMade, IsIndexFound, IsIndexOutcome, IsPackageMade, IsPackageOutcome, OnMade, is_cut, is_cut_off, made_in}
+use Rattle.apk_front.specs.Containers.{IsIndexMade, IsIndexFound, IsIndexOutcome, IsPackageMade, IsPackageOutcome, OnMade, is_disk_or_memory, ended_by_disk_or_memory, made_in}
 use Rattle.apk_front.specs.Verdicts.{Reports, ReportsOne, as_outcome}
 use Rattle.apk_front.specs.declared.answer.Verdict.{Verdict}
 use Rattle.apk_front.proofs.Packages.{HaveListing, made_allowed, package_here}
@@ -42,7 +42,7 @@ Container = Result (Vec ℕ Global) MakeFault
 
 -- ---- what a call that makes says
 
-refusal_means : (why : MakeFault) (Means : Result (List ℕ) MakeFault → Type 0) → OnRefusal why Means → is_cut why ≡ false → Means (Err why)
+refusal_means : (why : MakeFault) (Means : Result (List ℕ) MakeFault → Type 0) → OnRefusal why Means → is_disk_or_memory why ≡ false → Means (Err why)
 refusal_means (Faults.FileMissing place) Means h cut = h
 refusal_means (Faults.FileBad place cause) Means h cut = h
 refusal_means (Faults.InfoBad place) Means h cut = h
@@ -169,19 +169,19 @@ pub record AreOutcomes (Means : TreeState → Result (List ℕ) MakeFault → Ty
   pub one : (v : TreeState) (answer : Result (List ℕ) MakeFault) → Means v answer → IsOne v (make_outcome (files_of v) output report answer)
   pub only : (v : TreeState) (answer : Result (List ℕ) MakeFault) → Means v answer → (o : Outcome) → IsOne v o → o ≡ make_outcome (files_of v) output report answer
 
-meant : (container : Container) (Means : Result (List ℕ) MakeFault → Type 0) → is_cut_off container ≡ false → OnMade container Means → Means (made_in container)
+meant : (container : Container) (Means : Result (List ℕ) MakeFault → Type 0) → ended_by_disk_or_memory container ≡ false → OnMade container Means → Means (made_in container)
 meant (Ok file) Means cut m = m
 meant (Err why) Means cut m = m cut
 
 module _ (Means : TreeState → Result (List ℕ) MakeFault → Type 0) (IsOne : Outcomes) (output : Option (List ℕ)) (report : List ℕ) (are : AreOutcomes Means IsOne output report) (container : Container) where
-  pub reports_one : (judged : Judged) (old : History) → IfObservable old (λ v. OnMade container (Means v)) → IfOk judged (λ verdict. is_cut_off container ≡ false)
+  pub reports_one : (judged : Judged) (old : History) → IfObservable old (λ v. OnMade container (Means v)) → IfOk judged (λ verdict. ended_by_disk_or_memory container ≡ false)
       → IfOk judged (λ verdict. (files : Files) → Reports verdict (make_outcome files output report (made_in container))) → IfOk judged (λ verdict. IfObservable old (λ v. ReportsOne (IsOne v) verdict))
   reports_one (Err e) old found whole reports = tt
   reports_one (Ok verdict) [] found whole reports = tt
   reports_one (Ok verdict) (v ∷ rest) found whole reports =
       (make_outcome (files_of v) output report (made_in container), are.one v (made_in container) (meant container (Means v) whole found), reports (files_of v))
 
-  runs_by : (judged : Judged) (v : TreeState) (rest now : History) (b : Bool) → is_cut_off container ≡ b → OnMade container (Means v) → IfOk judged (λ verdict. is_cut_off container ≡ false) → (is_cut_off container ≡ true → now ≡ v ∷ rest)
+  runs_by : (judged : Judged) (v : TreeState) (rest now : History) (b : Bool) → ended_by_disk_or_memory container ≡ b → OnMade container (Means v) → IfOk judged (λ verdict. ended_by_disk_or_memory container ≡ false) → (ended_by_disk_or_memory container ≡ true → now ≡ v ∷ rest)
       → IsRun (λ o. o ≡ make_outcome (files_of v) output report (made_in container)) Makes output judged v (v ∷ rest) now → IsRun (IsOne v) Makes output judged v (v ∷ rest) now
   runs_by judged v rest now false is found whole cut run =
       run_among (λ o. o ≡ make_outcome (files_of v) output report (made_in container)) (IsOne v) Makes output judged v (v ∷ rest) now
@@ -189,24 +189,24 @@ module _ (Means : TreeState → Result (List ℕ) MakeFault → Type 0) (IsOne :
   runs_by (Ok verdict) v rest now true is found whole cut run = absurd (false≢true (sym whole ∙ is))
   runs_by (Err e) v rest now true is found whole cut run = run_idle (IsOne v) Makes output (Err e) v rest now (cut is) (λ o one. tt)
 
-  pub runs : (judged : Judged) (old mid now : History) → mid ≡ old → IfObservable old (λ v. OnMade container (Means v)) → IfOk judged (λ verdict. is_cut_off container ≡ false) → (is_cut_off container ≡ true → now ≡ mid)
+  pub runs : (judged : Judged) (old mid now : History) → mid ≡ old → IfObservable old (λ v. OnMade container (Means v)) → IfOk judged (λ verdict. ended_by_disk_or_memory container ≡ false) → (ended_by_disk_or_memory container ≡ true → now ≡ mid)
       → IfObservable mid (λ v. IsRun (λ o. o ≡ make_outcome (files_of v) output report (made_in container)) Makes output judged v mid now) → IfObservable old (λ v. IsRun (IsOne v) Makes output judged v old now)
   runs judged [] mid now same found whole cut run = tt
   runs judged (v ∷ rest) mid now same found whole cut run =
-      runs_by judged v rest now (is_cut_off container) refl found whole (λ is. cut is ∙ same)
+      runs_by judged v rest now (ended_by_disk_or_memory container) refl found whole (λ is. cut is ∙ same)
       (subst (λ (h : History). IfObservable h (λ v. IsRun (λ o. o ≡ make_outcome (files_of v) output report (made_in container)) Makes output judged v h now)) same run)
 
-  room_by : (c : Container) (v : TreeState) → OnMade c (Means v) → ((o : Outcome) → IsOne v o → o.commits ≡ true → HasRoomFor output (files_of v))
-      → IfOk c (λ file. (make_outcome (files_of v) output report (Ok file.items)).commits ≡ true → HasRoomFor output (files_of v))
+  room_by : (c : Container) (v : TreeState) → OnMade c (Means v) → ((o : Outcome) → IsOne v o → o.commits ≡ true → IsOutputPathFreeIfAny output (files_of v))
+      → IfOk c (λ file. (make_outcome (files_of v) output report (Ok file.items)).commits ≡ true → IsOutputPathFreeIfAny output (files_of v))
   room_by (Ok file) v found room = room (make_outcome (files_of v) output report (Ok file.items)) (are.one v (Ok file.items) found)
   room_by (Err why) v found room = tt
 
   pub proper_by : (old mid : History) (first second last : ℕ) → mid ≡ old → IfObservable old (λ v. OnMade container (Means v)) → IfObservable old (λ v. second ≡ first)
-      → IfObservable mid (λ v. IfOk container (λ file. (make_outcome (files_of v) output report (Ok file.items)).commits ≡ true → HasRoomFor output (files_of v)) → last ≡ second)
-      → IfObservable old (λ v. ((o : Outcome) → IsOne v o → o.commits ≡ true → HasRoomFor output (files_of v)) → last ≡ first)
+      → IfObservable mid (λ v. IfOk container (λ file. (make_outcome (files_of v) output report (Ok file.items)).commits ≡ true → IsOutputPathFreeIfAny output (files_of v)) → last ≡ second)
+      → IfObservable old (λ v. ((o : Outcome) → IsOne v o → o.commits ≡ true → IsOutputPathFreeIfAny output (files_of v)) → last ≡ first)
   proper_by [] mid first second last same found before after = tt
   proper_by (v ∷ rest) mid first second last same found before after = λ room.
-      subst (λ (h : History). IfObservable h (λ v. IfOk container (λ file. (make_outcome (files_of v) output report (Ok file.items)).commits ≡ true → HasRoomFor output (files_of v)) → last ≡ second)) same after
+      subst (λ (h : History). IfObservable h (λ v. IfOk container (λ file. (make_outcome (files_of v) output report (Ok file.items)).commits ≡ true → IsOutputPathFreeIfAny output (files_of v)) → last ≡ second)) same after
       (room_by container v found room) ∙ before
 
 -- ---- of a package
@@ -232,7 +232,7 @@ package_outcomes one command report none = record {
       ∙ ap (make_outcome (files_of v) (output_name command) report) m.is;
 }
 
-pub package_read : (command : CommandLine) (report : List ℕ) (container : Container) (judged : Judged) → report ≡ [] → OnMade container (IsMadeBySome command) → IfOk judged (λ verdict. is_cut_off container ≡ false)
+pub package_read : (command : CommandLine) (report : List ℕ) (container : Container) (judged : Judged) → report ≡ [] → OnMade container (IsMadeBySome command) → IfOk judged (λ verdict. ended_by_disk_or_memory container ≡ false)
     → IfOk judged (λ verdict. (files : Files) → Reports verdict (make_outcome files (output_name command) report (made_in container)))
     → IfOk judged (λ verdict. (names : List (List ℕ)) × AreNamesFor (values_with FILES command.values) names × (read : Reads) × Reports verdict (mkpkg read no_names command names))
 package_read command report container (Err e) none found whole reports = tt
@@ -251,7 +251,7 @@ index_outcomes command report is = record {
       one ∙ ap (make_outcome (files_of v) (output_name command) (index_line (length command.operands))) m ∙ ap (λ r. make_outcome (files_of v) (output_name command) r answer) (sym is);
 }
 
-pub index_read : (command : CommandLine) (report : List ℕ) (container : Container) (judged : Judged) → report ≡ index_line (length command.operands) → OnMade container (IsIndexFound command) → IfOk judged (λ verdict. is_cut_off container ≡ false)
+pub index_read : (command : CommandLine) (report : List ℕ) (container : Container) (judged : Judged) → report ≡ index_line (length command.operands) → OnMade container (IsIndexFound command) → IfOk judged (λ verdict. ended_by_disk_or_memory container ≡ false)
     → IfOk judged (λ verdict. (files : Files) → Reports verdict (make_outcome files (output_name command) report (made_in container)))
     → IfOk judged (λ verdict. (read : Reads) × AreFiles read 0 command.operands × Reports verdict (mkndx read no_names command))
 index_read command report container (Err e) is found whole reports = tt

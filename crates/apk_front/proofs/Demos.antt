@@ -13,12 +13,11 @@ use Rattle.command_core.specs.declared.operands.Operand.{Operand}
 use Rattle.demo_lines.specs.Count.{demo_count}
 use Rattle.demo_lines.specs.Lines.{add_words, demo_repositories, mkndx_words, mkpkg_words}
 use Rattle.demo_lines.specs.Report.{demo_line}
-use Rattle.outcome.specs.Commands.{IsFoundOutcomeOf, IsOutcomeOf, command_outcome, reads_in}
-use Rattle.outcome.specs.Demo.{AreIndexed, AreInstalled, ArePackaged, IsDemoOutcome, IsRunBehind, IsRunUnless, demo_start, with_demo_file}
-use Rattle.outcome.specs.Effect.{does_recover, does_rest_on_words, effect_of, output_if}
-use Rattle.outcome.specs.Given.{nothing_given}
+use Rattle.outcome.specs.Commands.{IsPossibleOutcomeOf, IsOutcomeOf, reads_in}
+use Rattle.outcome.specs.Demo.{AreIndexed, AreInstalled, ArePackaged, IsDemoOutcome, IsRunAfter, IsRunUnlessRefused, demo_start, with_demo_file}
+use Rattle.outcome.specs.Effect.{does_recover, ignores_files, effect_of, output_if}
 use Rattle.outcome.specs.Outcome.{Outcome, just_refusal, just_report, report_unless}
-use Rattle.outcome.specs.Words.{IsFoundOutcomeBy, IsFoundOutcomeFor, IsOutcomeBy, IsOutcomeFor}
+use Rattle.outcome.specs.Words.{IsPossibleOutcome, IsPossibleOutcomeFor, IsOutcome, IsOutcomeFor}
 use Rattle.report_core.specs.declared.refusal.Refusal.{Refusal}
 use Rattle.report_core.specs.declared.refusal.Refusal.TheVariants.{Usage}
 use Rattle.root_names.specs.RootNames.{repositories_name}
@@ -29,9 +28,9 @@ use Rattle.words_core.specs.Grammar.{command_of}
 use Rattle.words_core.specs.declared.read.WordsFault.{WordsFault}
 use Rattle.words_core.specs.declared.read.WordsFault.TheVariants.{Usage as WrongWord}
 use Rattle.apk_front.specs.DemoRuns.{IsRunTo}
-use Rattle.apk_front.specs.Moments.{CanRecover, LeavesRoomFor}
+use Rattle.apk_front.specs.Moments.{CanRecover, AreOutcomePathsFree}
 use Rattle.apk_front.specs.Runs.{IsWholeRun}
-use Rattle.apk_front.specs.Verdicts.{Reports, ReportsOne, as_outcome}
+use Rattle.apk_front.specs.Verdicts.{Reports, ReportsOne, as_outcome, looked_outcome}
 use Rattle.apk_front.specs.declared.answer.Verdict.{Verdict}
 use Rattle.apk_front.proofs.AfterRecovery.{LeavesAll, whole_idle}
 use Rattle.apk_front.proofs.Judged.{ran_over, words_read}
@@ -46,7 +45,7 @@ but_demo P Demo command never h = absurd (never refl)
 but_demo P other command never h = h
 
 found_but_demo : (P : (Outcome → Type 0) → Type 0) (applet : Applet) (command : CommandLine) → (applet ≡ Demo → ⊥)
-    → P (λ o. IsFoundOutcomeOf (Ok command) o) → P (λ o. IsFoundOutcomeFor applet command o)
+    → P (λ o. IsPossibleOutcomeOf command o) → P (λ o. IsPossibleOutcomeFor applet command o)
 found_but_demo P Demo command never h = absurd (never refl)
 found_but_demo P other command never h = h
 
@@ -56,38 +55,38 @@ never_demo command applet same never is = never (same ∙ is)
 
 pub other_found : (command : CommandLine) (applet : Applet) (judged : Judged) (old : History) → applet ≡ command.applet → (applet ≡ Demo → ⊥)
     → IfOk judged (λ verdict. IfObservable old (λ v. ReportsOne (IsOutcomeOf (Ok command) (files_of v)) verdict))
-    → IfOk judged (λ verdict. IfObservable old (λ v. ReportsOne (IsOutcomeBy (Ok command) (files_of v)) verdict))
+    → IfOk judged (λ verdict. IfObservable old (λ v. ReportsOne (IsOutcome (Ok command) (files_of v)) verdict))
 other_found command applet judged old same never found =
     but_demo (λ Is. IfOk judged (λ verdict. IfObservable old (λ v. ReportsOne (Is (files_of v)) verdict))) command.applet command (never_demo command applet same never) found
 
 pub other_by_reads : (command : CommandLine) (applet : Applet) (judged : Judged) → applet ≡ command.applet → (applet ≡ Demo → ⊥)
-    → IfOk judged (λ verdict. ReportsOne (IsFoundOutcomeOf (Ok command)) verdict) → IfOk judged (λ verdict. ReportsOne (IsFoundOutcomeBy (Ok command)) verdict)
+    → IfOk judged (λ verdict. ReportsOne (IsPossibleOutcomeOf command) verdict) → IfOk judged (λ verdict. ReportsOne (IsPossibleOutcome (Ok command)) verdict)
 other_by_reads command applet judged same never found =
     found_but_demo (λ Is. IfOk judged (λ verdict. ReportsOne Is verdict)) command.applet command (never_demo command applet same never) found
 
-ran_on_words : (command : CommandLine) (judged : Judged) → IsTrue (does_rest_on_words (effect_of command.applet))
-    → MatchResult judged (λ verdict. (files : Files) → as_outcome files verdict ≡ command_outcome command nothing_given (reads_in files) files) (λ fault. fault ≡ NoMemory)
+ran_on_words : (command : CommandLine) (judged : Judged) → IsTrue (ignores_files (effect_of command.applet))
+    → MatchResult judged (λ verdict. (files : Files) → as_outcome files verdict ≡ looked_outcome command (reads_in files) files) (λ fault. fault ≡ NoMemory)
     → MatchResult judged (λ verdict. (files : Files) → IsOutcomeOf (Ok command) files (as_outcome files verdict)) (λ fault. fault ≡ NoMemory)
 ran_on_words command (Ok verdict) rests ran = λ files. ran_over command files (as_outcome files verdict) (words_read (effect_of command.applet) rests) (ran files)
 ran_on_words command (Err fault) rests ran = ran
 
 pub other_by_words : (command : CommandLine) (applet : Applet) (judged : Judged) → applet ≡ command.applet → (applet ≡ Demo → ⊥)
-    → (IsTrue (does_rest_on_words (effect_of command.applet)) → MatchResult judged (λ verdict. (files : Files) → as_outcome files verdict ≡ command_outcome command nothing_given (reads_in files) files) (λ fault. fault ≡ NoMemory))
-    → IsTrue (does_rest_on_words (effect_of command.applet)) → MatchResult judged (λ verdict. (files : Files) → IsOutcomeBy (Ok command) files (as_outcome files verdict)) (λ fault. fault ≡ NoMemory)
+    → (IsTrue (ignores_files (effect_of command.applet)) → MatchResult judged (λ verdict. (files : Files) → as_outcome files verdict ≡ looked_outcome command (reads_in files) files) (λ fault. fault ≡ NoMemory))
+    → IsTrue (ignores_files (effect_of command.applet)) → MatchResult judged (λ verdict. (files : Files) → IsOutcome (Ok command) files (as_outcome files verdict)) (λ fault. fault ≡ NoMemory)
 other_by_words command applet judged same never ran rests =
     but_demo (λ Is. MatchResult judged (λ verdict. (files : Files) → Is files (as_outcome files verdict)) (λ fault. fault ≡ NoMemory)) command.applet command (never_demo command applet same never) (ran_on_words command judged rests (ran rests))
 
 pub other_run : (command : CommandLine) (applet : Applet) (judged : Judged) (old now : History) → applet ≡ command.applet → (applet ≡ Demo → ⊥)
     → IfObservable old (λ v. IsWholeRun (IsOutcomeOf (Ok command) (files_of v)) (effect_of command.applet) (output_if (effect_of command.applet) command) judged v old now)
-    → IfObservable old (λ v. IsWholeRun (IsOutcomeBy (Ok command) (files_of v)) (effect_of command.applet) (output_if (effect_of command.applet) command) judged v old now)
+    → IfObservable old (λ v. IsWholeRun (IsOutcome (Ok command) (files_of v)) (effect_of command.applet) (output_if (effect_of command.applet) command) judged v old now)
 other_run command applet judged old now same never run =
     but_demo (λ Is. IfObservable old (λ v. IsWholeRun (Is (files_of v)) (effect_of command.applet) (output_if (effect_of command.applet) command) judged v old now)) command.applet command (never_demo command applet same never) run
 
 pub other_proper : (command : CommandLine) (applet : Applet) (old : History) (P : Type 0) → applet ≡ command.applet → (applet ≡ Demo → ⊥)
-    → IfObservable old (λ v. LeavesRoomFor (effect_of command.applet) (output_if (effect_of command.applet) command) (IsOutcomeOf (Ok command) (files_of v)) (files_of v) → P)
-    → IfObservable old (λ v. LeavesRoomFor (effect_of command.applet) (output_if (effect_of command.applet) command) (IsOutcomeBy (Ok command) (files_of v)) (files_of v) → P)
+    → IfObservable old (λ v. AreOutcomePathsFree (effect_of command.applet) (output_if (effect_of command.applet) command) (IsOutcomeOf (Ok command) (files_of v)) (files_of v) → P)
+    → IfObservable old (λ v. AreOutcomePathsFree (effect_of command.applet) (output_if (effect_of command.applet) command) (IsOutcome (Ok command) (files_of v)) (files_of v) → P)
 other_proper command applet old P same never proper =
-    but_demo (λ Is. IfObservable old (λ v. LeavesRoomFor (effect_of command.applet) (output_if (effect_of command.applet) command) (Is (files_of v)) (files_of v) → P)) command.applet command (never_demo command applet same never) proper
+    but_demo (λ Is. IfObservable old (λ v. AreOutcomePathsFree (effect_of command.applet) (output_if (effect_of command.applet) command) (Is (files_of v)) (files_of v) → P)) command.applet command (never_demo command applet same never) proper
 
 -- ---- `demo`
 
@@ -95,28 +94,28 @@ other_proper command applet old P same never proper =
 abbrev pub IsDemoJudged : List Operand → Judged → Type 0
 IsDemoJudged operands judged = MatchResult judged (λ verdict. (files : Files) → IsDemoOutcome (demo_count operands) files (as_outcome files verdict)) (λ fault. fault ≡ NoMemory)
 
-demo_by : (command : CommandLine) (applet : Applet) (operands : List Operand) (files : Files) (o : Outcome) → applet ≡ command.applet → applet ≡ Demo → operands ≡ command.operands → IsDemoOutcome (demo_count operands) files o → IsOutcomeBy (Ok command) files o
+demo_by : (command : CommandLine) (applet : Applet) (operands : List Operand) (files : Files) (o : Outcome) → applet ≡ command.applet → applet ≡ Demo → operands ≡ command.operands → IsDemoOutcome (demo_count operands) files o → IsOutcome (Ok command) files o
 demo_by command applet operands files o same is of one =
     subst (λ (a : Applet). IsOutcomeFor a command files o) (sym is ∙ same) (subst (λ (os : List Operand). IsDemoOutcome (demo_count os) files o) of one)
 
 pub demo_by_words : (command : CommandLine) (applet : Applet) (operands : List Operand) (judged : Judged) → applet ≡ command.applet → applet ≡ Demo → operands ≡ command.operands → IsDemoJudged operands judged
-    → MatchResult judged (λ verdict. (files : Files) → IsOutcomeBy (Ok command) files (as_outcome files verdict)) (λ fault. fault ≡ NoMemory)
+    → MatchResult judged (λ verdict. (files : Files) → IsOutcome (Ok command) files (as_outcome files verdict)) (λ fault. fault ≡ NoMemory)
 demo_by_words command applet operands (Ok verdict) same is of one = λ files. demo_by command applet operands files (as_outcome files verdict) same is of (one files)
 demo_by_words command applet operands (Err fault) same is of one = one
 
 pub demo_found : (command : CommandLine) (applet : Applet) (operands : List Operand) (judged : Judged) (old : History) → applet ≡ command.applet → applet ≡ Demo → operands ≡ command.operands → IsDemoJudged operands judged
-    → IfOk judged (λ verdict. IfObservable old (λ v. ReportsOne (IsOutcomeBy (Ok command) (files_of v)) verdict))
+    → IfOk judged (λ verdict. IfObservable old (λ v. ReportsOne (IsOutcome (Ok command) (files_of v)) verdict))
 demo_found command applet operands (Err fault) old same is of one = tt
 demo_found command applet operands (Ok verdict) [] same is of one = tt
 demo_found command applet operands (Ok verdict) (v ∷ old) same is of one =
     (as_outcome (files_of v) verdict, demo_by command applet operands (files_of v) (as_outcome (files_of v) verdict) same is of (one (files_of v)), refl)
 
 pub demo_by_reads : (command : CommandLine) (applet : Applet) (operands : List Operand) (judged : Judged) → applet ≡ command.applet → applet ≡ Demo → operands ≡ command.operands → IsDemoJudged operands judged
-    → IfOk judged (λ verdict. ReportsOne (IsFoundOutcomeBy (Ok command)) verdict)
+    → IfOk judged (λ verdict. ReportsOne (IsPossibleOutcome (Ok command)) verdict)
 demo_by_reads command applet operands (Err fault) same is of one = tt
 demo_by_reads command applet operands (Ok verdict) same is of one = (
   as_outcome no_names verdict,
-  subst (λ (a : Applet). IsFoundOutcomeFor a command (as_outcome no_names verdict)) (sym is ∙ same)
+  subst (λ (a : Applet). IsPossibleOutcomeFor a command (as_outcome no_names verdict)) (sym is ∙ same)
       (subst (λ (os : List Operand). IsDemoOutcome (demo_count os) no_names (as_outcome no_names verdict)) of (one no_names)),
   refl,
 )
@@ -133,10 +132,10 @@ no_recovery : (applet : Applet) (v : TreeState) → applet ≡ Demo → CanRecov
 no_recovery applet v demo can = false≢true (subst (λ (a : Applet). does_recover (effect_of a) ≡ true) demo can.0)
 
 pub demo_run : (command : CommandLine) (applet : Applet) (judged : Judged) (old : History) → applet ≡ command.applet → applet ≡ Demo
-    → IfObservable old (λ v. IsWholeRun (IsOutcomeBy (Ok command) (files_of v)) (effect_of command.applet) (output_if (effect_of command.applet) command) judged v old old)
+    → IfObservable old (λ v. IsWholeRun (IsOutcome (Ok command) (files_of v)) (effect_of command.applet) (output_if (effect_of command.applet) command) judged v old old)
 demo_run command applet judged [] same is = tt
 demo_run command applet judged (v ∷ rest) same is =
-    whole_idle (IsOutcomeBy (Ok command) (files_of v)) (effect_of command.applet) (output_if (effect_of command.applet) command) judged v rest (v ∷ rest) refl
+    whole_idle (IsOutcome (Ok command) (files_of v)) (effect_of command.applet) (output_if (effect_of command.applet) command) judged v rest (v ∷ rest) refl
     (λ o one. ok_always (LeavesAll (effect_of command.applet) v o) judged
     (demo_leaves command.applet command (files_of v) o (sym same ∙ is) one, no_recovery command.applet v (sym same ∙ is)))
 
@@ -167,25 +166,25 @@ refused_to words p q fault tree verdict same is of is_shown =
 -- ---- behind another
 
 -- what a run behind another leads to
-abbrev pub GoesOn : List (List ℕ) → (Files → Files) → Verdict → MemoryTree → Verdict → MemoryTree → Type 0
-GoesOn words change last old verdict new =
-    (before : Outcome) → Reports last before → files_of (tree_state old) ≡ before.files → IsRunTo (IsRunBehind words (change before.files) before) verdict new
+abbrev pub CountsOnlyRise : List (List ℕ) → (Files → Files) → Verdict → MemoryTree → Verdict → MemoryTree → Type 0
+CountsOnlyRise words change last old verdict new =
+    (before : Outcome) → Reports last before → files_of (tree_state old) ≡ before.files → IsRunTo (IsRunAfter words (change before.files) before) verdict new
 
-stays : (refusal : Option Refusal) (words : List (List ℕ)) (files : Files) (before : Outcome) → IsSome refusal → IsRunUnless refusal words files before before
+stays : (refusal : Option Refusal) (words : List (List ℕ)) (files : Files) (before : Outcome) → IsSome refusal → IsRunUnlessRefused refusal words files before before
 stays None words files before some = cc
 stays (Some refusal) words files before some = refl
 
-pub behind_refused : (words : List (List ℕ)) (change : Files → Files) (last : Verdict) (tree : MemoryTree) → IsSome last.refusal → GoesOn words change last tree last tree
-behind_refused words change last tree some = λ before reports files.
+pub after_refused : (words : List (List ℕ)) (change : Files → Files) (last : Verdict) (tree : MemoryTree) → IsSome last.refusal → CountsOnlyRise words change last tree last tree
+after_refused words change last tree some = λ before reports files.
     (before, stays before.refusal words (change before.files) before (subst (λ (r : Option Refusal). IsSome r) (ap (λ (o : Outcome). o.refusal) reports) some), reports, files)
 
-moves : (refusal : Option Refusal) (words : List (List ℕ)) (files : Files) (before o : Outcome) → (is_some refusal ≡ false) → IsOutcomeOf (command_of words) files o → IsRunUnless refusal words files before o
+moves : (refusal : Option Refusal) (words : List (List ℕ)) (files : Files) (before o : Outcome) → (is_some refusal ≡ false) → IsOutcomeOf (command_of words) files o → IsRunUnlessRefused refusal words files before o
 moves None words files before o none one = one
 moves (Some refusal) words files before o none one = cc
 
 pub behind_run : (words : List (List ℕ)) (change : Files → Files) (last : Verdict) (old : MemoryTree) (judged : Judged) (new : MemoryTree) → is_some last.refusal ≡ false
     → IfOk judged (λ verdict. IsRunTo (IsOutcomeOf (command_of words) (change (files_of (tree_state old)))) verdict new)
-    → IfOk judged (λ verdict. GoesOn words change last old verdict new)
+    → IfOk judged (λ verdict. CountsOnlyRise words change last old verdict new)
 behind_run words change last old (Err fault) new none ran = tt
 behind_run words change last old (Ok verdict) new none (o, one, reported, files) = λ before reports same. (
   o,
@@ -200,7 +199,7 @@ behind_run words change last old (Ok verdict) new none (o, one, reported, files)
 pub start_to : (tree : MemoryTree) (verdict : Verdict) → ((files : Files) → as_outcome files verdict ≡ just_report files []) → files_of (tree_state tree) ≡ demo_start.files → IsRunTo (ArePackaged 0) verdict tree
 start_to tree verdict shown files = (demo_start, refl, shown demo_start.files, files)
 
-next_at : (i : ℕ) (last verdict : Verdict) (old new : MemoryTree) → IsRunTo (ArePackaged i) last old → GoesOn (mkpkg_words (suc i)) (with_demo_file (suc i)) last old verdict new → IsRunTo (ArePackaged (suc i)) verdict new
+next_at : (i : ℕ) (last verdict : Verdict) (old new : MemoryTree) → IsRunTo (ArePackaged i) last old → CountsOnlyRise (mkpkg_words (suc i)) (with_demo_file (suc i)) last old verdict new → IsRunTo (ArePackaged (suc i)) verdict new
 next_at i last verdict old new (before, is, reports, files) on =
     let (o, one, reported, after) = on before reports files in
     (o, (before, is, one), reported, after)
@@ -208,16 +207,16 @@ next_at i last verdict old new (before, is, reports, files) on =
 plus_one : (i : ℕ) → i + 1 ≡ suc i
 plus_one i = omega arith
 
-pub next_to : (i : ℕ) (last verdict : Verdict) (old new : MemoryTree) → IsRunTo (ArePackaged i) last old → GoesOn (mkpkg_words (i + 1)) (with_demo_file (i + 1)) last old verdict new → IsRunTo (ArePackaged (i + 1)) verdict new
+pub next_to : (i : ℕ) (last verdict : Verdict) (old new : MemoryTree) → IsRunTo (ArePackaged i) last old → CountsOnlyRise (mkpkg_words (i + 1)) (with_demo_file (i + 1)) last old verdict new → IsRunTo (ArePackaged (i + 1)) verdict new
 next_to i last verdict old new one =
-    subst (λ k. GoesOn (mkpkg_words k) (with_demo_file k) last old verdict new → IsRunTo (ArePackaged k) verdict new) (sym (plus_one i)) (next_at i last verdict old new one)
+    subst (λ k. CountsOnlyRise (mkpkg_words k) (with_demo_file k) last old verdict new → IsRunTo (ArePackaged k) verdict new) (sym (plus_one i)) (next_at i last verdict old new one)
 
-pub index_to : (n : ℕ) (last verdict : Verdict) (old new : MemoryTree) → IsRunTo (ArePackaged n) last old → GoesOn (mkndx_words n) (λ files. files) last old verdict new → IsRunTo (AreIndexed n) verdict new
+pub index_to : (n : ℕ) (last verdict : Verdict) (old new : MemoryTree) → IsRunTo (ArePackaged n) last old → CountsOnlyRise (mkndx_words n) (λ files. files) last old verdict new → IsRunTo (AreIndexed n) verdict new
 index_to n last verdict old new (before, is, reports, files) on =
     let (o, one, reported, after) = on before reports files in
     (o, (before, is, one), reported, after)
 
-pub add_to : (n : ℕ) (last : Verdict) (old new : MemoryTree) (judged : Judged) → IsRunTo (AreIndexed n) last old → IfOk judged (λ verdict. GoesOn (add_words n) (λ files. files) last old verdict new) → IfOk judged (λ verdict. IsRunTo (AreInstalled n) verdict new)
+pub add_to : (n : ℕ) (last : Verdict) (old new : MemoryTree) (judged : Judged) → IsRunTo (AreIndexed n) last old → IfOk judged (λ verdict. CountsOnlyRise (add_words n) (λ files. files) last old verdict new) → IfOk judged (λ verdict. IsRunTo (AreInstalled n) verdict new)
 add_to n last old new (Err fault) one on = tt
 add_to n last old new (Ok verdict) (before, is, reports, files) on =
     let (o, one, reported, after) = on before reports files in
@@ -255,9 +254,9 @@ start_files files new bytes is none same =
 -- ---- the index, and the installation
 
 pub install_to : (n : ℕ) (packaged indexed : Verdict) (first second third : MemoryTree) (index add : List (List ℕ)) (judged : Judged) → IsRunTo (ArePackaged n) packaged first
-    → index ≡ mkndx_words n → GoesOn index (λ files. files) packaged first indexed second → add ≡ add_words n → IfOk judged (λ verdict. GoesOn add (λ files. files) indexed second verdict third)
+    → index ≡ mkndx_words n → CountsOnlyRise index (λ files. files) packaged first indexed second → add ≡ add_words n → IfOk judged (λ verdict. CountsOnlyRise add (λ files. files) indexed second verdict third)
     → IfOk judged (λ verdict. IsRunTo (AreInstalled n) verdict third)
 install_to n packaged indexed first second third index add judged one is_index on_index is_add on_add =
     add_to n indexed second third judged
-    (index_to n packaged indexed first second one (subst (λ (w : List (List ℕ)). GoesOn w (λ files. files) packaged first indexed second) is_index on_index))
-    (subst (λ (w : List (List ℕ)). IfOk judged (λ verdict. GoesOn w (λ files. files) indexed second verdict third)) is_add on_add)
+    (index_to n packaged indexed first second one (subst (λ (w : List (List ℕ)). CountsOnlyRise w (λ files. files) packaged first indexed second) is_index on_index))
+    (subst (λ (w : List (List ℕ)). IfOk judged (λ verdict. CountsOnlyRise w (λ files. files) indexed second verdict third)) is_add on_add)

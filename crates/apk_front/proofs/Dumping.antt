@@ -8,7 +8,7 @@ use Rattle.base_core.specs.Files.{Files, no_names}
 use Rattle.base_core.specs.Tree.{TreeState, files_of}
 use Rattle.adb_block.specs.Header.{header_of}
 use Rattle.adb_block.specs.Reading.{Reading, done, fault, more, reading_of}
-use Rattle.adb_block.specs.Standing.{Standing, start_of}
+use Rattle.adb_block.specs.ReaderPosition.{ReaderPosition, start_of}
 use Rattle.adb_dump.specs.Dump.{dump_text}
 use Rattle.adb_view.specs.ShapedPayload.{adb_of, shaped_value, table_of}
 use Rattle.adb_schema.specs.Soundness.{root_value, schema_word}
@@ -79,7 +79,7 @@ root_known schema which h =
     known : (w : Which) → Some w ≡ Some which → is_some (schema_word w) ≡ true → is_some (schema_word which) ≡ true
     known w e k = subst (λ x. is_some (schema_word x) ≡ true) (same_Some w which e) k
 
-pub dump_is : (file : List ℕ) (schema : ℕ) (s : Standing) (which : Which) (answer : Result (List ℕ) Cause) → header_of file ≡ Ok schema → s ≡ start_of schema file → root_of_schema schema ≡ Some which → dump_of_blocks which (reading_of s) ≡ answer → dump_of file ≡ answer
+pub dump_is : (file : List ℕ) (schema : ℕ) (s : ReaderPosition) (which : Which) (answer : Result (List ℕ) Cause) → header_of file ≡ Ok schema → s ≡ start_of schema file → root_of_schema schema ≡ Some which → dump_of_blocks which (reading_of s) ≡ answer → dump_of file ≡ answer
 unfolding dump_of
 dump_is file schema s which answer h at root is =
     ap (dump_with_schema file) h ∙ (ap (dump_with_root schema (reading_of (start_of schema file))) root ∙ (ap (λ t. dump_of_blocks which (reading_of t)) (sym at) ∙ is))

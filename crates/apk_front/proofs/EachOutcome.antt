@@ -2,62 +2,62 @@
 use Rattle.std.proofs.Common.{◌≡◌, inl, inr, ℕ, Bool, true, false, List, [], ◌∷◌, None, subst}
 use Rattle.std.specs.Prelude.{is_some, All}
 use Rattle.std.proofs.lemmas.List.Elements.{All-nil, All-cons, All-weaker}
-use Rattle.base_core.specs.Calls.{HasNow}
+use Rattle.base_core.specs.Calls.{HoldsNow}
 use Rattle.base_core.specs.Crash.{Since}
 use Rattle.base_core.specs.Files.{Files}
 use Rattle.base_core.specs.Restart.{EachMoment}
 use Rattle.base_core.specs.Tree.{TreeState, files_of}
-use Rattle.journal_core.specs.Quiet.{IsQuiet, IsStill}
-use Rattle.journal_core.specs.Recovery.{IsOldOrNew, IsSettled}
-use Rattle.journal_core.specs.Replacing.{IsReplacing}
-use Rattle.journal_core.specs.Staged.{IsOnTheWay}
+use Rattle.journal_core.specs.Quiet.{EachCrashLeavesOld, StateIsUnchanged}
+use Rattle.journal_core.specs.Recovery.{EachCrashLeavesOldOrNew, EachCrashLeaves}
+use Rattle.journal_core.specs.Replacing.{IsMomentOfReplacing}
+use Rattle.journal_core.specs.Staged.{IsOldUntilCommit}
 use Rattle.outcome.specs.Words.{IsOutcome}
 use Rattle.outcome.specs.Effect.{Effect, effect_by, output}
 use Rattle.outcome.specs.Outcome.{Outcome}
 use Rattle.words_core.specs.Grammar.{command_of}
-use Rattle.apk_front.specs.Moments.{AreOnTheWay, AreSafe, IsCarriedOut, LeavesLasting, Settles}
+use Rattle.apk_front.specs.Moments.{MomentsLeadTo, AreOldOrLeadToOutcome, IsCarriedOut, LeavesDurableOnceAnswered, MakesDurable}
 use Rattle.apk_front.specs.declared.answer.Answer.{Answer}
 use Rattle.apk_front.specs.declared.answer.Answer.TheVariants.{Ok, Refused, TreeFault, OutFault, Memory}
 
 abbrev pub IsUnique : Type 0
-IsUnique = (words : List (List ℕ)) (files : Files) (a b : Outcome) → IsOutcome words files a → IsOutcome words files b → a ≡ b
+IsUnique = (words : List (List ℕ)) (files : Files) (a b : Outcome) → IsOutcome (command_of words) files a → IsOutcome (command_of words) files b → a ≡ b
 
 abbrev pub QuietIsOld : Type 0
-QuietIsOld = (ignored : List ℕ → Bool) (a b : TreeState) (new : Files) → IsQuiet ignored a b → IsOldOrNew ignored a new b
+QuietIsOld = (ignored : List ℕ → Bool) (a b : TreeState) (new : Files) → EachCrashLeavesOld ignored a b → EachCrashLeavesOldOrNew ignored a new b
 
 -- ---- moments
 
-still_replaces : QuietIsOld → (ignored : List ℕ → Bool) (files : Files) (v w : TreeState) → IsStill ignored v w → IsReplacing ignored files v w
-still_replaces law ignored files v w still = record { orderly = still.orderly; old_or_new = law ignored v w files still.quiet; made = still.made }
+still_replaces : QuietIsOld → (ignored : List ℕ → Bool) (files : Files) (v w : TreeState) → StateIsUnchanged ignored v w → IsMomentOfReplacing ignored files v w
+still_replaces law ignored files v w is_unchanged = record { is_durable = is_unchanged.is_durable; old_or_new = law ignored v w files is_unchanged.quiet; made = is_unchanged.made }
 
-each_replaces : (ignored : List ℕ → Bool) (files : Files) (v : TreeState) (added : List TreeState) → EachMoment (IsOnTheWay ignored files v) added → All (IsReplacing ignored files v) added
-each_replaces ignored files v [] each = All-nil (IsReplacing ignored files v)
+each_replaces : (ignored : List ℕ → Bool) (files : Files) (v : TreeState) (added : List TreeState) → EachMoment (IsOldUntilCommit ignored files v) added → All (IsMomentOfReplacing ignored files v) added
+each_replaces ignored files v [] each = All-nil (IsMomentOfReplacing ignored files v)
 each_replaces ignored files v (w ∷ added) (here, earlier) =
-    All-cons (IsReplacing ignored files v) w added (record { orderly = here.orderly; old_or_new = here.old_or_new; made = here.made }) (each_replaces ignored files v added earlier)
+    All-cons (IsMomentOfReplacing ignored files v) w added (record { is_durable = here.is_durable; old_or_new = here.old_or_new; made = here.made }) (each_replaces ignored files v added earlier)
 
-way_replaces : (makes : Bool) (ignored : List ℕ → Bool) (files : Files) (v : TreeState) (old now : List TreeState) → AreOnTheWay makes ignored files v old now → Since (IsReplacing ignored files v) old now
+way_replaces : (makes : Bool) (ignored : List ℕ → Bool) (files : Files) (v : TreeState) (old now : List TreeState) → MomentsLeadTo makes ignored files v old now → Since (IsMomentOfReplacing ignored files v) old now
 way_replaces true ignored files v old now way = way
 way_replaces false ignored files v old now way = record { added = way.added; is = way.is; each = each_replaces ignored files v way.added way.each }
 
 pub safe_for_each : IsUnique → QuietIsOld → (words : List (List ℕ)) (ignored : List ℕ → Bool) (v : TreeState) (outcome : Outcome) (old now : List TreeState)
-    → AreSafe (IsOutcome words (files_of v)) (is_some (output words)) ignored v old now → IsOutcome words (files_of v) outcome → Since (IsReplacing ignored outcome.files v) old now
-safe_for_each unique law words ignored v outcome old now (inl still) one = record {
-  added = still.added;
-  is = still.is;
-  each = All-weaker (IsStill ignored v) (IsReplacing ignored outcome.files v) (still_replaces law ignored outcome.files v) still.added still.each;
+    → AreOldOrLeadToOutcome (IsOutcome (command_of words) (files_of v)) (is_some (output words)) ignored v old now → IsOutcome (command_of words) (files_of v) outcome → Since (IsMomentOfReplacing ignored outcome.files v) old now
+safe_for_each unique law words ignored v outcome old now (inl is_unchanged) one = record {
+  added = is_unchanged.added;
+  is = is_unchanged.is;
+  each = All-weaker (StateIsUnchanged ignored v) (IsMomentOfReplacing ignored outcome.files v) (still_replaces law ignored outcome.files v) is_unchanged.added is_unchanged.each;
 }
 safe_for_each unique law words ignored v outcome old now (inr (o, its, commits, way)) one =
-    subst (λ (x : Outcome). Since (IsReplacing ignored x.files v) old now) (unique words (files_of v) o outcome its one) (way_replaces (is_some (output words)) ignored o.files v old now way)
+    subst (λ (x : Outcome). Since (IsMomentOfReplacing ignored x.files v) old now) (unique words (files_of v) o outcome its one) (way_replaces (is_some (output words)) ignored o.files v old now way)
 
 -- ---- what lasts
 
-lasts_for : (effect : Effect) (ignored : List ℕ → Bool) (v : TreeState) (o outcome : Outcome) (now : List TreeState) → o ≡ outcome → Settles effect ignored v outcome → (Settles effect ignored v o → HasNow now (IsSettled ignored o.files))
-    → HasNow now (IsSettled ignored outcome.files)
-lasts_for effect ignored v o outcome now same settles last = subst (λ (x : Outcome). (Settles effect ignored v x → HasNow now (IsSettled ignored x.files))) same last settles
+lasts_for : (effect : Effect) (ignored : List ℕ → Bool) (v : TreeState) (o outcome : Outcome) (now : List TreeState) → o ≡ outcome → MakesDurable effect ignored v outcome → (MakesDurable effect ignored v o → HoldsNow now (EachCrashLeaves ignored o.files))
+    → HoldsNow now (EachCrashLeaves ignored outcome.files)
+lasts_for effect ignored v o outcome now same settles last = subst (λ (x : Outcome). (MakesDurable effect ignored v x → HoldsNow now (EachCrashLeaves ignored x.files))) same last settles
 
 pub lasting_for_each : IsUnique → (words : List (List ℕ)) (ignored : List ℕ → Bool) (v : TreeState) (outcome : Outcome) (now : List TreeState) (answer : Answer)
-    → LeavesLasting (IsOutcome words (files_of v)) (effect_by (command_of words)) ignored v now answer → IsCarriedOut answer → IsOutcome words (files_of v) outcome → outcome.refusal ≡ None
-    → Settles (effect_by (command_of words)) ignored v outcome → HasNow now (IsSettled ignored outcome.files)
+    → LeavesDurableOnceAnswered (IsOutcome (command_of words) (files_of v)) (effect_by (command_of words)) ignored v now answer → IsCarriedOut answer → IsOutcome (command_of words) (files_of v) outcome → outcome.refusal ≡ None
+    → MakesDurable (effect_by (command_of words)) ignored v outcome → HoldsNow now (EachCrashLeaves ignored outcome.files)
 lasting_for_each unique words ignored v outcome now Ok (o, its, its_none, last) carried one none settles =
     lasts_for (effect_by (command_of words)) ignored v o outcome now (unique words (files_of v) o outcome its one) settles last
 lasting_for_each unique words ignored v outcome now OutFault (o, its, last) carried one none settles =

@@ -19,16 +19,16 @@ use Rattle.command_core.specs.declared.command.Flags.{Flags}
 use Rattle.command_core.specs.declared.operands.Operand.{Operand}
 use Rattle.make_info.specs.Reads.{Reads}
 use Rattle.outcome.specs.Outcome.{Outcome, just_refusal}
-use Rattle.outcome.specs.Words.{IsFoundOutcome, IsFoundOutcomeBy, IsOutcome, IsOutcomeBy}
+use Rattle.outcome.specs.Words.{IsPossibleOutcome, IsOutcome}
 use Rattle.outcome.specs.Version.{version}
-use Rattle.outcome.specs.Commands.{IsOutcomeOf, IsOutcomeOver, IsOutcomeUnless, reads_in, applet_outcome, command_outcome}
+use Rattle.outcome.specs.Commands.{IsOutcomeOf, IsOutcomeOn, IsOutcomeUnlessBadIntent, effect_outcome, reads_in}
 use Rattle.outcome.specs.Given.{IsChosenFor, IsClashBy, IsGiven, IsListingFor, MayBeGiven, MayBeListedFor, MayClash, nothing_given}
-use Rattle.outcome.specs.Effect.{Effect, Computes, Reads as OnlyReads, Tells, Makes, Changes, does_only_read, does_recover, does_rest_on_words, effect_by, effect_of, output, rests_on_words}
+use Rattle.outcome.specs.Effect.{Effect, Computes, Reads as OnlyReads, Tells, Makes, Changes, does_only_read, does_recover, ignores_files, effect_by, effect_of, output, depends_only_on_arguments}
 use Rattle.outcome.specs.Work.{recovery_fault, work_files}
 use Rattle.base_core.specs.declared.cause.Cause.{Cause}
-use Rattle.apk_front.specs.Answers.{IsAnswerTo, IsAnswerOf, LeavesFiles, LeavesAny, HasCauses, IsFaultless, IsComplete, IsStated, DidNotFail, FailedAt, answer_by}
+use Rattle.apk_front.specs.Answers.{IsAnswerOf, LeavesFiles, LeavesAnyFiles, HasCauses, IsFaultless, AnswersOutcomeUnlessMemory, IsAnsweredInFull, DidNotFail, FailedAt, answer_by}
 use Rattle.apk_front.specs.Runs.{IsWholeRun}
-use Rattle.apk_front.specs.Verdicts.{as_outcome, IsPrinted, IsShown, Reports, ReportsOne}
+use Rattle.apk_front.specs.Verdicts.{as_outcome, IsPrinted, IsShown, Reports, ReportsOne, looked_outcome}
 use Rattle.apk_front.proofs.Printing.{either_failed}
 use Rattle.apk_front.specs.declared.answer.Answer.{Answer}
 use Rattle.apk_front.specs.declared.answer.Answer.TheVariants.{Ok as Good, Refused, TreeFault as TreeFailed, OutFault, Memory}
@@ -36,8 +36,8 @@ use Rattle.apk_front.specs.declared.answer.Verdict.{Verdict}
 
 -- ---- the words and the outcome
 
-pub usage_over : (words : List (List ℕ)) (place : ℕ) (files : Files) → command_of words ≡ Err place → IsOutcome words files (just_refusal files (Usage place))
-usage_over words place files is = subst (λ (r : Result CommandLine ℕ). IsOutcomeBy r files (just_refusal files (Usage place))) (sym is) refl
+pub usage_over : (words : List (List ℕ)) (place : ℕ) (files : Files) → command_of words ≡ Err place → IsOutcome (command_of words) files (just_refusal files (Usage place))
+usage_over words place files is = subst (λ (r : Result CommandLine ℕ). IsOutcome r files (just_refusal files (Usage place))) (sym is) refl
 
 -- an applet that only reads lists and chooses nothing
 no_listing : (applet : Applet) (command : CommandLine) (files : Files) → does_only_read (effect_of applet) ≡ true → IsListingFor applet command files []
@@ -74,7 +74,7 @@ none_by_some command read files reads = record {
   clash = no_clash_by_some (effect_of command.applet) command read files reads;
 }
 
-pub words_read : (effect : Effect) → does_rest_on_words effect ≡ true → does_only_read effect ≡ true
+pub words_read : (effect : Effect) → ignores_files effect ≡ true → does_only_read effect ≡ true
 words_read Computes rests = refl
 words_read OnlyReads rests = refl
 words_read Tells rests = cc
@@ -104,24 +104,24 @@ work_without Tells files none = cc
 work_without Makes files none = cc
 work_without Changes files none = cc
 
-pub of_over : (command : CommandLine) (files : Files) (o : Outcome) → does_recover (effect_of command.applet) ≡ false → IsOutcomeOver command files o → IsOutcomeOf (Ok command) files o
+pub of_over : (command : CommandLine) (files : Files) (o : Outcome) → does_recover (effect_of command.applet) ≡ false → IsOutcomeOn command files o → IsOutcomeOf (Ok command) files o
 of_over command files o none over =
-    subst (λ (fault : Option Cause). IsOutcomeUnless fault command files o) (sym (fault_without (effect_of command.applet) files none))
-    (subst (λ (f : Files). IsOutcomeOver command f o) (sym (work_without (effect_of command.applet) files none)) over)
+    subst (λ (fault : Option Cause). IsOutcomeUnlessBadIntent fault command files o) (sym (fault_without (effect_of command.applet) files none))
+    (subst (λ (f : Files). IsOutcomeOn command f o) (sym (work_without (effect_of command.applet) files none)) over)
 
-pub over_of : (command : CommandLine) (files : Files) (o : Outcome) → does_recover (effect_of command.applet) ≡ false → IsOutcomeOf (Ok command) files o → IsOutcomeOver command files o
+pub over_of : (command : CommandLine) (files : Files) (o : Outcome) → does_recover (effect_of command.applet) ≡ false → IsOutcomeOf (Ok command) files o → IsOutcomeOn command files o
 over_of command files o none of =
-    subst (λ (f : Files). IsOutcomeOver command f o) (work_without (effect_of command.applet) files none)
-    (subst (λ (fault : Option Cause). IsOutcomeUnless fault command files o) (fault_without (effect_of command.applet) files none) of)
+    subst (λ (f : Files). IsOutcomeOn command f o) (work_without (effect_of command.applet) files none)
+    (subst (λ (fault : Option Cause). IsOutcomeUnlessBadIntent fault command files o) (fault_without (effect_of command.applet) files none) of)
 
-pub ran_over : (command : CommandLine) (files : Files) (o : Outcome) → does_only_read (effect_of command.applet) ≡ true → o ≡ command_outcome command nothing_given (reads_in files) files → IsOutcomeOf (Ok command) files o
+pub ran_over : (command : CommandLine) (files : Files) (o : Outcome) → does_only_read (effect_of command.applet) ≡ true → o ≡ looked_outcome command (reads_in files) files → IsOutcomeOf (Ok command) files o
 ran_over command files o reads ran = of_over command files o (reads_without (effect_of command.applet) reads) (nothing_given, none_given command (reads_in files) files reads, ran)
 
 pub usage_verdict : (words : List (List ℕ)) (p q : ℕ) (fault : WordsFault) (verdict : Verdict) → p ≡ q → fault ≡ WrongWord q → IsWordsFault fault (command_of words)
-    → ((files : Files) → as_outcome files verdict ≡ just_refusal files (Usage p)) → (files : Files) → IsOutcome words files (as_outcome files verdict)
+    → ((files : Files) → as_outcome files verdict ≡ just_refusal files (Usage p)) → (files : Files) → IsOutcome (command_of words) files (as_outcome files verdict)
 usage_verdict words p q fault verdict same is of is_shown files =
     let read : command_of words ≡ Err q = subst (λ (f : WordsFault). IsWordsFault f (command_of words)) is of in
-    subst (IsOutcome words files) (sym (is_shown files ∙ ap (λ (n : ℕ). just_refusal files (Usage n)) same)) (usage_over words q files read)
+    subst (IsOutcome (command_of words) files) (sym (is_shown files ∙ ap (λ (n : ℕ). just_refusal files (Usage n)) same)) (usage_over words q files read)
 
 pub all_observable : (h : List TreeState) (P : TreeState → Type 0) → ((v : TreeState) → P v) → IfObservable h P
 all_observable [] P all = tt
@@ -139,12 +139,12 @@ printed_one IsOne Leaves tree_failed o OutFault out err is leaves printed = (o, 
 printed_one IsOne Leaves tree_failed o TreeFailed out err is leaves printed = absurd printed
 printed_one IsOne Leaves tree_failed o Memory out err is leaves printed = absurd printed
 
-printed_answer : (words : List (List ℕ)) (files : Files) (Leaves : Outcome → Type 0) (tree_failed : Type 0) (o : Outcome) (answer : Answer) (out err : SinkChange) → IsOutcome words files o → Leaves o → IsPrinted o answer out err → IsAnswerTo words files Leaves tree_failed answer out err
-printed_answer words files Leaves tree_failed o answer out err is leaves printed = printed_one (IsOutcome words files) Leaves tree_failed o answer out err is leaves printed
+printed_answer : (words : List (List ℕ)) (files : Files) (Leaves : Outcome → Type 0) (tree_failed : Type 0) (o : Outcome) (answer : Answer) (out err : SinkChange) → IsOutcome (command_of words) files o → Leaves o → IsPrinted o answer out err → IsAnswerOf (IsOutcome (command_of words) files) Leaves tree_failed answer out err
+printed_answer words files Leaves tree_failed o answer out err is leaves printed = printed_one (IsOutcome (command_of words) files) Leaves tree_failed o answer out err is leaves printed
 
 -- printing looks at the refusal and the texts alone
 
-stated_alike : (a b : Outcome) (answer : Answer) (out err : SinkChange) → a.refusal ≡ b.refusal → a.out ≡ b.out → a.err ≡ b.err → IsStated a answer out err → IsStated b answer out err
+stated_alike : (a b : Outcome) (answer : Answer) (out err : SinkChange) → a.refusal ≡ b.refusal → a.out ≡ b.out → a.err ≡ b.err → IsAnsweredInFull a answer out err → IsAnsweredInFull b answer out err
 stated_alike a b answer out err refusal report line p = record {
   same = p.same ∙ ap answer_by refusal;
   out_gets = subst (λ (t : List ℕ). Gets out t) report p.out_gets;
@@ -194,14 +194,14 @@ found_at v rest (Err e) P found = found
 
 -- the runs of a command line
 abbrev pub Runs : List (List ℕ) → Judged → List TreeState → List TreeState → Type 0
-Runs words judged old now = IfObservable old (λ v. IsWholeRun (IsOutcome words (files_of v)) (effect_by (command_of words)) (output words) judged v old now)
+Runs words judged old now = IfObservable old (λ v. IsWholeRun (IsOutcome (command_of words) (files_of v)) (effect_by (command_of words)) (output words) judged v old now)
 
 pub answered : (words : List (List ℕ)) (old now : List TreeState) (tree_failed : Type 0) (judged : Judged) (answer : Answer) (out err : SinkChange)
-    → IfOk judged (λ verdict. IfObservable old (λ v. ReportsOne (IsOutcome words (files_of v)) verdict)) → Runs words judged old now → (IsErrOf judged Disk → tree_failed) → IsShown judged answer out err
-    → IfObservable old (λ v. IsAnswerTo words (files_of v) (LeavesFiles now) tree_failed answer out err)
+    → IfOk judged (λ verdict. IfObservable old (λ v. ReportsOne (IsOutcome (command_of words) (files_of v)) verdict)) → Runs words judged old now → (IsErrOf judged Disk → tree_failed) → IsShown judged answer out err
+    → IfObservable old (λ v. IsAnswerOf (IsOutcome (command_of words) (files_of v)) (LeavesFiles now) tree_failed answer out err)
 answered words [] now tree_failed judged answer out err found run disk is_shown = tt
 answered words (v ∷ rest) now tree_failed judged answer out err found run disk is_shown =
-    judged_answer (IsOutcome words (files_of v)) (LeavesFiles now) tree_failed judged answer out err (found_at v rest judged (λ verdict w. ReportsOne (IsOutcome words (files_of w)) verdict) found)
+    judged_answer (IsOutcome (command_of words) (files_of v)) (LeavesFiles now) tree_failed judged answer out err (found_at v rest judged (λ verdict w. ReportsOne (IsOutcome (command_of words) (files_of w)) verdict) found)
     (λ o is. run.leaves o is) disk is_shown
 
 -- ---- no count rose
@@ -211,7 +211,7 @@ not_failed outcome before after out err faultless (inl failed) = faultless.out_s
 not_failed outcome before after out err faultless (inr failed) = faultless.err_sink failed.failed.fault
 
 complete_by : (words : List (List ℕ)) (files : Files) (Leaves : Outcome → Type 0) (before after : Counts) (answer : Answer) (out err : SinkChange)
-    → IsAnswerTo words files Leaves (HasCause before after) answer out err → IsFaultless before after out err → IsComplete words files answer
+    → IsAnswerOf (IsOutcome (command_of words) files) Leaves (HasCause before after) answer out err → IsFaultless before after out err → AnswersOutcomeUnlessMemory words files answer
 complete_by words files Leaves before after Good out err (o, is, stated, leaves) faultless = inr (o, is, stated.same)
 complete_by words files Leaves before after (Refused refusal) out err (o, is, stated, leaves) faultless = inr (o, is, stated.same)
 complete_by words files Leaves before after OutFault out err (o, is, fault, leaves) faultless = absurd (not_failed o before after out err faultless (either_failed fault.which))
@@ -219,44 +219,44 @@ complete_by words files Leaves before after TreeFailed out err (cause, fault) fa
 complete_by words files Leaves before after Memory out err fault faultless = inl refl
 
 pub completed : (words : List (List ℕ)) (old now : List TreeState) (before after : Counts) (answer : Answer) (out err : SinkChange)
-    → IfObservable old (λ v. IsAnswerTo words (files_of v) (LeavesFiles now) (HasCause before after) answer out err)
-    → IfObservable old (λ v. IsFaultless before after out err → IsComplete words (files_of v) answer)
+    → IfObservable old (λ v. IsAnswerOf (IsOutcome (command_of words) (files_of v)) (LeavesFiles now) (HasCause before after) answer out err)
+    → IfObservable old (λ v. IsFaultless before after out err → AnswersOutcomeUnlessMemory words (files_of v) answer)
 completed words [] now before after answer out err answered = tt
 completed words (v ∷ rest) now before after answer out err answered = λ faultless. complete_by words (files_of v) (LeavesFiles now) before after answer out err answered faultless
 
 -- ---- for every tree
 
 pub answered_by_words : (words : List (List ℕ)) (judged : Judged) (answer : Answer) (out err : SinkChange)
-    → (IsTrue (rests_on_words (command_of words)) → MatchResult judged (λ verdict. (files : Files) → IsOutcome words files (as_outcome files verdict)) (λ fault. fault ≡ NoMemory)) → IsShown judged answer out err
-    → IsTrue (rests_on_words (command_of words)) → IsAnswerTo words no_names LeavesAny ⊥ answer out err
+    → (IsTrue (depends_only_on_arguments (command_of words)) → MatchResult judged (λ verdict. (files : Files) → IsOutcome (command_of words) files (as_outcome files verdict)) (λ fault. fault ≡ NoMemory)) → IsShown judged answer out err
+    → IsTrue (depends_only_on_arguments (command_of words)) → IsAnswerOf (IsOutcome (command_of words) no_names) LeavesAnyFiles ⊥ answer out err
 answered_by_words words (Ok verdict) answer out err by_words is_shown rests =
-    printed_answer words no_names LeavesAny ⊥ (as_outcome no_names verdict) answer out err (by_words rests no_names) tt (is_shown no_names)
+    printed_answer words no_names LeavesAnyFiles ⊥ (as_outcome no_names verdict) answer out err (by_words rests no_names) tt (is_shown no_names)
 answered_by_words words (Err Disk) answer out err by_words is_shown rests = absurd (let e : Disk ≡ NoMemory = by_words rests in cc)
 answered_by_words words (Err NoMemory) answer out err by_words is_shown rests =
-    subst (λ (a : Answer). IsAnswerTo words no_names LeavesAny ⊥ a out err) (sym is_shown.0) is_shown.1
+    subst (λ (a : Answer). IsAnswerOf (IsOutcome (command_of words) no_names) LeavesAnyFiles ⊥ a out err) (sym is_shown.0) is_shown.1
 
 -- ---- by what was found
 
 pub usage_found : (words : List (List ℕ)) (p q : ℕ) (fault : WordsFault) (verdict : Verdict) → p ≡ q → fault ≡ WrongWord q → IsWordsFault fault (command_of words)
-    → ((files : Files) → as_outcome files verdict ≡ just_refusal files (Usage p)) → ReportsOne (IsFoundOutcome words) verdict
+    → ((files : Files) → as_outcome files verdict ≡ just_refusal files (Usage p)) → ReportsOne (IsPossibleOutcome (command_of words)) verdict
 usage_found words p q fault verdict same is of is_shown =
     let read : command_of words ≡ Err q = subst (λ (f : WordsFault). IsWordsFault f (command_of words)) is of in
-    (as_outcome no_names verdict, subst (λ (r : Result CommandLine ℕ). IsFoundOutcomeBy r (as_outcome no_names verdict)) (sym read) (is_shown no_names ∙ ap (λ (n : ℕ). just_refusal no_names (Usage n)) same), refl)
+    (as_outcome no_names verdict, subst (λ (r : Result CommandLine ℕ). IsPossibleOutcome r (as_outcome no_names verdict)) (sym read) (is_shown no_names ∙ ap (λ (n : ℕ). just_refusal no_names (Usage n)) same), refl)
 
 pub ran_version : (command : CommandLine) (applet : Applet) (flags : Flags) (operands : List Operand) (verdict : Verdict) → applet ≡ command.applet → applet ≡ Version → flags ≡ command.flags → operands ≡ command.operands
-    → ((files : Files) → as_outcome files verdict ≡ version files flags operands) → (read : ℕ → List ℕ → Option (List ℕ)) × (as_outcome no_names verdict ≡ command_outcome command nothing_given read no_names)
+    → ((files : Files) → as_outcome files verdict ≡ version files flags operands) → (read : ℕ → List ℕ → Option (List ℕ)) × (as_outcome no_names verdict ≡ looked_outcome command read no_names)
 ran_version command applet flags operands verdict same is flags_same operands_same printed =
     let nothing : ℕ → List ℕ → Option (List ℕ) = λ k name. None in (
       nothing,
       printed no_names ∙ ap (λ (f : Flags). version no_names f operands) flags_same ∙ ap (λ (o : List Operand). version no_names command.flags o) operands_same
-          ∙ sym (ap (λ (a : Applet). applet_outcome a command nothing_given nothing no_names) (sym same ∙ is)),
+          ∙ sym (ap (λ (a : Applet). effect_outcome (effect_of a) a command nothing_given nothing no_names) (sym same ∙ is)),
     )
 
 pub answered_by_reads : (words : List (List ℕ)) (tree_failed : Type 0) (judged : Judged) (answer : Answer) (out err : SinkChange)
-    → IfOk judged (ReportsOne (IsFoundOutcome words)) → (IsErrOf judged Disk → tree_failed) → IsShown judged answer out err
-    → IsAnswerOf (IsFoundOutcome words) LeavesAny tree_failed answer out err
+    → IfOk judged (ReportsOne (IsPossibleOutcome (command_of words))) → (IsErrOf judged Disk → tree_failed) → IsShown judged answer out err
+    → IsAnswerOf (IsPossibleOutcome (command_of words)) LeavesAnyFiles tree_failed answer out err
 answered_by_reads words tree_failed judged answer out err found disk is_shown =
-    judged_answer (IsFoundOutcome words) LeavesAny tree_failed judged answer out err found (λ o is. any_ok judged) disk is_shown
+    judged_answer (IsPossibleOutcome (command_of words)) LeavesAnyFiles tree_failed judged answer out err found (λ o is. any_ok judged) disk is_shown
   where
     any_ok : (j : Judged) → OnOk j (Unit {0})
     any_ok (Ok verdict) = tt

@@ -17,5 +17,5 @@ pub mod Behind
 pub mod Promised
 pub mod EachOutcome
 pub mod Changing
-pub mod Telling
+pub mod OutcomeOfReport
 mod Demos

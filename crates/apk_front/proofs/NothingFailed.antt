@@ -7,7 +7,7 @@ use Rattle.base_core.specs.Read.{OnlyReads}
 use Rattle.base_core.specs.Tree.{TreeState}
 use Rattle.base_core.specs.declared.tree.TreeFault.TheVariants.{Memory as NoMemory}
 use Rattle.make_info.specs.declared.fault.MakeFault.TheVariants.{Disk}
-use Rattle.apk_front.specs.Containers.{is_cut_off}
+use Rattle.apk_front.specs.Containers.{ended_by_disk_or_memory}
 use Rattle.apk_front.proofs.Containers.{Container}
 use Rattle.apk_front.proofs.Runs.{Judged}
 
@@ -20,10 +20,10 @@ not_lost (Ok file) old new a b apart tree = tree.kept
 not_lost (Err why) old new a b apart tree = tree.others (λ is. apart (ap Err is))
 
 -- what is reported was made, or refused for what it is
-whole_not_lost : (container : Container) → is_cut_off container ≡ false → container ≢ Err Disk
-whole_not_lost container whole lost = false≢true (sym whole ∙ ap is_cut_off lost)
+whole_not_lost : (container : Container) → ended_by_disk_or_memory container ≡ false → container ≢ Err Disk
+whole_not_lost container whole lost = false≢true (sym whole ∙ ap ended_by_disk_or_memory lost)
 
-pub kept_both : Join → (container : Container) (judged : Judged) (old new : List TreeState) (a b c : Counts) → OnlyReads Disk old new a b container → IfOk judged (λ verdict. is_cut_off container ≡ false) → OnOk judged (IsNoFault b c) → OnOk judged (IsNoFault a c)
+pub kept_both : Join → (container : Container) (judged : Judged) (old new : List TreeState) (a b c : Counts) → OnlyReads Disk old new a b container → IfOk judged (λ verdict. ended_by_disk_or_memory container ≡ false) → OnOk judged (IsNoFault b c) → OnOk judged (IsNoFault a c)
 kept_both join container (Ok verdict) old new a b c tree whole after = join a b c (not_lost container old new a b (whole_not_lost container whole) tree) after
 kept_both join container (Err e) old new a b c tree whole after = tt
 

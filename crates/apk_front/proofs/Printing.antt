@@ -32,19 +32,19 @@ either_failed (inl w) = inl w.0
 either_failed (inr w) = inr w.0
 
 -- the report was written
-pub printed_behind : (refusal : Option Refusal) (report : List ℕ) (files : Files) (answer : Answer) (out err : SinkChange) → Gets out report → DidNotFail out → IsRefusalPrinted refusal answer err → IsPrinted (outcome_of refusal report files) answer out err
-printed_behind None report files answer out err got kept (is, gets, calm) =
+pub printed_after : (refusal : Option Refusal) (report : List ℕ) (files : Files) (answer : Answer) (out err : SinkChange) → Gets out report → DidNotFail out → IsRefusalPrinted refusal answer err → IsPrinted (outcome_of refusal report files) answer out err
+printed_after None report files answer out err got kept (is, gets, calm) =
     subst (λ (a : Answer). IsPrinted (outcome_of None report files) a out err) (sym is) (record { same = refl; out_gets = got; err_gets = gets; out_kept = kept; err_kept = calm })
-printed_behind (Some refusal) report files answer out err got kept (inl (is, gets, calm)) =
+printed_after (Some refusal) report files answer out err got kept (inl (is, gets, calm)) =
     subst (λ (a : Answer). IsPrinted (outcome_of (Some refusal) report files) a out err) (sym is) (record { same = refl; out_gets = got; err_gets = gets; out_kept = kept; err_kept = calm })
-printed_behind (Some refusal) report files answer out err got kept (inr (is, gets, failed)) =
+printed_after (Some refusal) report files answer out err got kept (inr (is, gets, failed)) =
     subst (λ (a : Answer). IsPrinted (outcome_of (Some refusal) report files) a out err) (sym is)
     (record { which = inr (record { some = line_some refusal; failed = failed }, got, kept); out_gets = all_some out.bytes_before out.bytes_after report got; err_gets = gets })
 
 pub printed_whole : {T E : Type 0} (refusal : Option Refusal) (report bytes : List ℕ) (files : Files) (answer : Answer) (out err : SinkChange) (x : T) → bytes ≡ report → Writes {E = E} bytes out (Ok x)
     → IsRefusalPrinted refusal answer err → IsPrinted (outcome_of refusal report files) answer out err
 printed_whole {T} {E} refusal report bytes files answer out err x is w printed =
-    printed_behind refusal report files answer out err (subst (Gets out) is w.ok) w.cause.kept printed
+    printed_after refusal report files answer out err (subst (Gets out) is w.ok) w.cause.kept printed
 
 -- the report was not written
 pub not_printed : (refusal : Option Refusal) (report : List ℕ) (files : Files) (out err : SinkChange) → report ≢ [] → GetsSome out report → SinkFailed out → err.bytes_after ≡ err.bytes_before → DidNotFail err → IsPrinted (outcome_of refusal report files) OutFault out err

@@ -1,6 +1,6 @@
 -- What the tree was asked for before a change is committed, over a recovery and the run after it.
 use Rattle.std.proofs.Common.{◌≡◌, ℕ, true, List, [], ◌∷◌, Option, Ok, refl, ap, sym, subst, ◌∙◌}
-use Rattle.base_core.specs.Calls.{HasNow, IfObservable}
+use Rattle.base_core.specs.Calls.{HoldsNow, IfObservable}
 use Rattle.base_core.specs.Crash.{Since}
 use Rattle.base_core.specs.Files.{Files}
 use Rattle.base_core.specs.Tree.{TreeState, files_of}
@@ -9,35 +9,35 @@ use Rattle.command_core.specs.declared.command.Applet.{Applet}
 use Rattle.command_core.specs.declared.command.Applet.TheVariants.{Demo, Mkndx, Mkpkg}
 use Rattle.journal_core.specs.Staged.{unstaged_files}
 use Rattle.outcome.specs.Effect.{Effect, Changes, Makes, Tells, does_only_read, effect_by, effect_of}
-use Rattle.stage_run.specs.Asked.{IsAskedRun, PromisesAccepted}
+use Rattle.stage_run.specs.Asked.{TargetsAreAccepted, HasAcceptedTargets}
 use Rattle.words_core.specs.Grammar.{command_of}
-use Rattle.apk_front.specs.Moments.{IsAskedThroughout}
+use Rattle.apk_front.specs.Moments.{TargetsAreAcceptedThroughout}
 use Rattle.apk_front.proofs.AfterRecovery.{RecoversAs, none_since, since_both}
 use Rattle.apk_front.proofs.Behind.{LeavesUnstaged, nothing_waits}
 use Rattle.apk_front.proofs.Runs.{History, since_weaker}
 
 module _ (accepts : Option (List ℕ) → List ℕ → Type 0) where
-  kept : (v w : TreeState) → RecoversAs v w → PromisesAccepted accepts (unstaged_files (files_of v)) w
+  kept : (v w : TreeState) → RecoversAs v w → HasAcceptedTargets accepts (unstaged_files (files_of v)) w
   kept v w same = λ name differs. absurd (differs (ap (λ (f : Files). f name) same))
 
   -- nothing is written
-  pub asked_idle : (old : History) → IsAskedThroughout accepts old old
+  pub asked_idle : (old : History) → TargetsAreAcceptedThroughout accepts old old
   asked_idle [] = tt
-  asked_idle (v ∷ rest) = none_since (PromisesAccepted accepts (unstaged_files (files_of v))) (v ∷ rest) (v ∷ rest) refl
+  asked_idle (v ∷ rest) = none_since (HasAcceptedTargets accepts (unstaged_files (files_of v))) (v ∷ rest) (v ∷ rest) refl
 
   -- the recovery did not end
-  pub asked_unrecovered : (old mid : History) → IfObservable old (λ v. Since (RecoversAs v) old mid) → IsAskedThroughout accepts old mid
+  pub asked_unrecovered : (old mid : History) → IfObservable old (λ v. Since (RecoversAs v) old mid) → TargetsAreAcceptedThroughout accepts old mid
   asked_unrecovered [] mid reads = tt
-  asked_unrecovered (v ∷ rest) mid reads = since_weaker (RecoversAs v) (PromisesAccepted accepts (unstaged_files (files_of v))) (v ∷ rest) mid (λ w same. kept v w same) reads
+  asked_unrecovered (v ∷ rest) mid reads = since_weaker (RecoversAs v) (HasAcceptedTargets accepts (unstaged_files (files_of v))) (v ∷ rest) mid (λ w same. kept v w same) reads
 
   -- it ended well
-  pub asked_behind : (old mid now : History) → IfObservable old (λ v. Since (RecoversAs v) old mid) → IfObservable old (λ v. HasNow mid (LeavesUnstaged v)) → IsAskedRun accepts mid now → IsAskedThroughout accepts old now
+  pub asked_behind : (old mid now : History) → IfObservable old (λ v. Since (RecoversAs v) old mid) → IfObservable old (λ v. HoldsNow mid (LeavesUnstaged v)) → TargetsAreAccepted accepts mid now → TargetsAreAcceptedThroughout accepts old now
   asked_behind [] mid now reads left run = tt
   asked_behind (v ∷ rest) [] now reads left run = absurd left
   asked_behind (v ∷ rest) (u ∷ more) now reads left run =
       let waits = nothing_waits v u left in
-      since_both (RecoversAs v) (PromisesAccepted accepts (files_of u)) (PromisesAccepted accepts (unstaged_files (files_of v))) (v ∷ rest) (u ∷ more) now (λ w same. kept v w same)
-      (λ w promised. subst (λ (f : Files). PromisesAccepted accepts f w) left.0 promised) reads (run waits.0 waits.1)
+      since_both (RecoversAs v) (HasAcceptedTargets accepts (files_of u)) (HasAcceptedTargets accepts (unstaged_files (files_of v))) (v ∷ rest) (u ∷ more) now (λ w same. kept v w same)
+      (λ w promised. subst (λ (f : Files). HasAcceptedTargets accepts f w) left.0 promised) reads (run waits.0 waits.1)
 
 -- ---- only a change asks
 
@@ -62,5 +62,5 @@ changes_not_read effect reads changes = let by : does_only_read Changes ≡ true
 -- ---- by the command that is read
 
 pub asked_by_command : (accepts : Option (List ℕ) → List ℕ → Type 0) (words : List (List ℕ)) (command : CommandLine) (old now : History) → command_of words ≡ Ok command
-    → (effect_of command.applet ≡ Changes → IsAskedThroughout accepts old now) → effect_by (command_of words) ≡ Changes → IsAskedThroughout accepts old now
+    → (effect_of command.applet ≡ Changes → TargetsAreAcceptedThroughout accepts old now) → effect_by (command_of words) ≡ Changes → TargetsAreAcceptedThroughout accepts old now
 asked_by_command accepts words command old now is asked changes = asked (ap effect_by (sym is) ∙ changes)

@@ -5,24 +5,25 @@ use Rattle.std.specs.Str.{bytes_eq}
 use Rattle.std.proofs.lemmas.List.Elements.{All-nil, All-weaker}
 use Rattle.std.proofs.lemmas.Bool.{false≢true}
 use Rattle.std.proofs.lemmas.Slice.Eq.{bytes_eq-Decides}
-use Rattle.base_core.specs.Calls.{HasNow, IfObservable}
-use Rattle.base_core.specs.Crash.{IsImageBy, IsOrderly, Since}
+use Rattle.base_core.specs.Calls.{HoldsNow, IfObservable}
+use Rattle.base_core.specs.Crash.{IsCrashImageBy, Since}
 use Rattle.base_core.specs.Files.{Files, NameMap, drop_name}
-use Rattle.base_core.specs.Lists.{IsIn}
-use Rattle.base_core.specs.Tree.{File, IsMapOf, TreeState, bytes_at, files_by, files_of}
+use Rattle.base_core.proofs.Undone.{left_only, read_may_be_left}
+use Rattle.base_core.specs.Tree.{File, TreeState, bytes_at, files_by, files_of}
+use Rattle.base_core.specs.Undone.{IsDurable, IsCrashMap}
 use Rattle.base_core.specs.declared.tree.TreeFault.{TreeFault}
 use Rattle.adb_schema.specs.Reserved.{is_reserved}
-use Rattle.journal_core.specs.Kept.{IsSyncedAt, KeepsMapsBut, ShownNamesLast}
-use Rattle.journal_core.specs.Quiet.{IsStill}
-use Rattle.journal_core.specs.Recovery.{IsSettled, RestsOn, intent_name, is_staged, state_of}
-use Rattle.journal_core.specs.Replacing.{HasRoom, HidesScratch, IsReplacing, replaced_files, scratch_of}
-use Rattle.journal_core.specs.Reading.{IsReadAs}
+use Rattle.journal_core.specs.Kept.{IsSyncedAt, KeepsMapsExcept, ShownNamesAreDurable}
+use Rattle.journal_core.specs.Quiet.{StateIsUnchanged}
+use Rattle.journal_core.specs.Recovery.{EachCrashLeaves, StateDependsOn, intent_name, is_staged, state_of}
+use Rattle.journal_core.specs.Replacing.{IsOutputPathFree, IgnoresScratch, IsMomentOfReplacing, replaced_files, scratch_of}
+use Rattle.journal_core.specs.Reading.{ReadsOldOrReplaced}
 use Rattle.outcome.specs.Effect.{Effect, Makes}
 use Rattle.outcome.specs.Make.{make_outcome}
 use Rattle.outcome.specs.Outcome.{Outcome, commit_report, just_refusal, just_report}
 use Rattle.report_core.specs.declared.refusal.Refusal.TheVariants.{Reserved}
-use Rattle.apk_front.specs.Moments.{AreSafe, HasRoomFor, HidesScratchOf, IsAtRest, IsReadAtWork, SettlesUnrecovered, UnreadNamesLast, ignored_but, is_draft_name, output_names}
-use Rattle.apk_front.specs.Runs.{AreReadAtWork, IsRun}
+use Rattle.apk_front.specs.Moments.{AreOldOrLeadToOutcome, IsOutputPathFreeIfAny, IgnoresScratchOf, IsDurableState, IsReadDuringWork, MakesDurableWithoutRecovery, NamesAreDurableWithoutIntentExcept, ignored_but, is_draft_name, output_names}
+use Rattle.apk_front.specs.Runs.{AreReadDuringWork, IsRun}
 use Rattle.apk_front.specs.Verdicts.{Reports, as_outcome}
 use Rattle.apk_front.specs.declared.answer.Verdict.{Verdict}
 
@@ -53,28 +54,28 @@ abbrev pub Leaves : Files → Outcome → Type 0
 Leaves files o = (o.files ≡ files) × (o.commits ≡ false)
 
 -- so an outcome leaves the files, where it was judged
-abbrev pub IsIdle : (Outcome → Type 0) → Judged → TreeState → Type 0
-IsIdle IsOne judged v = (o : Outcome) → IsOne o → OnOk judged (Leaves (files_of v) o)
+abbrev pub IsEventWithoutCommit : (Outcome → Type 0) → Judged → TreeState → Type 0
+IsEventWithoutCommit IsOne judged v = (o : Outcome) → IsOne o → OnOk judged (Leaves (files_of v) o)
 
 -- what commits nothing is settled where it was so before
-pub settled_before : (ignored : List ℕ → Bool) (v : TreeState) (o : Outcome) → o.commits ≡ false → SettlesUnrecovered ignored v o → IsSettled ignored (files_of v) v
+pub settled_before : (ignored : List ℕ → Bool) (v : TreeState) (o : Outcome) → o.commits ≡ false → MakesDurableWithoutRecovery ignored v o → EachCrashLeaves ignored (files_of v) v
 settled_before ignored v o none (inl commits) = absurd (false≢true (sym none ∙ commits))
 settled_before ignored v o none (inr before) = before
 
-pub run_idle : (IsOne : Outcome → Type 0) (effect : Effect) (output : Option (List ℕ)) (judged : Judged) (v : TreeState) (rest now : History) → now ≡ v ∷ rest → IsIdle IsOne judged v → IsRun IsOne effect output judged v (v ∷ rest) now
+pub run_idle : (IsOne : Outcome → Type 0) (effect : Effect) (output : Option (List ℕ)) (judged : Judged) (v : TreeState) (rest now : History) → now ≡ v ∷ rest → IsEventWithoutCommit IsOne judged v → IsRun IsOne effect output judged v (v ∷ rest) now
 run_idle IsOne effect output judged v rest now same idle = record {
-  moments = λ ignored orderly hides. inl (record { added = []; is = same; each = All-nil (IsStill ignored v) });
-  orderly = λ ignored orderly hides. subst (λ (h : History). HasNow h (IsOrderly (RestsOn ignored))) (sym same) orderly;
-  settled = λ ignored o orderly hides one lasts.
-      on_ok judged (λ is. subst (λ (h : History). HasNow h (IsSettled ignored o.files)) (sym same) (subst (λ (f : Files). IsSettled ignored f v) (sym is.0) (settled_before ignored v o is.1 lasts))) (idle o one);
-  at_rest = λ ignored o orderly hides one commits. on_ok judged (λ is. absurd (false≢true (sym is.1 ∙ commits))) (idle o one);
+  moments = λ ignored is_durable hides. inl (record { added = []; is = same; each = All-nil (StateIsUnchanged ignored v) });
+  is_durable = λ ignored is_durable hides. subst (λ (h : History). HoldsNow h (IsDurable (StateDependsOn ignored))) (sym same) is_durable;
+  settled = λ ignored o is_durable hides one lasts.
+      on_ok judged (λ is. subst (λ (h : History). HoldsNow h (EachCrashLeaves ignored o.files)) (sym same) (subst (λ (f : Files). EachCrashLeaves ignored f v) (sym is.0) (settled_before ignored v o is.1 lasts))) (idle o one);
+  durable_state = λ ignored o is_durable hides one commits. on_ok judged (λ is. absurd (false≢true (sym is.1 ∙ commits))) (idle o one);
   reads = inl (record { added = []; is = same; each = All-nil (λ w. files_of w ≡ files_of v) });
-  last = λ last. record { added = []; is = same; each = All-nil (UnreadNamesLast output) };
-  leaves = λ o one. on_ok judged (λ is. subst (λ (h : History). HasNow h (λ w. files_of w ≡ o.files)) (sym same) (sym is.0)) (idle o one);
+  last = λ last. record { added = []; is = same; each = All-nil (NamesAreDurableWithoutIntentExcept output) };
+  leaves = λ o one. on_ok judged (λ is. subst (λ (h : History). HoldsNow h (λ w. files_of w ≡ o.files)) (sym same) (sym is.0)) (idle o one);
   idle = λ o one no. same;
 }
 
-pub idle_at : (IsOne : TreeState → Outcome → Type 0) (effect : Effect) (output : Option (List ℕ)) (judged : Judged) (old now : History) → now ≡ old → ((v : TreeState) → IsIdle (IsOne v) judged v) → IfObservable old (λ v. IsRun (IsOne v) effect output judged v old now)
+pub idle_at : (IsOne : TreeState → Outcome → Type 0) (effect : Effect) (output : Option (List ℕ)) (judged : Judged) (old now : History) → now ≡ old → ((v : TreeState) → IsEventWithoutCommit (IsOne v) judged v) → IfObservable old (λ v. IsRun (IsOne v) effect output judged v old now)
 idle_at IsOne effect output judged [] now same idle = tt
 idle_at IsOne effect output judged (v ∷ rest) now same idle = run_idle (IsOne v) effect output judged v rest now same (idle v)
 
@@ -124,11 +125,10 @@ free_reports output report file name verdict is free same_outcome files =
 
 -- what a crash leaves by one map has the state of the files of that map
 abbrev pub ImageHasState : Type 0
-ImageHasState = (ignored : List ℕ → Bool) (v : TreeState) → IsOrderly (RestsOn ignored) v → (map : NameMap) → IsMapOf v map → (image : Files) → IsImageBy v map image → state_of ignored image ≡ state_of ignored (files_by v map)
+ImageHasState = (ignored : List ℕ → Bool) (v : TreeState) → IsDurable (StateDependsOn ignored) v → (map : NameMap) → IsCrashMap v map → (image : Files) → IsCrashImageBy v map image → state_of ignored image ≡ state_of ignored (files_by v map)
 
-only_map : (w : TreeState) (map : NameMap) → w.older ≡ [] → IsMapOf w map → map ≡ w.names
-only_map w map one (inl is) = is
-only_map w map one (inr among) = absurd (subst (λ (l : List NameMap). IsIn map l) one among)
+only_map : (w : TreeState) (map : NameMap) → w.older ≡ [] → IsCrashMap w map → map ≡ w.names
+only_map w map one left = left_only w one map left
 
 scratch_gone : (name file : List ℕ) (files : Files) (q : List ℕ) → bytes_eq q name ≡ false → bytes_eq q (scratch_of name) ≡ true → replaced_files name file files q ≡ None
 scratch_gone name file files q other scratch = ap (λ b. if b then Some file else drop_name files (scratch_of name) q) other ∙ ap (λ b. if b then None else files q) scratch
@@ -137,35 +137,35 @@ none_read : (files : ℕ → File) (o : Option ℕ) (n : ℕ) → o ≡ Some n �
 none_read files None n is none = cc
 none_read files (Some k) n is none = cc
 
-module _ (ignored : List ℕ → Bool) (name file : List ℕ) (files : Files) (w : TreeState) (orderly : IsOrderly (RestsOn ignored) w) (synced : IsSyncedAt name w) (reads : files_of w ≡ replaced_files name file files) where
-  rests_too : (q : List ℕ) (F : Files) → bytes_eq q name ≡ false → bytes_eq q (scratch_of name) ≡ false → RestsOn (ignored_but (Some name) ignored) F q → RestsOn ignored F q
+module _ (ignored : List ℕ → Bool) (name file : List ℕ) (files : Files) (w : TreeState) (is_durable : IsDurable (StateDependsOn ignored) w) (synced : IsSyncedAt name w) (reads : files_of w ≡ replaced_files name file files) where
+  rests_too : (q : List ℕ) (F : Files) → bytes_eq q name ≡ false → bytes_eq q (scratch_of name) ≡ false → StateDependsOn (ignored_but (Some name) ignored) F q → StateDependsOn ignored F q
   rests_too q F other another (inl intent) = inl intent
   rests_too q F other another (inr (inl shown)) =
       inr (inl (sym (ap (λ b. is_staged q || (if b || bytes_eq q (scratch_of name) then false else ignored q)) other ∙ ap (λ b. is_staged q || (if b then false else ignored q)) another) ∙ shown))
   rests_too q F other another (inr (inr place)) = inr (inr place)
 
-  synced_map : (map : NameMap) → IsMapOf w map → (q : List ℕ) (n : ℕ) (a b : Bool) → bytes_eq q name ≡ a → bytes_eq q (scratch_of name) ≡ b → RestsOn (ignored_but (Some name) ignored) (files_by w map) q → map q ≡ Some n → (w.files n).synced ≡ true
+  synced_map : (map : NameMap) → IsCrashMap w map → (q : List ℕ) (n : ℕ) (a b : Bool) → bytes_eq q name ≡ a → bytes_eq q (scratch_of name) ≡ b → StateDependsOn (ignored_but (Some name) ignored) (files_by w map) q → map q ≡ Some n → (w.files n).synced ≡ true
   synced_map map among q n true b is_name is_scratch rests at = synced.file n (ap w.names (sym ((bytes_eq-Decides q name).0 is_name)) ∙ sym (ap (λ (m : NameMap). m q) (only_map w map synced.one_map among)) ∙ at)
   synced_map map among q n false true is_name is_scratch rests at =
       absurd (none_read w.files (w.names q) n (sym (ap (λ (m : NameMap). m q) (only_map w map synced.one_map among)) ∙ at) (ap (λ (f : Files). f q) reads ∙ scratch_gone name file files q is_name is_scratch))
-  synced_map map among q n false false is_name is_scratch rests at = orderly.each map among q n (rests_too q (files_by w map) is_name is_scratch rests) at
+  synced_map map among q n false false is_name is_scratch rests at = is_durable.each map among q n (rests_too q (files_by w map) is_name is_scratch rests) at
 
-  counts_again : IsOrderly (RestsOn (ignored_but (Some name) ignored)) w
+  counts_again : IsDurable (StateDependsOn (ignored_but (Some name) ignored)) w
   counts_again = record { each = λ map among q n rests at. synced_map map among q n (bytes_eq q name) (bytes_eq q (scratch_of name)) refl refl rests at }
 
-  rest_at : ImageHasState → IsAtRest (ignored_but (Some name) ignored) (replaced_files name file files) w
+  rest_at : ImageHasState → IsDurableState (ignored_but (Some name) ignored) (replaced_files name file files) w
   rest_at law = record {
-    orderly = counts_again;
+    is_durable = counts_again;
     settled = λ image (map, among, by).
         law (ignored_but (Some name) ignored) w counts_again map among image by
         ∙ ap (λ (m : NameMap). state_of (ignored_but (Some name) ignored) (files_by w m)) (only_map w map synced.one_map among) ∙ ap (state_of (ignored_but (Some name) ignored)) reads;
   }
 
-rest_now : ImageHasState → (ignored : List ℕ → Bool) (name file : List ℕ) (files : Files) (judged : Judged) (now : History) → HasNow now (IsOrderly (RestsOn ignored)) → OnOk judged (HasNow now (IsSyncedAt name)) → OnOk judged (HasNow now (λ w. files_of w ≡ replaced_files name file files))
-    → OnOk judged (HasNow now (IsAtRest (ignored_but (Some name) ignored) (replaced_files name file files)))
-rest_now law ignored name file files (Err e) now orderly synced reads = tt
-rest_now law ignored name file files (Ok verdict) [] orderly synced reads = absurd orderly
-rest_now law ignored name file files (Ok verdict) (w ∷ now) orderly synced reads = rest_at ignored name file files w orderly synced reads law
+rest_now : ImageHasState → (ignored : List ℕ → Bool) (name file : List ℕ) (files : Files) (judged : Judged) (now : History) → HoldsNow now (IsDurable (StateDependsOn ignored)) → OnOk judged (HoldsNow now (IsSyncedAt name)) → OnOk judged (HoldsNow now (λ w. files_of w ≡ replaced_files name file files))
+    → OnOk judged (HoldsNow now (IsDurableState (ignored_but (Some name) ignored) (replaced_files name file files)))
+rest_now law ignored name file files (Err e) now is_durable synced reads = tt
+rest_now law ignored name file files (Ok verdict) [] is_durable synced reads = absurd is_durable
+rest_now law ignored name file files (Ok verdict) (w ∷ now) is_durable synced reads = rest_at ignored name file files w is_durable synced reads law
 
 pub since_weaker : (P Q : TreeState → Type 0) (old now : History) → ((w : TreeState) → P w → Q w) → Since P old now → Since Q old now
 since_weaker P Q old now f since = record { added = since.added; is = since.is; each = All-weaker P Q f since.added since.each }
@@ -174,79 +174,79 @@ since_weaker P Q old now f since = record { added = since.added; is = since.is; 
 off_scratch : (name q : List ℕ) → is_draft_name Makes (Some name) q ≡ false → q ≢ scratch_of name
 off_scratch name q off is = false≢true (sym off ∙ (bytes_eq-Decides q (scratch_of name)).1 is)
 
-drafting : (name file : List ℕ) (files : Files) (w : TreeState) → IsReadAs name file files w → IsReadAtWork Makes (Some name) (replaced_files name file files) files w
+drafting : (name file : List ℕ) (files : Files) (w : TreeState) → ReadsOldOrReplaced name file files w → IsReadDuringWork Makes (Some name) (replaced_files name file files) files w
 drafting name file files w (inl others) = inl (λ q off. others q (off_scratch name q off))
 drafting name file files w (inr is) = inr (inr is)
 
-names_kept : (output : Option (List ℕ)) (u w : TreeState) → ShownNamesLast u → KeepsMapsBut (output_names output) u w → UnreadNamesLast output w
+names_kept : (output : Option (List ℕ)) (u w : TreeState) → ShownNamesAreDurable u → KeepsMapsExcept (output_names output) u w → NamesAreDurableWithoutIntentExcept output w
 names_kept output u w last keeps none map among q off no_intent unstaged =
     let (was, is_was, same) = keeps map among in
-    let (own, is_own, own_same) = keeps w.names (inl refl) in
+    let (own, is_own, own_same) = keeps w.names (read_may_be_left w) in
     same q off ∙ last was is_was q no_intent unstaged ∙ sym (own_same q off ∙ last own is_own q no_intent unstaged)
 
 -- what `replace` says of the tree
 pub record IsReplaced (name file : List ℕ) (judged : Judged) (v : TreeState) (old now : History) : Type 0 where
-  pub moments : (ignored : List ℕ → Bool) → IsOrderly (RestsOn ignored) v → HidesScratch ignored name → Since (IsReplacing ignored (replaced_files name file (files_of v)) v) old now
-  pub orderly : (ignored : List ℕ → Bool) → IsOrderly (RestsOn ignored) v → HidesScratch ignored name → HasNow now (IsOrderly (RestsOn ignored))
-  pub settled : (ignored : List ℕ → Bool) → IsOrderly (RestsOn ignored) v → HidesScratch ignored name → OnOk judged (HasNow now (IsSettled ignored (replaced_files name file (files_of v))))
-  pub reads : Since (IsReadAs name file (files_of v)) old now
-  pub leaves : OnOk judged (HasNow now (λ w. files_of w ≡ replaced_files name file (files_of v)))
-  pub synced : OnOk judged (HasNow now (IsSyncedAt name))
-  pub others : Since (KeepsMapsBut (name ∷ scratch_of name ∷ []) v) old now
+  pub moments : (ignored : List ℕ → Bool) → IsDurable (StateDependsOn ignored) v → IgnoresScratch ignored name → Since (IsMomentOfReplacing ignored (replaced_files name file (files_of v)) v) old now
+  pub is_durable : (ignored : List ℕ → Bool) → IsDurable (StateDependsOn ignored) v → IgnoresScratch ignored name → HoldsNow now (IsDurable (StateDependsOn ignored))
+  pub settled : (ignored : List ℕ → Bool) → IsDurable (StateDependsOn ignored) v → IgnoresScratch ignored name → OnOk judged (HoldsNow now (EachCrashLeaves ignored (replaced_files name file (files_of v))))
+  pub reads : Since (ReadsOldOrReplaced name file (files_of v)) old now
+  pub leaves : OnOk judged (HoldsNow now (λ w. files_of w ≡ replaced_files name file (files_of v)))
+  pub synced : OnOk judged (HoldsNow now (IsSyncedAt name))
+  pub others : Since (KeepsMapsExcept (name ∷ scratch_of name ∷ []) v) old now
 
 free_run : ImageHasState → (output : Option (List ℕ)) (report file name : List ℕ) (judged : Judged) (v : TreeState) (old now : History) → output ≡ Some name → is_reserved name ≡ false
     → IsReplaced name file judged v old now → IsRun (IsMade output report file v) Makes output judged v old now
 free_run law output report file name judged v old now is free done =
     let same = free_is output report file name (files_of v) is free in
-    let hidden : (ignored : List ℕ → Bool) → HidesScratchOf output ignored → HidesScratch ignored name = λ ignored hides. subst (λ (out : Option (List ℕ)). HidesScratchOf out ignored) is hides in
+    let hidden : (ignored : List ℕ → Bool) → IgnoresScratchOf output ignored → IgnoresScratch ignored name = λ ignored hides. subst (λ (out : Option (List ℕ)). IgnoresScratchOf out ignored) is hides in
     let left : (o : Outcome) → IsMade output report file v o → replaced_files name file (files_of v) ≡ o.files = λ o one. sym (ap (λ (x : Outcome). x.files) (one ∙ same)) in
     record {
-      moments = λ ignored orderly hides. subst (λ (out : Option (List ℕ)). AreSafe (IsMade output report file v) (is_some out) ignored v old now) (sym is)
-          (inr (commit_report (replaced_files name file (files_of v)) report, sym same, refl, done.moments ignored orderly (hidden ignored hides)));
-      orderly = λ ignored orderly hides. done.orderly ignored orderly (hidden ignored hides);
-      settled = λ ignored o orderly hides one lasts. subst (λ (f : Files). OnOk judged (HasNow now (IsSettled ignored f))) (left o one) (done.settled ignored orderly (hidden ignored hides));
-      at_rest = λ ignored o orderly hides one commits.
-          subst (λ (f : Files). OnOk judged (HasNow now (IsAtRest (ignored_but output ignored) f))) (left o one)
-          (subst (λ (out : Option (List ℕ)). OnOk judged (HasNow now (IsAtRest (ignored_but out ignored) (replaced_files name file (files_of v))))) (sym is)
-          (rest_now law ignored name file (files_of v) judged now (done.orderly ignored orderly (hidden ignored hides)) done.synced done.leaves));
-      reads = subst (λ (out : Option (List ℕ)). AreReadAtWork (IsMade output report file v) Makes out v old now) (sym is)
-          (inr (commit_report (replaced_files name file (files_of v)) report, sym same, refl, since_weaker (IsReadAs name file (files_of v)) (IsReadAtWork Makes (Some name) (replaced_files name file (files_of v)) (files_of v)) old now (drafting name file (files_of v)) done.reads));
-      last = subst (λ (out : Option (List ℕ)). ShownNamesLast v → Since (UnreadNamesLast out) old now) (sym is)
-          (λ last. since_weaker (KeepsMapsBut (name ∷ scratch_of name ∷ []) v) (UnreadNamesLast (Some name)) old now (λ w. names_kept (Some name) v w last) done.others);
-      leaves = λ o one. subst (λ (f : Files). OnOk judged (HasNow now (λ w. files_of w ≡ f))) (left o one) done.leaves;
+      moments = λ ignored is_durable hides. subst (λ (out : Option (List ℕ)). AreOldOrLeadToOutcome (IsMade output report file v) (is_some out) ignored v old now) (sym is)
+          (inr (commit_report (replaced_files name file (files_of v)) report, sym same, refl, done.moments ignored is_durable (hidden ignored hides)));
+      is_durable = λ ignored is_durable hides. done.is_durable ignored is_durable (hidden ignored hides);
+      settled = λ ignored o is_durable hides one lasts. subst (λ (f : Files). OnOk judged (HoldsNow now (EachCrashLeaves ignored f))) (left o one) (done.settled ignored is_durable (hidden ignored hides));
+      durable_state = λ ignored o is_durable hides one commits.
+          subst (λ (f : Files). OnOk judged (HoldsNow now (IsDurableState (ignored_but output ignored) f))) (left o one)
+          (subst (λ (out : Option (List ℕ)). OnOk judged (HoldsNow now (IsDurableState (ignored_but out ignored) (replaced_files name file (files_of v))))) (sym is)
+          (rest_now law ignored name file (files_of v) judged now (done.is_durable ignored is_durable (hidden ignored hides)) done.synced done.leaves));
+      reads = subst (λ (out : Option (List ℕ)). AreReadDuringWork (IsMade output report file v) Makes out v old now) (sym is)
+          (inr (commit_report (replaced_files name file (files_of v)) report, sym same, refl, since_weaker (ReadsOldOrReplaced name file (files_of v)) (IsReadDuringWork Makes (Some name) (replaced_files name file (files_of v)) (files_of v)) old now (drafting name file (files_of v)) done.reads));
+      last = subst (λ (out : Option (List ℕ)). ShownNamesAreDurable v → Since (NamesAreDurableWithoutIntentExcept out) old now) (sym is)
+          (λ last. since_weaker (KeepsMapsExcept (name ∷ scratch_of name ∷ []) v) (NamesAreDurableWithoutIntentExcept (Some name)) old now (λ w. names_kept (Some name) v w last) done.others);
+      leaves = λ o one. subst (λ (f : Files). OnOk judged (HoldsNow now (λ w. files_of w ≡ f))) (left o one) done.leaves;
       idle = λ o one no. absurd (false≢true (sym no ∙ ap (λ (x : Outcome). x.commits) (one ∙ same)));
     }
 
-abbrev Moves : List ℕ → List ℕ → History → History → Type 0
-Moves name file old now = IfObservable old (λ v. (ignored : List ℕ → Bool) → IsOrderly (RestsOn ignored) v → HidesScratch ignored name → Since (IsReplacing ignored (replaced_files name file (files_of v)) v) old now)
+abbrev ChangesHistory : List ℕ → List ℕ → History → History → Type 0
+ChangesHistory name file old now = IfObservable old (λ v. (ignored : List ℕ → Bool) → IsDurable (StateDependsOn ignored) v → IgnoresScratch ignored name → Since (IsMomentOfReplacing ignored (replaced_files name file (files_of v)) v) old now)
 
 abbrev IsReadOnTheWay : List ℕ → List ℕ → History → History → Type 0
-IsReadOnTheWay name file old now = IfObservable old (λ v. Since (IsReadAs name file (files_of v)) old now)
+IsReadOnTheWay name file old now = IfObservable old (λ v. Since (ReadsOldOrReplaced name file (files_of v)) old now)
 
-abbrev StaysOrderly : List ℕ → History → History → Type 0
-StaysOrderly name old now = IfObservable old (λ v. (ignored : List ℕ → Bool) → IsOrderly (RestsOn ignored) v → HidesScratch ignored name → HasNow now (IsOrderly (RestsOn ignored)))
+abbrev StaysDurable : List ℕ → History → History → Type 0
+StaysDurable name old now = IfObservable old (λ v. (ignored : List ℕ → Bool) → IsDurable (StateDependsOn ignored) v → IgnoresScratch ignored name → HoldsNow now (IsDurable (StateDependsOn ignored)))
 
 abbrev StaysElsewhere : List ℕ → History → History → Type 0
-StaysElsewhere name old now = IfObservable old (λ v. Since (KeepsMapsBut (name ∷ scratch_of name ∷ []) v) old now)
+StaysElsewhere name old now = IfObservable old (λ v. Since (KeepsMapsExcept (name ∷ scratch_of name ∷ []) v) old now)
 
 pub written_run : ImageHasState → (output : Option (List ℕ)) (report file name : List ℕ) (verdict : Verdict) (old now : History) → output ≡ Some name → is_reserved name ≡ false
-    → Moves name file old now → StaysOrderly name old now → IsReadOnTheWay name file old now
-    → IfObservable old (λ v. (ignored : List ℕ → Bool) → IsOrderly (RestsOn ignored) v → HidesScratch ignored name → HasNow now (IsSettled ignored (replaced_files name file (files_of v))))
-    → IfObservable old (λ v. HasNow now (λ w. files_of w ≡ replaced_files name file (files_of v))) → IfObservable old (λ v. HasNow now (IsSyncedAt name)) → StaysElsewhere name old now
+    → ChangesHistory name file old now → StaysDurable name old now → IsReadOnTheWay name file old now
+    → IfObservable old (λ v. (ignored : List ℕ → Bool) → IsDurable (StateDependsOn ignored) v → IgnoresScratch ignored name → HoldsNow now (EachCrashLeaves ignored (replaced_files name file (files_of v))))
+    → IfObservable old (λ v. HoldsNow now (λ w. files_of w ≡ replaced_files name file (files_of v))) → IfObservable old (λ v. HoldsNow now (IsSyncedAt name)) → StaysElsewhere name old now
     → IfObservable old (λ v. IsRun (IsMade output report file v) Makes output (Ok verdict) v old now)
-written_run law output report file name verdict [] now is free moves orderly reads settled leaves synced others = tt
-written_run law output report file name verdict (v ∷ rest) now is free moves orderly reads settled leaves synced others =
-    free_run law output report file name (Ok verdict) v (v ∷ rest) now is free (record { moments = moves; orderly = orderly; settled = settled; reads = reads; leaves = leaves; synced = synced; others = others })
+written_run law output report file name verdict [] now is free moves is_durable reads settled leaves synced others = tt
+written_run law output report file name verdict (v ∷ rest) now is free moves is_durable reads settled leaves synced others =
+    free_run law output report file name (Ok verdict) v (v ∷ rest) now is free (record { moments = moves; is_durable = is_durable; settled = settled; reads = reads; leaves = leaves; synced = synced; others = others })
 
 pub cut_run : ImageHasState → (output : Option (List ℕ)) (report file name : List ℕ) (judged : Judged) (e : TreeFault) (old now : History) → judged ≡ Err e → output ≡ Some name → is_reserved name ≡ false
-    → Moves name file old now → StaysOrderly name old now → IsReadOnTheWay name file old now → StaysElsewhere name old now
+    → ChangesHistory name file old now → StaysDurable name old now → IsReadOnTheWay name file old now → StaysElsewhere name old now
     → IfObservable old (λ v. IsRun (IsMade output report file v) Makes output judged v old now)
-cut_run law output report file name judged e [] now failed is free moves orderly reads others = tt
-cut_run law output report file name judged e (v ∷ rest) now failed is free moves orderly reads others =
+cut_run law output report file name judged e [] now failed is free moves is_durable reads others = tt
+cut_run law output report file name judged e (v ∷ rest) now failed is free moves is_durable reads others =
     free_run law output report file name judged v (v ∷ rest) now is free
     (record {
       moments = moves;
-      orderly = orderly;
+      is_durable = is_durable;
       settled = λ ignored orders hides. err_ok _ judged e failed;
       reads = reads;
       leaves = err_ok _ judged e failed;
@@ -257,13 +257,13 @@ cut_run law output report file name judged e (v ∷ rest) now failed is free mov
 -- ---- room
 
 abbrev pub HasRoomIf : Option (List ℕ) → List ℕ → List ℕ → TreeState → Type 0
-HasRoomIf output report file v = (make_outcome (files_of v) output report (Ok file)).commits ≡ true → HasRoomFor output (files_of v)
+HasRoomIf output report file v = (make_outcome (files_of v) output report (Ok file)).commits ≡ true → IsOutputPathFreeIfAny output (files_of v)
 
 pub room_proper : (output : Option (List ℕ)) (report file name : List ℕ) (old : History) (P : Type 0) → output ≡ Some name → is_reserved name ≡ false
-    → IfObservable old (λ v. HasRoom name (files_of v) → P) → IfObservable old (λ v. HasRoomIf output report file v → P)
+    → IfObservable old (λ v. IsOutputPathFree name (files_of v) → P) → IfObservable old (λ v. HasRoomIf output report file v → P)
 room_proper output report file name [] P is free proper = tt
 room_proper output report file name (v ∷ rest) P is free proper = λ room.
-    proper (subst (λ (out : Option (List ℕ)). HasRoomFor out (files_of v)) is (room (ap (λ (x : Outcome). x.commits) (free_is output report file name (files_of v) is free))))
+    proper (subst (λ (out : Option (List ℕ)). IsOutputPathFreeIfAny out (files_of v)) is (room (ap (λ (x : Outcome). x.commits) (free_is output report file name (files_of v) is free))))
 
 pub any_proper : (Room : TreeState → Type 0) (old : History) (P : Type 0) → P → IfObservable old (λ v. Room v → P)
 any_proper Room [] P p = tt
@@ -283,20 +283,20 @@ report_no_refusal verdict report P same_outcome some = absurd (none_is_some verd
 
 -- ---- outcomes that are among others
 
-safe_among : (A B : Outcome → Type 0) (makes : Bool) (ignored : List ℕ → Bool) (v : TreeState) (old now : History) → ((o : Outcome) → A o → B o) → AreSafe A makes ignored v old now → AreSafe B makes ignored v old now
-safe_among A B makes ignored v old now f (inl still) = inl still
+safe_among : (A B : Outcome → Type 0) (makes : Bool) (ignored : List ℕ → Bool) (v : TreeState) (old now : History) → ((o : Outcome) → A o → B o) → AreOldOrLeadToOutcome A makes ignored v old now → AreOldOrLeadToOutcome B makes ignored v old now
+safe_among A B makes ignored v old now f (inl is_unchanged) = inl is_unchanged
 safe_among A B makes ignored v old now f (inr (o, one, commits, moments)) = inr (o, f o one, commits, moments)
 
-reads_among : (A B : Outcome → Type 0) (effect : Effect) (output : Option (List ℕ)) (v : TreeState) (old now : History) → ((o : Outcome) → A o → B o) → AreReadAtWork A effect output v old now → AreReadAtWork B effect output v old now
+reads_among : (A B : Outcome → Type 0) (effect : Effect) (output : Option (List ℕ)) (v : TreeState) (old now : History) → ((o : Outcome) → A o → B o) → AreReadDuringWork A effect output v old now → AreReadDuringWork B effect output v old now
 reads_among A B effect output v old now f (inl same) = inl same
 reads_among A B effect output v old now f (inr (o, one, commits, work)) = inr (o, f o one, commits, work)
 
 pub run_among : (A B : Outcome → Type 0) (effect : Effect) (output : Option (List ℕ)) (judged : Judged) (v : TreeState) (old now : History) → ((o : Outcome) → A o → B o) → ((o : Outcome) → B o → A o) → IsRun A effect output judged v old now → IsRun B effect output judged v old now
 run_among A B effect output judged v old now into from run = record {
-  moments = λ ignored orderly hides. safe_among A B (is_some output) ignored v old now into (run.moments ignored orderly hides);
-  orderly = run.orderly;
-  settled = λ ignored o orderly hides one lasts. run.settled ignored o orderly hides (from o one) lasts;
-  at_rest = λ ignored o orderly hides one commits. run.at_rest ignored o orderly hides (from o one) commits;
+  moments = λ ignored is_durable hides. safe_among A B (is_some output) ignored v old now into (run.moments ignored is_durable hides);
+  is_durable = run.is_durable;
+  settled = λ ignored o is_durable hides one lasts. run.settled ignored o is_durable hides (from o one) lasts;
+  durable_state = λ ignored o is_durable hides one commits. run.durable_state ignored o is_durable hides (from o one) commits;
   reads = reads_among A B effect output v old now into run.reads;
   last = run.last;
   leaves = λ o one. run.leaves o (from o one);

@@ -4,31 +4,33 @@ use Rattle.base_core.specs.Calls.{IfObservable}
 use Rattle.base_core.specs.Faults.{Counts, HasCause, Rose}
 use Rattle.base_core.specs.Files.{Files}
 use Rattle.base_core.specs.Tree.{TreeState, files_of}
-use Rattle.apk_front.specs.Answers.{IsAnswerTo, LeavesFiles, FailedAt, IsUnplanned, IsOutcomeUnlessMemory}
+use Rattle.apk_front.specs.Answers.{FailedAt, IsAnswerOf, IsOutcomeUnlessMemory, HasNoPlannedFailure, LeavesFiles}
 use Rattle.outcome.specs.Outcome.{Outcome}
 use Rattle.base_core.specs.Sink.{SinkChange, IsProperUse}
 use Rattle.apk_front.proofs.Printing.{either_failed}
 use Rattle.apk_front.specs.declared.answer.Answer.{Answer}
 use Rattle.apk_front.specs.declared.answer.Answer.TheVariants.{Ok as Good, Refused, TreeFault, OutFault, Memory}
+use Rattle.outcome.specs.Words.{IsOutcome}
+use Rattle.words_core.specs.Grammar.{command_of}
 
 not_risen : (m n : ℕ) → n ≡ m → m < 2 ^ 64 - 1 → Rose m n → ⊥
 not_risen m n same below rose = omega arith
 
-wanted : (before after : Counts) → IsUnplanned before → after.misuses ≡ before.misuses → HasCause before after → Rose before.wants after.wants
+wanted : (before after : Counts) → HasNoPlannedFailure before → after.misuses ≡ before.misuses → HasCause before after → Rose before.memory_faults after.memory_faults
 wanted before after unplanned same cause = elim cause.reason [
   | inl fallible ↦ let planned : true ≡ false = sym fallible ∙ unplanned.unplanned in absurd (cc)
   | inr (inl misuse) ↦ absurd (not_risen before.misuses after.misuses same unplanned.below misuse)
   | inr (inr want) ↦ want
 ]
 
-sink_wanted : (o : Outcome) (out err : SinkChange) → IsUnplanned out.before → IsUnplanned err.before → IsProperUse out → IsProperUse err → FailedAt out o.out ⊎ FailedAt err o.err
-    → Rose out.before.wants out.after.wants ⊎ Rose err.before.wants err.after.wants
+sink_wanted : (o : Outcome) (out err : SinkChange) → HasNoPlannedFailure out.before → HasNoPlannedFailure err.before → IsProperUse out → IsProperUse err → FailedAt out o.out ⊎ FailedAt err o.err
+    → Rose out.before.memory_faults out.after.memory_faults ⊎ Rose err.before.memory_faults err.after.memory_faults
 sink_wanted o out err calm_out calm_err keeps_out keeps_err (inl failed) = inl (wanted out.before out.after calm_out keeps_out.proper failed.failed)
 sink_wanted o out err calm_out calm_err keeps_out keeps_err (inr failed) = inr (wanted err.before err.after calm_err keeps_err.proper failed.failed)
 
 ends_as_stated : (words : List (List ℕ)) (files : Files) (Leaves : Outcome → Type 0) (before after : Counts) (answer : Answer) (out err : SinkChange)
-    → IsAnswerTo words files Leaves (HasCause before after) answer out err → after.misuses ≡ before.misuses → IsProperUse out → IsProperUse err
-    → IsUnplanned before → IsUnplanned out.before → IsUnplanned err.before
+    → IsAnswerOf (IsOutcome (command_of words) files) Leaves (HasCause before after) answer out err → after.misuses ≡ before.misuses → IsProperUse out → IsProperUse err
+    → HasNoPlannedFailure before → HasNoPlannedFailure out.before → HasNoPlannedFailure err.before
     → IsOutcomeUnlessMemory words files Leaves answer before after out err
 ends_as_stated words files Leaves before after Good out err stated same keeps_out keeps_err calm calm_out calm_err = stated
 ends_as_stated words files Leaves before after (Refused refusal) out err stated same keeps_out keeps_err calm calm_out calm_err = stated
@@ -37,10 +39,10 @@ ends_as_stated words files Leaves before after OutFault out err (o, is, fault, l
 ends_as_stated words files Leaves before after Memory out err fault same keeps_out keeps_err calm calm_out calm_err = tt
 
 pub ends_unless_memory : (Room : TreeState → Type 0) (words : List (List ℕ)) (old now : List TreeState) (before after : Counts) (answer : Answer) (out err : SinkChange)
-    → IfObservable old (λ v. IsAnswerTo words (files_of v) (LeavesFiles now) (HasCause before after) answer out err)
+    → IfObservable old (λ v. IsAnswerOf (IsOutcome (command_of words) (files_of v)) (LeavesFiles now) (HasCause before after) answer out err)
     → IfObservable old (λ v. Room v → after.misuses ≡ before.misuses)
     → IsProperUse out → IsProperUse err
-    → IfObservable old (λ v. Room v → IsUnplanned before → IsUnplanned out.before → IsUnplanned err.before
+    → IfObservable old (λ v. Room v → HasNoPlannedFailure before → HasNoPlannedFailure out.before → HasNoPlannedFailure err.before
     → IsOutcomeUnlessMemory words (files_of v) (LeavesFiles now) answer before after out err)
 ends_unless_memory Room words [] now before after answer out err stated proper keeps_out keeps_err = tt
 ends_unless_memory Room words (v ∷ rest) now before after answer out err stated proper keeps_out keeps_err = λ room calm calm_out calm_err.

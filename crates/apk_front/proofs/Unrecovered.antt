@@ -4,7 +4,7 @@ use Rattle.std.specs.Prelude.{if◌then◌else◌}
 use Rattle.std.proofs.lemmas.Bool.{false≢true}
 use Rattle.base_core.specs.Files.{Files}
 use Rattle.base_core.specs.Tree.{TreeState, bytes_at, files_of}
-use Rattle.journal_core.specs.Kept.{IsWaitingName}
+use Rattle.journal_core.specs.Kept.{IsJournalName}
 use Rattle.journal_core.specs.Recovery.{intent_at, intent_name, is_staged, recovered_files, recovered_files_by}
 use Rattle.journal_core.specs.Staged.{unstaged_files}
 use Rattle.outcome.specs.Effect.{Effect, Computes, Reads, Tells, Makes, Changes, does_recover}
@@ -13,7 +13,7 @@ use Rattle.apk_front.specs.Moments.{HasNothingToRecover, IsRecovering}
 
 -- neither an intent is there, nor anything that waits
 abbrev NoneWaits : Files → Type 0
-NoneWaits files = (q : List ℕ) → IsWaitingName q → files q ≡ None
+NoneWaits files = (q : List ℕ) → IsJournalName q → files q ≡ None
 
 stays : (files : Files) → NoneWaits files → unstaged_files files ≡ files
 stays files none i q = by (is_staged q) refl i
@@ -25,19 +25,19 @@ stays files none i q = by (is_staged q) refl i
     by true is = ap (λ (b : Bool). if b then None else recovered_files files q) is ∙ sym (none q (inr is))
     by false is = ap (λ (b : Bool). if b then None else recovered_files files q) is ∙ ap (λ (f : Files). f q) same
 
-none_waits : (effect : Effect) (v : TreeState) → does_recover effect ≡ true → HasNothingToRecover effect v → NoneWaits (files_of v)
-none_waits effect v recovers (inl not_so) q waits = absurd (false≢true (sym not_so ∙ recovers))
-none_waits effect v recovers (inr (absent, empty)) q waits = ap (bytes_at v.files) (⊎_elim (λ is. ap v.names is ∙ absent) (λ staged. empty q staged) waits)
+no_staged_intent : (effect : Effect) (v : TreeState) → does_recover effect ≡ true → HasNothingToRecover effect v → NoneWaits (files_of v)
+no_staged_intent effect v recovers (inl not_so) q waits = absurd (false≢true (sym not_so ∙ recovers))
+no_staged_intent effect v recovers (inr (absent, empty)) q waits = ap (bytes_at v.files) (⊎_elim (λ is. ap v.names is ∙ absent) (λ staged. empty q staged) waits)
 
 pub same_files : (effect : Effect) (v w : TreeState) → HasNothingToRecover effect v → (does_recover effect ≡ true) × IsRecovering v w → files_of w ≡ files_of v
 same_files effect v w nothing (recovers, moment) =
-    let before = none_waits effect v recovers nothing in
+    let before = no_staged_intent effect v recovers nothing in
     let now : NoneWaits (files_of w) = λ q waits. ⊎_elim (λ gone. gone) (λ was. was ∙ before q waits) (moment.waiting q waits) in
     sym (stays (files_of w) now) ∙ moment.reads ∙ stays (files_of v) before
 
 pub same_work : (effect : Effect) (v : TreeState) → HasNothingToRecover effect v → work_files effect (files_of v) ≡ files_of v
 same_work Computes v nothing = refl
 same_work Reads v nothing = refl
-same_work Tells v nothing = stays (files_of v) (none_waits Tells v refl nothing)
-same_work Makes v nothing = stays (files_of v) (none_waits Makes v refl nothing)
-same_work Changes v nothing = stays (files_of v) (none_waits Changes v refl nothing)
+same_work Tells v nothing = stays (files_of v) (no_staged_intent Tells v refl nothing)
+same_work Makes v nothing = stays (files_of v) (no_staged_intent Makes v refl nothing)
+same_work Changes v nothing = stays (files_of v) (no_staged_intent Changes v refl nothing)

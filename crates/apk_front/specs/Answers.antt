@@ -2,7 +2,7 @@
 -- `docs/commands.md`, "Answers and statuses", and for faults in `docs/crash-safety.md`, "Misuses,
 -- faults and counts".
 use Rattle.std.specs.Prelude.{◌≡◌, ◌≢◌, ◌⊎◌, ◌<◌, ℕ, ◌-◌, ◌^◌, false, Bool, ◌||◌, List, [], Option, Some, None, is_ok}
-use Rattle.base_core.specs.Calls.{HasNow}
+use Rattle.base_core.specs.Calls.{HoldsNow}
 use Rattle.base_core.specs.Faults.{Counts, HasCause, IsNoFault, Rose}
 use Rattle.base_core.specs.Files.{Files}
 use Rattle.base_core.specs.Sink.{SinkChange, Gets, GetsSome, SinkFailed}
@@ -42,7 +42,7 @@ pub record FailedAt (sink : SinkChange) (bytes : List ℕ) : Type 0 where
   pub failed : SinkFailed sink
 
 -- the answer and all bytes are those of an outcome, and no sink failed
-pub record IsStated (outcome : Outcome) (answer : Answer) (out err : SinkChange) : Type 0 where
+pub record IsAnsweredInFull (outcome : Outcome) (answer : Answer) (out err : SinkChange) : Type 0 where
   pub same : answer ≡ answer_of outcome
   pub out_gets : Gets out outcome.out
   pub err_gets : Gets err outcome.err
@@ -59,7 +59,7 @@ pub record IsOutFault (outcome : Outcome) (out err : SinkChange) : Type 0 where
   pub err_gets : GetsSome err outcome.err
 
 -- no outcome was printed: only this line on err; out got nothing, and did not fail
-pub record IsFault (line : List ℕ) (out err : SinkChange) : Type 0 where
+pub record PrintsOnlyErrorLine (line : List ℕ) (out err : SinkChange) : Type 0 where
   pub out_gets : Gets out []
   pub out_kept : DidNotFail out
   pub err_gets : GetsLine err line
@@ -71,30 +71,25 @@ pub record IsFault (line : List ℕ) (out err : SinkChange) : Type 0 where
 abbrev pub IsAnswerOf :
     (Outcome → Type 0) → (Outcome → Type 0) → Type 0 → Answer → SinkChange → SinkChange → Type 0
 IsAnswerOf IsOne Leaves tree_failed Ok out err =
-    (outcome : Outcome) × IsOne outcome × IsStated outcome Ok out err × Leaves outcome
+    (outcome : Outcome) × IsOne outcome × IsAnsweredInFull outcome Ok out err × Leaves outcome
 IsAnswerOf IsOne Leaves tree_failed (Refused refusal) out err =
     (outcome : Outcome)
     × IsOne outcome
-    × IsStated outcome (Refused refusal) out err
+    × IsAnsweredInFull outcome (Refused refusal) out err
     × Leaves outcome
 IsAnswerOf IsOne Leaves tree_failed OutFault out err =
     (outcome : Outcome) × IsOne outcome × IsOutFault outcome out err × Leaves outcome
-IsAnswerOf IsOne Leaves tree_failed TreeFault out err = tree_failed × IsFault tree_line out err
-IsAnswerOf IsOne Leaves tree_failed Memory out err = IsFault memory_line out err
-
--- an answer to these arguments over these files, with what the run prints and leaves
-abbrev pub IsAnswerTo :
-    List (List ℕ) → Files → (Outcome → Type 0) → Type 0 → Answer → SinkChange → SinkChange → Type 0
-IsAnswerTo words files Leaves tree_failed answer out err =
-    IsAnswerOf (IsOutcome words files) Leaves tree_failed answer out err
+IsAnswerOf IsOne Leaves tree_failed TreeFault out err = tree_failed
+    × PrintsOnlyErrorLine tree_line out err
+IsAnswerOf IsOne Leaves tree_failed Memory out err = PrintsOnlyErrorLine memory_line out err
 
 -- the files as read after a run are its outcome's
 abbrev pub LeavesFiles : List TreeState → Outcome → Type 0
-LeavesFiles now outcome = HasNow now (λ w. files_of w ≡ outcome.files)
+LeavesFiles now outcome = HoldsNow now (λ w. files_of w ≡ outcome.files)
 
 -- nothing is said of the files that a run leaves
-abbrev pub LeavesAny : Outcome → Type 0
-LeavesAny outcome = Unit {0}
+abbrev pub LeavesAnyFiles : Outcome → Type 0
+LeavesAnyFiles outcome = Unit {0}
 
 -- ---- causes of failures
 
@@ -106,11 +101,11 @@ abbrev pub HasCauses : Answer → Counts → Counts → SinkChange → SinkChang
 HasCauses Ok before after out err = IsNoFault before after × DidNotFail out × DidNotFail err
 HasCauses (Refused refusal) before after out err =
     IsNoFault before after × DidNotFail out × DidNotFail err
-HasCauses TreeFault before after out err = HasCause before after × IsFault tree_line out err
+HasCauses TreeFault before after out err = HasCause before after × PrintsOnlyErrorLine tree_line out err
 HasCauses OutFault before after out err =
     IsNoFault before after
     × ((SinkFailed out × DidNotFail err) ⊎ (SinkFailed err × DidNotFail out))
-HasCauses Memory before after out err = IsNoFault before after × IsFault memory_line out err
+HasCauses Memory before after out err = IsNoFault before after × PrintsOnlyErrorLine memory_line out err
 
 -- a run in which no count of faults rose: neither the tree's, nor a sink's
 pub record IsFaultless (before after : Counts) (out err : SinkChange) : Type 0 where
@@ -119,14 +114,16 @@ pub record IsFaultless (before after : Counts) (out err : SinkChange) : Type 0 w
   pub err_sink : ¬ Rose err.before.faults err.after.faults
 
 -- the answer is the outcome's, unless memory ran out
-abbrev pub IsComplete : List (List ℕ) → Files → Answer → Type 0
-IsComplete words files answer =
+abbrev pub AnswersOutcomeUnlessMemory : List (List ℕ) → Files → Answer → Type 0
+AnswersOutcomeUnlessMemory words files answer =
     (answer ≡ Memory)
-    ⊎ ((outcome : Outcome) × IsOutcome words files outcome × (answer ≡ answer_of outcome))
+    ⊎ ((outcome : Outcome)
+    × IsOutcome (command_of words) files outcome
+    × (answer ≡ answer_of outcome))
 
 -- no failure of a tree or a sink is planned, and its count of misuses is below its last value, 2^64 -
 -- 1, so that one more misuse would be counted
-pub record IsUnplanned (counts : Counts) : Type 0 where
+pub record HasNoPlannedFailure (counts : Counts) : Type 0 where
   pub unplanned : counts.fallible ≡ false
   pub below : counts.misuses < 2 ^ 64 - 1
 
@@ -137,18 +134,19 @@ abbrev pub IsOutcomeUnlessMemory :
     → SinkChange → SinkChange → Type 0
 IsOutcomeUnlessMemory words files Leaves Ok before after out err =
     (outcome : Outcome)
-    × IsOutcome words files outcome
-    × IsStated outcome Ok out err
+    × IsOutcome (command_of words) files outcome
+    × IsAnsweredInFull outcome Ok out err
     × Leaves outcome
 IsOutcomeUnlessMemory words files Leaves (Refused refusal) before after out err =
     (outcome : Outcome)
-    × IsOutcome words files outcome
-    × IsStated outcome (Refused refusal) out err
+    × IsOutcome (command_of words) files outcome
+    × IsAnsweredInFull outcome (Refused refusal) out err
     × Leaves outcome
 IsOutcomeUnlessMemory words files Leaves TreeFault before after out err =
-    Rose before.wants after.wants
+    Rose before.memory_faults after.memory_faults
 IsOutcomeUnlessMemory words files Leaves OutFault before after out err =
-    Rose out.before.wants out.after.wants ⊎ Rose err.before.wants err.after.wants
+    Rose out.before.memory_faults out.after.memory_faults
+    ⊎ Rose err.before.memory_faults err.after.memory_faults
 IsOutcomeUnlessMemory words files Leaves Memory before after out err = Unit {0}
 
 -- whether the arguments name an applet after the options that precede it, or are a command without one,

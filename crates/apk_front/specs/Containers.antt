@@ -53,21 +53,21 @@ made_in (Err why) = Err why
 
 -- whether an I/O error of the tree or running out of memory stopped the making, which then refuses
 -- nothing
-abbrev pub is_cut : MakeFault → Bool
-is_cut Disk = true
-is_cut Memory = true
-is_cut other = false
+abbrev pub is_disk_or_memory : MakeFault → Bool
+is_disk_or_memory Disk = true
+is_disk_or_memory Memory = true
+is_disk_or_memory other = false
 
 -- whether a fault stopped the making, so that no outcome is answered
-abbrev pub is_cut_off : Result (Vec ℕ Global) MakeFault → Bool
-is_cut_off (Ok file) = false
-is_cut_off (Err why) = is_cut why
+abbrev pub ended_by_disk_or_memory : Result (Vec ℕ Global) MakeFault → Bool
+ended_by_disk_or_memory (Ok file) = false
+ended_by_disk_or_memory (Err why) = is_disk_or_memory why
 
 -- what was made, or why not, has this meaning; an I/O error of the tree and out of memory have none
 abbrev pub OnMade :
     Result (Vec ℕ Global) MakeFault → (Result (List ℕ) MakeFault → Type 0) → Type 0
 OnMade (Ok file) Means = Means (Ok file.items)
-OnMade (Err why) Means = is_cut why ≡ false → Means (Err why)
+OnMade (Err why) Means = is_disk_or_memory why ≡ false → Means (Err why)
 
 -- ---- over these files
 

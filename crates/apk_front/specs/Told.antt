@@ -6,29 +6,29 @@ use Rattle.base_core.specs.declared.tree.TreeFault.{TreeFault}
 use Rattle.base_core.specs.declared.tree.TreeFault.TheVariants as Trees
 use Rattle.change_inputs.specs.declared.root.Refused.{Refused}
 use Rattle.change_inputs.specs.declared.root.Refused.TheVariants.{Disk, Memory, Refusal}
-use Rattle.installed_info.specs.declared.telling.InfoDone.{InfoDone}
+use Rattle.installed_info.specs.declared.telling.ReportAndRefusal.{ReportAndRefusal}
 use Rattle.outcome.specs.Outcome.{just_refusal, just_report, outcome_of}
 use Rattle.apk_front.specs.Verdicts.{as_outcome}
 use Rattle.apk_front.specs.declared.answer.Verdict.{Verdict}
 
 -- the verdict if the engine gives no report: a refusal is reported, and a failure is returned
-abbrev pub IsRefusedAs : Refused → Result Verdict TreeFault → Type 0
-IsRefusedAs (Refusal refusal) (Ok verdict) =
+abbrev pub IsVerdictOnRefusal : Refused → Result Verdict TreeFault → Type 0
+IsVerdictOnRefusal (Refusal refusal) (Ok verdict) =
     (files : Files) → as_outcome files verdict ≡ just_refusal files refusal
-IsRefusedAs (Refusal refusal) (Err fault) = ⊥
-IsRefusedAs Disk judged = judged ≡ Err Trees.Disk
-IsRefusedAs Memory judged = judged ≡ Err Trees.Memory
+IsVerdictOnRefusal (Refusal refusal) (Err fault) = ⊥
+IsVerdictOnRefusal Disk judged = judged ≡ Err Trees.Disk
+IsVerdictOnRefusal Memory judged = judged ≡ Err Trees.Memory
 
 -- the verdict on a change: the report of the engine, or why there is none
-abbrev pub IsToldAs : Result (List ℕ) Refused → Result Verdict TreeFault → Type 0
-IsToldAs (Ok report) (Ok verdict) =
+abbrev pub IsVerdictOnChange : Result (List ℕ) Refused → Result Verdict TreeFault → Type 0
+IsVerdictOnChange (Ok report) (Ok verdict) =
     (files : Files) → as_outcome files verdict ≡ just_report files report
-IsToldAs (Ok report) (Err fault) = ⊥
-IsToldAs (Err refused) judged = IsRefusedAs refused judged
+IsVerdictOnChange (Ok report) (Err fault) = ⊥
+IsVerdictOnChange (Err refused) judged = IsVerdictOnRefusal refused judged
 
 -- the verdict on a report: it is reported, with the refusal after it, or a refusal is
-abbrev pub IsReportedAs : Result InfoDone Refused → Result Verdict TreeFault → Type 0
-IsReportedAs (Ok done) (Ok verdict) =
-    (files : Files) → as_outcome files verdict ≡ outcome_of done.late done.report files
-IsReportedAs (Ok done) (Err fault) = ⊥
-IsReportedAs (Err refused) judged = IsRefusedAs refused judged
+abbrev pub IsVerdictOnReport : Result ReportAndRefusal Refused → Result Verdict TreeFault → Type 0
+IsVerdictOnReport (Ok done) (Ok verdict) =
+    (files : Files) → as_outcome files verdict ≡ outcome_of done.following_refusal done.report files
+IsVerdictOnReport (Ok done) (Err fault) = ⊥
+IsVerdictOnReport (Err refused) judged = IsVerdictOnRefusal refused judged

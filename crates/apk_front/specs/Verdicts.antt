@@ -5,10 +5,15 @@ use Rattle.base_core.specs.Files.{Files}
 use Rattle.base_core.specs.Sink.{SinkChange, Gets, GetsSome, SinkFailed}
 use Rattle.base_core.specs.declared.tree.TreeFault.{TreeFault}
 use Rattle.base_core.specs.declared.tree.TreeFault.TheVariants.{Disk, Memory as NoMemory}
+use Rattle.command_core.specs.Command.{CommandLine}
+use Rattle.make_info.specs.Reads.{Reads}
+use Rattle.outcome.specs.Commands.{effect_outcome}
+use Rattle.outcome.specs.Effect.{effect_of}
+use Rattle.outcome.specs.Given.{nothing_given}
 use Rattle.outcome.specs.Outcome.{Outcome, outcome_of}
 use Rattle.report_core.specs.Texts.{refusal_line, tree_line, memory_line}
 use Rattle.report_core.specs.declared.refusal.Refusal.{Refusal}
-use Rattle.apk_front.specs.Answers.{DidNotFail, IsStated, IsOutFault, IsFault}
+use Rattle.apk_front.specs.Answers.{DidNotFail, IsAnsweredInFull, IsOutFault, PrintsOnlyErrorLine}
 use Rattle.apk_front.specs.declared.answer.Answer.{Answer}
 use Rattle.apk_front.specs.declared.answer.Answer.TheVariants.{Ok as Good, Refused, TreeFault as TreeFailed, OutFault, Memory}
 use Rattle.apk_front.specs.declared.answer.Verdict.{Verdict}
@@ -16,6 +21,11 @@ use Rattle.apk_front.specs.declared.answer.Verdict.{Verdict}
 -- a verdict as an outcome that writes nothing, and leaves these files
 abbrev pub as_outcome : Files → Verdict → Outcome
 as_outcome files verdict = outcome_of verdict.refusal verdict.report files
+
+-- the outcome of a command that only reads: it lists and chooses nothing
+abbrev pub looked_outcome : CommandLine → Reads → Files → Outcome
+looked_outcome command read files =
+    effect_outcome (effect_of command.applet) command.applet command nothing_given read files
 
 -- the verdict's refusal and report are those of an outcome
 abbrev pub Reports : Verdict → Outcome → Type 0
@@ -28,8 +38,8 @@ ReportsOne IsOne verdict = (outcome : Outcome) × IsOne outcome × Reports verdi
 
 -- the answer and the bytes of an outcome: its own, or a sink's fault instead
 abbrev pub IsPrinted : Outcome → Answer → SinkChange → SinkChange → Type 0
-IsPrinted outcome Good out err = IsStated outcome Good out err
-IsPrinted outcome (Refused refusal) out err = IsStated outcome (Refused refusal) out err
+IsPrinted outcome Good out err = IsAnsweredInFull outcome Good out err
+IsPrinted outcome (Refused refusal) out err = IsAnsweredInFull outcome (Refused refusal) out err
 IsPrinted outcome OutFault out err = IsOutFault outcome out err
 IsPrinted outcome TreeFailed out err = ⊥
 IsPrinted outcome Memory out err = ⊥
@@ -46,5 +56,5 @@ IsRefusalPrinted (Some refusal) answer err =
 abbrev pub IsShown : Result Verdict TreeFault → Answer → SinkChange → SinkChange → Type 0
 IsShown (Ok verdict) answer out err =
     (files : Files) → IsPrinted (as_outcome files verdict) answer out err
-IsShown (Err Disk) answer out err = (answer ≡ TreeFailed) × IsFault tree_line out err
-IsShown (Err NoMemory) answer out err = (answer ≡ Memory) × IsFault memory_line out err
+IsShown (Err Disk) answer out err = (answer ≡ TreeFailed) × PrintsOnlyErrorLine tree_line out err
+IsShown (Err NoMemory) answer out err = (answer ≡ Memory) × PrintsOnlyErrorLine memory_line out err

@@ -9,7 +9,7 @@ ghost use Rattle.base_core.specs.Sink.{sink_change, IsProperUse};
 ghost use Rattle.base_core.specs.Write.{Writes};
 ghost use Rattle.outcome.specs.Outcome.{just_refusal, just_report};
 
-use base_core::{Sink, SinkFault, Text, TreeFault, counts_of_calls_in_a_row_join, write_all};
+use base_core::{Sink, SinkFault, Text, TreeFault, counts_of_consecutive_calls_compose, write_all};
 use report_core::{Refusal, write_error};
 use std::alloc::Global;
 
@@ -130,7 +130,7 @@ fn print_verdict<O: Sink, E: Sink>(verdict: Verdict, out: &mut O, err: &mut E) -
     ensures err_counts { IsProperUse (sink_change E.bytes E.counts err.old err.new) }
 {
     // A law that the proof needs; it has no effect at run time.
-    counts_of_calls_in_a_row_join();
+    counts_of_consecutive_calls_compose();
     match print_report(verdict.report.as_bytes(), out) {
         Ok(()) => print_refusal(verdict.refusal, err),
         Err(_) => Answer::OutFault,

@@ -14,7 +14,7 @@ ghost use Rattle.demo_lines.specs.Count.{demo_count};
 ghost use Rattle.demo_lines.specs.Lines.{mkpkg_words};
 ghost use Rattle.demo_lines.specs.Report.{demo_line};
 ghost use Rattle.outcome.specs.Commands.{IsOutcomeOf};
-ghost use Rattle.outcome.specs.Demo.{AreInstalled, ArePackaged, IsDemoOutcome, IsRunBehind, with_demo_file};
+ghost use Rattle.outcome.specs.Demo.{AreInstalled, ArePackaged, IsDemoOutcome, IsRunAfter, with_demo_file};
 ghost use Rattle.outcome.specs.Outcome.{Outcome, report_unless};
 ghost use Rattle.tree_memory.specs.Memory.{tree_state};
 ghost use Rattle.words_core.specs.Grammar.{command_of};
@@ -82,9 +82,9 @@ fn install(alloc: Global, n: u16, tree: &mut MemoryTree) -> Result<Verdict, Tree
 {
     let packaged = package_all(alloc, n, tree)?;
     let words = mkndx_words(alloc, n)?;
-    let indexed = run_behind(alloc, packaged, &words, tree)?;
+    let indexed = run_after(alloc, packaged, &words, tree)?;
     let words = add_words(alloc, n)?;
-    run_behind(alloc, indexed, &words, tree)
+    run_after(alloc, indexed, &words, tree)
 }
 
 // Writes the list of repositories, and makes the packages 1 to n, up to the first that is refused.
@@ -110,7 +110,7 @@ fn package_behind(
 ) -> Result<Verdict, TreeFault>
     ensures { IfOk result (λ verdict. (before : Outcome) → Reports last before
         → files_of (tree_state tree.old) ≡ before.files
-        → IsRunTo (IsRunBehind (mkpkg_words i) (with_demo_file i before.files) before)
+        → IsRunTo (IsRunAfter (mkpkg_words i) (with_demo_file i before.files) before)
         verdict tree.new) }
 {
     if last.refusal.is_some() {
@@ -132,7 +132,7 @@ fn package(alloc: Global, i: u16, tree: &mut MemoryTree) -> Result<Verdict, Tree
 }
 
 // Runs a command line, unless the last run was refused: then that verdict is returned.
-fn run_behind(
+fn run_after(
     alloc: Global,
     last: Verdict,
     words: &Words,
@@ -140,7 +140,7 @@ fn run_behind(
 ) -> Result<Verdict, TreeFault>
     ensures { IfOk result (λ verdict. (before : Outcome) → Reports last before
         → files_of (tree_state tree.old) ≡ before.files
-        → IsRunTo (IsRunBehind words.now before.files before) verdict tree.new) }
+        → IsRunTo (IsRunAfter words.now before.files before) verdict tree.new) }
 {
     if last.refusal.is_some() {
         return Ok(last);

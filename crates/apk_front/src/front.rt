@@ -2,18 +2,19 @@
 //! run is described in `docs/commands.md`, and its effect on a tree in `docs/crash-safety.md`,
 //! "Recovery", in the table of what a run of `apk` may leave.
 ghost use Rattle.std.specs.Prelude.{◌≡◌, ℕ, Bool, List, IsSome, IsTrue, is_some};
-ghost use Rattle.apk_front.specs.Answers.{name_a_command, IsAnswerOf, IsAnswerTo, LeavesFiles, LeavesAny, HasCauses, IsFaultless, IsComplete, IsUnplanned, IsOutcomeUnlessMemory};
-ghost use Rattle.apk_front.specs.Moments.{AnswersOutcome, AreReadOnTheWay, AreSafe, CommitsNothing, HasNothingToRecover, HidesScratchOf, IsAskedThroughout, LeavesAtRest, LeavesLasting, LeavesRoom, UnreadNamesLast};
-ghost use Rattle.base_core.specs.Calls.{HasNow, IfObservable};
-ghost use Rattle.base_core.specs.Crash.{IsOrderly, Since};
-ghost use Rattle.base_core.specs.Faults.{GoesOn, HasCause};
+ghost use Rattle.apk_front.specs.Answers.{name_a_command, IsAnswerOf, LeavesFiles, LeavesAnyFiles, HasCauses, IsFaultless, AnswersOutcomeUnlessMemory, HasNoPlannedFailure, IsOutcomeUnlessMemory};
+ghost use Rattle.apk_front.specs.Moments.{AnswersOutcome, AreReadDuringRun, AreOldOrLeadToOutcome, CommitsNothing, HasNothingToRecover, IgnoresScratchOf, TargetsAreAcceptedThroughout, LeavesDurableState, LeavesDurableOnceAnswered, AreRunPathsFree, NamesAreDurableWithoutIntentExcept};
+ghost use Rattle.base_core.specs.Calls.{HoldsNow, IfObservable};
+ghost use Rattle.base_core.specs.Crash.{Since};
+ghost use Rattle.base_core.specs.Undone.{IsDurable};
+ghost use Rattle.base_core.specs.Faults.{CountsOnlyRise, HasCause};
 ghost use Rattle.base_core.specs.Files.{no_names};
 ghost use Rattle.base_core.specs.Sink.{sink_change, IsProperUse};
 ghost use Rattle.base_core.specs.Tree.{files_of};
-ghost use Rattle.journal_core.specs.Quiet.{IsStill};
-ghost use Rattle.journal_core.specs.Recovery.{RestsOn, intent_name};
-ghost use Rattle.outcome.specs.Effect.{Changes, effect_by, output, reads_only, rests_on_words};
-ghost use Rattle.outcome.specs.Words.{IsFoundOutcome, IsOutcome};
+ghost use Rattle.journal_core.specs.Quiet.{StateIsUnchanged};
+ghost use Rattle.journal_core.specs.Recovery.{StateDependsOn, intent_name};
+ghost use Rattle.outcome.specs.Effect.{Changes, effect_by, output, reads_only, depends_only_on_arguments};
+ghost use Rattle.outcome.specs.Words.{IsPossibleOutcome, IsOutcome};
 ghost use Rattle.outcome.specs.Work.{recovery_fault};
 ghost use Rattle.words_core.specs.Grammar.{command_of};
 
@@ -45,8 +46,8 @@ pub fn apk<T: Tree, O: Sink, E: Sink>(
     // refusal. An I/O error of the tree or a fault of a sink, with its cause, or out of memory, may
     // be answered instead. After a sink's fault the files left are still the outcome's.
     ensures stated { IfObservable (T.history tree.old) (λ v.
-        IsAnswerTo words.now (files_of v) (LeavesFiles (T.history tree.new))
-        (HasCause (T.counts tree.old) (T.counts tree.new)) result
+        IsAnswerOf (IsOutcome (command_of words.now) (files_of v))
+        (LeavesFiles (T.history tree.new)) (HasCause (T.counts tree.old) (T.counts tree.new)) result
         (sink_change O.bytes O.counts out.old out.new)
         (sink_change E.bytes E.counts err.old err.new)) }
 
@@ -55,12 +56,12 @@ pub fn apk<T: Tree, O: Sink, E: Sink>(
         IsFaultless (T.counts tree.old) (T.counts tree.new)
         (sink_change O.bytes O.counts out.old out.new)
         (sink_change E.bytes E.counts err.old err.new)
-        → IsComplete words.now (files_of v) result) }
+        → AnswersOutcomeUnlessMemory words.now (files_of v) result) }
 
     // On every tree: an outcome that depends on the arguments alone is the answer, and the tree
     // never fails.
-    ensures every_tree { IsTrue (rests_on_words (command_of words.now))
-        → IsAnswerTo words.now no_names LeavesAny ⊥ result
+    ensures every_tree { IsTrue (depends_only_on_arguments (command_of words.now))
+        → IsAnswerOf (IsOutcome (command_of words.now) no_names) LeavesAnyFiles ⊥ result
         (sink_change O.bytes O.counts out.old out.new)
         (sink_change E.bytes E.counts err.old err.new) }
 
@@ -68,7 +69,7 @@ pub fn apk<T: Tree, O: Sink, E: Sink>(
     // contents at each read, and the first clash of names among some files. Or an added package is
     // no longer what was tested, and is reported as bad, with the cause of some file that has its
     // identity and other contents. That these are the real ones of a file system is trusted.
-    ensures found { IsAnswerOf (IsFoundOutcome words.now) LeavesAny
+    ensures found { IsAnswerOf (IsPossibleOutcome (command_of words.now)) LeavesAnyFiles
         (HasCause (T.counts tree.old) (T.counts tree.new)) result
         (sink_change O.bytes O.counts out.old out.new)
         (sink_change E.bytes E.counts err.old err.new) }
@@ -84,7 +85,7 @@ pub fn apk<T: Tree, O: Sink, E: Sink>(
         (sink_change E.bytes E.counts err.old err.new) }
 
     // No count falls, and no sink is misused.
-    ensures tree_counts { GoesOn (T.counts tree.old) (T.counts tree.new) }
+    ensures tree_counts { CountsOnlyRise (T.counts tree.old) (T.counts tree.new) }
     ensures out_counts { IsProperUse (sink_change O.bytes O.counts out.old out.new) }
     ensures err_counts { IsProperUse (sink_change E.bytes E.counts err.old err.new) }
 
@@ -95,14 +96,14 @@ pub fn apk<T: Tree, O: Sink, E: Sink>(
     // No call is a misuse of the tree if two conditions hold: the paths that recovery writes are
     // free in the files, and those that the outcome writes are free in the recovered files. Then
     // OUTPUT and OUTPUT.apk-tmp are no folder of another file, and no file is a folder of them.
-    ensures proper { IfObservable (T.history tree.old) (λ v. LeavesRoom words.now (files_of v)
+    ensures proper { IfObservable (T.history tree.old) (λ v. AreRunPathsFree words.now (files_of v)
         → (T.counts tree.new).misuses ≡ (T.counts tree.old).misuses) }
 
     // If moreover no failure of the tree and the sinks is planned, the run ends as its outcome
     // says, unless memory ran out: the run's, or the own memory of one of the three.
     ensures unless_memory { IfObservable (T.history tree.old) (λ v.
-        LeavesRoom words.now (files_of v) → IsUnplanned (T.counts tree.old)
-        → IsUnplanned (O.counts out.old) → IsUnplanned (E.counts err.old)
+        AreRunPathsFree words.now (files_of v) → HasNoPlannedFailure (T.counts tree.old)
+        → HasNoPlannedFailure (O.counts out.old) → HasNoPlannedFailure (E.counts err.old)
         → IsOutcomeUnlessMemory words.now (files_of v) (LeavesFiles (T.history tree.new)) result
         (T.counts tree.old) (T.counts tree.new)
         (sink_change O.bytes O.counts out.old out.new)
@@ -111,22 +112,23 @@ pub fn apk<T: Tree, O: Sink, E: Sink>(
     // ---- effect on the tree
 
     // If the outcome depends on the arguments alone, no call is made on the tree.
-    ensures untouched { IsTrue (rests_on_words (command_of words.now)) → tree.new ≡ tree.old }
+    ensures untouched { IsTrue (depends_only_on_arguments (command_of words.now)) → tree.new
+        ≡ tree.old }
 
     // A command that only reads leaves the tree as it is.
     ensures same { IsTrue (reads_only (command_of words.now))
         → T.history tree.new ≡ T.history tree.old }
 
-    // Before a change is committed the tree was asked for each name that it writes or removes: at
-    // each moment the tree accepts each name to which a recovery gives other bytes than a recovery
-    // of the files at the start.
+    // Before it commits, a change has asked the tree about each name that it writes or removes. So
+    // at each moment, if recovery would now change a name that it would not have changed at the
+    // start, the tree has accepted that name.
     ensures promised { effect_by (command_of words.now) ≡ Changes
-        → IsAskedThroughout T.accepts (T.history tree.old) (T.history tree.new) }
+        → TargetsAreAcceptedThroughout T.accepts (T.history tree.old) (T.history tree.new) }
 
     // If there is nothing to recover, nothing is written by a run that is refused, that runs out of
     // memory, or whose outcome commits nothing, whatever is answered instead.
     ensures idle { IfObservable (T.history tree.old) (λ v.
-        CommitsNothing (IsOutcome words.now (files_of v)) result
+        CommitsNothing (IsOutcome (command_of words.now) (files_of v)) result
         → HasNothingToRecover (effect_by (command_of words.now)) v
         → T.history tree.new ≡ T.history tree.old) }
 
@@ -144,51 +146,54 @@ pub fn apk<T: Tree, O: Sink, E: Sink>(
     // file is ever temporarily missing. Not proved: that an unchanged file is never rewritten with
     // the same bytes.
     ensures reads { IfObservable (T.history tree.old) (λ v.
-        AreReadOnTheWay (IsOutcome words.now (files_of v)) (effect_by (command_of words.now))
-        (output words.now) v (T.history tree.old) (T.history tree.new)) }
+        AreReadDuringRun (IsOutcome (command_of words.now) (files_of v))
+        (effect_by (command_of words.now)) (output words.now) v (T.history tree.old)
+        (T.history tree.new)) }
 
     // If there was an intent, then from the moment at which none is read a crash undoes no change
     // of a name: the intent's change is durable. This excludes OUTPUT, OUTPUT.apk-tmp and staged
     // files.
     ensures last { IfObservable (T.history tree.old) (λ v. IsSome (v.names intent_name)
-        → Since (UnreadNamesLast (output words.now)) (T.history tree.old) (T.history tree.new)) }
+        → Since (NamesAreDurableWithoutIntentExcept (output words.now)) (T.history tree.old)
+        (T.history tree.new)) }
 
-    // ---- what a crash leaves, of a tree that was orderly: its files were durable
+    // ---- what a crash leaves of a durable tree
 
     // A run that commits nothing leaves the state unchanged: at each moment a crash leaves a state
     // from before, and the files as read have the old one.
     ensures left { IfObservable (T.history tree.old) (λ v.
-        CommitsNothing (IsOutcome words.now (files_of v)) result → (ignored : List ℕ → Bool)
-        → IsOrderly (RestsOn ignored) v
-        → Since (IsStill ignored v) (T.history tree.old) (T.history tree.new)) }
+        CommitsNothing (IsOutcome (command_of words.now) (files_of v)) result
+        → (ignored : List ℕ → Bool) → IsDurable (StateDependsOn ignored) v
+        → Since (StateIsUnchanged ignored v) (T.history tree.old) (T.history tree.new)) }
 
     // Every run leaves the state unchanged, or it has an outcome that commits, and at each moment a
     // crash leaves the old files or the outcome's; OUTPUT.apk-tmp may be left too. A state includes
     // a bad intent, so a crash leaves one only if it might have left one before.
     ensures crash { IfObservable (T.history tree.old) (λ v. (ignored : List ℕ → Bool)
-        → IsOrderly (RestsOn ignored) v → HidesScratchOf (output words.now) ignored
-        → AreSafe (IsOutcome words.now (files_of v)) (is_some (output words.now)) ignored v
-        (T.history tree.old) (T.history tree.new)) }
+        → IsDurable (StateDependsOn ignored) v → IgnoresScratchOf (output words.now) ignored
+        → AreOldOrLeadToOutcome (IsOutcome (command_of words.now) (files_of v)) (is_some (output
+        words.now))
+        ignored v (T.history tree.old) (T.history tree.new)) }
 
-    // The tree is orderly again, whatever is answered.
-    ensures orderly { IfObservable (T.history tree.old) (λ v. (ignored : List ℕ → Bool)
-        → IsOrderly (RestsOn ignored) v → HidesScratchOf (output words.now) ignored
-        → HasNow (T.history tree.new) (IsOrderly (RestsOn ignored))) }
+    // The tree is durable again, whatever is answered.
+    ensures is_durable { IfObservable (T.history tree.old) (λ v. (ignored : List ℕ → Bool)
+        → IsDurable (StateDependsOn ignored) v → IgnoresScratchOf (output words.now) ignored
+        → HoldsNow (T.history tree.new) (IsDurable (StateDependsOn ignored))) }
 
     // Once the outcome is answered, even a refusal, or a sink's fault instead, each crash leaves
     // its files. If it commits nothing, this holds if each crash left the old ones before, or if an
     // intent was found and done.
     ensures settled { IfObservable (T.history tree.old) (λ v. (ignored : List ℕ → Bool)
-        → IsOrderly (RestsOn ignored) v → HidesScratchOf (output words.now) ignored
-        → LeavesLasting (IsOutcome words.now (files_of v)) (effect_by (command_of words.now))
-        ignored v (T.history tree.new) result) }
+        → IsDurable (StateDependsOn ignored) v → IgnoresScratchOf (output words.now) ignored
+        → LeavesDurableOnceAnswered (IsOutcome (command_of words.now) (files_of v))
+        (effect_by (command_of words.now)) ignored v (T.history tree.new) result) }
 
     // Once an outcome that commits is answered, or a sink's fault instead, OUTPUT and
-    // OUTPUT.apk-tmp are no longer ignored: the tree is orderly, and each crash leaves the
+    // OUTPUT.apk-tmp are no longer ignored: the tree is durable, and each crash leaves the
     // outcome's files, under these names too.
-    ensures at_rest { IfObservable (T.history tree.old) (λ v. (ignored : List ℕ → Bool)
-        → IsOrderly (RestsOn ignored) v → HidesScratchOf (output words.now) ignored
-        → AnswersOutcome result → LeavesAtRest (IsOutcome words.now (files_of v))
+    ensures durable_state { IfObservable (T.history tree.old) (λ v. (ignored : List ℕ → Bool)
+        → IsDurable (StateDependsOn ignored) v → IgnoresScratchOf (output words.now) ignored
+        → AnswersOutcome result → LeavesDurableState (IsOutcome (command_of words.now) (files_of v))
         (output words.now) ignored (T.history tree.new)) }
 {
     // A law that the proof needs; it has no effect at run time.

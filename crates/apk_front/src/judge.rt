@@ -5,19 +5,18 @@
 
 ghost use Rattle.std.specs.Prelude.{◌≡◌, [], None, Ok, IfOk, IsErrOf, IsTrue, MatchResult, OnOk};
 ghost use Rattle.apk_front.specs.Answers.{name_a_command};
-ghost use Rattle.apk_front.specs.Moments.{IsAskedThroughout, LeavesRoom, LeavesRoomFor};
+ghost use Rattle.apk_front.specs.Moments.{TargetsAreAcceptedThroughout, AreRunPathsFree, AreOutcomePathsFree};
 ghost use Rattle.apk_front.specs.Runs.{IsWholeRun};
-ghost use Rattle.apk_front.specs.Verdicts.{ReportsOne, as_outcome};
+ghost use Rattle.apk_front.specs.Verdicts.{ReportsOne, as_outcome, looked_outcome};
 ghost use Rattle.base_core.specs.Calls.{IfObservable};
-ghost use Rattle.base_core.specs.Faults.{GoesOn, HasCause, IsNoFault};
+ghost use Rattle.base_core.specs.Faults.{CountsOnlyRise, HasCause, IsNoFault};
 ghost use Rattle.base_core.specs.Files.{Files, no_names};
 ghost use Rattle.base_core.specs.Read.{OnlyReads};
 ghost use Rattle.base_core.specs.Tree.{files_of};
 ghost use Rattle.make_info.specs.Reads.{Reads};
-ghost use Rattle.outcome.specs.Commands.{IsFoundOutcomeOf, IsOutcomeOf, reads_in, command_outcome};
-ghost use Rattle.outcome.specs.Given.{nothing_given};
-ghost use Rattle.outcome.specs.Effect.{Changes, does_only_read, does_rest_on_words, effect_by, effect_of, output, output_if, reads_only, rests_on_words};
-ghost use Rattle.outcome.specs.Words.{IsFoundOutcome, IsFoundOutcomeBy, IsOutcome, IsOutcomeBy};
+ghost use Rattle.outcome.specs.Commands.{IsPossibleOutcomeOf, IsOutcomeOf, reads_in};
+ghost use Rattle.outcome.specs.Effect.{Changes, does_only_read, ignores_files, effect_by, effect_of, output, output_if, reads_only, depends_only_on_arguments};
+ghost use Rattle.outcome.specs.Words.{IsPossibleOutcome, IsOutcome};
 ghost use Rattle.words_core.specs.Grammar.{command_of};
 ghost use Rattle.apk_front.specs.Effects.{access_of};
 
@@ -44,34 +43,37 @@ pub(crate) fn judge<T: Tree>(
     // On a tree that shows its files the verdict is that of the outcome over the files at the
     // start.
     ensures found { IfOk result (λ verdict. IfObservable (T.history tree.old) (λ v.
-        ReportsOne (IsOutcome words.now (files_of v)) verdict)) }
+        ReportsOne (IsOutcome (command_of words.now) (files_of v)) verdict)) }
     // On every tree it is that of an outcome for some listing and some contents at each read.
-    ensures by_reads { IfOk result (λ verdict. ReportsOne (IsFoundOutcome words.now) verdict) }
+    ensures by_reads { IfOk result (λ verdict.
+        ReportsOne (IsPossibleOutcome (command_of words.now)) verdict) }
     // An outcome that rests on the words alone is judged on every tree, unless memory ran out.
-    ensures by_words { IsTrue (rests_on_words (command_of words.now))
+    ensures by_words { IsTrue (depends_only_on_arguments (command_of words.now))
         → MatchResult result
-        (λ verdict. (files : Files) → IsOutcome words.now files (as_outcome files verdict))
+        (λ verdict. (files : Files)
+        → IsOutcome (command_of words.now) files (as_outcome files verdict))
         (λ fault. fault ≡ TreeFault.Memory) }
-    ensures untouched { IsTrue (rests_on_words (command_of words.now)) → tree.new ≡ tree.old }
+    ensures untouched { IsTrue (depends_only_on_arguments (command_of words.now)) → tree.new
+        ≡ tree.old }
     // The effect of the run on the tree: crashes, files and calls, by *IsWholeRun*.
     ensures run { IfObservable (T.history tree.old) (λ v. IsWholeRun
-        (IsOutcome words.now (files_of v)) (effect_by (command_of words.now)) (output words.now)
-        result v (T.history tree.old) (T.history tree.new)) }
+        (IsOutcome (command_of words.now) (files_of v)) (effect_by (command_of words.now))
+        (output words.now) result v (T.history tree.old) (T.history tree.new)) }
     // A change has asked the tree for each name that it promises.
     ensures promised { effect_by (command_of words.now) ≡ Changes
-        → IsAskedThroughout T.accepts (T.history tree.old) (T.history tree.new) }
+        → TargetsAreAcceptedThroughout T.accepts (T.history tree.old) (T.history tree.new) }
     ensures same { IsTrue (reads_only (command_of words.now))
         → T.history tree.new ≡ T.history tree.old }
     // How the tree's counts explain the answer: no count falls, an I/O error has its cause, and any
     // other answer hides none.
-    ensures goes_on { GoesOn (T.counts tree.old) (T.counts tree.new) }
+    ensures goes_on { CountsOnlyRise (T.counts tree.old) (T.counts tree.new) }
     ensures disk { IsErrOf result TreeFault.Disk
         → HasCause (T.counts tree.old) (T.counts tree.new) }
     ensures kept { OnOk result (IsNoFault (T.counts tree.old) (T.counts tree.new)) }
     ensures memory { IsErrOf result TreeFault.Memory
         → IsNoFault (T.counts tree.old) (T.counts tree.new) }
     ensures named { IsErrOf result TreeFault.Memory → IsTrue (name_a_command words.now) }
-    ensures proper { IfObservable (T.history tree.old) (λ v. LeavesRoom words.now (files_of v)
+    ensures proper { IfObservable (T.history tree.old) (λ v. AreRunPathsFree words.now (files_of v)
         → (T.counts tree.new).misuses ≡ (T.counts tree.old).misuses) }
 {
     match read_words(alloc, words) {
@@ -88,34 +90,34 @@ pub(crate) fn judge<T: Tree>(
 #[tactic(auto, using(crate::proofs::Operands::demo_operands))]
 fn carry_out<T: Tree>(alloc: Global, command: &Command, tree: &mut T) -> Result<Verdict, TreeFault>
     ensures found { IfOk result (λ verdict. IfObservable (T.history tree.old) (λ v.
-        ReportsOne (IsOutcomeBy (Ok command.now) (files_of v)) verdict)) }
+        ReportsOne (IsOutcome (Ok command.now) (files_of v)) verdict)) }
     ensures by_reads { IfOk result (λ verdict.
-        ReportsOne (IsFoundOutcomeBy (Ok command.now)) verdict) }
-    ensures by_words { IsTrue (does_rest_on_words (effect_of command.now.applet))
+        ReportsOne (IsPossibleOutcome (Ok command.now)) verdict) }
+    ensures by_words { IsTrue (ignores_files (effect_of command.now.applet))
         → MatchResult result
         (λ verdict. (files : Files)
-        → IsOutcomeBy (Ok command.now) files (as_outcome files verdict))
+        → IsOutcome (Ok command.now) files (as_outcome files verdict))
         (λ fault. fault ≡ TreeFault.Memory) }
-    ensures untouched { IsTrue (does_rest_on_words (effect_of command.now.applet))
+    ensures untouched { IsTrue (ignores_files (effect_of command.now.applet))
         → tree.new ≡ tree.old }
     ensures run { IfObservable (T.history tree.old) (λ v. IsWholeRun
-        (IsOutcomeBy (Ok command.now) (files_of v)) (effect_of command.now.applet)
+        (IsOutcome (Ok command.now) (files_of v)) (effect_of command.now.applet)
         (output_if (effect_of command.now.applet) command.now)
         result v (T.history tree.old) (T.history tree.new)) }
     ensures promised { effect_of command.now.applet ≡ Changes
-        → IsAskedThroughout T.accepts (T.history tree.old) (T.history tree.new) }
+        → TargetsAreAcceptedThroughout T.accepts (T.history tree.old) (T.history tree.new) }
     ensures same { IsTrue (does_only_read (effect_of command.now.applet))
         → T.history tree.new ≡ T.history tree.old }
-    ensures goes_on { GoesOn (T.counts tree.old) (T.counts tree.new) }
+    ensures goes_on { CountsOnlyRise (T.counts tree.old) (T.counts tree.new) }
     ensures disk { IsErrOf result TreeFault.Disk
         → HasCause (T.counts tree.old) (T.counts tree.new) }
     ensures kept { OnOk result (IsNoFault (T.counts tree.old) (T.counts tree.new)) }
     ensures memory { IsErrOf result TreeFault.Memory
         → IsNoFault (T.counts tree.old) (T.counts tree.new) }
     ensures proper { IfObservable (T.history tree.old) (λ v.
-        LeavesRoomFor (effect_of command.now.applet)
+        AreOutcomePathsFree (effect_of command.now.applet)
         (output_if (effect_of command.now.applet) command.now)
-        (IsOutcomeBy (Ok command.now) (files_of v)) (files_of v)
+        (IsOutcome (Ok command.now) (files_of v)) (files_of v)
         → (T.counts tree.new).misuses ≡ (T.counts tree.old).misuses) }
 {
     match command.applet() {
@@ -133,31 +135,31 @@ pub(crate) fn run<T: Tree>(
     ensures found { IfOk result (λ verdict. IfObservable (T.history tree.old) (λ v.
         ReportsOne (IsOutcomeOf (Ok command.now) (files_of v)) verdict)) }
     ensures by_reads { IfOk result (λ verdict.
-        ReportsOne (IsFoundOutcomeOf (Ok command.now)) verdict) }
-    ensures by_words { IsTrue (does_rest_on_words (effect_of command.now.applet))
+        ReportsOne (IsPossibleOutcomeOf command.now) verdict) }
+    ensures by_words { IsTrue (ignores_files (effect_of command.now.applet))
         → MatchResult result
         (λ verdict. (files : Files)
         → as_outcome files verdict
-        ≡ command_outcome command.now nothing_given (reads_in files) files)
+        ≡ looked_outcome command.now (reads_in files) files)
         (λ fault. fault ≡ TreeFault.Memory) }
-    ensures untouched { IsTrue (does_rest_on_words (effect_of command.now.applet))
+    ensures untouched { IsTrue (ignores_files (effect_of command.now.applet))
         → tree.new ≡ tree.old }
     ensures run { IfObservable (T.history tree.old) (λ v. IsWholeRun
         (IsOutcomeOf (Ok command.now) (files_of v)) (effect_of command.now.applet)
         (output_if (effect_of command.now.applet) command.now)
         result v (T.history tree.old) (T.history tree.new)) }
     ensures promised { effect_of command.now.applet ≡ Changes
-        → IsAskedThroughout T.accepts (T.history tree.old) (T.history tree.new) }
+        → TargetsAreAcceptedThroughout T.accepts (T.history tree.old) (T.history tree.new) }
     ensures same { IsTrue (does_only_read (effect_of command.now.applet))
         → T.history tree.new ≡ T.history tree.old }
-    ensures goes_on { GoesOn (T.counts tree.old) (T.counts tree.new) }
+    ensures goes_on { CountsOnlyRise (T.counts tree.old) (T.counts tree.new) }
     ensures disk { IsErrOf result TreeFault.Disk
         → HasCause (T.counts tree.old) (T.counts tree.new) }
     ensures kept { OnOk result (IsNoFault (T.counts tree.old) (T.counts tree.new)) }
     ensures memory { IsErrOf result TreeFault.Memory
         → IsNoFault (T.counts tree.old) (T.counts tree.new) }
     ensures proper { IfObservable (T.history tree.old) (λ v.
-        LeavesRoomFor (effect_of command.now.applet)
+        AreOutcomePathsFree (effect_of command.now.applet)
         (output_if (effect_of command.now.applet) command.now)
         (IsOutcomeOf (Ok command.now) (files_of v)) (files_of v)
         → (T.counts tree.new).misuses ≡ (T.counts tree.old).misuses) }
@@ -175,16 +177,16 @@ fn look<T: Tree>(alloc: Global, command: &Command, tree: &mut T) -> Result<Verdi
     requires { IsTrue (does_only_read (effect_of command.now.applet)) }
     ensures found { IfOk result (λ verdict. IfObservable (T.history tree.old) (λ v.
         as_outcome (files_of v) verdict
-        ≡ command_outcome command.now nothing_given (reads_in (files_of v)) (files_of v))) }
+        ≡ looked_outcome command.now (reads_in (files_of v)) (files_of v))) }
     ensures by_reads { IfOk result (λ verdict. (read : Reads)
-        × (as_outcome no_names verdict ≡ command_outcome command.now nothing_given read no_names)) }
-    ensures by_words { IsTrue (does_rest_on_words (effect_of command.now.applet))
+        × (as_outcome no_names verdict ≡ looked_outcome command.now read no_names)) }
+    ensures by_words { IsTrue (ignores_files (effect_of command.now.applet))
         → MatchResult result
         (λ verdict. (files : Files)
         → as_outcome files verdict
-        ≡ command_outcome command.now nothing_given (reads_in files) files)
+        ≡ looked_outcome command.now (reads_in files) files)
         (λ fault. fault ≡ TreeFault.Memory) }
-    ensures untouched { IsTrue (does_rest_on_words (effect_of command.now.applet))
+    ensures untouched { IsTrue (ignores_files (effect_of command.now.applet))
         → tree.new ≡ tree.old }
     ensures tree { OnlyReads TreeFault.Disk (T.history tree.old) (T.history tree.new)
         (T.counts tree.old) (T.counts tree.new) result }

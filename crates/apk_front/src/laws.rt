@@ -1,13 +1,13 @@
 //! Laws: the clauses of `apk` hold of each outcome that a command line has, and not only of the one
 //! that they name. They serve `run_lists`; the rules are in `docs/crash-safety.md`, "Recovery".
 ghost use Rattle.std.specs.Prelude.{◌≡◌, ℕ, Bool, true, List, None, is_some};
-ghost use Rattle.apk_front.specs.Moments.{AreSafe, HasNothingToRecover, IsCarriedOut, IsRecovering, LeavesLasting, Settles};
+ghost use Rattle.apk_front.specs.Moments.{AreOldOrLeadToOutcome, HasNothingToRecover, IsCarriedOut, IsRecovering, LeavesDurableOnceAnswered, MakesDurable};
 ghost use Rattle.apk_front.specs.declared.answer.Answer.{Answer};
-ghost use Rattle.base_core.specs.Calls.{HasNow};
+ghost use Rattle.base_core.specs.Calls.{HoldsNow};
 ghost use Rattle.base_core.specs.Crash.{Since};
 ghost use Rattle.base_core.specs.Tree.{TreeState, files_of};
-ghost use Rattle.journal_core.specs.Recovery.{IsSettled};
-ghost use Rattle.journal_core.specs.Replacing.{IsReplacing};
+ghost use Rattle.journal_core.specs.Recovery.{EachCrashLeaves};
+ghost use Rattle.journal_core.specs.Replacing.{IsMomentOfReplacing};
 ghost use Rattle.outcome.specs.Effect.{Effect, does_recover, effect_by, output};
 ghost use Rattle.outcome.specs.Outcome.{Outcome};
 ghost use Rattle.outcome.specs.Words.{IsOutcome};
@@ -17,14 +17,16 @@ ghost use Rattle.words_core.specs.Grammar.{command_of};
 use journal_core::quiet_then_old_or_new_is_old_or_new;
 use outcome::an_outcome_is_unique;
 
-/// From `crash`: for every outcome of a command line, at each moment the tree is orderly, and a
+/// From `crash`: for every outcome of a command line, at each moment the tree is durable, and a
 /// crash leaves the old files or the outcome's.
 pub fn a_crash_leaves_the_old_files_or_those_of_the_outcome()
     ensures { (words : List (List ℕ)) (ignored : List ℕ → Bool) (v : TreeState) (outcome : Outcome)
         (old now : List TreeState)
-        → AreSafe (IsOutcome words (files_of v)) (is_some (output words)) ignored v old now
-        → IsOutcome words (files_of v) outcome
-        → Since (IsReplacing ignored outcome.files v) old now }
+        → AreOldOrLeadToOutcome (IsOutcome (command_of words) (files_of v)) (is_some (output
+        words)) ignored v
+        old now
+        → IsOutcome (command_of words) (files_of v) outcome
+        → Since (IsMomentOfReplacing ignored outcome.files v) old now }
 {
     an_outcome_is_unique();
     quiet_then_old_or_new_is_old_or_new();
@@ -33,21 +35,22 @@ pub fn a_crash_leaves_the_old_files_or_those_of_the_outcome()
 /// From `settled`: for every outcome of a command line, each crash leaves its files once it is
 /// carried out. If it commits nothing, this holds if each crash left the old ones before, or if an
 /// intent was found and done.
-pub fn what_is_carried_out_lasts()
+pub fn what_is_carried_out_is_durable()
     ensures { (words : List (List ℕ)) (ignored : List ℕ → Bool) (v : TreeState) (outcome : Outcome)
         (now : List TreeState) (answer : Answer)
-        → LeavesLasting (IsOutcome words (files_of v)) (effect_by (command_of words)) ignored v now
-        answer → IsCarriedOut answer
-        → IsOutcome words (files_of v) outcome → outcome.refusal ≡ None
-        → Settles (effect_by (command_of words)) ignored v outcome
-        → HasNow now (IsSettled ignored outcome.files) }
+        → LeavesDurableOnceAnswered (IsOutcome (command_of words) (files_of v)) (effect_by
+        (command_of words))
+        ignored v now answer → IsCarriedOut answer
+        → IsOutcome (command_of words) (files_of v) outcome → outcome.refusal ≡ None
+        → MakesDurable (effect_by (command_of words)) ignored v outcome
+        → HoldsNow now (EachCrashLeaves ignored outcome.files) }
 {
     an_outcome_is_unique();
 }
 
 /// From `reads`, if there is nothing to recover: while the tree is being recovered it has the old
 /// files, and the command works on these.
-pub fn where_nothing_is_recovered_the_files_are_the_old_ones()
+pub fn without_recovery_the_files_are_the_old_ones()
     ensures moments { (effect : Effect) (v w : TreeState) → HasNothingToRecover effect v
         → (does_recover effect ≡ true) × IsRecovering v w → files_of w ≡ files_of v }
     ensures work { (effect : Effect) (v : TreeState) → HasNothingToRecover effect v

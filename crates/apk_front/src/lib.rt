@@ -26,7 +26,7 @@ pub use answer::{Answer, status};
 pub use front::apk;
 pub use judge::{RootAccess, access_for};
 pub use laws::{
-    a_crash_leaves_the_old_files_or_those_of_the_outcome, what_is_carried_out_lasts,
-    where_nothing_is_recovered_the_files_are_the_old_ones,
+    a_crash_leaves_the_old_files_or_those_of_the_outcome, what_is_carried_out_is_durable,
+    without_recovery_the_files_are_the_old_ones,
 };
 pub use report_core::Refusal;

@@ -3,12 +3,12 @@
 //! `docs/crash-safety.md`, "A whole file replaced". The container is made by `make_core`.
 ghost use Rattle.std.specs.Prelude.{◌≡◌, ◌≢◌, ◌⊎◌, ℕ, false, true, List, Ok, Err, IsSome, IfOk, IsErrOf, OnOk};
 ghost use Rattle.make_package.specs.Answers.{IsMadeBySome};
-ghost use Rattle.apk_front.specs.Containers.{IsIndexMade, IsIndexFound, IsIndexOutcome, IsPackageMade, IsPackageOutcome, OnMade, is_cut, is_cut_off, made_in};
-ghost use Rattle.apk_front.specs.Moments.{HasRoomFor};
+ghost use Rattle.apk_front.specs.Containers.{IsIndexMade, IsIndexFound, IsIndexOutcome, IsPackageMade, IsPackageOutcome, OnMade, is_disk_or_memory, ended_by_disk_or_memory, made_in};
+ghost use Rattle.apk_front.specs.Moments.{IsOutputPathFreeIfAny};
 ghost use Rattle.apk_front.specs.Runs.{IsRun};
 ghost use Rattle.apk_front.specs.Verdicts.{Reports, ReportsOne};
 ghost use Rattle.base_core.specs.Calls.{IfObservable};
-ghost use Rattle.base_core.specs.Faults.{GoesOn, HasCause, IsNoFault};
+ghost use Rattle.base_core.specs.Faults.{CountsOnlyRise, HasCause, IsNoFault};
 ghost use Rattle.base_core.specs.Files.{Files, no_names};
 ghost use Rattle.base_core.specs.Read.{OnlyReads};
 ghost use Rattle.base_core.specs.Tree.{files_of};
@@ -27,7 +27,7 @@ ghost use Rattle.report_core.specs.declared.refusal.Refusal.TheVariants.{ResultT
 use crate::answer::Verdict;
 use adb_schema::is_reserved;
 use base_core::{
-    Text, Tree, TreeFault, counts_of_calls_in_a_row_join, files_have_one_list_of_names,
+    Text, Tree, TreeFault, counts_of_consecutive_calls_compose, files_have_one_list_of_names,
 };
 use command_core::Command;
 use file_replacement::replace;
@@ -60,7 +60,7 @@ pub(crate) fn mkpkg<T: Tree>(
     ensures refused { IfOk result (λ verdict. IsSome verdict.refusal
         → T.history tree.new ≡ T.history tree.old) }
     ensures undone { IsErrOf result TreeFault.Memory → T.history tree.new ≡ T.history tree.old }
-    ensures goes_on { GoesOn (T.counts tree.old) (T.counts tree.new) }
+    ensures goes_on { CountsOnlyRise (T.counts tree.old) (T.counts tree.new) }
     ensures disk { IsErrOf result TreeFault.Disk
         → HasCause (T.counts tree.old) (T.counts tree.new) }
     ensures kept { OnOk result (IsNoFault (T.counts tree.old) (T.counts tree.new)) }
@@ -68,11 +68,11 @@ pub(crate) fn mkpkg<T: Tree>(
         → IsNoFault (T.counts tree.old) (T.counts tree.new) }
     ensures proper { IfObservable (T.history tree.old) (λ v.
         ((outcome : Outcome) → IsPackageOutcome command.now (files_of v) outcome
-        → outcome.commits ≡ true → HasRoomFor (output_name command.now) (files_of v))
+        → outcome.commits ≡ true → IsOutputPathFreeIfAny (output_name command.now) (files_of v))
         → (T.counts tree.new).misuses ≡ (T.counts tree.old).misuses) }
 {
     // Laws that the proof needs; they have no effect at run time.
-    counts_of_calls_in_a_row_join();
+    counts_of_consecutive_calls_compose();
     files_have_one_list_of_names();
     a_package_with_information_has_an_output();
     let container = package(alloc, command, tree);
@@ -101,7 +101,7 @@ pub(crate) fn mkndx<T: Tree>(
     ensures refused { IfOk result (λ verdict. IsSome verdict.refusal
         → T.history tree.new ≡ T.history tree.old) }
     ensures undone { IsErrOf result TreeFault.Memory → T.history tree.new ≡ T.history tree.old }
-    ensures goes_on { GoesOn (T.counts tree.old) (T.counts tree.new) }
+    ensures goes_on { CountsOnlyRise (T.counts tree.old) (T.counts tree.new) }
     ensures disk { IsErrOf result TreeFault.Disk
         → HasCause (T.counts tree.old) (T.counts tree.new) }
     ensures kept { OnOk result (IsNoFault (T.counts tree.old) (T.counts tree.new)) }
@@ -109,11 +109,11 @@ pub(crate) fn mkndx<T: Tree>(
         → IsNoFault (T.counts tree.old) (T.counts tree.new) }
     ensures proper { IfObservable (T.history tree.old) (λ v.
         ((outcome : Outcome) → IsIndexOutcome command.now (files_of v) outcome
-        → outcome.commits ≡ true → HasRoomFor (output_name command.now) (files_of v))
+        → outcome.commits ≡ true → IsOutputPathFreeIfAny (output_name command.now) (files_of v))
         → (T.counts tree.new).misuses ≡ (T.counts tree.old).misuses) }
 {
     // Laws that the proof needs; they have no effect at run time.
-    counts_of_calls_in_a_row_join();
+    counts_of_consecutive_calls_compose();
     an_index_has_an_output();
     let report = index_line(alloc, command.operands().len())?;
     let container = index(alloc, command, tree);
@@ -178,12 +178,13 @@ fn finish<T: Tree>(
         (λ outcome. outcome
         ≡ make_outcome (files_of v) (output_name command.now) report (made_in container))
         Makes (output_name command.now) result v (T.history tree.old) (T.history tree.new)) }
-    ensures done { IfOk result (λ verdict. is_cut_off container ≡ false) }
-    ensures cut { is_cut_off container ≡ true → T.history tree.new ≡ T.history tree.old }
+    ensures done { IfOk result (λ verdict. ended_by_disk_or_memory container ≡ false) }
+    ensures cut { ended_by_disk_or_memory container ≡ true → T.history tree.new
+        ≡ T.history tree.old }
     ensures refused { IfOk result (λ verdict. IsSome verdict.refusal
         → T.history tree.new ≡ T.history tree.old) }
     ensures undone { IsErrOf result TreeFault.Memory → T.history tree.new ≡ T.history tree.old }
-    ensures goes_on { GoesOn (T.counts tree.old) (T.counts tree.new) }
+    ensures goes_on { CountsOnlyRise (T.counts tree.old) (T.counts tree.new) }
     ensures disk { IsErrOf result TreeFault.Disk
         → IsErrOf container MakeFault.Disk ⊎ HasCause (T.counts tree.old) (T.counts tree.new) }
     ensures kept { OnOk result (IsNoFault (T.counts tree.old) (T.counts tree.new)) }
@@ -193,7 +194,7 @@ fn finish<T: Tree>(
     ensures proper { IfObservable (T.history tree.old) (λ v.
         IfOk container (λ file.
         (make_outcome (files_of v) (output_name command.now) report (Ok file.items)).commits
-        ≡ true → HasRoomFor (output_name command.now) (files_of v))
+        ≡ true → IsOutputPathFreeIfAny (output_name command.now) (files_of v))
         → (T.counts tree.new).misuses ≡ (T.counts tree.old).misuses) }
 {
     match container {
@@ -222,7 +223,7 @@ fn write<T: Tree>(
     ensures refused { IfOk result (λ verdict. IsSome verdict.refusal
         → T.history tree.new ≡ T.history tree.old) }
     ensures undone { IsErrOf result TreeFault.Memory → T.history tree.new ≡ T.history tree.old }
-    ensures goes_on { GoesOn (T.counts tree.old) (T.counts tree.new) }
+    ensures goes_on { CountsOnlyRise (T.counts tree.old) (T.counts tree.new) }
     ensures disk { IsErrOf result TreeFault.Disk
         → HasCause (T.counts tree.old) (T.counts tree.new) }
     ensures kept { OnOk result (IsNoFault (T.counts tree.old) (T.counts tree.new)) }
@@ -230,7 +231,7 @@ fn write<T: Tree>(
         → IsNoFault (T.counts tree.old) (T.counts tree.new) }
     ensures proper { IfObservable (T.history tree.old) (λ v.
         ((make_outcome (files_of v) (output_name command.now) report (Ok file.now)).commits ≡ true
-        → HasRoomFor (output_name command.now) (files_of v))
+        → IsOutputPathFreeIfAny (output_name command.now) (files_of v))
         → (T.counts tree.new).misuses ≡ (T.counts tree.old).misuses) }
 {
     // Laws that the proof needs; they have no effect at run time.
@@ -253,7 +254,7 @@ fn refuse(alloc: Global, command: &Command, fault: MakeFault) -> Result<Verdict,
         → Reports verdict (make_outcome files (output_name command.now) report (Err fault))) }
     ensures refused { IfOk result (λ verdict. IsSome verdict.refusal) }
     // A fault that stops the making gives no verdict.
-    ensures done { IfOk result (λ verdict. is_cut fault ≡ false) }
+    ensures done { IfOk result (λ verdict. is_disk_or_memory fault ≡ false) }
     // An I/O error of the tree and out of memory are returned as they are; memory may also run out
     // here.
     ensures disk { IsErrOf result TreeFault.Disk → fault ≡ MakeFault.Disk }
@@ -269,7 +270,7 @@ fn refusal_of(alloc: Global, command: &Command, fault: MakeFault) -> Result<Refu
     ensures reported { IfOk result (λ refusal. (files : Files) (report : List ℕ)
         → make_outcome files (output_name command.now) report (Err fault)
         ≡ just_refusal files refusal) }
-    ensures done { IfOk result (λ refusal. is_cut fault ≡ false) }
+    ensures done { IfOk result (λ refusal. is_disk_or_memory fault ≡ false) }
     ensures disk { IsErrOf result TreeFault.Disk → fault ≡ MakeFault.Disk }
     ensures lost { IsErrOf result TreeFault.Memory → fault ≢ MakeFault.Disk }
 {

@@ -1,29 +1,29 @@
 //! A command that recovers first finishes the change of an intent that is found. The rules are in
 //! `docs/commands.md`, "Commands that recover first", and in `docs/crash-safety.md`, "Recovery".
 ghost use Rattle.std.specs.Prelude.{◌≡◌, true, None, Ok, IfOk, IsErrOf, IsSome, OnOk};
-ghost use Rattle.apk_front.specs.Moments.{HasRoomToWrite, IsAskedThroughout, LeavesRoomFor};
-ghost use Rattle.apk_front.specs.Runs.{IfNothingWaits, IsRun, IsWholeRun};
+ghost use Rattle.apk_front.specs.Moments.{ArePathsToWriteFree, TargetsAreAcceptedThroughout, AreOutcomePathsFree};
+ghost use Rattle.apk_front.specs.Runs.{IfNothingStaged, IsRun, IsWholeRun};
 ghost use Rattle.apk_front.specs.Verdicts.{ReportsOne, as_outcome};
 ghost use Rattle.base_core.specs.Calls.{IfObservable};
-ghost use Rattle.base_core.specs.Faults.{GoesOn, HasCause, IsNoFault};
+ghost use Rattle.base_core.specs.Faults.{CountsOnlyRise, HasCause, IsNoFault};
 ghost use Rattle.base_core.specs.Files.{Files};
 ghost use Rattle.base_core.specs.Tree.{files_of};
 ghost use Rattle.base_core.specs.declared.cause.Cause.{Cause};
-ghost use Rattle.outcome.specs.Commands.{IsFoundOutcomeOf, IsFoundOver, IsOutcomeOf, IsOutcomeOver};
+ghost use Rattle.outcome.specs.Commands.{IsPossibleOutcomeOf, IsPossibleOutcomeOn, IsOutcomeOf, IsOutcomeOn};
 ghost use Rattle.outcome.specs.Effect.{Changes, does_recover, effect_of, output_if};
 ghost use Rattle.outcome.specs.Outcome.{Outcome, just_refusal};
 ghost use Rattle.report_core.specs.declared.refusal.Refusal.TheVariants.{IntentBad};
-ghost use Rattle.stage_run.specs.Asked.{IsAskedRun};
+ghost use Rattle.stage_run.specs.Asked.{TargetsAreAccepted};
 
 use crate::answer::Verdict;
 use crate::change::change;
 use crate::make::{mkndx, mkpkg};
 use crate::report::report;
-use base_core::{Tree, TreeFault, counts_of_calls_in_a_row_join};
+use base_core::{Tree, TreeFault, counts_of_consecutive_calls_compose};
 use command_core::{Applet, Command};
 use journal_core::{
-    moments_on_the_way_join, quiet_then_old_or_new_is_old_or_new, settled_then_quiet_is_settled,
-    still_moments_join,
+    moments_old_until_commit_compose, quiet_then_old_or_new_is_old_or_new,
+    settled_then_quiet_is_settled, unchanged_moments_compose,
 };
 use journal_recovery::{RecoverFault, recover};
 use report_core::Refusal;
@@ -40,31 +40,31 @@ pub(crate) fn recover_and_run<T: Tree>(
     ensures found { IfOk result (λ verdict. IfObservable (T.history tree.old) (λ v.
         ReportsOne (IsOutcomeOf (Ok command.now) (files_of v)) verdict)) }
     ensures by_reads { IfOk result (λ verdict.
-        ReportsOne (IsFoundOutcomeOf (Ok command.now)) verdict) }
+        ReportsOne (IsPossibleOutcomeOf command.now) verdict) }
     ensures run { IfObservable (T.history tree.old) (λ v. IsWholeRun
         (IsOutcomeOf (Ok command.now) (files_of v)) (effect_of command.now.applet)
         (output_if (effect_of command.now.applet) command.now)
         result v (T.history tree.old) (T.history tree.new)) }
     ensures promised { effect_of command.now.applet ≡ Changes
-        → IsAskedThroughout T.accepts (T.history tree.old) (T.history tree.new) }
-    ensures goes_on { GoesOn (T.counts tree.old) (T.counts tree.new) }
+        → TargetsAreAcceptedThroughout T.accepts (T.history tree.old) (T.history tree.new) }
+    ensures goes_on { CountsOnlyRise (T.counts tree.old) (T.counts tree.new) }
     ensures disk { IsErrOf result TreeFault.Disk
         → HasCause (T.counts tree.old) (T.counts tree.new) }
     ensures kept { OnOk result (IsNoFault (T.counts tree.old) (T.counts tree.new)) }
     ensures memory { IsErrOf result TreeFault.Memory
         → IsNoFault (T.counts tree.old) (T.counts tree.new) }
     ensures proper { IfObservable (T.history tree.old) (λ v.
-        LeavesRoomFor (effect_of command.now.applet)
+        AreOutcomePathsFree (effect_of command.now.applet)
         (output_if (effect_of command.now.applet) command.now)
         (IsOutcomeOf (Ok command.now) (files_of v)) (files_of v)
         → (T.counts tree.new).misuses ≡ (T.counts tree.old).misuses) }
 {
     // Laws that the proof needs; they have no effect at run time.
-    counts_of_calls_in_a_row_join();
-    still_moments_join();
+    counts_of_consecutive_calls_compose();
+    unchanged_moments_compose();
     settled_then_quiet_is_settled();
     quiet_then_old_or_new_is_old_or_new();
-    moments_on_the_way_join();
+    moments_old_until_commit_compose();
     match recover(alloc, tree) {
         Ok(()) => run_recovered(alloc, command, tree),
         Err(fault) => refuse_to_recover(alloc, fault),
@@ -79,33 +79,34 @@ fn run_recovered<T: Tree>(
 ) -> Result<Verdict, TreeFault>
     requires { does_recover (effect_of command.now.applet) ≡ true }
     // On a tree that shows its files the verdict is that of the outcome over these files.
-    ensures found { IfOk result (λ verdict. IfNothingWaits (T.history tree.old) (λ v.
-        ReportsOne (IsOutcomeOver command.now (files_of v)) verdict)) }
+    ensures found { IfOk result (λ verdict. IfNothingStaged (T.history tree.old) (λ v.
+        ReportsOne (IsOutcomeOn command.now (files_of v)) verdict)) }
     // On every tree it is that of an outcome for some listing and some contents at each read.
-    ensures by_reads { IfOk result (λ verdict. ReportsOne (IsFoundOver command.now) verdict) }
+    ensures by_reads { IfOk result (λ verdict. ReportsOne (IsPossibleOutcomeOn command.now)
+        verdict) }
     // The effect of the run on the tree: crashes, files and calls, by *IsRun*.
-    ensures run { IfNothingWaits (T.history tree.old) (λ v. IsRun
-        (IsOutcomeOver command.now (files_of v)) (effect_of command.now.applet)
+    ensures run { IfNothingStaged (T.history tree.old) (λ v. IsRun
+        (IsOutcomeOn command.now (files_of v)) (effect_of command.now.applet)
         (output_if (effect_of command.now.applet) command.now)
         result v (T.history tree.old) (T.history tree.new)) }
     // If memory ran out nothing was written.
-    ensures undone { IfNothingWaits (T.history tree.old) (λ v.
+    ensures undone { IfNothingStaged (T.history tree.old) (λ v.
         IsErrOf result TreeFault.Memory → T.history tree.new ≡ T.history tree.old) }
     // A change has asked the tree for each name that it promises.
     ensures promised { effect_of command.now.applet ≡ Changes
-        → IsAskedRun T.accepts (T.history tree.old) (T.history tree.new) }
+        → TargetsAreAccepted T.accepts (T.history tree.old) (T.history tree.new) }
     // How the tree's counts explain the answer: no count falls, an I/O error of the tree has its
     // cause, and any other answer hides none.
-    ensures goes_on { GoesOn (T.counts tree.old) (T.counts tree.new) }
+    ensures goes_on { CountsOnlyRise (T.counts tree.old) (T.counts tree.new) }
     ensures disk { IsErrOf result TreeFault.Disk
         → HasCause (T.counts tree.old) (T.counts tree.new) }
     ensures kept { OnOk result (IsNoFault (T.counts tree.old) (T.counts tree.new)) }
     ensures memory { IsErrOf result TreeFault.Memory
         → IsNoFault (T.counts tree.old) (T.counts tree.new) }
     // No call is a misuse if the paths are free that an outcome that commits writes.
-    ensures proper { IfNothingWaits (T.history tree.old) (λ v.
-        ((outcome : Outcome) → IsOutcomeOver command.now (files_of v) outcome
-        → outcome.commits ≡ true → HasRoomToWrite (effect_of command.now.applet)
+    ensures proper { IfNothingStaged (T.history tree.old) (λ v.
+        ((outcome : Outcome) → IsOutcomeOn command.now (files_of v) outcome
+        → outcome.commits ≡ true → ArePathsToWriteFree (effect_of command.now.applet)
         (output_if (effect_of command.now.applet) command.now) (files_of v))
         → (T.counts tree.new).misuses ≡ (T.counts tree.old).misuses) }
 {

@@ -13,7 +13,7 @@ ghost use Rattle.outcome.specs.Outcome.{report_unless};
 ghost use Rattle.outcome.specs.Verify.{file_refusal, sound_lines, verify, verify_refusal};
 
 use crate::answer::Verdict;
-use base_core::{Name, Text, Tree, TreeFault, read_all, readings_in_a_row_join};
+use base_core::{Name, Text, Tree, TreeFault, consecutive_reads_compose, read_all};
 use command_core::Operands;
 use package_test::{PackageTest, test_package};
 use pkg_core::PackageFault;
@@ -77,7 +77,7 @@ fn first_refusal<T: Tree>(
         (T.counts tree.old) (T.counts tree.new) result }
 {
     // A law that the proof needs; it has no effect at run time.
-    readings_in_a_row_join::<Option<Refusal>, Option<Refusal>, TreeFault>();
+    consecutive_reads_compose::<Option<Refusal>, Option<Refusal>, TreeFault>();
     for i in 0..operands.len() {
         let place = operands.get(i).place;
         let refusal = test_file(alloc, place, operands.file(i), tree)?;
@@ -106,7 +106,7 @@ fn test_file<T: Tree>(
         (T.counts tree.old) (T.counts tree.new) result }
 {
     // A law that the proof needs; it has no effect at run time.
-    readings_in_a_row_join::<PackageTest, Option<Refusal>, TreeFault>();
+    consecutive_reads_compose::<PackageTest, Option<Refusal>, TreeFault>();
     match test_package(alloc, tree, file)? {
         PackageTest::Absent => Ok(Some(Refusal::FileMissing { place })),
         PackageTest::OtherSchema => test_whole(alloc, place, file, tree),

@@ -7,7 +7,7 @@ use Rattle.std.specs.List.{cons_option, filter_map, slice_get}
 use Rattle.std.specs.Ordering.{is_lt}
 use Rattle.adb_view.specs.Plain.{Plain}
 use Rattle.base_core.proofs.Rising.{IsIn, Rises, order, rises_from_pairs}
-use Rattle.db_core.specs.Members.{AreInOrder, Member, comes_behind, coming_member, member_name, staying_member}
+use Rattle.db_core.specs.Members.{AreInOrder, Member, is_after_members, member_of_added, member_name, member_of_kept}
 use Rattle.db_core.specs.declared.members.TheConstants.{MOST_MEMBERS}
 use Rattle.package_changes.proofs.Lists.{item_at, option_in_front}
 use Rattle.package_test.specs.Tested.{tested_id, tested_value}
@@ -16,10 +16,10 @@ use Rattle.arrivals.specs.Arrivals.{ArePlaced, CanBeMembers, IsPlaced, member_re
 use Rattle.arrivals.specs.declared.arrivals.MemberRead.{MemberRead}
 use Rattle.arrivals.specs.declared.arrivals.MemberRead.TheVariants.{Comes, Stays}
 
-behind_all : (name : List ℕ) (members : List Member) → ((q : List ℕ) → IsIn q (map member_name members) → order q name ≡ Less) → comes_behind name members ≡ true
-behind_all name [] each = refl
-behind_all name (m ∷ []) each = ap is_lt (each (member_name m) (inl refl))
-behind_all name (m ∷ n ∷ members) each = behind_all name (n ∷ members) (λ q here. each q (inr here))
+after_all : (name : List ℕ) (members : List Member) → ((q : List ℕ) → IsIn q (map member_name members) → order q name ≡ Less) → is_after_members name members ≡ true
+after_all name [] each = refl
+after_all name (m ∷ []) each = ap is_lt (each (member_name m) (inl refl))
+after_all name (m ∷ n ∷ members) each = after_all name (n ∷ members) (λ q here. each q (inr here))
 
 before_it : (names : List (List ℕ)) (name : List ℕ) (others : List (List ℕ)) → Rises (names ++ name ∷ others) → (q : List ℕ) → IsIn q names → order q name ≡ Less
 before_it [] name others rises q here = absurd here
@@ -34,9 +34,9 @@ names_join : (xs : List Member) (m : Member) (ys : List Member) → map member_n
 names_join [] m ys = refl
 names_join (x ∷ xs) m ys = ap (λ z. member_name x ∷ z) (names_join xs m ys)
 
-behind_front : (xs : List Member) (m : Member) (ys : List Member) → AreInOrder (xs ++ m ∷ ys) → comes_behind (member_name m) xs ≡ true
+behind_front : (xs : List Member) (m : Member) (ys : List Member) → AreInOrder (xs ++ m ∷ ys) → is_after_members (member_name m) xs ≡ true
 behind_front xs m ys rising =
-    behind_all (member_name m) xs
+    after_all (member_name m) xs
     (before_it (map member_name xs) (member_name m) (map member_name ys) (subst Rises (names_join xs m ys) (rises_from_pairs _ rising)))
 
 module _ (before : List Plain) where
@@ -53,7 +53,7 @@ module _ (before : List Plain) where
   whole [] (suc i) = refl
   whole (r ∷ reads) (suc i) = ap (λ z. r ∷ z) (whole reads i)
 
-  pub next_behind : (reads : List MemberRead) (i : ℕ) (d : MemberRead) → i < length reads → CanBeMembers before reads → (m : Member) → member_read before (get_or reads i d) ≡ Some m → comes_behind (member_name m) (members_read before (take i reads)) ≡ true
+  pub next_behind : (reads : List MemberRead) (i : ℕ) (d : MemberRead) → i < length reads → CanBeMembers before reads → (m : Member) → member_read before (get_or reads i d) ≡ Some m → is_after_members (member_name m) (members_read before (take i reads)) ≡ true
   next_behind reads i d lt can m is =
       behind_front (members_read before (take i reads)) m (members_read before (drop (i + 1) reads))
       (subst AreInOrder
@@ -97,19 +97,19 @@ module _ (before : List Plain) where
 
 -- ---- one that stays
 
-pub stays_behind : (before : List Plain) (members : List Member) (read : MemberRead) (place : ℕ) → read ≡ Stays place → ((m : Member) → member_read before read ≡ Some m → comes_behind (member_name m) members ≡ true)
-    → (pkg : Plain) → slice_get before place ≡ Some pkg → comes_behind (package_name pkg) members ≡ true
-stays_behind before members read place is behind pkg here = behind (staying_member pkg) (ap (member_read before) is ∙ ap (option_map staying_member) here)
+pub stays_after : (before : List Plain) (members : List Member) (read : MemberRead) (place : ℕ) → read ≡ Stays place → ((m : Member) → member_read before read ≡ Some m → is_after_members (member_name m) members ≡ true)
+    → (pkg : Plain) → slice_get before place ≡ Some pkg → is_after_members (package_name pkg) members ≡ true
+stays_after before members read place is behind pkg here = behind (member_of_kept pkg) (ap (member_read before) is ∙ ap (option_map member_of_kept) here)
 
 is_there : (before : List Plain) (place : ℕ) → place < length before → (pkg : Plain) × (slice_get before place ≡ Some pkg)
 is_there [] place lt = absurd (omega arith)
 is_there (p ∷ before) zero lt = (p, refl)
 is_there (p ∷ before) (suc place) lt = is_there before place (omega arith)
 
-pub stays_added : {E : Type 0} (before : List Plain) (old new : List Member) (read : MemberRead) (place : ℕ) (result : Result (Unit {0}) E) → read ≡ Stays place → IsPlaced before read → OnOk result ((pkg : Plain) → slice_get before place ≡ Some pkg → new ≡ old ++ staying_member pkg ∷ []) → OnOk result (new ≡ old ++ option_to_list (member_read before read))
+pub stays_added : {E : Type 0} (before : List Plain) (old new : List Member) (read : MemberRead) (place : ℕ) (result : Result (Unit {0}) E) → read ≡ Stays place → IsPlaced before read → OnOk result ((pkg : Plain) → slice_get before place ≡ Some pkg → new ≡ old ++ member_of_kept pkg ∷ []) → OnOk result (new ≡ old ++ option_to_list (member_read before read))
 stays_added before old new read place (Ok done) is placed added =
     let there = is_there before place (subst (IsPlaced before) is placed) in
-    added there.0 there.1 ∙ ap (λ o. old ++ option_to_list o) (sym (ap (member_read before) is ∙ ap (option_map staying_member) there.1))
+    added there.0 there.1 ∙ ap (λ o. old ++ option_to_list o) (sym (ap (member_read before) is ∙ ap (option_map member_of_kept) there.1))
 stays_added before old new read place (Err e) is placed added = tt
 
 pub all_taken : (before : List Plain) (reads : List MemberRead) (i : ℕ) → length reads ≤ i → members_read before (take i reads) ≡ members_read before reads
@@ -123,6 +123,6 @@ all_taken before reads i past = ap (members_read before) (go reads i past)
 
 -- ---- one that comes
 
-pub comes_next : (before : List Plain) (members : List Member) (read : MemberRead) (pkg : TestedPackage) (value : Plain) → read ≡ Comes pkg → value ≡ tested_value pkg → ((m : Member) → member_read before read ≡ Some m → comes_behind (member_name m) members ≡ true) → comes_behind (package_name value) members ≡ true
+pub comes_next : (before : List Plain) (members : List Member) (read : MemberRead) (pkg : TestedPackage) (value : Plain) → read ≡ Comes pkg → value ≡ tested_value pkg → ((m : Member) → member_read before read ≡ Some m → is_after_members (member_name m) members ≡ true) → is_after_members (package_name value) members ≡ true
 comes_next before members read pkg value is same behind =
-    ap (λ v. comes_behind (package_name v) members) same ∙ behind (coming_member (tested_value pkg) (tested_id pkg)) (ap (member_read before) is)
+    ap (λ v. is_after_members (package_name v) members) same ∙ behind (member_of_added (tested_value pkg) (tested_id pkg)) (ap (member_read before) is)

@@ -4,8 +4,8 @@ use Rattle.std.specs.List.{cons_option, find}
 use Rattle.adb_view.specs.Plain.{Plain}
 use Rattle.change_inputs.specs.Chains.{and_then}
 use Rattle.change_inputs.specs.Inputs.{first_index_read}
-use Rattle.change_outcome.specs.MembersAfter.{MemberFound, coming_by_path, coming_found, members_after, name_after, name_by_change, names_after}
-use Rattle.change_outcome.specs.PackageFiles.{ComingPackage, package_file_of, package_found, scripts_of_change, unless_script}
+use Rattle.change_outcome.specs.MembersAfter.{MemberFound, added_package_by_path, added_member_found, members_after, name_after, name_by_change, names_after}
+use Rattle.change_outcome.specs.PackageFiles.{AddedPackage, package_file_of, package_found, scripts_of_change, unless_script}
 use Rattle.db_core.specs.Packages.{is_package_named}
 use Rattle.dep_core.specs.Repositories.{Repository}
 use Rattle.make_info.specs.Reads.{Reads}
@@ -15,7 +15,7 @@ use Rattle.report_core.specs.Reports.{Change}
 use Rattle.report_core.specs.declared.refusal.Refusal as Refusals
 
 module _ (r : Replacement) (read other : Reads) (repositories : List Repository) (no_scripts : Bool) where
-  same_file : (n : ℕ) (c : Candidate) (path : Option (List ℕ)) → ((name : List ℕ) → read n name ≡ other n name) → coming_by_path read n c path ≡ coming_by_path other n c path
+  same_file : (n : ℕ) (c : Candidate) (path : Option (List ℕ)) → ((name : List ℕ) → read n name ≡ other n name) → added_package_by_path read n c path ≡ added_package_by_path other n c path
   same_file n c None same = refl
   same_file n c (Some path) same = ap (package_found c) (same path)
 
@@ -23,7 +23,7 @@ module _ (r : Replacement) (read other : Reads) (repositories : List Repository)
   same_name n name None before selected same = refl
   same_name n name (Some change) before None same = refl
   same_name n name (Some change) before (Some c) same =
-      ap (λ (x : Result ComingPackage Refusals.Refusal). and_then x (λ pkg. unless_script no_scripts name pkg.value (scripts_of_change change) (Some (coming_found pkg)))) (same_file n c (package_file_of repositories c) same)
+      ap (λ (x : Result AddedPackage Refusals.Refusal). and_then x (λ pkg. unless_script no_scripts name pkg.value (scripts_of_change change) (Some (added_member_found pkg)))) (same_file n c (package_file_of repositories c) same)
 
   same_names : (n : ℕ) (names : List (List ℕ)) → ((k : ℕ) (name : List ℕ) → n ≤ k → read k name ≡ other k name) → names_after r read repositories no_scripts n names ≡ names_after r other repositories no_scripts n names
   same_names n [] same = refl

@@ -19,7 +19,7 @@ use Rattle.package_changes.specs.Changes.{change_of_name, is_selected_named, nam
 use Rattle.package_changes.specs.Placed.{PlacedName, PlacedReplacement, candidates_at, new_candidate, old_package, placed_name_of, placed_names_of, replacement_of}
 use Rattle.candidate_core.specs.Rank.{SealedPool}
 use Rattle.report_core.specs.declared.refusal.Refusal as Refusals
-use Rattle.arrivals.specs.Answered.{StandsUnlessDisk}
+use Rattle.arrivals.specs.Answered.{DenotesUnlessDisk}
 use Rattle.arrivals.specs.Arrivals.{AreMembersRead, CanBeMembers}
 use Rattle.arrivals.specs.NameReads.{IsAnswerByRead, IsNameRead, name_read}
 use Rattle.arrivals.specs.declared.arrivals.MemberRead.{MemberRead}
@@ -57,12 +57,12 @@ module _ (law : PlacesLead) (p : PlacedReplacement) (repositories : List Reposit
 
   module _ {A : Type 0} (reads_of : A → List MemberRead) (h : List TreeState) (names : List PlacedName) (are : names ≡ placed_names_of p) where
     abbrev pub IsExplained : Result A Refused → Type 0
-    IsExplained r = Explains h (λ read. StandsUnlessDisk (λ a found. AreMembersRead h p.before (reads_of a) found) r (members_after (replacement_of p) read repositories no_scripts))
+    IsExplained r = Explains h (λ read. DenotesUnlessDisk (λ a found. AreMembersRead h p.before (reads_of a) found) r (members_after (replacement_of p) read repositories no_scripts))
 
     pub explained_failure : (P : Refused → Type 0) (r : Result A Refused) → ((e : Refused) → P e → IsFailure e) → IsErrAnd r P → IsExplained r
     explained_failure P r fails is = record { read = reads_by h (λ k. None); observed = reads_are h (λ k. None); is = go r is }
       where
-        go : (r : Result A Refused) → IsErrAnd r P → StandsUnlessDisk (λ a found. AreMembersRead h p.before (reads_of a) found) r (members_after (replacement_of p) (reads_by h (λ k. None)) repositories no_scripts)
+        go : (r : Result A Refused) → IsErrAnd r P → DenotesUnlessDisk (λ a found. AreMembersRead h p.before (reads_of a) found) r (members_after (replacement_of p) (reads_by h (λ k. None)) repositories no_scripts)
         go (Ok a) is = absurd is
         go (Err (Refusal refusal)) is = absurd (fails (Refusal refusal) is)
         go (Err Disk) is = tt

@@ -13,8 +13,8 @@ use Rattle.change_files.proofs.InOrder.{order_rises}
 use Rattle.change_files.specs.PlanLists.{names_in_order}
 use Rattle.change_inputs.specs.Chains.{and_then}
 use Rattle.change_inputs.specs.Inputs.{first_index_read}
-use Rattle.change_outcome.specs.MembersAfter.{MemberFound, coming_by_path, coming_found, members_after, members_found, name_after, name_by_change, name_that_goes, names_after, staying_found}
-use Rattle.change_outcome.specs.PackageFiles.{ComingPackage, first_script_of, package_file_of, package_found, package_in_file, scripts_of_change, unless_package_bad, unless_different, unless_number, unless_script}
+use Rattle.change_outcome.specs.MembersAfter.{MemberFound, added_package_by_path, added_member_found, members_after, found_members, name_after, name_by_change, member_of_removed_name, names_after, kept_member_found}
+use Rattle.change_outcome.specs.PackageFiles.{AddedPackage, first_script_of, package_file_of, package_found, package_in_file, scripts_of_change, unless_package_bad, unless_different, unless_script_number, unless_script}
 use Rattle.db_core.specs.Members.{AreInOrder, Member, member_name}
 use Rattle.db_core.specs.Packages.{is_package_named}
 use Rattle.dep_core.specs.Repositories.{Repository}
@@ -34,19 +34,19 @@ given : {A B : Type 0} (r : Result A Refusals.Refusal) (next : A → Result B Re
 given (Ok a) next b is = (a, refl, is)
 given (Err refusal) next b is = absurd (cc)
 
-passed_tests : (a b d : Bool) (e1 e2 e3 : Refusals.Refusal) (pkg p : ComingPackage) → (if not a then Err e1 else if not b then Err e2 else if not d then Err e3 else Ok pkg) ≡ Ok p → (b ≡ true) × (pkg ≡ p)
+passed_tests : (a b d : Bool) (e1 e2 e3 : Refusals.Refusal) (pkg p : AddedPackage) → (if not a then Err e1 else if not b then Err e2 else if not d then Err e3 else Ok pkg) ≡ Ok p → (b ≡ true) × (pkg ≡ p)
 passed_tests true true true e1 e2 e3 pkg p is = (refl, cc)
 passed_tests true true false e1 e2 e3 pkg p is = absurd (cc)
 passed_tests true false d e1 e2 e3 pkg p is = absurd (cc)
 passed_tests false b d e1 e2 e3 pkg p is = absurd (cc)
 
 -- a package that comes has the candidate's name
-same_name : (c : Candidate) (pkg p : ComingPackage) → unless_different c pkg ≡ Ok p → package_name p.value ≡ c.name
+same_name : (c : Candidate) (pkg p : AddedPackage) → unless_different c pkg ≡ Ok p → package_name p.value ≡ c.name
 same_name c pkg p is =
     let passed = passed_tests _ (bytes_eq c.name (package_name pkg.value)) _ _ _ _ pkg p is in
-    sym ((bytes_decides c.name (package_name pkg.value)).0 passed.0 ∙ ap (λ (q : ComingPackage). package_name q.value) passed.1)
+    sym ((bytes_decides c.name (package_name pkg.value)).0 passed.0 ∙ ap (λ (q : AddedPackage). package_name q.value) passed.1)
 
-named_by_file : (c : Candidate) (file : Option (List ℕ)) (p : ComingPackage) → package_found c file ≡ Ok p → package_name p.value ≡ c.name
+named_by_file : (c : Candidate) (file : Option (List ℕ)) (p : AddedPackage) → package_found c file ≡ Ok p → package_name p.value ≡ c.name
 named_by_file c None p is = absurd (cc)
 named_by_file c (Some file) p is = go (package_fault file) is
   where
@@ -54,12 +54,12 @@ named_by_file c (Some file) p is = go (package_fault file) is
     go None is = same_name c (package_in_file file) p is
     go (Some cause) is = absurd (cc)
 
-named_by_path : (read : Reads) (n : ℕ) (c : Candidate) (path : Option (List ℕ)) (p : ComingPackage) → coming_by_path read n c path ≡ Ok p → package_name p.value ≡ c.name
+named_by_path : (read : Reads) (n : ℕ) (c : Candidate) (path : Option (List ℕ)) (p : AddedPackage) → added_package_by_path read n c path ≡ Ok p → package_name p.value ≡ c.name
 named_by_path read n c None p is = named_by_file c None p is
 named_by_path read n c (Some path) p is = named_by_file c (read n path) p is
 
 -- scripts leave a value as it is
-by_number : {A : Type 0} (name : List ℕ) (n : Option ℕ) (a b : A) → unless_number name n a ≡ Ok b → a ≡ b
+by_number : {A : Type 0} (name : List ℕ) (n : Option ℕ) (a b : A) → unless_script_number name n a ≡ Ok b → a ≡ b
 by_number name None a b is = cc
 by_number name (Some k) a b is = absurd (cc)
 
@@ -67,7 +67,7 @@ by_scripts : {A : Type 0} (no_scripts : Bool) (name : List ℕ) (pkg : Plain) (n
 by_scripts true name pkg numbers a b is = cc
 by_scripts false name pkg numbers a b is = by_number name (first_script_of pkg numbers) a b is
 
-none_goes : (no_scripts : Bool) (name : List ℕ) (change : Change) (before : Option Plain) (m : MemberFound) → name_that_goes no_scripts name change before ≡ Ok (Some m) → ⊥
+none_goes : (no_scripts : Bool) (name : List ℕ) (change : Change) (before : Option Plain) (m : MemberFound) → member_of_removed_name no_scripts name change before ≡ Ok (Some m) → ⊥
 none_goes no_scripts name change None m is = cc
 none_goes no_scripts name change (Some pkg) m is =
     let same : None ≡ Some m = by_scripts no_scripts name pkg (scripts_of_change change) None (Some m) is in cc
@@ -79,13 +79,13 @@ module _ (read : Reads) (repositories : List Repository) (no_scripts : Bool) (n 
       → name_by_change read repositories no_scripts n name change before selected ≡ Ok (Some m) → member_name m.member ≡ name
   named None None selected m old new is = absurd (cc)
   named None (Some pkg) selected m old new is =
-      let same : staying_found pkg ≡ m = cc in
+      let same : kept_member_found pkg ≡ m = cc in
       sym (ap (λ (x : MemberFound). member_name x.member) same) ∙ old pkg refl
   named (Some change) before None m old new is = absurd (none_goes no_scripts name change before m is)
   named (Some change) before (Some c) m old new is =
-      let part = given (coming_by_path read n c (package_file_of repositories c)) (λ pkg. unless_script no_scripts name pkg.value (scripts_of_change change) (Some (coming_found pkg))) (Some m) is in
-      let same : Some (coming_found part.0) ≡ Some m = by_scripts no_scripts name part.0.value (scripts_of_change change) (Some (coming_found part.0)) (Some m) part.2 in
-      let found : coming_found part.0 ≡ m = cc in
+      let part = given (added_package_by_path read n c (package_file_of repositories c)) (λ pkg. unless_script no_scripts name pkg.value (scripts_of_change change) (Some (added_member_found pkg))) (Some m) is in
+      let same : Some (added_member_found part.0) ≡ Some m = by_scripts no_scripts name part.0.value (scripts_of_change change) (Some (added_member_found part.0)) (Some m) part.2 in
+      let found : added_member_found part.0 ≡ m = cc in
       sym (ap (λ (x : MemberFound). member_name x.member) found) ∙ (named_by_path read n c (package_file_of repositories c) part.0 part.1 ∙ new c refl)
 
   chosen : (is_again : Bool) (before : Option Plain) (selected : Option Candidate) (m : MemberFound) → name_by_change read repositories no_scripts n name (change_between is_again name before selected) before selected ≡ Ok (Some m) → (c : Candidate) × (selected ≡ Some c)
@@ -180,11 +180,11 @@ module _ (r : Replacement) (read : Reads) (repositories : List Repository) (no_s
 
 -- ---- in order
 
-names_of_members : (found : List MemberFound) → map member_name (members_found found) ≡ found_names found
+names_of_members : (found : List MemberFound) → map member_name (found_members found) ≡ found_names found
 names_of_members [] = refl
 names_of_members (m ∷ found) = ap (λ z. member_name m.member ∷ z) (names_of_members found)
 
-pub members_rise : (r : Replacement) (read : Reads) (repositories : List Repository) (no_scripts : Bool) (found : List MemberFound) → members_after r read repositories no_scripts ≡ Ok found → AreInOrder (members_found found)
+pub members_rise : (r : Replacement) (read : Reads) (repositories : List Repository) (no_scripts : Bool) (found : List MemberFound) → members_after r read repositories no_scripts ≡ Ok found → AreInOrder (found_members found)
 members_rise r read repositories no_scripts found is =
     subst IsRising (sym (names_of_members found)) (pairs_from_rises _ (after_named r read repositories no_scripts found is).rises)
 

@@ -7,7 +7,7 @@ use Rattle.base_core.specs.Read.{OnlyReads}
 use Rattle.base_core.specs.Tree.{TreeState, files_of}
 use Rattle.base_core.specs.declared.tree.TreeFault.{TreeFault}
 use Rattle.base_core.specs.declared.tree.TreeFault.TheVariants as Trees
-use Rattle.change_inputs.specs.Answers.{Agrees, IsFailure, StandsAt}
+use Rattle.change_inputs.specs.Answers.{Agrees, IsFailure, IsInTreeAt}
 use Rattle.change_inputs.specs.Chains.{and_then}
 use Rattle.change_inputs.specs.Faults.{IsRefusedOf}
 use Rattle.change_inputs.specs.declared.root.Refused.{Refused}
@@ -15,12 +15,12 @@ use Rattle.change_inputs.specs.declared.root.Refused.TheVariants.{Disk, Memory, 
 use Rattle.make_info.specs.Reads.{Reads}
 use Rattle.report_core.specs.declared.refusal.Refusal as Refusals
 use Rattle.arrivals.specs.NameReads.{FindsAt, IsAnswerByRead, IsByRead}
-use Rattle.arrivals.specs.Told.{IsRefusalTold}
+use Rattle.arrivals.specs.Told.{IsRefusalReported}
 
 -- a read finds under a name what stands there
-pub finds_it : (h : List TreeState) (read : Reads) (n : ℕ) (name : List ℕ) (found : Option (List ℕ)) → StandsAt h name found → FindsAt h read n found → read n name ≡ found
-finds_it [] read n name found stands finds = finds name
-finds_it (v ∷ earlier) read n name found stands finds = finds name ∙ sym stands
+pub finds_it : (h : List TreeState) (read : Reads) (n : ℕ) (name : List ℕ) (found : Option (List ℕ)) → IsInTreeAt h name found → FindsAt h read n found → read n name ≡ found
+finds_it [] read n name found located finds = finds name
+finds_it (v ∷ earlier) read n name found located finds = finds name ∙ sym located
 
 -- what a definition gives whatever is read
 pub by_any_read : {B : Type 0} (h : List TreeState) (by : Reads → ℕ → B) (wanted : B) → ((read : Reads) (n : ℕ) → by read n ≡ wanted) → IsByRead h by wanted
@@ -29,19 +29,19 @@ by_any_read h by wanted is = record { found = None; is = λ read n finds. is rea
 pub read_alike : {B C : Type 0} (f : B → C) (h : List TreeState) (by : Reads → ℕ → B) (other : Reads → ℕ → C) (wanted : B) (further : C) → ((read : Reads) (n : ℕ) → by read n ≡ wanted → other read n ≡ further) → IsByRead h by wanted → IsByRead h other further
 read_alike f h by other wanted further alike r = record { found = r.found; is = λ read n finds. alike read n (r.is read n finds) }
 
-module _ {A B : Type 0} (StandsFor : A → B → Type 0) (h : List TreeState) (by : Reads → ℕ → Result B Refusals.Refusal) where
+module _ {A B : Type 0} (Denotes : A → B → Type 0) (h : List TreeState) (by : Reads → ℕ → Result B Refusals.Refusal) where
   -- a failure says nothing
-  pub failure_answers : (P : Refused → Type 0) (r : Result A Refused) → ((e : Refused) → P e → IsFailure e) → IsErrAnd r P → IsAnswerByRead StandsFor h by r
+  pub failure_answers : (P : Refused → Type 0) (r : Result A Refused) → ((e : Refused) → P e → IsFailure e) → IsErrAnd r P → IsAnswerByRead Denotes h by r
   failure_answers P (Ok a) fails is = absurd is
   failure_answers P (Err (Refusal refusal)) fails is = absurd (fails (Refusal refusal) is)
   failure_answers P (Err Disk) fails is = tt
   failure_answers P (Err Memory) fails is = tt
 
-  pub answer_handed : (r : Result A Refused) (fault : Refused) → IsErrAnd r (λ e. e ≡ fault) → IsAnswerByRead StandsFor h by (Err fault) → IsAnswerByRead StandsFor h by r
+  pub answer_handed : (r : Result A Refused) (fault : Refused) → IsErrAnd r (λ e. e ≡ fault) → IsAnswerByRead Denotes h by (Err fault) → IsAnswerByRead Denotes h by r
   answer_handed (Ok a) fault is answers = absurd is
-  answer_handed (Err e) fault is answers = let P : Refused → Type 0 = λ x. IsAnswerByRead StandsFor h by (Err x) in subst P (sym is) answers
+  answer_handed (Err e) fault is answers = let P : Refused → Type 0 = λ x. IsAnswerByRead Denotes h by (Err x) in subst P (sym is) answers
 
-  pub told_answers : (wanted : Refusals.Refusal) (fault : Refused) → IsRefusalTold wanted fault → IsByRead h by (Err wanted) → IsAnswerByRead StandsFor h by (Err fault)
+  pub told_answers : (wanted : Refusals.Refusal) (fault : Refused) → IsRefusalReported wanted fault → IsByRead h by (Err wanted) → IsAnswerByRead Denotes h by (Err fault)
   told_answers wanted (Refusal refusal) told is = let P : Refusals.Refusal → Type 0 = λ x. IsByRead h by (Err x) in subst P (sym told) is
   told_answers wanted Disk told is = tt
   told_answers wanted Memory told is = tt

@@ -8,27 +8,27 @@ abbrev pub prefix_with : List ℕ → ℕ → Bool → List ℕ
 prefix_with bytes b true = bytes ++ b ∷ []
 prefix_with bytes b false = folder_prefix bytes
 
-slash_behind : (bytes : List ℕ) (b : ℕ) → has_slash (bytes ++ b ∷ []) ≡ (has_slash bytes || (b == 47))
-slash_behind [] b = go (b == 47)
+slash_after : (bytes : List ℕ) (b : ℕ) → has_slash (bytes ++ b ∷ []) ≡ (has_slash bytes || (b == 47))
+slash_after [] b = go (b == 47)
   where
     go : (t : Bool) → (t || false) ≡ t
     go true = refl
     go false = refl
-slash_behind (x ∷ bytes) b = go (x == 47) (slash_behind bytes b)
+slash_after (x ∷ bytes) b = go (x == 47) (slash_after bytes b)
   where
     go : (t : Bool) → has_slash (bytes ++ b ∷ []) ≡ (has_slash bytes || (b == 47)) → (t || has_slash (bytes ++ b ∷ [])) ≡ ((t || has_slash bytes) || (b == 47))
     go true is = refl
     go false is = is
 
-one_behind : (bytes : List ℕ) (b : ℕ) → folder_prefix (bytes ++ b ∷ []) ≡ prefix_with bytes b (b == 47)
-one_behind [] b = go (b == 47)
+one_after : (bytes : List ℕ) (b : ℕ) → folder_prefix (bytes ++ b ∷ []) ≡ prefix_with bytes b (b == 47)
+one_after [] b = go (b == 47)
   where
     go : (t : Bool) → (if (t || false) then b ∷ [] else []) ≡ prefix_with [] b t
     go true = refl
     go false = refl
-one_behind (x ∷ bytes) b =
-    ap (λ t. if t then x ∷ folder_prefix (bytes ++ b ∷ []) else []) (slash_behind (x ∷ bytes) b)
-    ∙ (ap (λ z. if (has_slash (x ∷ bytes) || (b == 47)) then x ∷ z else []) (one_behind bytes b) ∙ go (b == 47))
+one_after (x ∷ bytes) b =
+    ap (λ t. if t then x ∷ folder_prefix (bytes ++ b ∷ []) else []) (slash_after (x ∷ bytes) b)
+    ∙ (ap (λ z. if (has_slash (x ∷ bytes) || (b == 47)) then x ∷ z else []) (one_after bytes b) ∙ go (b == 47))
   where
     none : (s : Bool) → (if (s || false) then x ∷ folder_prefix bytes else []) ≡ (if s then x ∷ folder_prefix bytes else [])
     none true = refl
@@ -52,7 +52,7 @@ take_one_more (x ∷ bytes) (suc i) d lt =
 prefix_at : (bytes : List ℕ) (i d : ℕ) (t : Bool) → i < length bytes → (get_or bytes i d == 47) ≡ t → folder_prefix (take (i + 1) bytes) ≡ prefix_with (take i bytes) (get_or bytes i d) t
 prefix_at bytes i d t lt is =
     ap folder_prefix (take_one_more bytes i d lt)
-    ∙ (one_behind (take i bytes) (get_or bytes i d) ∙ ap (prefix_with (take i bytes) (get_or bytes i d)) is)
+    ∙ (one_after (take i bytes) (get_or bytes i d) ∙ ap (prefix_with (take i bytes) (get_or bytes i d)) is)
 
 -- up to a slash it is all
 pub prefix_at_slash : (bytes : List ℕ) (i d : ℕ) → i < length bytes → get_or bytes i d ≡ 47 → folder_prefix (take (i + 1) bytes) ≡ take (i + 1) bytes

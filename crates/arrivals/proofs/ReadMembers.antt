@@ -4,9 +4,9 @@ use Rattle.std.specs.Prelude.{is_some, option_and_then, option_map}
 use Rattle.std.specs.List.{cons_option, slice_get}
 use Rattle.adb_view.specs.Plain.{Plain}
 use Rattle.base_core.specs.Tree.{TreeState}
-use Rattle.change_outcome.specs.MembersAfter.{MemberFound, coming_found, contents_found, members_after, members_found, staying_found}
-use Rattle.change_outcome.specs.PackageFiles.{ComingPackage}
-use Rattle.db_core.specs.Members.{AreInOrder, Member, coming_member, is_coming, staying_member}
+use Rattle.change_outcome.specs.MembersAfter.{MemberFound, added_member_found, found_package_contents, members_after, found_members, kept_member_found}
+use Rattle.change_outcome.specs.PackageFiles.{AddedPackage}
+use Rattle.db_core.specs.Members.{AreInOrder, Member, member_of_added, is_added, member_of_kept}
 use Rattle.db_core.specs.declared.members.TheConstants.{MOST_MEMBERS}
 use Rattle.dep_core.specs.Repositories.{Repository}
 use Rattle.make_info.specs.Reads.{Reads}
@@ -19,21 +19,21 @@ use Rattle.arrivals.specs.declared.arrivals.MemberRead.TheVariants.{Comes, Stays
 use Rattle.arrivals.proofs.MembersInOrder.{members_few, members_rise}
 
 module _ (h : List TreeState) (before : List Plain) where
-  stays_as : (o : Option Plain) (m : MemberFound) → Some m ≡ option_map staying_found o → option_map staying_member o ≡ Some m.member
+  stays_as : (o : Option Plain) (m : MemberFound) → Some m ≡ option_map kept_member_found o → option_map member_of_kept o ≡ Some m.member
   stays_as None m is = absurd (cc)
-  stays_as (Some pkg) m is = let same : m ≡ staying_found pkg = cc in ap (λ (x : MemberFound). Some x.member) (sym same)
+  stays_as (Some pkg) m is = let same : m ≡ kept_member_found pkg = cc in ap (λ (x : MemberFound). Some x.member) (sym same)
 
-  comes_as : (pkg : TestedPackage) (coming : ComingPackage) → IsPackageRead h pkg coming → coming_member (tested_value pkg) (tested_id pkg) ≡ coming_member coming.value coming.id
+  comes_as : (pkg : TestedPackage) (coming : AddedPackage) → IsPackageRead h pkg coming → member_of_added (tested_value pkg) (tested_id pkg) ≡ member_of_added coming.value coming.id
   comes_as pkg coming r =
-      let e0 : tested_value pkg ≡ coming.value = r.tested.value ∙ sym (ap (λ (p : ComingPackage). p.value) r.is) in
-      let e1 : tested_id pkg ≡ coming.id = r.tested.id ∙ sym (ap (λ (p : ComingPackage). p.id) r.is) in
-      λ i. coming_member (e0 i) (e1 i)
+      let e0 : tested_value pkg ≡ coming.value = r.tested.value ∙ sym (ap (λ (p : AddedPackage). p.value) r.is) in
+      let e1 : tested_id pkg ≡ coming.id = r.tested.id ∙ sym (ap (λ (p : AddedPackage). p.id) r.is) in
+      λ i. member_of_added (e0 i) (e1 i)
 
   one_read : (r : MemberRead) (m : MemberFound) → IsMemberRead h before r m → member_read before r ≡ Some m.member
   one_read (Stays place) m is = stays_as (slice_get before place) m is
   one_read (Comes pkg) m (coming, r, is) = ap Some (comes_as pkg coming r ∙ sym (ap (λ (x : MemberFound). x.member) is))
 
-  pub all_read : (reads : List MemberRead) (found : List MemberFound) → AreMembersRead h before reads found → members_read before reads ≡ members_found found
+  pub all_read : (reads : List MemberRead) (found : List MemberFound) → AreMembersRead h before reads found → members_read before reads ≡ found_members found
   all_read [] [] are = refl
   all_read [] (m ∷ found) are = absurd are
   all_read (r ∷ reads) [] are = absurd are
@@ -54,7 +54,7 @@ module _ (h : List TreeState) (before : List Plain) where
   one_placed : (r : MemberRead) (m : MemberFound) → IsMemberRead h before r m → IsPlaced before r
   one_placed (Stays place) m is = go (slice_get before place) refl is
     where
-      go : (o : Option Plain) → slice_get before place ≡ o → Some m ≡ option_map staying_found o → place < length before
+      go : (o : Option Plain) → slice_get before place ≡ o → Some m ≡ option_map kept_member_found o → place < length before
       go None e is = absurd (cc)
       go (Some pkg) e is = within before place pkg e
   one_placed (Comes pkg) m is = tt
@@ -73,16 +73,16 @@ module _ (h : List TreeState) (before : List Plain) where
       let same : r ≡ Comes pkg = cc in
       go (subst (λ z. IsMemberRead h before z m) same are.0)
     where
-      go : (coming : ComingPackage) × IsPackageRead h pkg coming × (m ≡ coming_found coming) → IsFileOfMember h (m ∷ found) 0 pkg
+      go : (coming : AddedPackage) × IsPackageRead h pkg coming × (m ≡ added_member_found coming) → IsFileOfMember h (m ∷ found) 0 pkg
       go (coming, r, is) = record {
         file = r.file;
-        stands = r.stands;
+        located = r.located;
         tested = r.tested;
-        contents = ap (λ (x : MemberFound). x.contents) is ∙ ap (λ (x : ComingPackage). x.contents) r.is;
+        contents = ap (λ (x : MemberFound). x.contents) is ∙ ap (λ (x : AddedPackage). x.contents) r.is;
       }
   file_found (r ∷ reads) (m ∷ found) are (suc place) pkg here =
       let more = file_found reads found are.1 place pkg here in
-      record { file = more.file; stands = more.stands; tested = more.tested; contents = more.contents }
+      record { file = more.file; located = more.located; tested = more.tested; contents = more.contents }
 
 pub can_be : (h : List TreeState) (p : PlacedReplacement) (read : Reads) (repositories : List Repository) (no_scripts : Bool) (reads : List MemberRead) (found : List MemberFound) → members_after (replacement_of p) read repositories no_scripts ≡ Ok found → AreMembersRead h p.before reads found
     → length p.pool.candidates ≤ MOST_MEMBERS → CanBeMembers p.before reads
@@ -105,18 +105,18 @@ comes_here (Some (Comes p)) pkg is = let same : p ≡ pkg = cc in ap (λ z. Some
 pub file_of_package : (h : List TreeState) (before : List Plain) (reads : List MemberRead) (found : List MemberFound) → AreMembersRead h before reads found → (place : ℕ) (pkg : TestedPackage) → option_and_then package_in (slice_get reads place) ≡ Some pkg → IsFileOfMember h found place pkg
 file_of_package h before reads found are place pkg here = file_found h before reads found are place pkg (comes_here (slice_get reads place) pkg here)
 
-no_stay : (o : Option Plain) (m : MemberFound) → Some m ≡ option_map staying_found o → is_coming m.member ≡ true → ⊥
+no_stay : (o : Option Plain) (m : MemberFound) → Some m ≡ option_map kept_member_found o → is_added m.member ≡ true → ⊥
 no_stay None m is comes = cc
 no_stay (Some pkg) m is comes =
-    let same : m ≡ staying_found pkg = cc in
-    let stays : is_coming m.member ≡ false = ap (λ (x : MemberFound). is_coming x.member) same in
+    let same : m ≡ kept_member_found pkg = cc in
+    let stays : is_added m.member ≡ false = ap (λ (x : MemberFound). is_added x.member) same in
     true≢false (sym comes ∙ stays)
 
-pub package_comes : (h : List TreeState) (before : List Plain) (reads : List MemberRead) (found : List MemberFound) → AreMembersRead h before reads found → (place : ℕ) (m : Member) → slice_get (members_found found) place ≡ Some m → is_coming m ≡ true → is_some (option_and_then package_in (slice_get reads place)) ≡ true
+pub package_comes : (h : List TreeState) (before : List Plain) (reads : List MemberRead) (found : List MemberFound) → AreMembersRead h before reads found → (place : ℕ) (m : Member) → slice_get (found_members found) place ≡ Some m → is_added m ≡ true → is_some (option_and_then package_in (slice_get reads place)) ≡ true
 package_comes h before [] [] are place m here comes = absurd (cc)
 package_comes h before [] (x ∷ found) are place m here comes = absurd are
 package_comes h before (r ∷ reads) [] are place m here comes = absurd are
 package_comes h before (Stays i ∷ reads) (x ∷ found) are zero m here comes =
-    let same : x.member ≡ m = cc in absurd (no_stay (slice_get before i) x are.0 (ap is_coming same ∙ comes))
+    let same : x.member ≡ m = cc in absurd (no_stay (slice_get before i) x are.0 (ap is_added same ∙ comes))
 package_comes h before (Comes pkg ∷ reads) (x ∷ found) are zero m here comes = refl
 package_comes h before (r ∷ reads) (x ∷ found) are (suc place) m here comes = package_comes h before reads found are.1 place m here comes

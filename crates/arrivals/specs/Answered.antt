@@ -7,9 +7,9 @@ use Rattle.report_core.specs.declared.refusal.Refusal as Refusals
 
 -- a result denotes the wanted value, or is the wanted refusal; an I/O error of the tree and out of
 -- memory say nothing about it
-abbrev pub StandsUnlessDisk :
+abbrev pub DenotesUnlessDisk :
     {A B : Type 0} → (A → B → Type 0) → Result A Refused → Result B Refusals.Refusal → Type 0
-StandsUnlessDisk {A} {B} StandsFor (Ok a) wanted = (b : B) × (wanted ≡ Ok b) × StandsFor a b
-StandsUnlessDisk StandsFor (Err (Refusal refusal)) wanted = wanted ≡ Err refusal
-StandsUnlessDisk StandsFor (Err Disk) wanted = Unit {0}
-StandsUnlessDisk StandsFor (Err Memory) wanted = Unit {0}
+DenotesUnlessDisk {A} {B} Denotes (Ok a) wanted = (b : B) × (wanted ≡ Ok b) × Denotes a b
+DenotesUnlessDisk Denotes (Err (Refusal refusal)) wanted = wanted ≡ Err refusal
+DenotesUnlessDisk Denotes (Err Disk) wanted = Unit {0}
+DenotesUnlessDisk Denotes (Err Memory) wanted = Unit {0}

@@ -1,15 +1,15 @@
 -- The packages after a change as they were read, each the one that the definition finds.
 -- The rules are in `docs/commands.md`, "`add` and `del`", **What is read**, and are said by
--- *members_after* of `change_outcome`; the words *arrivals* and *placed* in `docs/names.md`, "What
--- a change comes to".
+-- *members_after* of `change_outcome`; the term *arrival* in `docs/names.md`, "A change of what
+-- is installed".
 use Rattle.std.specs.Prelude.{◌≡◌, ◌<◌, ◌≤◌, ℕ, List, [], ◌∷◌, length, Option, Some, None, option_map, slice_get}
 use Rattle.std.specs.List.{filter_map}
 use Rattle.adb_view.specs.Plain.{Plain}
 use Rattle.base_core.specs.Tree.{TreeState}
-use Rattle.change_inputs.specs.Answers.{StandsAt}
-use Rattle.change_outcome.specs.MembersAfter.{MemberFound, coming_found, contents_found, staying_found}
-use Rattle.change_outcome.specs.PackageFiles.{ComingPackage, package_in_file}
-use Rattle.db_core.specs.Members.{AreInOrder, Member, coming_member, staying_member}
+use Rattle.change_inputs.specs.Answers.{IsInTreeAt}
+use Rattle.change_outcome.specs.MembersAfter.{MemberFound, added_member_found, found_package_contents, kept_member_found}
+use Rattle.change_outcome.specs.PackageFiles.{AddedPackage, package_in_file}
+use Rattle.db_core.specs.Members.{AreInOrder, Member, member_of_added, member_of_kept}
 use Rattle.db_core.specs.declared.members.TheConstants.{MOST_MEMBERS}
 use Rattle.pkg_core.specs.Contents.{contents_in}
 use Rattle.pkg_core.specs.Whole.{files_in_file}
@@ -22,9 +22,9 @@ use Rattle.arrivals.specs.declared.arrivals.MemberRead.TheVariants.{Comes, Stays
 -- a package that was read is that of an added file: the file was tested, and if the tree's files are
 -- observable it is the one under the package's name
 pub record IsPackageRead (history : List TreeState) (pkg : TestedPackage)
-    (coming : ComingPackage) : Type 0 where
+    (coming : AddedPackage) : Type 0 where
   pub file : List ℕ
-  pub stands : StandsAt history (tested_name pkg) (Some file)
+  pub located : IsInTreeAt history (tested_name pkg) (Some file)
   pub tested : IsTestedOf (tested_name pkg) file pkg
   pub is : coming ≡ package_in_file file
 
@@ -32,9 +32,9 @@ pub record IsPackageRead (history : List TreeState) (pkg : TestedPackage)
 -- place, or one whose file was read
 abbrev pub IsMemberRead : List TreeState → List Plain → MemberRead → MemberFound → Type 0
 IsMemberRead history before (Stays place) m =
-    Some m ≡ option_map staying_found (slice_get before place)
+    Some m ≡ option_map kept_member_found (slice_get before place)
 IsMemberRead history before (Comes pkg) m =
-    (coming : ComingPackage) × IsPackageRead history pkg coming × (m ≡ coming_found coming)
+    (coming : AddedPackage) × IsPackageRead history pkg coming × (m ≡ added_member_found coming)
 
 -- the packages as they were read are those that are found, one by one
 abbrev pub AreMembersRead :
@@ -54,8 +54,8 @@ arrivals_seen arrivals = arrivals.members.items
 
 -- a package that was read, as a member; none if its place leads to no package of the database
 abbrev pub member_read : List Plain → MemberRead → Option Member
-member_read before (Stays place) = option_map staying_member (slice_get before place)
-member_read before (Comes pkg) = Some (coming_member (tested_value pkg) (tested_id pkg))
+member_read before (Stays place) = option_map member_of_kept (slice_get before place)
+member_read before (Comes pkg) = Some (member_of_added (tested_value pkg) (tested_id pkg))
 
 -- the packages that were read, as members, in their order
 abbrev pub members_read : List Plain → List MemberRead → List Member
@@ -90,6 +90,6 @@ package_in (Comes pkg) = Some pkg
 pub record IsFileOfMember (history : List TreeState) (found : List MemberFound) (place : ℕ)
     (pkg : TestedPackage) : Type 0 where
   pub file : List ℕ
-  pub stands : StandsAt history (tested_name pkg) (Some file)
+  pub located : IsInTreeAt history (tested_name pkg) (Some file)
   pub tested : IsTestedOf (tested_name pkg) file pkg
-  pub contents : contents_found found place ≡ contents_in (files_in_file file)
+  pub contents : found_package_contents found place ≡ contents_in (files_in_file file)

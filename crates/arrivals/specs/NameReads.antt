@@ -8,8 +8,8 @@ use Rattle.base_core.specs.Tree.{TreeState, files_of}
 use Rattle.change_inputs.specs.Chains.{and_then}
 use Rattle.change_inputs.specs.declared.root.Refused.{Refused}
 use Rattle.change_inputs.specs.declared.root.Refused.TheVariants.{Disk, Memory, Refusal}
-use Rattle.change_outcome.specs.MembersAfter.{MemberFound, coming_by_path, name_by_change, staying_found}
-use Rattle.change_outcome.specs.PackageFiles.{ComingPackage, package_file_of, package_found, scripts_of_change, unless_script}
+use Rattle.change_outcome.specs.MembersAfter.{MemberFound, added_package_by_path, name_by_change, kept_member_found}
+use Rattle.change_outcome.specs.PackageFiles.{AddedPackage, package_file_of, package_found, scripts_of_change, unless_script}
 use Rattle.dep_core.specs.Repositories.{Repository}
 use Rattle.make_info.specs.Reads.{Reads}
 use Rattle.package_changes.specs.Placed.{PlacedName, new_candidate, old_package}
@@ -38,28 +38,28 @@ pub record IsByRead {B : Type 0} (history : List TreeState) (by : Reads → ℕ 
 abbrev pub IsAnswerByRead :
     {A B : Type 0} → (A → B → Type 0) → List TreeState
     → (Reads → ℕ → Result B Refusals.Refusal) → Result A Refused → Type 0
-IsAnswerByRead {A} {B} StandsFor history by (Ok a) =
-    (b : B) × IsByRead history by (Ok b) × StandsFor a b
-IsAnswerByRead StandsFor history by (Err (Refusal refusal)) = IsByRead history by (Err refusal)
-IsAnswerByRead StandsFor history by (Err Disk) = Unit {0}
-IsAnswerByRead StandsFor history by (Err Memory) = Unit {0}
+IsAnswerByRead {A} {B} Denotes history by (Ok a) =
+    (b : B) × IsByRead history by (Ok b) × Denotes a b
+IsAnswerByRead Denotes history by (Err (Refusal refusal)) = IsByRead history by (Err refusal)
+IsAnswerByRead Denotes history by (Err Disk) = Unit {0}
+IsAnswerByRead Denotes history by (Err Memory) = Unit {0}
 
 -- the package of a candidate, by the read of its file under this name, or the refusal
 abbrev pub file_read :
-    Candidate → List ℕ → Reads → ℕ → Result ComingPackage Refusals.Refusal
+    Candidate → List ℕ → Reads → ℕ → Result AddedPackage Refusals.Refusal
 file_read c path read n = package_found c (read n path)
 
 -- the package of a candidate, by the read of its file beside the index, or the refusal
 abbrev pub candidate_read :
-    List Repository → Candidate → Reads → ℕ → Result ComingPackage Refusals.Refusal
-candidate_read repositories c read n = coming_by_path read n c (package_file_of repositories c)
+    List Repository → Candidate → Reads → ℕ → Result AddedPackage Refusals.Refusal
+candidate_read repositories c read n = added_package_by_path read n c (package_file_of repositories c)
 
 -- the package of a candidate, by the read of its file, or the refusal, also for a script that its
 -- change would have to run
-abbrev pub coming_read :
+abbrev pub added_package_read :
     List Repository → Bool → List ℕ → Change → Candidate → Reads → ℕ
-    → Result ComingPackage Refusals.Refusal
-coming_read repositories no_scripts name change c read n =
+    → Result AddedPackage Refusals.Refusal
+added_package_read repositories no_scripts name change c read n =
     and_then (candidate_read repositories c read n) (λ pkg.
     unless_script no_scripts name pkg.value (scripts_of_change change) pkg)
 
@@ -81,6 +81,6 @@ IsNameRead history before (Some r) None = ⊥
 IsNameRead history before (Some r) (Some m) = IsMemberRead history before r m
 
 -- a kept package as it is read, or none if there is none before (`old`)
-abbrev pub IsStaying : List Plain → Option Plain → Option MemberRead → Type 0
-IsStaying before old r =
-    (history : List TreeState) → IsNameRead history before r (option_map staying_found old)
+abbrev pub IsKeptAsRead : List Plain → Option Plain → Option MemberRead → Type 0
+IsKeptAsRead before old r =
+    (history : List TreeState) → IsNameRead history before r (option_map kept_member_found old)

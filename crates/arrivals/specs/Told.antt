@@ -8,7 +8,7 @@ use Rattle.change_inputs.specs.declared.root.Refused.TheVariants as Commands
 use Rattle.report_core.specs.declared.refusal.Refusal.{Refusal}
 
 -- the result is this refusal, or out of memory
-abbrev pub IsRefusalTold : Refusal → Refused → Type 0
-IsRefusalTold wanted (Commands.Refusal refusal) = refusal ≡ wanted
-IsRefusalTold wanted Commands.Disk = ⊥
-IsRefusalTold wanted Commands.Memory = Unit {0}
+abbrev pub IsRefusalReported : Refusal → Refused → Type 0
+IsRefusalReported wanted (Commands.Refusal refusal) = refusal ≡ wanted
+IsRefusalReported wanted Commands.Disk = ⊥
+IsRefusalReported wanted Commands.Memory = Unit {0}

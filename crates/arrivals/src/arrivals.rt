@@ -3,19 +3,19 @@
 //! that comes `NAME-VERSION.apk` beside the index that has it"), and **What is refused**, in byte
 //! order of the names.
 
-ghost use Rattle.arrivals.specs.Answered.{StandsUnlessDisk};
+ghost use Rattle.arrivals.specs.Answered.{DenotesUnlessDisk};
 ghost use Rattle.arrivals.specs.Arrivals.{AreMembersRead, CanBeMembers, arrivals_seen, IsPlaced, member_read, members_read, IsFileOfMember, package_in};
-ghost use Rattle.arrivals.specs.NameReads.{IsAnswerByRead, IsNameRead, IsStaying, name_read};
+ghost use Rattle.arrivals.specs.NameReads.{IsAnswerByRead, IsNameRead, IsKeptAsRead, name_read};
 ghost use Rattle.base_core.specs.Read.{OnlyReads};
 ghost use Rattle.change_inputs.specs.Answers.{Agrees};
-ghost use Rattle.change_outcome.specs.MembersAfter.{members_after, name_that_goes, MemberFound, members_found};
+ghost use Rattle.change_outcome.specs.MembersAfter.{members_after, member_of_removed_name, MemberFound, found_members};
 ghost use Rattle.db_core.specs.Seen.{packages_before, packages_of, members_of};
 ghost use Rattle.db_core.specs.declared.members.TheConstants.{MOST_MEMBERS};
 ghost use Rattle.package_files.specs.Runs.{Explains};
 ghost use Rattle.package_changes.specs.Placed.{old_package, placed_names_of, replacement_of};
 ghost use Rattle.package_changes.specs.Seen.{change_seen, placed_name_seen, placed_names_seen, replacement_by};
 ghost use Rattle.std.specs.Prelude.{◌≡◌, ◌≤◌, ◌==◌, ◌++◌, ℕ, List, None, length, IfOk, OnOk, option_copied, option_and_then, option_to_list, slice_get, ◌<◌, true, Some, ◌+◌, Bool, is_some};
-ghost use Rattle.db_core.specs.Members.{Member, comes_behind, member_name, is_coming};
+ghost use Rattle.db_core.specs.Members.{Member, is_after_members, member_name, is_added};
 ghost use Rattle.adb_view.specs.Plain.{Plain};
 ghost use Rattle.arrivals.specs.declared.arrivals.MemberRead.{MemberRead};
 ghost use Rattle.package_test.specs.declared.package.TestedPackage.{TestedPackage};
@@ -25,9 +25,9 @@ ghost use Rattle.dep_core.specs.Repositories.{Repository};
 ghost use Rattle.make_info.specs.Reads.{Reads};
 ghost use Rattle.package_changes.specs.Changes.{Replacement};
 
-use crate::package::read_coming;
+use crate::package::read_added;
 use crate::scripts::test_scripts;
-use base_core::{Tree, readings_in_a_row_join};
+use base_core::{Tree, consecutive_reads_compose};
 use change_inputs::Refused;
 use db_core::{Db, Members};
 use dep_core::Repos;
@@ -107,7 +107,7 @@ pub fn read_arrivals<T: Tree>(
     ensures found { (trace : List ℕ) (again : List (List ℕ))
         → placed_names_seen names.now
         ≡ placed_names_of (replacement_by db.now pool.now trace again)
-        → Explains (T.history tree.old) (λ read. StandsUnlessDisk (λ arrivals found.
+        → Explains (T.history tree.old) (λ read. DenotesUnlessDisk (λ arrivals found.
         AreMembersRead (T.history tree.old) (packages_of db.now) (arrivals_seen arrivals) found)
         result
         (members_after (replacement_of (replacement_by db.now pool.now trace again)) read
@@ -125,8 +125,8 @@ pub fn read_arrivals<T: Tree>(
 {
     // Laws that the proof needs; they compute nothing.
     places_lead_to_packages_and_candidates();
-    readings_in_a_row_join::<u8, Option<MemberRead>, Refused>();
-    readings_in_a_row_join::<u8, Arrivals, Refused>();
+    consecutive_reads_compose::<u8, Option<MemberRead>, Refused>();
+    consecutive_reads_compose::<u8, Arrivals, Refused>();
     let mut members = Vec::new(alloc);
     for i in 0..names.len() {
         let name = names.get(i);
@@ -166,18 +166,18 @@ fn read_name<T: Tree>(
         (T.counts tree.old) (T.counts tree.new) result }
 {
     // A law that the proof needs; it computes nothing.
-    readings_in_a_row_join::<TestedPackage, Option<MemberRead>, Refused>();
+    consecutive_reads_compose::<TestedPackage, Option<MemberRead>, Refused>();
     let Some(change) = name.change else {
         // The package does not change: it is kept, and no file is read.
         return Ok(staying(db, name.old));
     };
     match name.candidate(pool) {
         None => {
-            test_leaving(alloc, no_scripts, db, name, &change)?;
+            test_removed(alloc, no_scripts, db, name, &change)?;
             Ok(None)
         }
         Some(c) => {
-            let pkg = read_coming(
+            let pkg = read_added(
                 alloc,
                 tree,
                 repositories,
@@ -193,7 +193,7 @@ fn read_name<T: Tree>(
 
 /// The kept package at a place of the database, counted from 0, if there is one.
 fn staying(db: &Db<'_>, place: Option<usize>) -> Option<MemberRead>
-    ensures { IsStaying (packages_of db.now)
+    ensures { IsKeptAsRead (packages_of db.now)
         (option_and_then (slice_get (packages_of db.now)) place) result }
 {
     match place {
@@ -203,14 +203,15 @@ fn staying(db: &Db<'_>, place: Option<usize>) -> Option<MemberRead>
 }
 
 /// Refuses a removed package of the database, if it has a script that would have to run.
-fn test_leaving(
+fn test_removed(
     alloc: Global,
     no_scripts: bool,
     db: &Db<'_>,
     name: &PlacedName<'_>,
     change: &Change<'_>,
 ) -> Result<(), Refused>
-    ensures { Agrees (λ _. None) result (name_that_goes no_scripts (placed_name_seen name.now).name
+    ensures { Agrees (λ _. None) result (member_of_removed_name no_scripts (placed_name_seen
+        name.now).name
         (change_seen change.now) (old_package (packages_of db.now) (placed_name_seen name.now))) }
 {
     match name.old {
@@ -243,7 +244,7 @@ pub fn members_of_change<'a>(
 /// Adds a package that was read to the members, at the end.
 fn push_read<'a>(members: &mut Members<'a>, read: &'a MemberRead) -> Result<(), AllocError>
     requires behind { (m : Member) → member_read (packages_before members.old) read.now ≡ Some m
-        → comes_behind (member_name m) (members_of members.old) ≡ true }
+        → is_after_members (member_name m) (members_of members.old) ≡ true }
     requires placed { IsPlaced (packages_before members.old) read.now }
     requires few { length (members_of members.old) < MOST_MEMBERS }
     ensures added { OnOk result (members_of members.new ≡ members_of members.old
@@ -260,7 +261,7 @@ fn push_read<'a>(members: &mut Members<'a>, read: &'a MemberRead) -> Result<(), 
 pub fn packages_that_were_read_are_those_found()
     ensures { (history : List TreeState) (before : List Plain) (reads : List MemberRead)
         (found : List MemberFound) → AreMembersRead history before reads found
-        → members_read before reads ≡ members_found found }
+        → members_read before reads ≡ found_members found }
 {}
 
 /// The package that was read for the member at a place is that of the file whose contents the
@@ -273,14 +274,14 @@ pub fn a_package_that_was_read_is_that_of_its_file()
         → IsFileOfMember history found place pkg }
     ensures comes { (history : List TreeState) (before : List Plain) (reads : List MemberRead)
         (found : List MemberFound) → AreMembersRead history before reads found
-        → (place : ℕ) (m : Member) → slice_get (members_found found) place ≡ Some m
-        → is_coming m ≡ true
+        → (place : ℕ) (m : Member) → slice_get (found_members found) place ≡ Some m
+        → is_added m ≡ true
         → is_some (option_and_then package_in (slice_get reads place)) ≡ true }
 {}
 
 /// The packages after a change depend only on the reads after those of the indexes: earlier reads
 /// of a command do not matter.
-pub fn packages_after_a_change_rest_on_later_reads()
+pub fn packages_after_a_change_depend_on_their_reads()
     ensures { (r : Replacement) (read other : Reads) (repositories : List Repository)
         (no_scripts : Bool) → ((n : ℕ) (name : List ℕ)
         → first_index_read + length repositories ≤ n → read n name ≡ other n name)

@@ -7,8 +7,8 @@
 //! `members_after` of crate `change_outcome`, and `Arrivals` of `specs/`: a package that was read
 //! is the one that the definition finds.
 //! The rules are in `docs/commands.md`, "`add` and `del`": **What is read**, and **What is
-//! refused** (package by package, in byte order of the names); the words in `docs/names.md`, "What
-//! a change comes to".
+//! refused** (package by package, in byte order of the names); the terms in `docs/names.md`, "A
+//! change of what is installed".
 #![tactic(auto)]
 
 mod arrivals;
@@ -18,6 +18,6 @@ mod scripts;
 
 pub use arrivals::{
     Arrivals, a_package_that_was_read_is_that_of_its_file, members_of_change,
-    packages_after_a_change_rest_on_later_reads, packages_that_were_read_are_those_found,
+    packages_after_a_change_depend_on_their_reads, packages_that_were_read_are_those_found,
     read_arrivals,
 };

@@ -5,12 +5,12 @@
 //! the tests in `docs/formats.md`, "Tests of a container".
 
 ghost use Rattle.arrivals.specs.Arrivals.{IsPackageRead};
-ghost use Rattle.arrivals.specs.NameReads.{IsAnswerByRead, candidate_read, coming_read, file_read};
+ghost use Rattle.arrivals.specs.NameReads.{IsAnswerByRead, candidate_read, added_package_read, file_read};
 ghost use Rattle.package_test.specs.Tested.{tested_id, tested_value};
-ghost use Rattle.arrivals.specs.Told.{IsRefusalTold};
+ghost use Rattle.arrivals.specs.Told.{IsRefusalReported};
 ghost use Rattle.base_core.specs.Read.{OnlyReads};
 ghost use Rattle.change_inputs.specs.Answers.{Agrees};
-ghost use Rattle.change_outcome.specs.PackageFiles.{ComingPackage, scripts_of_change, unless_different, unless_script};
+ghost use Rattle.change_outcome.specs.PackageFiles.{AddedPackage, scripts_of_change, unless_different, unless_script};
 ghost use Rattle.package_changes.specs.Changes.{selected_version};
 ghost use Rattle.package_changes.specs.Seen.{change_seen};
 ghost use Rattle.candidate_core.specs.Values.{candidate_value};
@@ -40,7 +40,7 @@ use std::marker::PhantomData;
 ///
 /// `PackageMissing`, `PackageBad`, `PackageDiffers` or `ScriptNeeded`, in this order; `Disk` if
 /// the tree failed, or `Memory`.
-pub(crate) fn read_coming<T: Tree>(
+pub(crate) fn read_added<T: Tree>(
     alloc: Global,
     tree: &mut T,
     repositories: &Repos,
@@ -50,7 +50,7 @@ pub(crate) fn read_coming<T: Tree>(
     c: &Candidate<'_>,
 ) -> Result<TestedPackage, Refused>
     ensures found { IsAnswerByRead (IsPackageRead (T.history tree.old))
-        (T.history tree.old) (coming_read repositories.now no_scripts name.now
+        (T.history tree.old) (added_package_read repositories.now no_scripts name.now
         (change_seen change.now) (candidate_value c.now)) result }
     ensures tree { OnlyReads Refused.Disk (T.history tree.old) (T.history tree.new)
         (T.counts tree.old) (T.counts tree.new) result }
@@ -126,7 +126,7 @@ fn test_as_indexed<'a>(
     pkg: &'a TestedPackage,
     _mark: PhantomData<PackageView<'a>>,
 ) -> Result<(), Refused>
-    ensures { (coming : ComingPackage) → coming.value ≡ tested_value pkg.now
+    ensures { (coming : AddedPackage) → coming.value ≡ tested_value pkg.now
         → coming.id ≡ tested_id pkg.now
         → Agrees (λ _. coming) result (unless_different (candidate_value c.now) coming) }
 {
@@ -137,7 +137,7 @@ fn test_as_indexed<'a>(
 
 /// The refusal of a candidate whose package file is absent, or has a path that is no name.
 fn missing(alloc: Global, c: &Candidate<'_>) -> Refused
-    ensures { IsRefusalTold (PackageMissing (candidate_value c.now).name
+    ensures { IsRefusalReported (PackageMissing (candidate_value c.now).name
         (selected_version (candidate_value c.now))) result }
 {
     told(package_missing(alloc, c))
@@ -156,7 +156,7 @@ fn package_missing(alloc: Global, c: &Candidate<'_>) -> Result<Refusal, AllocErr
 
 /// The refusal of a candidate whose package file fails a test.
 fn bad(alloc: Global, c: &Candidate<'_>, cause: Cause) -> Refused
-    ensures { IsRefusalTold (PackageBad (candidate_value c.now).name
+    ensures { IsRefusalReported (PackageBad (candidate_value c.now).name
         (selected_version (candidate_value c.now)) cause) result }
 {
     told(package_bad(alloc, c, cause))
@@ -186,7 +186,7 @@ pub(crate) fn test_same(
     pkg: &PackageView<'_>,
     id: &[u8],
 ) -> Result<(), Refused>
-    ensures { (coming : ComingPackage) → coming.value ≡ package_value pkg.now → coming.id ≡ id.now
+    ensures { (coming : AddedPackage) → coming.value ≡ package_value pkg.now → coming.id ≡ id.now
         → Agrees (λ _. coming) result (unless_different (candidate_value c.now) coming) }
 {
     let info = pkg.info();
@@ -204,7 +204,7 @@ pub(crate) fn test_same(
 
 /// The refusal of a candidate whose package differs in a field from its index's entry.
 fn differs(alloc: Global, c: &Candidate<'_>, field: u16, wanted: &[u8], found: &[u8]) -> Refused
-    ensures { IsRefusalTold (PackageDiffers (candidate_value c.now).name
+    ensures { IsRefusalReported (PackageDiffers (candidate_value c.now).name
         (selected_version (candidate_value c.now)) field wanted.now found.now) result }
 {
     told(package_differs(alloc, c, field, wanted, found))
@@ -233,7 +233,7 @@ fn package_differs(
 /// A refusal, or out of memory for its texts.
 pub(crate) fn told(made: Result<Refusal, AllocError>) -> Refused
     ensures { (wanted : RefusalValue) → IfOk made (λ refusal. refusal ≡ wanted)
-        → IsRefusalTold wanted result }
+        → IsRefusalReported wanted result }
 {
     match made {
         Ok(refusal) => Refused::Refusal(refusal),

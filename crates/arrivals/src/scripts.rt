@@ -5,7 +5,7 @@ ghost use Rattle.adb_schema.specs.Views.{package_value, scripts_value};
 ghost use Rattle.adb_view.specs.FieldIndexes.{PACKAGE_SCRIPTS};
 ghost use Rattle.adb_view.specs.Values.{entry_in};
 ghost use Rattle.adb_view.specs.Plain.{Plain};
-ghost use Rattle.arrivals.specs.Told.{IsRefusalTold};
+ghost use Rattle.arrivals.specs.Told.{IsRefusalReported};
 ghost use Rattle.change_inputs.specs.Answers.{Agrees};
 ghost use Rattle.change_outcome.specs.PackageFiles.{first_script_of, scripts_of_change, unless_script};
 ghost use Rattle.package_changes.specs.Seen.{change_seen};

@@ -45,8 +45,8 @@ differences_same read other n (r ∷ rs) same =
 -- what the next read finds, whatever its number
 found_next : (history : List TreeState) (path : List ℕ) (found : Option (List ℕ)) (n : ℕ) → IfObservable history (λ v. found ≡ files_of v path)
     → reads_or history (λ k name. found) n path ≡ found
-found_next [] path found n stands = refl
-found_next (v ∷ earlier) path found n stands = sym stands
+found_next [] path found n located = refl
+found_next (v ∷ earlier) path found n located = sym located
 
 -- the report of the records so far, and the line of one more, if it differs
 pub one_more : (history : List TreeState) (first : ℕ) (rs : List FileRecord) (r : FileRecord) (found : Option (List ℕ)) (before after : List ℕ)
@@ -54,13 +54,13 @@ pub one_more : (history : List TreeState) (first : ℕ) (rs : List FileRecord) (
     → after ≡ before ++ flat_map difference_line (difference_found r found)
     → Explains history (λ read. before ≡ flat_map difference_line (differences_from read first rs))
     → Explains history (λ read. after ≡ flat_map difference_line (differences_from read first (rs ++ r ∷ [])))
-one_more history first rs r found before after stands is so_far =
+one_more history first rs r found before after located is so_far =
     let n = first + length rs in
     let next : Reads = reads_or history (λ k name. found) in
     let read : Reads = joined n so_far.read next in
     let old : differences_from so_far.read first rs ≡ differences_from read first rs =
     differences_same so_far.read read first rs (λ k name low high. sym (joined_below n so_far.read next k name high)) in
-    let here : found ≡ read n r.path = sym (joined_from n so_far.read next n r.path (omega arith) ∙ found_next history r.path found n stands) in
+    let here : found ≡ read n r.path = sym (joined_from n so_far.read next n r.path (omega arith) ∙ found_next history r.path found n located) in
     record {
       read = read;
       observed = joined_told history n so_far.read next so_far.observed (as_told_of history (λ k name. found));

@@ -7,7 +7,7 @@ use Rattle.std.proofs.lemmas.List.Sorted.{All-permutation}
 use Rattle.adb_view.specs.Plain.{Plain}
 use Rattle.adb_fields.specs.Repeated.{files_in, folders_in, name_of}
 use Rattle.base_core.specs.Name.{IsName}
-use Rattle.db_core.specs.Members.{Listing, Member, listings_by, listings_from, listings_in_folder, listings_in_folders, member_listings, staying_member, staying_members}
+use Rattle.db_core.specs.Members.{Listing, Member, listings_by, listings_from, listings_in_folder, listings_in_folders, member_listings, member_of_kept, members_of_kept}
 use Rattle.base_core.specs.Sorted.{sorted_by}
 use Rattle.base_core.proofs.Sorting.{sorted_same}
 use Rattle.audit_core.specs.Records.{FileRecord, database_records, file_record, folder_records, package_records, record_cmp, records_by_path}
@@ -27,21 +27,21 @@ in_folders m place i (folder ∷ folders) =
     ∙ (ap (λ rs. rs ++ map listing_record (listings_in_folders m place (i + 1) folders)) (in_folder m place i 1 (name_of folder) (files_in folder))
     ∙ ap (λ rs. folder_records folder ++ rs) (in_folders m place (i + 1) folders))
 
-of_packages : (place : ℕ) (packages : List Plain) → map listing_record (listings_from place (map staying_member packages)) ≡ flat_map package_records packages
+of_packages : (place : ℕ) (packages : List Plain) → map listing_record (listings_from place (map member_of_kept packages)) ≡ flat_map package_records packages
 of_packages place [] = refl
 of_packages place (pkg ∷ packages) =
-    map-append listing_record (listings_by place (staying_member pkg)) (listings_from (place + 1) (map staying_member packages))
-    ∙ (ap (λ rs. rs ++ map listing_record (listings_from (place + 1) (map staying_member packages))) (in_folders (staying_member pkg) place 1 (folders_in pkg))
+    map-append listing_record (listings_by place (member_of_kept pkg)) (listings_from (place + 1) (map member_of_kept packages))
+    ∙ (ap (λ rs. rs ++ map listing_record (listings_from (place + 1) (map member_of_kept packages))) (in_folders (member_of_kept pkg) place 1 (folders_in pkg))
     ∙ ap (λ rs. package_records pkg ++ rs) (of_packages (place + 1) packages))
 
-pub records_are_listings : (packages : List Plain) → map listing_record (member_listings (staying_members packages)) ≡ database_records packages
+pub records_are_listings : (packages : List Plain) → map listing_record (member_listings (members_of_kept packages)) ≡ database_records packages
 unfolding member_listings
 records_are_listings packages = of_packages 0 packages
 
 -- the paths of the records are names, where those of the listings are
-pub records_have_names : (packages : List Plain) (rs : List FileRecord) → rs ≡ records_by_path packages → All (λ l. IsName l.path) (member_listings (staying_members packages)) → All (λ r. IsName r.path) rs
+pub records_have_names : (packages : List Plain) (rs : List FileRecord) → rs ≡ records_by_path packages → All (λ l. IsName l.path) (member_listings (members_of_kept packages)) → All (λ r. IsName r.path) rs
 unfolding records_by_path
 records_have_names packages rs are named =
     subst (All (λ r. IsName r.path)) (sym are)
     (All-permutation (λ r. IsName r.path) (database_records packages) (sorted_by record_cmp (database_records packages)) (sorted_same record_cmp (database_records packages))
-    (subst (All (λ r. IsName r.path)) (records_are_listings packages) (All-map (λ r. IsName r.path) listing_record (member_listings (staying_members packages)) named)))
+    (subst (All (λ r. IsName r.path)) (records_are_listings packages) (All-map (λ r. IsName r.path) listing_record (member_listings (members_of_kept packages)) named)))

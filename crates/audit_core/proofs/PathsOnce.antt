@@ -63,9 +63,9 @@ or_true : (a : Bool) → (a || true) ≡ true
 or_true true = refl
 or_true false = refl
 
-slash_behind : (xs ys : List ℕ) → list_any is_slash (xs ++ 47 ∷ ys) ≡ true
-slash_behind [] ys = refl
-slash_behind (x ∷ xs) ys = ap (λ b. is_slash x || b) (slash_behind xs ys) ∙ or_true (is_slash x)
+slash_after : (xs ys : List ℕ) → list_any is_slash (xs ++ 47 ∷ ys) ≡ true
+slash_after [] ys = refl
+slash_after (x ∷ xs) ys = ap (λ b. is_slash x || b) (slash_after xs ys) ∙ or_true (is_slash x)
 
 abbrev tail_of : List ℕ → List ℕ
 tail_of [] = []
@@ -77,16 +77,16 @@ head_of (x ∷ xs) = x
 
 same_front : (xs ys n m : List ℕ) → list_any is_slash n ≡ false → list_any is_slash m ≡ false → xs ++ 47 ∷ n ≡ ys ++ 47 ∷ m → (xs ≡ ys) × (n ≡ m)
 same_front [] [] n m sn sm e = (refl, ap tail_of e)
-same_front [] (y ∷ ys) n m sn sm e = absurd (true≢false (sym (slash_behind ys m) ∙ (ap (list_any is_slash) (sym (ap tail_of e)) ∙ sn)))
-same_front (x ∷ xs) [] n m sn sm e = absurd (true≢false (sym (slash_behind xs n) ∙ (ap (list_any is_slash) (ap tail_of e) ∙ sm)))
+same_front [] (y ∷ ys) n m sn sm e = absurd (true≢false (sym (slash_after ys m) ∙ (ap (list_any is_slash) (sym (ap tail_of e)) ∙ sn)))
+same_front (x ∷ xs) [] n m sn sm e = absurd (true≢false (sym (slash_after xs n) ∙ (ap (list_any is_slash) (ap tail_of e) ∙ sm)))
 same_front (x ∷ xs) (y ∷ ys) n m sn sm e =
     let rest = same_front xs ys n m sn sm (ap tail_of e) in
     (ap (λ z. z ∷ xs) (ap head_of e) ∙ ap (λ zs. y ∷ zs) rest.0, rest.1)
 
 pub same_path : (f g n m : List ℕ) → list_any is_slash n ≡ false → list_any is_slash m ≡ false → path_of f n ≡ path_of g m → (f ≡ g) × (n ≡ m)
 same_path [] [] n m sn sm e = (refl, e)
-same_path [] (y ∷ g) n m sn sm e = absurd (true≢false (sym (slash_behind (y ∷ g) m) ∙ (ap (list_any is_slash) (sym e) ∙ sn)))
-same_path (x ∷ f) [] n m sn sm e = absurd (true≢false (sym (slash_behind (x ∷ f) n) ∙ (ap (list_any is_slash) e ∙ sm)))
+same_path [] (y ∷ g) n m sn sm e = absurd (true≢false (sym (slash_after (y ∷ g) m) ∙ (ap (list_any is_slash) (sym e) ∙ sn)))
+same_path (x ∷ f) [] n m sn sm e = absurd (true≢false (sym (slash_after (x ∷ f) n) ∙ (ap (list_any is_slash) e ∙ sm)))
 same_path (x ∷ f) (y ∷ g) n m sn sm e = same_front (x ∷ f) (y ∷ g) n m sn sm e
 
 -- ---- one folder
@@ -137,9 +137,9 @@ distinct_front : (xs ys : List (List (List ℕ))) → AllDistinct (xs ++ ys) →
 distinct_front [] ys h = tt
 distinct_front (x ∷ xs) ys h = (h.0, distinct_front xs ys h.1)
 
-distinct_behind : (xs ys : List (List (List ℕ))) → AllDistinct (xs ++ ys) → AllDistinct ys
-distinct_behind [] ys h = h
-distinct_behind (x ∷ xs) ys h = distinct_behind xs ys h.1
+distinct_after : (xs ys : List (List (List ℕ))) → AllDistinct (xs ++ ys) → AllDistinct ys
+distinct_after [] ys h = h
+distinct_after (x ∷ xs) ys h = distinct_after xs ys h.1
 
 in_one_of : (q : List ℕ) (pkg : Plain) (packages : List Plain) → IsIn pkg packages → IsIn q (paths_in pkg) → IsInOneOf q (map paths_in packages)
 in_one_of q pkg [] here lists = absurd here
@@ -156,7 +156,7 @@ packages_once (pkg ∷ packages) rules folders files apart =
     (folders_once (folders_in pkg)
     (λ folder h. parts_of_folder folder (each_in (IsFolder Idb) folder (entries_in (entry_in pkg PACKAGE_PATHS)) (rules pkg (inl refl)).folders h))
     folders.0 (distinct_front (files_of pkg) (flat_map files_of packages) files))
-    (packages_once packages (λ p h. rules p (inr h)) folders.1 (distinct_behind (files_of pkg) (flat_map files_of packages) files) apart.1)
+    (packages_once packages (λ p h. rules p (inr h)) folders.1 (distinct_after (files_of pkg) (flat_map files_of packages) files) apart.1)
     (λ q h k. (let found = from-flat_map paths_in q packages k in apart.0 q h (in_one_of q found.0 packages found.1 found.2)))
 
 pub database_once : (database : Plain) → IsSoundValue Idb database → AreDistinctNames (flat_map paths_in (entries_at IDB_PACKAGES database))

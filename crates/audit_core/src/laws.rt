@@ -16,15 +16,16 @@ ghost use Rattle.std.specs.Prelude.{◌≡◌, ◌≤◌, ◌↔◌, [], ℕ, Li
 
 /// A report of an audit rests on the reads from its first on alone. What a command reads before
 /// them is another matter.
-pub fn audits_rest_on_their_own_reads()
+pub fn audits_depend_on_their_own_reads()
     ensures { (read other : Reads) (first : ℕ) (packages : List Plain)
         → ((n : ℕ) (name : List ℕ) → first ≤ n → read n name ≡ other n name)
         → audit_report read first packages ≡ audit_report other first packages }
 {}
 
-/// If the reads find files as they are, the report of an audit has a line for each file that differs
-/// from its record: an installed package lists it, and it is missing or has other bytes than its
-/// entry lists. No other file has a line. The paths rise in byte order, so each has one line.
+/// If the reads find files as they are, the report of an audit has a line for each file that
+/// differs from its record: an installed package lists it, and it is missing or has other bytes
+/// than its entry lists. No other file has a line. The paths rise in byte order, so each has one
+/// line.
 pub fn an_audit_reports_just_the_files_that_differ()
     // The report is the lines of the differences.
     ensures report { (files : Files) (read : Reads) (first : ℕ) (packages : List Plain)
@@ -40,8 +41,8 @@ pub fn an_audit_reports_just_the_files_that_differ()
         (file_differences files (entries_at IDB_PACKAGES database))) }
 {}
 
-/// If the reads find files as they are, an audit reports nothing exactly if each file that a package
-/// lists is as recorded.
+/// If the reads find files as they are, an audit reports nothing exactly if each file that a
+/// package lists is as recorded.
 pub fn an_audit_reports_nothing_if_all_is_as_recorded()
     ensures { (files : Files) (read : Reads) (first : ℕ) (packages : List Plain)
         → ((n : ℕ) (name : List ℕ) → read n name ≡ files name)

@@ -1,9 +1,9 @@
 //! `audit` and `manifest` (apk(8)): the installed files that differ from their records, and the
 //! digests of the files of packages.
 //!
-//! The contract of `audit` cites `Audit` of `specs/`, that of `manifest` cites `Manifest`; both rest
-//! on `Records`. The laws cite `Differences`. The rules are in `docs/commands.md`, "`audit`" and
-//! "`manifest`".
+//! The contract of `audit` cites `Audit` of `specs/`, that of `manifest` cites `Manifest`; both
+//! rest on `Records`. The laws cite `Differences`. The rules are in `docs/commands.md`, "`audit`"
+//! and "`manifest`".
 #![tactic(auto)]
 
 mod comparing;
@@ -15,5 +15,5 @@ pub use comparing::{Difference, audit};
 pub use digests::manifest;
 pub use laws::{
     an_audit_reports_just_the_files_that_differ, an_audit_reports_nothing_if_all_is_as_recorded,
-    audits_rest_on_their_own_reads,
+    audits_depend_on_their_own_reads,
 };

@@ -7,13 +7,13 @@ use Rattle.audit_core.specs.declared.comparing.Difference.{Difference}
 use Rattle.audit_core.specs.declared.comparing.Difference.TheVariants.{Changed, Missing}
 use Rattle.base_core.specs.Files.{Files}
 use Rattle.change_files.specs.Fate.{is_guarded}
-use Rattle.change_files.specs.FileChange.{FileChange, coming_owner, is_claimed, old_entry, owner_listing}
-use Rattle.change_files.specs.FilesAfter.{Records, changed_files, laid_beside, path_beside}
+use Rattle.change_files.specs.FileChange.{FileChange, added_owner_listing, is_claimed, old_entry, owner_listing}
+use Rattle.change_files.specs.FilesAfter.{Records, changed_files, aside_listing_at, path_beside}
 use Rattle.change_files.specs.Touched.{IsUsersFile, is_aside_name, is_record_name}
 use Rattle.change_files.proofs.Coming.{takes_path}
 use Rattle.change_files.proofs.Owned.{beside_is, claimed_by_owner, coming_is, nobody_beside}
 use Rattle.change_files.proofs.Untouched.{stays_as_it_is, takes_its_path, users_file_is_spared}
-use Rattle.db_core.specs.Members.{Listing, is_coming}
+use Rattle.db_core.specs.Members.{Listing, is_added}
 use Rattle.file_guard.specs.AsListed.{is_as_listed}
 use Rattle.audit_laws.specs.AfterChange.{IsKeptForUser}
 
@@ -29,27 +29,27 @@ differs_by entry found bytes Changed is differs = (refl, subst (λ (o : Option (
 module _ (change : FileChange) (bytes_of : Listing → List ℕ) (records : Records) (files : Files) (path : List ℕ) (plain : is_record_name records path ≡ false) where
   -- ---- of a package that stays
 
-  pub stays_so : (l : Listing) (d : Difference) → owner_listing change path ≡ Some l → is_coming l.member ≡ false
+  pub stays_so : (l : Listing) (d : Difference) → owner_listing change path ≡ Some l → is_added l.member ≡ false
       → IsDifferent d l.entry (changed_files change bytes_of records files path) ↔ IsDifferent d l.entry (files path)
   stays_so l d owner stays =
       let same : changed_files change bytes_of records files path ≡ files path = stays_as_it_is change bytes_of records files path l owner stays plain in
       (subst (IsDifferent d l.entry) same, subst (IsDifferent d l.entry) (sym same))
 
-  module _ (l : Listing) (comes : coming_owner change path ≡ Some l) where
+  module _ (l : Listing) (comes : added_owner_listing change path ≡ Some l) where
     claimed : is_claimed change path ≡ true
     claimed = claimed_by_owner change path l (coming_is change path l comes).0
 
     not_aside : is_aside_name change files path ≡ false
     not_aside = by_path (path_beside path) refl
       where
-        by_laid : (q : List ℕ) → path_beside path ≡ Some q → (o : Option Listing) → laid_beside change files q ≡ o → is_some o ≡ false
+        by_laid : (q : List ℕ) → path_beside path ≡ Some q → (o : Option Listing) → aside_listing_at change files q ≡ o → is_some o ≡ false
         by_laid q e None laid = refl
         by_laid q e (Some m) laid =
             absurd (true≢false (sym claimed ∙ (ap (is_claimed change) (beside_is path q e) ∙ nobody_beside change files q m laid)))
 
-        by_path : (o : Option (List ℕ)) → path_beside path ≡ o → is_some (option_and_then (laid_beside change files) o) ≡ false
+        by_path : (o : Option (List ℕ)) → path_beside path ≡ o → is_some (option_and_then (aside_listing_at change files) o) ≡ false
         by_path None e = refl
-        by_path (Some q) e = by_laid q e (laid_beside change files q) refl
+        by_path (Some q) e = by_laid q e (aside_listing_at change files q) refl
 
     -- ---- whether the user changed it
 
@@ -62,7 +62,7 @@ module _ (change : FileChange) (bytes_of : Listing → List ℕ) (records : Reco
     some_is : (a b : List ℕ) → Some a ≡ Some b → a ≡ b
     some_is a b e = cc
 
-    listing_is : (m : Listing) → coming_owner change path ≡ Some m → l ≡ m
+    listing_is : (m : Listing) → added_owner_listing change path ≡ Some m → l ≡ m
     listing_is m e = let same : Some l ≡ Some m = sym comes ∙ e in (cc)
 
     entry_same : (a b : Plain) → Some a ≡ Some b → a ≡ b

@@ -27,7 +27,7 @@ use Rattle.audit_core.proofs.PathsOnce.{database_once, record_paths}
 use Rattle.change_files.specs.FileChange.{FileChange, owner_listing}
 use Rattle.change_files.proofs.Lists.{IsOneOf, passing_kept}
 use Rattle.change_files.proofs.Owned.{owner_is}
-use Rattle.db_core.specs.Members.{Listing, Member, claims_of, member_listings, staying_members}
+use Rattle.db_core.specs.Members.{Listing, Member, claims_of, member_listings, members_of_kept}
 use Rattle.db_core.specs.OwnedListings.{owned_listings, owned_paths}
 use Rattle.db_write.proofs.OwnedPaths.{entry_zeros}
 use Rattle.db_write.specs.NewDatabase.{packages_after}
@@ -39,7 +39,7 @@ use Rattle.path_claims.specs.Claims.{is_member}
 pub record WrittenLaws : Type 0 where
   pub paths : (members : List Member) (flags : List Bool) → flat_map paths_in (list_of (packages_after members flags)) ≡ owned_paths members flags
   pub entries : (members : List Member) (flags : List Bool)
-      → map (λ l. l.entry) (member_listings (staying_members (list_of (packages_after members flags)))) ≡ map (λ l. without_zeros l.entry) (owned_listings (member_listings members) flags)
+      → map (λ l. l.entry) (member_listings (members_of_kept (list_of (packages_after members flags)))) ≡ map (λ l. without_zeros l.entry) (owned_listings (member_listings members) flags)
 
 -- ---- entries in which an integer 0 is Null
 
@@ -176,7 +176,7 @@ module _ (laws : WrittenLaws) (change : FileChange) (database : Plain) (sound : 
       let packages = list_of (packages_after change.members flags) in
       same_records (database_records packages) owned (record_paths packages ∙ laws.paths change.members flags)
       (ap (map (λ (r : FileRecord). r.entry)) (sym (records_are_listings packages))
-      ∙ (map_twice (λ (r : FileRecord). r.entry) listing_record (member_listings (staying_members packages)) ∙ laws.entries change.members flags))
+      ∙ (map_twice (λ (r : FileRecord). r.entry) listing_record (member_listings (members_of_kept packages)) ∙ laws.entries change.members flags))
 
   once : AreDistinctNames (map (λ l. l.path) owned)
   once = subst AreDistinctNames (ap (flat_map paths_in) are ∙ laws.paths change.members flags) (database_once database sound)

@@ -9,23 +9,23 @@ use Rattle.candidate_core.specs.Candidates.{Candidate, is_same_id}
 use Rattle.change_inputs.specs.Chains.{and_then}
 use Rattle.change_inputs.specs.Inputs.{first_index_read}
 use Rattle.change_outcome.proofs.Made.{and_then_ok}
-use Rattle.change_outcome.specs.MembersAfter.{MemberFound, coming_by_path, coming_found, contents_found, members_after, members_found, name_after, name_by_change, name_by_selected, name_that_comes, name_that_goes, names_after, staying_found}
-use Rattle.change_outcome.specs.PackageFiles.{ComingPackage, first_script_of, package_file_of, package_found, package_in_file, scripts_of_change, unless_different, unless_number, unless_package_bad, unless_script}
-use Rattle.db_core.specs.Members.{Member, is_coming}
+use Rattle.change_outcome.specs.MembersAfter.{MemberFound, added_package_by_path, added_member_found, found_package_contents, members_after, found_members, name_after, name_by_change, name_by_selected, member_of_added_name, member_of_removed_name, names_after, kept_member_found}
+use Rattle.change_outcome.specs.PackageFiles.{AddedPackage, first_script_of, package_file_of, package_found, package_in_file, scripts_of_change, unless_different, unless_script_number, unless_package_bad, unless_script}
+use Rattle.db_core.specs.Members.{Member, is_added}
 use Rattle.db_core.specs.Packages.{is_package_named}
 use Rattle.dep_core.specs.Repositories.{Repository}
 use Rattle.file_owners.specs.Replaces.{version_text}
 use Rattle.make_info.specs.Reads.{Reads}
 use Rattle.package_changes.specs.Changes.{Replacement, change_of_name, is_selected_named, names_on_both_sides, selected_version}
 use Rattle.pkg_core.specs.Whole.{package_fault}
-use Rattle.pkg_core.proofs.Digests.{TellsFirst}
+use Rattle.pkg_core.proofs.Digests.{HasFirstValue}
 use Rattle.report_core.specs.Reports.{Change}
 use Rattle.report_core.specs.declared.refusal.Refusal.{Refusal}
 use Rattle.audit_laws.proofs.TestedContents.{AreListedContents, tested_listed}
 
 -- a member that comes has the contents that its package lists
 abbrev pub HasListed : MemberFound → Type 0
-HasListed f = is_coming f.member ≡ true → AreListedContents f.member.pkg f.contents
+HasListed f = is_added f.member ≡ true → AreListedContents f.member.pkg f.contents
 
 abbrev IfListed : Option MemberFound → Type 0
 IfListed None = Unit {0}
@@ -35,11 +35,11 @@ abbrev AllListed : List MemberFound → Type 0
 AllListed [] = Unit {0}
 AllListed (f ∷ fs) = HasListed f × AllListed fs
 
-abbrev kept_package : Result ComingPackage Refusal → Result ComingPackage Refusal
+abbrev kept_package : Result AddedPackage Refusal → Result AddedPackage Refusal
 kept_package r = r
 
-module _ (told : TellsFirst) (read : Reads) where
-  different_ok : (c : Candidate) (pkg p : ComingPackage) → unless_different c pkg ≡ Ok p → p ≡ pkg
+module _ (told : HasFirstValue) (read : Reads) where
+  different_ok : (c : Candidate) (pkg p : AddedPackage) → unless_different c pkg ≡ Ok p → p ≡ pkg
   different_ok c pkg p e = by_tests _ _ _ (is_same_id c.id pkg.id) (bytes_eq c.name (package_name pkg.value)) (bytes_eq (selected_version c) (version_text pkg.value)) e
     where
       by_tests : (x y z : Refusal) (a b v : Bool) → kept_package (if not a then Err x else if not b then Err y else if not v then Err z else Ok pkg) ≡ Ok p → p ≡ pkg
@@ -48,15 +48,15 @@ module _ (told : TellsFirst) (read : Reads) where
       by_tests x y z true false v e = absurd (cc (e))
       by_tests x y z false b v e = absurd (cc (e))
 
-  file_ok : (c : Candidate) (file : List ℕ) (pkg : ComingPackage) → package_found c (Some file) ≡ Ok pkg → AreListedContents pkg.value pkg.contents
+  file_ok : (c : Candidate) (file : List ℕ) (pkg : AddedPackage) → package_found c (Some file) ≡ Ok pkg → AreListedContents pkg.value pkg.contents
   file_ok c file pkg e = by_fault (package_fault file) refl e
     where
       by_fault : (fault : Option Cause) → package_fault file ≡ fault → unless_package_bad c fault (package_in_file file) ≡ Ok pkg → AreListedContents pkg.value pkg.contents
       by_fault None sound e =
-          subst (λ (p : ComingPackage). AreListedContents p.value p.contents) (sym (different_ok c (package_in_file file) pkg e)) (tested_listed told file sound)
+          subst (λ (p : AddedPackage). AreListedContents p.value p.contents) (sym (different_ok c (package_in_file file) pkg e)) (tested_listed told file sound)
       by_fault (Some cause) sound e = absurd (cc (e))
 
-  path_ok : (n : ℕ) (c : Candidate) (path : Option (List ℕ)) (pkg : ComingPackage) → coming_by_path read n c path ≡ Ok pkg → AreListedContents pkg.value pkg.contents
+  path_ok : (n : ℕ) (c : Candidate) (path : Option (List ℕ)) (pkg : AddedPackage) → added_package_by_path read n c path ≡ Ok pkg → AreListedContents pkg.value pkg.contents
   path_ok n c None pkg e = absurd (cc (e))
   path_ok n c (Some path) pkg e = by_read (read n path) e
     where
@@ -68,23 +68,23 @@ module _ (told : TellsFirst) (read : Reads) where
   script_ok true name pkg numbers a b e = (cc (e))
   script_ok false name pkg numbers a b e = by_number (first_script_of pkg numbers) e
     where
-      by_number : (o : Option ℕ) → unless_number name o a ≡ Ok b → a ≡ b
+      by_number : (o : Option ℕ) → unless_script_number name o a ≡ Ok b → a ≡ b
       by_number None e = (cc (e))
       by_number (Some number) e = absurd (cc (e))
 
   comes_ok : (repositories : List Repository) (no_scripts : Bool) (n : ℕ) (name : List ℕ) (change : Change) (c : Candidate) (o : Option MemberFound)
-      → name_that_comes read repositories no_scripts n name change c ≡ Ok o → IfListed o
+      → member_of_added_name read repositories no_scripts n name change c ≡ Ok o → IfListed o
   comes_ok repositories no_scripts n name change c o e =
-      let pkg = and_then_ok (coming_by_path read n c (package_file_of repositories c)) (λ pkg.
-      unless_script no_scripts name pkg.value (scripts_of_change change) (Some (coming_found pkg))) o e in
-      subst IfListed (script_ok no_scripts name pkg.0.value (scripts_of_change change) (Some (coming_found pkg.0)) o pkg.2)
+      let pkg = and_then_ok (added_package_by_path read n c (package_file_of repositories c)) (λ pkg.
+      unless_script no_scripts name pkg.value (scripts_of_change change) (Some (added_member_found pkg))) o e in
+      subst IfListed (script_ok no_scripts name pkg.0.value (scripts_of_change change) (Some (added_member_found pkg.0)) o pkg.2)
       (λ comes. path_ok n c (package_file_of repositories c) pkg.0 pkg.1)
 
-  goes_ok : (no_scripts : Bool) (name : List ℕ) (change : Change) (before : Option Plain) (o : Option MemberFound) → name_that_goes no_scripts name change before ≡ Ok o → IfListed o
+  goes_ok : (no_scripts : Bool) (name : List ℕ) (change : Change) (before : Option Plain) (o : Option MemberFound) → member_of_removed_name no_scripts name change before ≡ Ok o → IfListed o
   goes_ok no_scripts name change None o e = let same : None ≡ o = cc in subst IfListed same tt
   goes_ok no_scripts name change (Some pkg) o e = subst IfListed (script_ok no_scripts name pkg (scripts_of_change change) None o e) tt
 
-  stays_ok : (o : Option Plain) → IfListed (option_map staying_found o)
+  stays_ok : (o : Option Plain) → IfListed (option_map kept_member_found o)
   stays_ok None = tt
   stays_ok (Some pkg) = λ comes. absurd (true≢false (sym comes))
 
@@ -100,7 +100,7 @@ module _ (told : TellsFirst) (read : Reads) where
     changed_ok : (n : ℕ) (name : List ℕ) (change : Option Change) (old : Option Plain) (new : Option Candidate) (o : Option MemberFound)
         → name_by_change read repositories no_scripts n name change old new ≡ Ok o → IfListed o
     changed_ok n name None old new o e =
-        let same : option_map staying_found old ≡ o = (let kept : kept_found (option_map staying_found old) ≡ kept_found o = e in cc) in
+        let same : option_map kept_member_found old ≡ o = (let kept : kept_found (option_map kept_member_found old) ≡ kept_found o = e in cc) in
         subst IfListed same (stays_ok old)
     changed_ok n name (Some change) old new o e = selected_ok n name change old new o e
 
@@ -125,13 +125,13 @@ module _ (told : TellsFirst) (read : Reads) where
     unfolding members_after
     found_listed fs e = names_ok (first_index_read + length repositories) (names_on_both_sides r) fs e
 
-    at_place : (fs : List MemberFound) (place : ℕ) (m : Member) → AllListed fs → slice_get (members_found fs) place ≡ Some m → is_coming m ≡ true → AreListedContents m.pkg (contents_found fs place)
+    at_place : (fs : List MemberFound) (place : ℕ) (m : Member) → AllListed fs → slice_get (found_members fs) place ≡ Some m → is_added m ≡ true → AreListedContents m.pkg (found_package_contents fs place)
     at_place [] place m are e comes = absurd (cc (e))
     at_place (f ∷ fs) zero m are e comes =
         let same : f.member ≡ m = cc in
-        subst (λ (k : Member). AreListedContents k.pkg f.contents) same (are.0 (ap is_coming same ∙ comes))
+        subst (λ (k : Member). AreListedContents k.pkg f.contents) same (are.0 (ap is_added same ∙ comes))
     at_place (f ∷ fs) (suc place) m are e comes = at_place fs place m are.1 e comes
 
-    pub contents_listed : (fs : List MemberFound) (place : ℕ) (m : Member) → members_after r read repositories no_scripts ≡ Ok fs → slice_get (members_found fs) place ≡ Some m → is_coming m ≡ true
-        → AreListedContents m.pkg (contents_found fs place)
+    pub contents_listed : (fs : List MemberFound) (place : ℕ) (m : Member) → members_after r read repositories no_scripts ≡ Ok fs → slice_get (found_members fs) place ≡ Some m → is_added m ≡ true
+        → AreListedContents m.pkg (found_package_contents fs place)
     contents_listed fs place m e at comes = at_place fs place m (found_listed fs e) at comes

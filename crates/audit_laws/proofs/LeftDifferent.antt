@@ -16,7 +16,7 @@ use Rattle.audit_core.specs.Audit.{FileDifference}
 use Rattle.audit_core.specs.Differences.{IsDifferenceIn, IsDifferent, file_differences}
 use Rattle.base_core.specs.Files.{Files}
 use Rattle.base_core.specs.declared.cause.Cause.{Cause}
-use Rattle.change_files.specs.FileChange.{FileChange, coming_owner, if_it_comes, owner_listing}
+use Rattle.change_files.specs.FileChange.{FileChange, added_owner_listing, if_member_added, owner_listing}
 use Rattle.change_files.specs.FilesAfter.{Records, changed_files, listing_bytes}
 use Rattle.change_files.specs.Touched.{is_record_name}
 use Rattle.change_files.proofs.Lists.{IsOneOf, contains_from_one}
@@ -26,10 +26,10 @@ use Rattle.change_inputs.specs.Chains.{and_then, unless_cause}
 use Rattle.change_inputs.specs.Database.{Database, container_database, database_by, root_database}
 use Rattle.change_outcome.specs.ChangeOutcome.{ChangeDone, ChangeWishes, change_or_refusal, file_change, new_records}
 use Rattle.change_outcome.specs.Made.{IsChangeMade}
-use Rattle.change_outcome.specs.MembersAfter.{MemberFound, contents_found, members_found}
+use Rattle.change_outcome.specs.MembersAfter.{MemberFound, found_package_contents, found_members}
 use Rattle.command_core.specs.Command.{CommandLine}
 use Rattle.db_core.specs.ListedAt.{IsListedAt}
-use Rattle.db_core.specs.Members.{Listing, Member, is_coming, member_listings}
+use Rattle.db_core.specs.Members.{Listing, Member, is_added, member_listings}
 use Rattle.change_inputs.specs.Inputs.{Inputs}
 use Rattle.engine_core.specs.Changed.{Selected, change_of_command, change_of_selected, simulated_change}
 use Rattle.engine_core.specs.Wishes.{wishes_of}
@@ -39,7 +39,7 @@ use Rattle.package_changes.specs.Changes.{Replacement}
 use Rattle.path_clashes.specs.Clash.{NamePair}
 use Rattle.pkg_core.specs.Contents.{Contents, expected_contents}
 use Rattle.pkg_core.specs.GoodContents.{AreContentsOf, HaveDigests}
-use Rattle.pkg_core.proofs.Digests.{TellsFirst}
+use Rattle.pkg_core.proofs.Digests.{HasFirstValue}
 use Rattle.report_core.specs.declared.refusal.Refusal.{Refusal}
 use Rattle.report_core.specs.declared.refusal.Refusal.TheVariants.{DatabaseBad}
 use Rattle.root_laws.specs.RootLeft.{IsRootLeft}
@@ -82,8 +82,8 @@ not_record records name reserved free = by_test (is_record_name records name) re
     by_test true t = absurd (true≢false (sym (reserved records name t) ∙ free))
     by_test false t = t
 
-comes_if : (change : FileChange) (path : List ℕ) (l : Listing) → owner_listing change path ≡ Some l → is_coming l.member ≡ true → coming_owner change path ≡ Some l
-comes_if change path l owner comes = ap if_it_comes owner ∙ ap (λ (b : Bool). if b then Some l else None) comes
+comes_if : (change : FileChange) (path : List ℕ) (l : Listing) → owner_listing change path ≡ Some l → is_added l.member ≡ true → added_owner_listing change path ≡ Some l
+comes_if change path l owner comes = ap if_member_added owner ∙ ap (λ (b : Bool). if b then Some l else None) comes
 
 module _ (laws : Laws) (command : CommandLine) (read : Reads) (files : Files) (chosen : Option (List ℕ)) (clash : Option NamePair) (done : ChangeDone) (left : IsRootLeft command read chosen done)
     (e : change_of_command command read files chosen clash ≡ Ok done) (off : command.flags.simulate ≡ false) where
@@ -116,7 +116,7 @@ module _ (laws : Laws) (command : CommandLine) (read : Reads) (files : Files) (c
   files_are : done.files ≡ changed_files change bytes_of records files
   files_are =
       ap (λ (d : ChangeDone). d.files) made_so.is
-      ∙ ap (λ (fs : List MemberFound). changed_files (file_change s.inputs (wishes_of command) fs) (listing_bytes (contents_found fs)) records files) same_found
+      ∙ ap (λ (fs : List MemberFound). changed_files (file_change s.inputs (wishes_of command) fs) (listing_bytes (found_package_contents fs)) records files) same_found
 
   database_there : done.files database_name ≡ Some made_so.database
   database_there = ap (λ (fs : Files). fs database_name) files_are ∙ database_after change bytes_of records files
@@ -140,20 +140,20 @@ module _ (laws : Laws) (command : CommandLine) (read : Reads) (files : Files) (c
   -- ---- what differs was left so
 
   left_so : (path : List ℕ) (l : Listing) (d : FileDifference) → d.path ≡ path → owner_listing change path ≡ Some l → IsDifferent d.difference l.entry (done.files path)
-      → IsLeftBy (contents_left left) change files d l (is_coming l.member)
+      → IsLeftBy (contents_left left) change files d l (is_added l.member)
   left_so path l d at owner differs =
       let here = subst (λ (fs : Files). IsDifferent d.difference l.entry (fs path)) files_are differs in
-      by_coming (is_coming l.member) refl here
+      by_coming (is_added l.member) refl here
     where
-      by_coming : (b : Bool) → is_coming l.member ≡ b → IsDifferent d.difference l.entry (changed_files change bytes_of records files path) → IsLeftBy (contents_left left) change files d l b
+      by_coming : (b : Bool) → is_added l.member ≡ b → IsDifferent d.difference l.entry (changed_files change bytes_of records files path) → IsLeftBy (contents_left left) change files d l b
       by_coming false t here =
           subst (λ (q : List ℕ). IsDifferent d.difference l.entry (files q)) (sym at) ((stays_so change bytes_of records files path (plain path l owner) l d.difference owner t).0 here)
       by_coming true t here =
           subst (λ (q : List ℕ). IsLeftBy (contents_left left) change files (record { path = q; difference = d.difference }) l true) (sym at)
           (left_by change bytes_of records files path (plain path l owner) l (comes_if change path l owner t) d.difference here)
 
-  pub is_left : (d : FileDifference) → IsIn d (file_differences done.files (packages_left left)) → IsLeftDifferent (contents_left left) change files d
-  is_left d here =
+  pub is_path_left_over : (d : FileDifference) → IsIn d (file_differences done.files (packages_left left)) → IsLeftDifferent (contents_left left) change files d
+  is_path_left_over d here =
       let is = (laws.differences done.files (packages_left left) d).0 here in
       let found = record_of_owner laws.written change value sound read_back.1 d.path is.entry is.recorded in
       let l = found.0 in
@@ -165,7 +165,7 @@ module _ (laws : Laws) (command : CommandLine) (read : Reads) (files : Files) (c
 
   -- ---- what was left so differs
 
-  differs_so : (l : Listing) (d : FileDifference) → owner_listing change d.path ≡ Some l → (b : Bool) → is_coming l.member ≡ b → IsLeftBy (contents_left left) change files d l b
+  differs_so : (l : Listing) (d : FileDifference) → owner_listing change d.path ≡ Some l → (b : Bool) → is_added l.member ≡ b → IsLeftBy (contents_left left) change files d l b
       → IsDifferent d.difference l.entry (changed_files change bytes_of records files d.path)
   differs_so l d owner false t why = (stays_so change bytes_of records files d.path (plain d.path l owner) l d.difference owner t).1 why
   differs_so l d owner true t why = by_left change bytes_of records files d.path (plain d.path l owner) l (comes_if change d.path l owner t) d.difference why
@@ -173,7 +173,7 @@ module _ (laws : Laws) (command : CommandLine) (read : Reads) (files : Files) (c
   pub left_is : (d : FileDifference) → IsLeftDifferent (contents_left left) change files d → IsIn d (file_differences done.files (packages_left left))
   left_is d is =
       let l = is.listing in
-      let here = subst (λ (fs : Files). IsDifferent d.difference l.entry (fs d.path)) (sym files_are) (differs_so l d is.owner (is_coming l.member) refl is.left) in
+      let here = subst (λ (fs : Files). IsDifferent d.difference l.entry (fs d.path)) (sym files_are) (differs_so l d is.owner (is_added l.member) refl is.left) in
       (laws.differences done.files (packages_left left) d).1
       (record {
         entry = without_zeros l.entry;
@@ -201,14 +201,14 @@ empty_by entry bytes brought unlike = by_tests (is_with_contents entry) refl (ha
     by_tests false with false target false same = record { no_contents = with; no_link = target; unlike = same }
 
 pub empty_alone :
-    TellsFirst → ((members : List Member) (i : ℕ) (l : Listing) → slice_get (member_listings members) i ≡ Some l → IsListedAt members l)
+    HasFirstValue → ((members : List Member) (i : ℕ) (l : Listing) → slice_get (member_listings members) i ≡ Some l → IsListedAt members l)
     → ((contents : ℕ → List Contents) (members : List Member) (l : Listing) → Contains (member_listings members) l → HaveDigests (expected_contents l.member.pkg)
     → AreContentsOf (expected_contents l.member.pkg) (contents l.place) → (is_with_contents l.entry ≡ false → has_target l.entry ≡ false → is_as_listed l.entry [] ≡ true)
     → is_as_listed l.entry (listing_bytes contents l) ≡ true)
     → (command : CommandLine) (read : Reads) (chosen : Option (List ℕ)) (done : ChangeDone) (left : IsRootLeft command read chosen done) (path : List ℕ) (l : Listing)
-    → coming_owner (change_left left) path ≡ Some l → is_as_listed l.entry (listing_bytes (contents_left left) l) ≡ false → IsEmptyUnlike l.entry
+    → added_owner_listing (change_left left) path ≡ Some l → is_as_listed l.entry (listing_bytes (contents_left left) l) ≡ false → IsEmptyUnlike l.entry
 empty_alone told placed brought command read chosen done left path l comes unlike =
-    let members = members_found left.found in
+    let members = found_members left.found in
     let owner = coming_is (change_left left) path l comes in
     let listed : IsOneOf l (member_listings members) = owner.0.listed in
     let place = some_place l (member_listings members) listed in

@@ -4,8 +4,8 @@ use Rattle.std.specs.Option.{option_or}
 use Rattle.base_core.specs.declared.cause.Cause.{Cause}
 use Rattle.adb_block.specs.Header.{header_of}
 use Rattle.adb_block.specs.Reading.{Reading, done, fault, more, reading_of}
-use Rattle.adb_block.specs.Standing.{start_of}
-use Rattle.adb_schema.specs.Soundness.{blocks_fault, file_fault, first_payload, payload_behind, payload_fault, payload_in, root_value, schema_fault}
+use Rattle.adb_block.specs.ReaderPosition.{start_of}
+use Rattle.adb_schema.specs.Soundness.{blocks_fault, file_fault, first_payload, payload_after_header, payload_fault, payload_in, root_value, schema_fault}
 use Rattle.adb_schema.specs.Texts.{text_fault}
 use Rattle.adb_view.specs.Head.{head_fault, root_of}
 use Rattle.adb_view.specs.Plain.{Plain, plain_of}
@@ -16,8 +16,8 @@ use Rattle.adb_view.specs.declared.tables.Kind.TheVariants.{Obj}
 use Rattle.adb_view.specs.declared.tables.Which.TheVariants.{Package}
 use Rattle.pkg_core.specs.Contents.{Contents, Expected, contents_in, expected_contents}
 use Rattle.pkg_core.specs.GoodContents.{AreContentsOf, HaveDigests}
-use Rattle.pkg_core.specs.Whole.{behind_fault, files_behind, files_by_header, files_in_file, package_fault, whole_fault}
-use Rattle.pkg_core.proofs.Digests.{TellsFirst, texts_give_digests}
+use Rattle.pkg_core.specs.Whole.{fault_after_first, files_after_first, files_by_header, files_in_file, package_fault, whole_fault}
+use Rattle.pkg_core.proofs.Digests.{HasFirstValue, texts_give_digests}
 use Rattle.pkg_core.proofs.Given.{files_right}
 
 -- the contents are those that the entries of a package list
@@ -42,7 +42,7 @@ texts_good payload h =
     let texts = second_none (shape_fault payload (shape_of (Obj Package)) (root_of payload)) _ shape in
     first_none (text_fault Package (root_value Package payload)) _ texts
 
-blocks_listed : TellsFirst → (r : Reading) → blocks_fault (behind_fault Package) Package r ≡ None → AreListedContents (root_value Package (first_payload r)) (contents_in (files_behind r))
+blocks_listed : HasFirstValue → (r : Reading) → blocks_fault (fault_after_first Package) Package r ≡ None → AreListedContents (root_value Package (first_payload r)) (contents_in (files_after_first r))
 blocks_listed told done h =
     let A : List Expected → Type 0 = λ es. HaveDigests es × AreContentsOf es [] in subst A (sym nothing_expected) (tt, tt)
 blocks_listed told (fault c) h = absurd (cc)
@@ -52,10 +52,10 @@ blocks_listed told (more b at r) h =
       files_right (expected_contents v) r (second_none (payload_fault Package b.payload) _ h),
     )
 
-header_listed : TellsFirst → (file : List ℕ) (h : Result ℕ Cause) → file_fault (behind_fault Package) Package file h ≡ None → AreListedContents (root_value Package (payload_behind file h)) (contents_in (files_by_header file h))
+header_listed : HasFirstValue → (file : List ℕ) (h : Result ℕ Cause) → file_fault (fault_after_first Package) Package file h ≡ None → AreListedContents (root_value Package (payload_after_header file h)) (contents_in (files_by_header file h))
 header_listed told file (Ok schema) e = blocks_listed told (reading_of (start_of schema file)) (second_none (schema_fault Package schema) _ e)
 header_listed told file (Err c) e = absurd (cc)
 
-pub tested_listed : TellsFirst → (file : List ℕ) → package_fault file ≡ None → AreListedContents (root_value Package (payload_in file)) (contents_in (files_in_file file))
+pub tested_listed : HasFirstValue → (file : List ℕ) → package_fault file ≡ None → AreListedContents (root_value Package (payload_in file)) (contents_in (files_in_file file))
 unfolding whole_fault files_in_file payload_in
 tested_listed told file h = header_listed told file (header_of file) h

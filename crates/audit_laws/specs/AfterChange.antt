@@ -11,9 +11,9 @@ use Rattle.change_files.specs.FileChange.{FileChange, owner_listing}
 use Rattle.change_files.specs.FilesAfter.{listing_bytes}
 use Rattle.change_files.specs.Touched.{IsUsersFile}
 use Rattle.change_outcome.specs.ChangeOutcome.{ChangeDone, file_change}
-use Rattle.change_outcome.specs.MembersAfter.{contents_found, members_found}
+use Rattle.change_outcome.specs.MembersAfter.{found_package_contents, found_members}
 use Rattle.command_core.specs.Command.{CommandLine}
-use Rattle.db_core.specs.Members.{Listing, is_coming}
+use Rattle.db_core.specs.Members.{Listing, is_added}
 use Rattle.engine_core.specs.Wishes.{wishes_of}
 use Rattle.file_guard.specs.AsListed.{has_target, is_as_listed}
 use Rattle.make_info.specs.Reads.{Reads}
@@ -47,7 +47,7 @@ pub record IsLeftDifferent (contents : ℕ → List Contents) (change : FileChan
     (d : FileDifference) : Type 0 where
   pub listing : Listing
   pub owner : owner_listing change d.path ≡ Some listing
-  pub left : IsLeftBy contents change files d listing (is_coming listing.member)
+  pub left : IsLeftBy contents change files d listing (is_added listing.member)
 
 -- ---- of the root that a command leaves
 
@@ -55,7 +55,7 @@ pub record IsLeftDifferent (contents : ℕ → List Contents) (change : FileChan
 abbrev pub packages_left :
     {command : CommandLine} → {read : Reads} → {chosen : Option (List ℕ)} → {done : ChangeDone}
     → IsRootLeft command read chosen done → List Plain
-packages_left left = (database_of_members (members_found left.found) left.bytes).packages
+packages_left left = (database_of_members (found_members left.found) left.bytes).packages
 
 -- the change of files that a command has made
 abbrev pub change_left :
@@ -67,4 +67,4 @@ change_left {command} left = file_change left.selected.inputs (wishes_of command
 abbrev pub contents_left :
     {command : CommandLine} → {read : Reads} → {chosen : Option (List ℕ)} → {done : ChangeDone}
     → IsRootLeft command read chosen done → ℕ → List Contents
-contents_left left = contents_found left.found
+contents_left left = found_package_contents left.found

@@ -6,7 +6,7 @@ ghost use Rattle.audit_core.specs.Audit.{FileDifference};
 ghost use Rattle.audit_core.specs.Differences.{file_differences};
 ghost use Rattle.audit_laws.specs.AfterChange.{IsEmptyUnlike, IsLeftDifferent, change_left, contents_left, packages_left};
 ghost use Rattle.base_core.specs.Files.{Files};
-ghost use Rattle.change_files.specs.FileChange.{coming_owner};
+ghost use Rattle.change_files.specs.FileChange.{added_owner_listing};
 ghost use Rattle.change_files.specs.FilesAfter.{listing_bytes};
 ghost use Rattle.change_outcome.specs.ChangeOutcome.{ChangeDone};
 ghost use Rattle.command_core.specs.Command.{CommandLine};
@@ -20,15 +20,15 @@ ghost use Rattle.std.specs.Prelude.{◌≡◌, ◌↔◌, ℕ, false, List, Ok, 
 
 use adb_schema::{sound_containers_hold_sound_values, the_first_bad_text_is_reported};
 use audit_core::an_audit_reports_just_the_files_that_differ;
-use change_files::{what_a_package_brings_is_as_listed, what_is_written_is_not_reserved};
+use change_files::{the_files_of_an_added_package_are_as_listed, what_is_written_is_not_reserved};
 use change_outcome::a_change_that_is_made_passes_each_test;
-use db_core::listings_stand_at_their_places;
+use db_core::listings_are_at_their_places;
 use db_write::{a_database_keeps_the_entries_of_owned_files, a_database_lists_the_owned_files};
 
-/// After a change these files differ from their records, and no others. Of a kept package: each file
-/// that differed before. Of an added package: each configuration file that the user changed, since
-/// it keeps its bytes. A package can be made with an empty file whose entry has the digest of other
-/// bytes, which no test of a package compares: that file differs too.
+/// After a change these files differ from their records, and no others. Of a kept package: each
+/// file that differed before. Of an added package: each configuration file that the user changed,
+/// since it keeps its bytes. A package can be made with an empty file whose entry has the digest of
+/// other bytes, which no test of a package compares: that file differs too.
 pub fn after_a_change_an_audit_reports_what_it_left_to_the_user()
     // Each file that differs, and no other.
     ensures each { (command : CommandLine) (read : Reads) (files : Files)
@@ -41,16 +41,16 @@ pub fn after_a_change_an_audit_reports_what_it_left_to_the_user()
     // An added package has bytes unlike its entry for an empty file alone.
     ensures empty { (command : CommandLine) (read : Reads) (chosen : Option (List ℕ))
         (done : ChangeDone) (left : IsRootLeft command read chosen done) (path : List ℕ)
-        (l : Listing) → coming_owner (change_left left) path ≡ Some l
+        (l : Listing) → added_owner_listing (change_left left) path ≡ Some l
         → is_as_listed l.entry (listing_bytes (contents_left left) l) ≡ false
         → IsEmptyUnlike l.entry }
 {
     // Laws that the proof needs; they compute nothing.
     sound_containers_hold_sound_values();
-    what_a_package_brings_is_as_listed();
+    the_files_of_an_added_package_are_as_listed();
     what_is_written_is_not_reserved();
     a_change_that_is_made_passes_each_test();
-    listings_stand_at_their_places();
+    listings_are_at_their_places();
     a_database_keeps_the_entries_of_owned_files();
     a_database_lists_the_owned_files();
     the_first_bad_text_is_reported();

@@ -2,52 +2,52 @@
 use Rattle.std.proofs.Common.{◌≡◌, ◌∙◌, ◌≤◌, ℕ, inl, inr, List, [], ◌∷◌, ◌++◌, Result, Ok, Err, refl, subst, arith}
 use Rattle.base_core.specs.Calls.{IfObservable}
 use Rattle.base_core.specs.Read.{OnlyReads}
-use Rattle.base_core.specs.Faults.{Counts, GoesOn, HasCause, IsNoFault, Rose}
-use Rattle.base_core.specs.Restart.{HasLed}
+use Rattle.base_core.specs.Faults.{Counts, CountsOnlyRise, HasCause, IsNoFault, Rose}
+use Rattle.base_core.specs.Restart.{HasNamedNewFile}
 use Rattle.base_core.specs.Tree.{TreeState}
 
-pub goes_on_twice : (a b c : Counts) → GoesOn a b → GoesOn b c → GoesOn a c
+pub goes_on_twice : (a b c : Counts) → CountsOnlyRise a b → CountsOnlyRise b c → CountsOnlyRise a c
 goes_on_twice a b c h k = record {
   faults = omega (arith, h.faults, k.faults);
   misuses = omega (arith, h.misuses, k.misuses);
-  wants = omega (arith, h.wants, k.wants);
+  memory_faults = omega (arith, h.memory_faults, k.memory_faults);
   fallible = λ now. h.fallible (k.fallible now);
 }
 
-pub goes_on_same : (a : Counts) → GoesOn a a
-goes_on_same a = record { faults = omega arith; misuses = omega arith; wants = omega arith; fallible = λ now. now }
+pub goes_on_same : (a : Counts) → CountsOnlyRise a a
+goes_on_same a = record { faults = omega arith; misuses = omega arith; memory_faults = omega arith; fallible = λ now. now }
 
 pub no_fault_twice : (a b c : Counts) → IsNoFault a b → IsNoFault b c → IsNoFault a c
-no_fault_twice a b c h k = record { faults = k.faults ∙ h.faults; wants = k.wants ∙ h.wants }
+no_fault_twice a b c h k = record { faults = k.faults ∙ h.faults; memory_faults = k.memory_faults ∙ h.memory_faults }
 
 pub no_fault_same : (a : Counts) → IsNoFault a a
-no_fault_same a = record { faults = refl; wants = refl }
+no_fault_same a = record { faults = refl; memory_faults = refl }
 
 -- ---- a call that failed, before calls and behind them
 
 rose_sooner : (a b c : ℕ) → Rose a b → b ≤ c → Rose a c
 rose_sooner a b c h k = omega arith
 
-pub cause_sooner : (a b c : Counts) → HasCause a b → GoesOn b c → HasCause a c
+pub cause_sooner : (a b c : Counts) → HasCause a b → CountsOnlyRise b c → HasCause a c
 cause_sooner a b c h k = record {
   fault = rose_sooner a.faults b.faults c.faults h.fault k.faults;
   reason = elim h.reason [
     | inl fallible ↦ inl fallible
     | inr (inl misuse) ↦ inr (inl (rose_sooner a.misuses b.misuses c.misuses misuse k.misuses))
-    | inr (inr want) ↦ inr (inr (rose_sooner a.wants b.wants c.wants want k.wants))
+    | inr (inr want) ↦ inr (inr (rose_sooner a.memory_faults b.memory_faults c.memory_faults want k.memory_faults))
   ];
 }
 
 rose_later : (a b c : ℕ) → a ≤ b → Rose b c → Rose a c
 rose_later a b c h k = omega arith
 
-pub cause_later : (a b c : Counts) → GoesOn a b → HasCause b c → HasCause a c
+pub cause_later : (a b c : Counts) → CountsOnlyRise a b → HasCause b c → HasCause a c
 cause_later a b c h k = record {
   fault = rose_later a.faults b.faults c.faults h.faults k.fault;
   reason = elim k.reason [
     | inl fallible ↦ inl (h.fallible fallible)
     | inr (inl misuse) ↦ inr (inl (rose_later a.misuses b.misuses c.misuses h.misuses misuse))
-    | inr (inr want) ↦ inr (inr (rose_later a.wants b.wants c.wants h.wants want))
+    | inr (inr want) ↦ inr (inr (rose_later a.memory_faults b.memory_faults c.memory_faults h.memory_faults want))
   ];
 }
 
@@ -95,11 +95,11 @@ readings_two disk h0 h1 h2 a b c value (Err fault) h k = record {
 
 -- ---- a file that was made in a run
 
-pub led_sooner : (name : List ℕ) (a b : ℕ) (moments : List TreeState) → a ≤ b → HasLed name b moments → HasLed name a moments
+pub led_sooner : (name : List ℕ) (a b : ℕ) (moments : List TreeState) → a ≤ b → HasNamedNewFile name b moments → HasNamedNewFile name a moments
 led_sooner name a b [] up led = led
 led_sooner name a b (v ∷ earlier) up (inl here) = inl (here.0, here.1, omega (arith, up, here.2))
 led_sooner name a b (v ∷ earlier) up (inr before) = inr (led_sooner name a b earlier up before)
 
-pub led_later : (name : List ℕ) (made : ℕ) (later moments : List TreeState) → HasLed name made moments → HasLed name made (later ++ moments)
+pub led_later : (name : List ℕ) (made : ℕ) (later moments : List TreeState) → HasNamedNewFile name made moments → HasNamedNewFile name made (later ++ moments)
 led_later name made [] moments led = led
 led_later name made (v ∷ later) moments led = inr (led_later name made later moments led)

@@ -4,6 +4,7 @@ pub mod Left
 pub mod Rising
 pub mod OneList
 pub mod NameParts
-pub mod ReadBehind
+pub mod ReadAfter
 pub mod Smallest
 pub mod Sorting
+pub mod Undone

@@ -7,8 +7,8 @@ use Rattle.std.proofs.lemmas.Bool.{and_parts}
 use Rattle.std.proofs.lemmas.Bool.Decides.{Decides-eqb}
 use Rattle.std.proofs.lemmas.Slice.Eq.{bytes_eq-Decides}
 use Rattle.std.proofs.lemmas.Map.Views.{Contains-from_any}
-use Rattle.base_core.specs.Files.{NameMap, AreNamedFiles, IsFile, IsWithin, IsFolderOf}
-use Rattle.base_core.specs.Tree.{TreeState, IsMapOf, IsWhole, bytes_at, files_by, files_of}
+use Rattle.base_core.specs.Files.{NameMap, AreNamedFiles, IsFile, HasNamesAmong, IsFolderOf}
+use Rattle.base_core.specs.Tree.{TreeState, IsMapOf, IsWellFormed, bytes_at, files_by, files_of}
 use Rattle.base_core.specs.Listed.{AreNamesBelow, IsListOf, IsNameBelow, IsNamesOf, IsRising}
 use Rattle.base_core.proofs.Rising.{in_at, keep, keep_rises, kept_passes, passing_kept, same_list, contains_from_in, in_from_contains, pairs_from_rises, rises_from_pairs}
 
@@ -38,7 +38,7 @@ only_list P a b one two = same_list a b (rises_from_pairs a one.rising) (rises_f
 
 -- ---- all names of a map
 
-pub names_exist : {X : Type 0} (map : List ℕ → Option X) (within : List (List ℕ)) → IsWithin within map → (names : List (List ℕ)) × IsNamesOf map names
+pub names_exist : {X : Type 0} (map : List ℕ → Option X) (within : List (List ℕ)) → HasNamesAmong within map → (names : List (List ℕ)) × IsNamesOf map names
 names_exist map within finite =
     let found = listed (λ q. IsSome (map q)) (λ q. is_some (map q)) (λ q. (λ h. h, λ h. h)) within finite in
     (found.0, record { rising = found.1.rising; each = found.1.each })
@@ -82,7 +82,7 @@ list_decides folder v q = (
 all_contained : (P : List ℕ → Type 0) (names : List (List ℕ)) → ((q : List ℕ) → Contains names q → P q) → All P names
 all_contained P names each k d within = each (get_or names k d) (contains_from_in names (get_or names k d) (in_at names k d within))
 
-pub list_exists : (v : TreeState) → IsWhole v → (folder : List ℕ) → (names : List (List ℕ)) × IsListOf folder v names × AreNamesBelow folder names
+pub list_exists : (v : TreeState) → IsWellFormed v → (folder : List ℕ) → (names : List (List ℕ)) × IsListOf folder v names × AreNamesBelow folder names
 list_exists v whole folder =
     let finite = whole.finite v.names (inl refl) in
     let found = listed (λ q. IsSome (v.names q) × IsFolderOf folder q) (λ q. is_some (v.names q) && is_below folder q) (list_decides folder v) finite.0 (λ q h. finite.1 q h.0) in (
@@ -112,17 +112,17 @@ names_are_of_files v names of_map = record {
 
 -- ---- the files of a whole state
 
-some_bytes : (v : TreeState) (n : Option ℕ) (bytes : List ℕ) → IsWhole v → bytes_at v.files n ≡ Some bytes → IsFile bytes
+some_bytes : (v : TreeState) (n : Option ℕ) (bytes : List ℕ) → IsWellFormed v → bytes_at v.files n ≡ Some bytes → IsFile bytes
 some_bytes v None bytes whole is = absurd (cc)
 some_bytes v (Some n) bytes whole is = let same : (v.files n).bytes ≡ bytes = cc in subst IsFile same (whole.bytes n)
 
-pub files_named : (v : TreeState) → IsWhole v → (map : NameMap) → IsMapOf v map → AreNamedFiles (files_by v map)
+pub files_named : (v : TreeState) → IsWellFormed v → (map : NameMap) → IsMapOf v map → AreNamedFiles (files_by v map)
 files_named v whole map among = record {
   named = λ q some. whole.named map among q ((has_bytes v (map q)).1 some);
   each = λ q bytes is. some_bytes v (map q) bytes whole is;
 }
 
-pub files_finite : (v : TreeState) → IsWhole v → (names : List (List ℕ)) × IsWithin names (files_of v)
+pub files_finite : (v : TreeState) → IsWellFormed v → (names : List (List ℕ)) × HasNamesAmong names (files_of v)
 files_finite v whole =
     let finite = whole.finite v.names (inl refl) in
     (finite.0, λ q some. finite.1 q ((has_bytes v (v.names q)).1 some))

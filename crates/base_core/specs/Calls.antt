@@ -2,7 +2,7 @@
 -- "Moments" (the history) and "Misuses, faults and counts".
 use Rattle.std.specs.Prelude.{◌≡◌, ◌⊎◌, List, [], ◌∷◌, Result, OnOk, OnErr}
 use Rattle.base_core.specs.Tree.{TreeState}
-use Rattle.base_core.specs.Faults.{Counts, GoesOn, HasCause, IsNoFault, next_count}
+use Rattle.base_core.specs.Faults.{Counts, CountsOnlyRise, HasCause, IsNoFault, next_count}
 
 -- A tree's history is the list of its states so far, the newest first. It is observable if it is not
 -- empty. A tree whose states nobody can know, such as one over the host's files, has an empty one.
@@ -13,13 +13,14 @@ IfObservable [] P = Unit {0}
 IfObservable (v ∷ earlier) P = P v
 
 -- the history is observable, and P holds of the newest state
-abbrev pub HasNow : List TreeState → (TreeState → Type 0) → Type 0
-HasNow [] P = ⊥
-HasNow (v ∷ earlier) P = P v
+abbrev pub HoldsNow : List TreeState → (TreeState → Type 0) → Type 0
+HoldsNow [] P = ⊥
+HoldsNow (v ∷ earlier) P = P v
 
 -- how a call that writes changes the history: a success adds the state `done`; a failure adds the state
 -- `failed` or none, and none if the call was a misuse. `can` says at which states it is no misuse
-pub record Moves {T E : Type 0} (can : TreeState → Type 0) (done failed : TreeState → TreeState)
+pub record ChangesHistory {T E : Type 0} (can : TreeState → Type 0) (done failed : TreeState
+    → TreeState)
     (old new : List TreeState) (result : Result T E) : Type 0 where
   -- an unobservable history stays unobservable
   pub unobservable : old ≡ [] → new ≡ []
@@ -32,7 +33,7 @@ pub record Moves {T E : Type 0} (can : TreeState → Type 0) (done failed : Tree
 pub record IsCounted {T E : Type 0} (can : TreeState → Type 0) (history : List TreeState)
     (before now : Counts) (result : Result T E) : Type 0 where
   -- no count falls
-  pub goes_on : GoesOn before now
+  pub goes_on : CountsOnlyRise before now
   -- an error is a counted fault, and has its reason
   pub cause : OnErr result (HasCause before now)
   -- a call that succeeds counts neither a fault nor a lack of memory, and was no misuse

@@ -9,7 +9,7 @@ pub record Counts : Type 0 where
   -- calls that had to fail; a sink has none
   pub misuses : ℕ
   -- calls that failed because the object itself was out of memory
-  pub wants : ℕ
+  pub memory_faults : ℕ
   -- whether a call may still fail for another reason
   pub fallible : Bool
 
@@ -23,10 +23,10 @@ Rose before now = next_count before ≤ now
 
 -- from one moment to a later one no count fell, and a tree or sink that could not fail for another
 -- reason still cannot
-pub record GoesOn (before now : Counts) : Type 0 where
+pub record CountsOnlyRise (before now : Counts) : Type 0 where
   pub faults : before.faults ≤ now.faults
   pub misuses : before.misuses ≤ now.misuses
-  pub wants : before.wants ≤ now.wants
+  pub memory_faults : before.memory_faults ≤ now.memory_faults
   -- what cannot fail for another reason does not become able to
   pub fallible : IsTrue now.fallible → IsTrue before.fallible
 
@@ -36,17 +36,17 @@ pub record HasCause (before now : Counts) : Type 0 where
   pub fault : Rose before.faults now.faults
   -- an outside fault, which `fallible` allows, a misuse, or the object was out of memory
   pub reason : IsTrue before.fallible ⊎ (Rose before.misuses now.misuses
-      ⊎ Rose before.wants now.wants)
+      ⊎ Rose before.memory_faults now.memory_faults)
 
 -- between two moments neither a fault nor a lack of memory was counted
 pub record IsNoFault (before now : Counts) : Type 0 where
   pub faults : now.faults ≡ before.faults
-  pub wants : now.wants ≡ before.wants
+  pub memory_faults : now.memory_faults ≡ before.memory_faults
 
 -- how a call of a sink changes its counts, by the call's result
 pub record FailsWithCause {T E : Type 0} (before now : Counts) (result : Result T E) : Type 0 where
   -- no count falls
-  pub goes_on : GoesOn before now
+  pub goes_on : CountsOnlyRise before now
   -- an error is a counted fault, and has its reason
   pub cause : OnErr result (HasCause before now)
   -- a call that succeeds counts neither a fault nor a lack of memory

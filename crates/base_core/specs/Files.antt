@@ -30,8 +30,8 @@ abbrev pub no_names : {X : Type 0} → List ℕ → Option X
 no_names q = None
 
 -- only names of this list are present in the map, so they are finitely many
-abbrev pub IsWithin : {X : Type 0} → List (List ℕ) → (List ℕ → Option X) → Type 0
-IsWithin names map = (q : List ℕ) → IsSome (map q) → list_any (bytes_eq q) names ≡ true
+abbrev pub HasNamesAmong : {X : Type 0} → List (List ℕ) → (List ℕ → Option X) → Type 0
+HasNamesAmong names map = (q : List ℕ) → IsSome (map q) → list_any (bytes_eq q) names ≡ true
 
 -- whatever is present in the map is a name: a path below the root
 abbrev pub AreNames : {X : Type 0} → (List ℕ → Option X) → Type 0
@@ -42,8 +42,8 @@ abbrev pub IsFolderOf : List ℕ → List ℕ → Type 0
 IsFolderOf folder name = (rest : List ℕ) × (name ≡ folder ++ 47 ∷ rest)
 
 -- no name that is present in the map is a folder of another, as in a file system
-abbrev pub IsFolderLike : {X : Type 0} → (List ℕ → Option X) → Type 0
-IsFolderLike map = (p q : List ℕ) → IsFolderOf p q → IsSome (map p) → IsSome (map q) → ⊥
+abbrev pub HasNoFileAsFolder : {X : Type 0} → (List ℕ → Option X) → Type 0
+HasNoFileAsFolder map = (p q : List ℕ) → IsFolderOf p q → IsSome (map p) → IsSome (map q) → ⊥
 
 -- the content of a file: bytes (numbers below 256), fewer than 2 ^ 64
 pub record IsFile (bytes : List ℕ) : Type 0 where

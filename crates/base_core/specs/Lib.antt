@@ -10,6 +10,7 @@ pub mod Faults
 pub mod Calls
 pub mod Listed
 pub mod Crash
+pub mod Undone
 pub mod Sink
 pub mod Restart
 pub mod Sorted

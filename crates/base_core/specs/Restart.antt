@@ -1,13 +1,13 @@
 -- The tree after a crash, and what holds at a moment given the earlier ones. The rules are in
--- `docs/crash-safety.md`, "What a crash leaves", and of `HasLed` in "Moments".
+-- `docs/crash-safety.md`, "What a crash leaves", and of `HasNamedNewFile` in "Moments".
 use Rattle.std.specs.Prelude.{◌≡◌, ◌⊎◌, ◌≤◌, ℕ, true, List, [], ◌∷◌, ◌++◌, Some}
-use Rattle.base_core.specs.Crash.{IsImage}
+use Rattle.base_core.specs.Crash.{IsCrashImageInOrder}
 use Rattle.base_core.specs.Tree.{TreeState, files_of}
 
 -- `w` is a tree after a crash of `v`: an image, by one map of names, with each file synced
-pub record IsCrashOf (v w : TreeState) : Type 0 where
+pub record IsAfterCrashInOrder (v w : TreeState) : Type 0 where
   -- what is read then is what a crash may leave of `v`
-  pub left : IsImage v (files_of w)
+  pub left : IsCrashImageInOrder v (files_of w)
   -- no change of names can be undone any more
   pub one_map : w.older ≡ []
   -- each file that a name leads to is synced
@@ -27,7 +27,7 @@ pub record SinceBy (P : List TreeState → TreeState → Type 0)
   pub each : EachMoment P added
 
 -- at one of the moments the name as read led to a file whose number is `made` or larger
-abbrev pub HasLed : List ℕ → ℕ → List TreeState → Type 0
-HasLed name made [] = ⊥
-HasLed name made (v ∷ earlier) =
-    ((n : ℕ) × (v.names name ≡ Some n) × (made ≤ n)) ⊎ HasLed name made earlier
+abbrev pub HasNamedNewFile : List ℕ → ℕ → List TreeState → Type 0
+HasNamedNewFile name made [] = ⊥
+HasNamedNewFile name made (v ∷ earlier) =
+    ((n : ℕ) × (v.names name ≡ Some n) × (made ≤ n)) ⊎ HasNamedNewFile name made earlier

@@ -3,7 +3,7 @@
 -- counts".
 use Rattle.std.specs.Prelude.{◌≡◌, ◌⊎◌, ◌≢◌, ◌≤◌, ◌<◌, ℕ, ◌+◌, Bool, true, false, if◌then◌else◌, ◌==◌, List, [], ◌∷◌, ◌++◌, Option, Some, None, IsSome, length}
 use Rattle.base_core.specs.Lists.{IsIn}
-use Rattle.base_core.specs.Files.{Files, NameMap, put_name, drop_name, move_name, AreNames, IsFile, IsFolderLike, IsWithin}
+use Rattle.base_core.specs.Files.{Files, NameMap, put_name, drop_name, move_name, AreNames, IsFile, HasNoFileAsFolder, HasNamesAmong}
 
 -- a file: its bytes as read, and whether a crash keeps exactly these
 pub record File : Type 0 where
@@ -105,8 +105,8 @@ same_state v = v
 -- ---- when a call is no misuse
 
 -- for a call that is never a misuse
-abbrev pub Anywhere : TreeState → Type 0
-Anywhere v = Unit {0}
+abbrev pub IsAlwaysAllowed : TreeState → Type 0
+IsAlwaysAllowed v = Unit {0}
 
 -- for `append` and `sync`: a file is under the name
 abbrev pub HasName : List ℕ → TreeState → Type 0
@@ -121,7 +121,7 @@ CanRead name at len v =
 pub record CanCreate (name : List ℕ) (v : TreeState) : Type 0 where
   pub absent : v.names name ≡ None
   -- with the new name no name is a folder of another
-  pub folders : IsFolderLike (put_name v.names name v.made)
+  pub folders : HasNoFileAsFolder (put_name v.names name v.made)
 
 -- for `rename`: a file is under the first name, the names differ, and no file's name would be a
 -- folder of another
@@ -129,7 +129,7 @@ pub record CanRename (from to : List ℕ) (v : TreeState) : Type 0 where
   pub present : IsSome (v.names from)
   pub apart : from ≢ to
   -- the test does not depend on the file, so 0 serves as its number
-  pub folders : IsFolderLike (put_name (drop_name v.names from) to 0)
+  pub folders : HasNoFileAsFolder (put_name (drop_name v.names from) to 0)
 
 -- ---- the maps of names
 
@@ -140,13 +140,13 @@ IsMapOf v map = IsIn map (v.names ∷ v.older)
 -- what holds of every observable state. In each map of names finitely many names are present, each is a
 -- name, none is a folder of another, and each leads to a file that was made. Each file has fewer than 2
 -- ^ 64 bytes
-pub record IsWhole (v : TreeState) : Type 0 where
+pub record IsWellFormed (v : TreeState) : Type 0 where
   -- finitely many names are present
-  pub finite : (map : NameMap) → IsMapOf v map → (names : List (List ℕ)) × IsWithin names map
+  pub finite : (map : NameMap) → IsMapOf v map → (names : List (List ℕ)) × HasNamesAmong names map
   -- each is a name
   pub named : (map : NameMap) → IsMapOf v map → AreNames map
   -- none is a folder of another
-  pub folders : (map : NameMap) → IsMapOf v map → IsFolderLike map
+  pub folders : (map : NameMap) → IsMapOf v map → HasNoFileAsFolder map
   -- each leads to a file that was made
   pub made : (map : NameMap) → IsMapOf v map → (q : List ℕ) (n : ℕ) → map q ≡ Some n → n < v.made
   -- each file has fewer than 2 ^ 64 bytes

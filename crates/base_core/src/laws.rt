@@ -2,55 +2,124 @@
 //! counts. A crate above calls such a function to use its law; it does nothing at run time.
 //! `docs/crash-safety.md` says the laws in words: those of a crash in "What a crash leaves", those
 //! of a listing in "A tree at one moment".
-ghost use Rattle.std.specs.Prelude.{◌≡◌, ◌≤◌, ◌++◌, ℕ, List, Option, Result, Bool};
-ghost use Rattle.base_core.specs.Crash.{IsImage, IsImageBy, IsOrderly};
-ghost use Rattle.base_core.specs.Faults.{Counts, GoesOn, HasCause, IsNoFault};
-ghost use Rattle.base_core.specs.Files.{Files, NameMap, AreNamedFiles, IsWithin};
+ghost use Rattle.std.specs.Prelude.{◌≡◌, ◌≤◌, ◌++◌, ℕ, List, [], Option, Result, Bool};
+ghost use Rattle.base_core.specs.Crash.{IsCrashImageInOrder, IsCrashImageBy, IsDurableInOrder};
+ghost use Rattle.base_core.specs.Faults.{Counts, CountsOnlyRise, HasCause, IsNoFault};
+ghost use Rattle.base_core.specs.Files.{Files, NameMap, AreNamedFiles, HasNamesAmong};
 ghost use Rattle.base_core.specs.Listed.{AreNamesBelow, IsListOf, IsNamesOf};
 ghost use Rattle.base_core.specs.Read.{OnlyReads};
-ghost use Rattle.base_core.specs.Restart.{HasLed, IsCrashOf};
-ghost use Rattle.base_core.specs.Tree.{TreeState, IsMapOf, IsWhole, files_of, files_by};
+ghost use Rattle.base_core.specs.Restart.{HasNamedNewFile, IsAfterCrashInOrder};
+ghost use Rattle.base_core.specs.Tree.{TreeState, IsMapOf, IsWellFormed, files_of, files_by, with_names};
+ghost use Rattle.base_core.specs.Undone.{IsAfterCrash, IsDurable, IsCrashImage, IsCrashMap, with_change};
 
 // ---- crashes
 
 /// The files by each map of names, and so the files as read, are among what a crash may leave.
 pub fn a_crash_may_leave_the_files_as_read()
-    ensures read { (v : TreeState) → IsImage v (files_of v) }
-    ensures by_map { (v : TreeState) (map : NameMap) → IsMapOf v map → IsImage v (files_by v map) }
+    ensures read { (v : TreeState) → IsCrashImageInOrder v (files_of v) }
+    ensures by_map { (v : TreeState) (map : NameMap) → IsMapOf v map
+        → IsCrashImageInOrder v (files_by v map) }
 {}
 
-/// A second crash leaves the same files as the first.
-pub fn a_crash_settles()
-    ensures { (v w : TreeState) → IsCrashOf v w → (image : Files) → IsImage w image
+/// If crashes undo only the last changes of names, a second one leaves the same files as the first.
+pub fn a_second_crash_in_order_leaves_the_same_files()
+    ensures { (v w : TreeState) → IsAfterCrashInOrder v w → (image : Files)
+        → IsCrashImageInOrder w image
         → (q : List ℕ) → image q ≡ files_of w q }
 {}
 
 /// Which files have to be durable. A crate that can read the journal implements this, and then has
-/// the laws below for its own `rests_on`.
+/// the laws below for its own `depends_on`.
 pub trait Durability {
     /// Whether the file of a name must be durable, given all files and the ignored names.
-    ghost rests_on: { (List ℕ → Bool) → Files → List ℕ → Type 0 };
+    ghost depends_on: { (List ℕ → Bool) → Files → List ℕ → Type 0 };
 }
 
-/// After a crash a tree is orderly, whichever files must be durable.
-pub fn a_crash_leaves_order<D: Durability>()
-    ensures { (ignored : List ℕ → Bool) (v w : TreeState) → IsCrashOf v w
-        → IsOrderly (D.rests_on ignored) w }
+/// After a crash that undoes only the last changes of names a tree is durable, whichever files must
+/// be.
+pub fn a_crash_in_order_leaves_a_durable_tree<D: Durability>()
+    ensures { (ignored : List ℕ → Bool) (v w : TreeState) → IsAfterCrashInOrder v w
+        → IsDurableInOrder (D.depends_on ignored) w }
 {}
 
-/// A crash of an orderly tree keeps, by one of its maps, the bytes of each file that must be
-/// durable.
-pub fn order_outlasts_a_crash<D: Durability>()
-    ensures { (ignored : List ℕ → Bool) (v : TreeState) → IsOrderly (D.rests_on ignored) v
-        → (map : NameMap) → IsMapOf v map → (image : Files) → IsImageBy v map image
-        → (q : List ℕ) → D.rests_on ignored (files_by v map) q → image q ≡ files_by v map q }
+/// A crash that undoes only the last changes of names keeps, by one of the maps of a tree that is
+/// durable then, the bytes of each file that must be durable.
+pub fn a_crash_in_order_keeps_the_files_of_a_durable_tree<D: Durability>()
+    ensures { (ignored : List ℕ → Bool) (v : TreeState) → IsDurableInOrder (D.depends_on ignored) v
+        → (map : NameMap) → IsMapOf v map → (image : Files) → IsCrashImageBy v map image
+        → (q : List ℕ) → D.depends_on ignored (files_by v map) q → image q ≡ files_by v map q }
 {}
 
-/// A tree stays orderly if fewer files must be durable.
-pub fn order_lasts_where_less_rests<D: Durability>()
+/// A tree stays durable, if a crash undoes only the last changes, if fewer files must be.
+pub fn a_tree_stays_durable_in_order_if_fewer_files_must_be<D: Durability>()
     ensures { (more fewer : List ℕ → Bool) (v : TreeState)
-        → ((files : Files) (q : List ℕ) → D.rests_on fewer files q → D.rests_on more files q)
-        → IsOrderly (D.rests_on more) v → IsOrderly (D.rests_on fewer) v }
+        → ((files : Files) (q : List ℕ) → D.depends_on fewer files q → D.depends_on more files q)
+        → IsDurableInOrder (D.depends_on more) v → IsDurableInOrder (D.depends_on fewer) v }
+{}
+
+// ---- crashes that undo any of the changes
+
+/// The files as read are among what a crash may leave, and so are those by each map that it may
+/// leave. A crash may undo or keep each change of names, whatever it does with the earlier ones.
+pub fn a_crash_may_undo_any_changes()
+    ensures read { (v : TreeState) → IsCrashImage v (files_of v) }
+    ensures by_map { (v : TreeState) (map : NameMap) → IsCrashMap v map
+        → IsCrashImage v (files_by v map) }
+    ensures undone { (v : TreeState) (names map : NameMap) → IsCrashMap v map
+        → IsCrashMap (with_names v names) map }
+    ensures kept { (v : TreeState) (names map : NameMap) → IsCrashMap v map
+        → IsCrashMap (with_names v names) (with_change v.names names map) }
+{}
+
+/// A crash that undoes only the last changes, in any number, is a case: each map since the last
+/// sync of the names may be left. So what holds of each crash here holds of each crash there.
+pub fn a_crash_may_undo_the_last_changes()
+    ensures map { (v : TreeState) (map : NameMap) → IsMapOf v map → IsCrashMap v map }
+    ensures image { (v : TreeState) (image : Files) → IsCrashImageInOrder v image
+        → IsCrashImage v image }
+    ensures crash { (v w : TreeState) → IsAfterCrashInOrder v w → IsAfterCrash v w }
+{}
+
+/// Whatever a crash undoes, each name then leads where it led in one of the maps since the last
+/// sync of the names. If there is one map, it is the only one that a crash may leave.
+pub fn a_crash_leaves_each_name_where_it_led()
+    ensures leads { (v : TreeState) (map : NameMap) → IsCrashMap v map → (q : List ℕ)
+        → (one : NameMap) × IsMapOf v one × (map q ≡ one q) }
+    ensures one_map { (v : TreeState) → v.older ≡ [] → (map : NameMap) → IsCrashMap v map
+        → map ≡ v.names }
+{}
+
+/// A durable tree is durable too if a crash undoes only the last changes of names.
+pub fn a_durable_tree_is_durable_in_order<D: Durability>()
+    ensures { (ignored : List ℕ → Bool) (v : TreeState) → IsDurable (D.depends_on ignored) v
+        → IsDurableInOrder (D.depends_on ignored) v }
+{}
+
+/// A second crash leaves the same files as the first.
+pub fn a_second_crash_leaves_the_same_files()
+    ensures { (v w : TreeState) → IsAfterCrash v w → (image : Files) → IsCrashImage w image
+        → (q : List ℕ) → image q ≡ files_of w q }
+{}
+
+/// After a crash a tree is durable, whichever files must be.
+pub fn a_crash_leaves_a_durable_tree<D: Durability>()
+    ensures { (ignored : List ℕ → Bool) (v w : TreeState) → IsAfterCrash v w
+        → IsDurable (D.depends_on ignored) w }
+{}
+
+/// A crash of a durable tree keeps, by the map that it leaves, the bytes of each file that must be
+/// durable.
+pub fn a_crash_keeps_the_files_of_a_durable_tree<D: Durability>()
+    ensures { (ignored : List ℕ → Bool) (v : TreeState) → IsDurable (D.depends_on ignored) v
+        → (map : NameMap) → IsCrashMap v map → (image : Files) → IsCrashImageBy v map image
+        → (q : List ℕ) → D.depends_on ignored (files_by v map) q → image q ≡ files_by v map q }
+{}
+
+/// A tree stays durable if fewer files must be.
+pub fn a_tree_stays_durable_if_fewer_files_must_be<D: Durability>()
+    ensures { (more fewer : List ℕ → Bool) (v : TreeState)
+        → ((files : Files) (q : List ℕ) → D.depends_on fewer files q → D.depends_on more files q)
+        → IsDurable (D.depends_on more) v → IsDurable (D.depends_on fewer) v }
 {}
 
 // ---- names and files
@@ -58,7 +127,7 @@ pub fn order_lasts_where_less_rests<D: Durability>()
 /// A listing can always be answered: each folder of a whole state has exactly one, and all its
 /// elements are names.
 pub fn a_folder_has_one_listing()
-    ensures exists { (v : TreeState) → IsWhole v → (folder : List ℕ)
+    ensures exists { (v : TreeState) → IsWellFormed v → (folder : List ℕ)
         → (names : List (List ℕ)) × IsListOf folder v names × AreNamesBelow folder names }
     ensures one { (v : TreeState) (folder : List ℕ) (a b : List (List ℕ))
         → IsListOf folder v a → IsListOf folder v b → a ≡ b }
@@ -67,7 +136,7 @@ pub fn a_folder_has_one_listing()
 /// A map with finitely many names has exactly one list of them. Each map of a whole state is such a
 /// map.
 pub fn a_map_has_one_list_of_names()
-    ensures exists { (map : NameMap) (within : List (List ℕ)) → IsWithin within map
+    ensures exists { (map : NameMap) (within : List (List ℕ)) → HasNamesAmong within map
         → (names : List (List ℕ)) × IsNamesOf map names }
     ensures one { (map : NameMap) (a b : List (List ℕ)) → IsNamesOf map a → IsNamesOf map b
         → a ≡ b }
@@ -75,7 +144,7 @@ pub fn a_map_has_one_list_of_names()
 
 /// Files under finitely many names have exactly one list of their names.
 pub fn files_have_one_list_of_names()
-    ensures exists { (files : Files) (within : List (List ℕ)) → IsWithin within files
+    ensures exists { (files : Files) (within : List (List ℕ)) → HasNamesAmong within files
         → (names : List (List ℕ)) × IsNamesOf files names }
     ensures one { (files : Files) (a b : List (List ℕ)) → IsNamesOf files a → IsNamesOf files b
         → a ≡ b }
@@ -89,28 +158,29 @@ pub fn the_files_as_read_have_the_names_as_read()
 
 /// The files of a whole state, by each of its maps, are finitely many, and each is under a name and
 /// has fewer than 2^64 bytes.
-pub fn the_files_of_a_whole_state_are_named_files()
-    ensures named { (v : TreeState) → IsWhole v → (map : NameMap) → IsMapOf v map
+pub fn the_files_of_a_well_formed_state_are_named_files()
+    ensures named { (v : TreeState) → IsWellFormed v → (map : NameMap) → IsMapOf v map
         → AreNamedFiles (files_by v map) }
-    ensures read { (v : TreeState) → IsWhole v → AreNamedFiles (files_of v) }
-    ensures finite { (v : TreeState) → IsWhole v → (names : List (List ℕ))
-        × IsWithin names (files_of v) }
+    ensures read { (v : TreeState) → IsWellFormed v → AreNamedFiles (files_of v) }
+    ensures finite { (v : TreeState) → IsWellFormed v → (names : List (List ℕ))
+        × HasNamesAmong names (files_of v) }
 {}
 
 // ---- calls in a row
 
 /// What holds of the counts over each of two calls in a row holds over both. If there is no call,
 /// no count changes.
-pub fn counts_of_calls_in_a_row_join()
-    ensures goes_on { (a b c : Counts) → GoesOn a b → GoesOn b c → GoesOn a c }
-    ensures cause_before { (a b c : Counts) → HasCause a b → GoesOn b c → HasCause a c }
-    ensures cause_behind { (a b c : Counts) → GoesOn a b → HasCause b c → HasCause a c }
+pub fn counts_of_consecutive_calls_compose()
+    ensures goes_on { (a b c : Counts) → CountsOnlyRise a b → CountsOnlyRise b c
+        → CountsOnlyRise a c }
+    ensures cause_before { (a b c : Counts) → HasCause a b → CountsOnlyRise b c → HasCause a c }
+    ensures cause_after { (a b c : Counts) → CountsOnlyRise a b → HasCause b c → HasCause a c }
     ensures no_fault { (a b c : Counts) → IsNoFault a b → IsNoFault b c → IsNoFault a c }
-    ensures stays { (a : Counts) → GoesOn a a × IsNoFault a a }
+    ensures stays { (a : Counts) → CountsOnlyRise a a × IsNoFault a a }
 {}
 
 /// A sequence of calls that only read only reads, if all but the last succeeded.
-pub fn readings_in_a_row_join<A, B, E>()
+pub fn consecutive_reads_compose<A, B, E>()
     ensures none { (disk_fault : E) (h : List TreeState) (a : Counts) (value : A)
         → OnlyReads disk_fault h h a a (Ok value) }
     ensures two { (disk_fault : E) (h0 h1 h2 : List TreeState) (a b c : Counts) (value : A)
@@ -123,7 +193,7 @@ pub fn readings_in_a_row_join<A, B, E>()
 /// and of more moments.
 pub fn a_file_made_in_a_run_was_made_in_an_earlier_one()
     ensures begun { (name : List ℕ) (a b : ℕ) (moments : List TreeState) → a ≤ b
-        → HasLed name b moments → HasLed name a moments }
+        → HasNamedNewFile name b moments → HasNamedNewFile name a moments }
     ensures later { (name : List ℕ) (made : ℕ) (later moments : List TreeState)
-        → HasLed name made moments → HasLed name made (later ++ moments) }
+        → HasNamedNewFile name made moments → HasNamedNewFile name made (later ++ moments) }
 {}

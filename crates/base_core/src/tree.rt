@@ -3,11 +3,11 @@
 //! misuse, and what is counted ("Misuses, faults and counts").
 ghost use Rattle.std.specs.Prelude.{◌≡◌, ℕ, List, Option, Some, length, take, drop, IfOk, OnOk, IfSome, IsErrOf, All};
 ghost use Rattle.std.specs.Option.{option_map, option_copied};
-ghost use Rattle.base_core.specs.Tree.{TreeState, files_of, after_create, after_append, after_failed_append, after_sync, after_rename, after_remove, after_sync_names, same_state, Anywhere, HasName, CanRead, CanCreate, CanRename, IsWhole};
-ghost use Rattle.base_core.specs.Faults.{Counts, GoesOn, HasCause, IsNoFault};
-ghost use Rattle.base_core.specs.Calls.{IsCounted, Moves, IfObservable};
+ghost use Rattle.base_core.specs.Tree.{TreeState, files_of, after_create, after_append, after_failed_append, after_sync, after_rename, after_remove, after_sync_names, same_state, IsAlwaysAllowed, HasName, CanRead, CanCreate, CanRename, IsWellFormed};
+ghost use Rattle.base_core.specs.Faults.{Counts, CountsOnlyRise, HasCause, IsNoFault};
+ghost use Rattle.base_core.specs.Calls.{IsCounted, ChangesHistory, IfObservable};
 ghost use Rattle.base_core.specs.Listed.{AreNamesBelow, IsListOf};
-ghost use Rattle.base_core.specs.Read.{HasReadBehind, OnlyReads, bytes_in};
+ghost use Rattle.base_core.specs.Read.{HasReadAfter, OnlyReads, bytes_in};
 ghost use Rattle.base_core.specs.declared.tree.TreeFault.TheVariants.{Memory, Disk as DiskFault};
 
 use crate::name::{Name, Names};
@@ -70,7 +70,7 @@ pub trait Tree {
     /// The file's length in bytes, or None exactly if the name is absent.
     fn size(&mut self, name: &Name) -> Result<Option<u64>, Disk>
         ensures same { history self.new ≡ history self.old }
-        ensures counts { IsCounted Anywhere (history self.old) (counts self.old)
+        ensures counts { IsCounted IsAlwaysAllowed (history self.old) (counts self.old)
             (counts self.new) result }
         ensures value { IfOk result (λ size. IfObservable (history self.old) (λ v.
             size ≡ option_map length (files_of v name.now))) };
@@ -88,7 +88,8 @@ pub trait Tree {
     /// Makes an empty file, which is not synced. A name that is present, or that would make one
     /// name a folder of another, is a misuse, and a fault.
     fn create(&mut self, name: &Name) -> Result<(), Disk>
-        ensures moves { Moves (CanCreate name.now) (after_create name.now) (after_create name.now)
+        ensures moves { ChangesHistory (CanCreate name.now) (after_create name.now) (after_create
+            name.now)
             (history self.old) (history self.new) result }
         ensures counts { IsCounted (CanCreate name.now) (history self.old)
             (counts self.old) (counts self.new) result };
@@ -96,7 +97,7 @@ pub trait Tree {
     /// Adds a piece at the file's end. The file is unsynced then, and may be unsynced if the call
     /// fails. An absent name is a misuse, and a fault.
     fn append(&mut self, name: &Name, piece: &[u8]) -> Result<(), Disk>
-        ensures moves { Moves (HasName name.now) (after_append name.now piece.now)
+        ensures moves { ChangesHistory (HasName name.now) (after_append name.now piece.now)
             (after_failed_append name.now)
             (history self.old) (history self.new) result }
         ensures counts { IsCounted (HasName name.now) (history self.old)
@@ -105,7 +106,7 @@ pub trait Tree {
     /// File fsync: no later crash undoes what was written to the file before this call. An absent
     /// name is a misuse, and a fault.
     fn sync(&mut self, name: &Name) -> Result<(), Disk>
-        ensures moves { Moves (HasName name.now) (after_sync name.now) same_state
+        ensures moves { ChangesHistory (HasName name.now) (after_sync name.now) same_state
             (history self.old) (history self.new) result }
         ensures counts { IsCounted (HasName name.now) (history self.old)
             (counts self.old) (counts self.new) result };
@@ -114,30 +115,32 @@ pub trait Tree {
     /// led to is gone. An absent `from`, the same name twice, or a `to` that would make one name a
     /// folder of another is a misuse, and a fault.
     fn rename(&mut self, from: &Name, to: &Name) -> Result<(), Disk>
-        ensures moves { Moves (CanRename from.now to.now) (after_rename from.now to.now)
+        ensures moves { ChangesHistory (CanRename from.now to.now) (after_rename from.now to.now)
             (after_rename from.now to.now) (history self.old) (history self.new) result }
         ensures counts { IsCounted (CanRename from.now to.now) (history self.old)
             (counts self.old) (counts self.new) result };
 
     /// Removes a name. An absent name is no fault, and nothing changes.
     fn remove(&mut self, name: &Name) -> Result<(), Disk>
-        ensures moves { Moves Anywhere (after_remove name.now) (after_remove name.now)
+        ensures moves { ChangesHistory IsAlwaysAllowed (after_remove name.now) (after_remove
+            name.now)
             (history self.old) (history self.new) result }
-        ensures counts { IsCounted Anywhere (history self.old) (counts self.old)
+        ensures counts { IsCounted IsAlwaysAllowed (history self.old) (counts self.old)
             (counts self.new) result };
 
     /// Directory fsync: no later crash undoes a change of names made before this call.
     fn sync_names(&mut self) -> Result<(), Disk>
-        ensures moves { Moves Anywhere after_sync_names same_state (history self.old)
+        ensures moves { ChangesHistory IsAlwaysAllowed after_sync_names same_state (history
+            self.old)
             (history self.new) result }
-        ensures counts { IsCounted Anywhere (history self.old) (counts self.old)
+        ensures counts { IsCounted IsAlwaysAllowed (history self.old) (counts self.old)
             (counts self.new) result };
 
     /// All names below a folder, at any depth, in byte order, each once, even if the history is not
     /// observable. Out of memory is no fault of the tree.
     fn list(&mut self, alloc: Global, folder: &Name) -> Result<Names, TreeFault>
         ensures same { history self.new ≡ history self.old }
-        ensures goes_on { GoesOn (counts self.old) (counts self.new) }
+        ensures goes_on { CountsOnlyRise (counts self.old) (counts self.new) }
         // A failed tree has its cause; no other answer adds a fault or a lack of memory.
         ensures disk { IsErrOf result DiskFault → HasCause (counts self.old) (counts self.new) }
         ensures kept { OnOk result (IsNoFault (counts self.old) (counts self.new)) }
@@ -154,13 +157,13 @@ pub trait Tree {
     /// state.
     fn check_target(&mut self, name: &Name, source: Option<&Name>) -> Result<(), Disk>
         ensures same { history self.new ≡ history self.old }
-        ensures counts { IsCounted Anywhere (history self.old) (counts self.old)
+        ensures counts { IsCounted IsAlwaysAllowed (history self.old) (counts self.old)
             (counts self.new) result }
         ensures accepted { OnOk result (accepts (option_copied source.entry) name.now) };
 
     /// Each state that is observable is whole: its names are names, finitely many, none a folder of
     /// another, and each leads to a file that was made, of fewer than 2^64 bytes.
-    ghost whole: { (tree : Self) → All IsWhole (history tree) };
+    ghost whole: { (tree : Self) → All IsWellFormed (history tree) };
 }
 
 /// The whole file, or None exactly if the name is absent. The tree is unchanged, whatever is
@@ -183,7 +186,7 @@ pub fn read_all<T: Tree>(
         return Ok(None);
     };
     let mut bytes = Vec::with_capacity(alloc, size as usize)?;
-    read_behind(tree, name, size, &mut bytes)?;
+    append_file_to(tree, name, size, &mut bytes)?;
     Ok(Some(bytes))
 }
 
@@ -199,7 +202,7 @@ const LONGEST_READ: u64 = 131_072;
 ///
 /// `Disk` if the tree failed, `Memory` if out of memory; then a part of the file may have been
 /// appended.
-pub fn read_behind<T: Tree>(
+pub fn append_file_to<T: Tree>(
     tree: &mut T,
     name: &Name,
     size: u64,
@@ -207,7 +210,7 @@ pub fn read_behind<T: Tree>(
 ) -> Result<(), TreeFault>
     requires { IfObservable (T.history tree.old) (λ v.
         Some size ≡ option_map length (files_of v name.now)) }
-    ensures added { OnOk result (HasReadBehind (T.history tree.old) name.now 0 size
+    ensures added { OnOk result (HasReadAfter (T.history tree.old) name.now 0 size
         bytes.old.items bytes.new.items) }
     ensures tree { OnlyReads TreeFault.Disk (T.history tree.old) (T.history tree.new)
         (T.counts tree.old) (T.counts tree.new) result }
@@ -231,7 +234,7 @@ fn read_some<T: Tree>(
     bytes: &mut Vec<u8>,
 ) -> Result<(), TreeFault>
     requires { IfObservable (T.history tree.old) (CanRead name.now at len) }
-    ensures added { OnOk result (HasReadBehind (T.history tree.old) name.now at len
+    ensures added { OnOk result (HasReadAfter (T.history tree.old) name.now at len
         bytes.old.items bytes.new.items) }
     ensures tree { OnlyReads TreeFault.Disk (T.history tree.old) (T.history tree.new)
         (T.counts tree.old) (T.counts tree.new) result }

@@ -68,16 +68,16 @@ not_same installed c h = elim (bool_cases (is_same_package installed c)) [
   | inr e ↦ e
 ]
 
-marked_behind : (installed : Candidate) (front cs : List Candidate) → marked_among installed (places_from (length front) (offers_name installed.name) cs) (front ++ cs) ≡ front ++ as_installed_where_same installed cs
-marked_behind installed front [] = refl
-marked_behind installed front (c ∷ cs) =
+marked_after : (installed : Candidate) (front cs : List Candidate) → marked_among installed (places_from (length front) (offers_name installed.name) cs) (front ++ cs) ≡ front ++ as_installed_where_same installed cs
+marked_after installed front [] = refl
+marked_after installed front (c ∷ cs) =
     let test = offers_name installed.name in
     let new : Candidate = if is_same_package installed c then as_installed c else c in
     let len : length (front ++ new ∷ []) ≡ suc (length front) = simp length-append (omega arith) in
     let rest : marked_among installed (places_from (suc (length front)) test cs) (front ++ new ∷ cs) ≡ front ++ new ∷ as_installed_where_same installed cs =
     subst (λ (n : ℕ). marked_among installed (places_from n test cs) (front ++ new ∷ cs) ≡ front ++ new ∷ as_installed_where_same installed cs) len
     (subst (λ (z : List Candidate). marked_among installed (places_from (length (front ++ new ∷ [])) test cs) z ≡ front ++ new ∷ as_installed_where_same installed cs) (append_assoc front (new ∷ []) cs)
-    (marked_behind installed (front ++ new ∷ []) cs ∙ append_assoc front (new ∷ []) (as_installed_where_same installed cs))) in
+    (marked_after installed (front ++ new ∷ []) cs ∙ append_assoc front (new ∷ []) (as_installed_where_same installed cs))) in
     elim (bool_cases (test c)) [
       | inl e ↦ rw e (ap (marked_among installed (places_from (suc (length front)) test cs)) (at_front installed c front cs) ∙ rest)
       | inr e ↦
@@ -86,7 +86,7 @@ marked_behind installed front (c ∷ cs) =
     ]
 
 pub marked_all : (installed : Candidate) (cs : List Candidate) → marked_among installed (places_from 0 (offers_name installed.name) cs) cs ≡ as_installed_where_same installed cs
-marked_all installed cs = marked_behind installed [] cs
+marked_all installed cs = marked_after installed [] cs
 
 same_still : (installed c : Candidate) → is_same_package installed (if is_same_package installed c then as_installed c else c) ≡ is_same_package installed c
 same_still installed c = elim (bool_cases (is_same_package installed c)) [ inl e ↦ rw e e | inr e ↦ rw e e ]

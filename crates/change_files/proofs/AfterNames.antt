@@ -10,8 +10,8 @@ use Rattle.base_core.proofs.Rising.{IsIn}
 use Rattle.db_core.specs.Members.{Listing}
 use Rattle.path_clashes.specs.Clash.{is_name_after}
 use Rattle.change_files.specs.FileChange.{FileChange, is_claimed, old_entry, was_listed}
-use Rattle.change_files.specs.FilesAfter.{Records, bytes_after, changed_files, database_name, is_kept, is_removed, is_written, laid_beside, may_stay, path_beside, text_database_name, world_bytes_after, world_name, written_as}
-use Rattle.change_files.specs.NamesAfter.{coming_paths, is_let_go, counts_as_written, name_change}
+use Rattle.change_files.specs.FilesAfter.{Records, bytes_after, changed_files, database_name, is_kept, is_removed, is_written, aside_listing_at, may_be_kept, path_beside, text_database_name, world_bytes_after, world_name, written_as}
+use Rattle.change_files.specs.NamesAfter.{added_paths, is_released, counts_as_written, name_change}
 use Rattle.change_files.specs.Touched.{is_record_name}
 use Rattle.change_files.proofs.Lists.{any_name}
 use Rattle.change_files.proofs.Owned.{in_coming_paths, is_beside, written_is}
@@ -20,28 +20,28 @@ use Rattle.change_files.proofs.Untouched.{changed_so, is_gone}
 -- ---- what counts as written
 
 counted : (change : FileChange) (files : Files) (name : List ℕ) → counts_as_written change files name ≡ true → is_name_after (name_change change files) files name ≡ true
-counted change files name written = or_right (is_some (files name) && not (is_let_go change files name)) (counts_as_written change files name) written
+counted change files name written = or_right (is_some (files name) && not (is_released change files name)) (counts_as_written change files name) written
 
-counts_path : (change : FileChange) (files : Files) (name : List ℕ) → IsIn name (database_name ∷ world_name ∷ coming_paths change.members) → counts_as_written change files name ≡ true
+counts_path : (change : FileChange) (files : Files) (name : List ℕ) → IsIn name (database_name ∷ world_name ∷ added_paths change.members) → counts_as_written change files name ≡ true
 unfolding counts_as_written
 counts_path change files name among =
-    or_left (list_any (bytes_eq name) (database_name ∷ world_name ∷ coming_paths change.members)) (is_some (option_and_then (laid_beside change files) (path_beside name)))
-    (any_name name (database_name ∷ world_name ∷ coming_paths change.members) among)
+    or_left (list_any (bytes_eq name) (database_name ∷ world_name ∷ added_paths change.members)) (is_some (option_and_then (aside_listing_at change files) (path_beside name)))
+    (any_name name (database_name ∷ world_name ∷ added_paths change.members) among)
 
-counts_beside : (change : FileChange) (files : Files) (name : List ℕ) → is_some (option_and_then (laid_beside change files) (path_beside name)) ≡ true → counts_as_written change files name ≡ true
+counts_beside : (change : FileChange) (files : Files) (name : List ℕ) → is_some (option_and_then (aside_listing_at change files) (path_beside name)) ≡ true → counts_as_written change files name ≡ true
 unfolding counts_as_written
 counts_beside change files name beside =
-    or_right (list_any (bytes_eq name) (database_name ∷ world_name ∷ coming_paths change.members)) (is_some (option_and_then (laid_beside change files) (path_beside name))) beside
+    or_right (list_any (bytes_eq name) (database_name ∷ world_name ∷ added_paths change.members)) (is_some (option_and_then (aside_listing_at change files) (path_beside name))) beside
 
 counts_written : (change : FileChange) (files : Files) (name : List ℕ) (l : Listing) → written_as change files name ≡ Some l → counts_as_written change files name ≡ true
 counts_written change files name l e =
     let written = written_is change files name l e in
     elim written.under [
       | inl own ↦ counts_path change files name
-          (inr (inr (subst (λ (q : List ℕ). IsIn q (coming_paths change.members)) (sym own.0) (in_coming_paths change l.path l written.comes))))
+          (inr (inr (subst (λ (q : List ℕ). IsIn q (added_paths change.members)) (sym own.0) (in_coming_paths change l.path l written.comes))))
       | inr beside ↦ counts_beside change files name
-          (ap (λ (q : List ℕ). is_some (option_and_then (laid_beside change files) (path_beside q))) beside.0
-          ∙ (ap (λ (o : Option (List ℕ)). is_some (option_and_then (laid_beside change files) o)) (is_beside l.path)
+          (ap (λ (q : List ℕ). is_some (option_and_then (aside_listing_at change files) (path_beside q))) beside.0
+          ∙ (ap (λ (o : Option (List ℕ)). is_some (option_and_then (aside_listing_at change files) o)) (is_beside l.path)
           ∙ ap is_some beside.1))
     ]
 
@@ -56,22 +56,22 @@ gone_by true false false true w e = absurd (true≢false (sym e))
 gone_by true false false false w e = refl
 
 -- a name that is let go, and not written, is removed
-let_go_removed : (change : FileChange) (files : Files) (name : List ℕ) → is_let_go change files name ≡ true → is_written change files name ≡ false → is_removed change files name ≡ true
-unfolding is_let_go is_kept is_removed
+let_go_removed : (change : FileChange) (files : Files) (name : List ℕ) → is_released change files name ≡ true → is_written change files name ≡ false → is_removed change files name ≡ true
+unfolding is_released is_kept is_removed
 let_go_removed change files name goes unwritten =
-    gone_by (was_listed change name) (is_claimed change name) (is_written change files name) (may_stay change name (files name) (old_entry change name)) unwritten goes
+    gone_by (was_listed change name) (is_claimed change name) (is_written change files name) (may_be_kept change name (files name) (old_entry change name)) unwritten goes
 
 still_there : (change : FileChange) (bytes_of : Listing → List ℕ) (files : Files) (name : List ℕ) → is_written change files name ≡ false → is_some (bytes_after bytes_of None (is_removed change files name) (files name)) ≡ true
     → is_name_after (name_change change files) files name ≡ true
 still_there change bytes_of files name unwritten there =
-    or_left (is_some (files name) && not (is_let_go change files name)) (counts_as_written change files name) (by_removed (is_removed change files name) refl there)
+    or_left (is_some (files name) && not (is_released change files name)) (counts_as_written change files name) (by_removed (is_removed change files name) refl there)
   where
-    by_removed : (b : Bool) → is_removed change files name ≡ b → is_some (bytes_after bytes_of None b (files name)) ≡ true → (is_some (files name) && not (is_let_go change files name)) ≡ true
+    by_removed : (b : Bool) → is_removed change files name ≡ b → is_some (bytes_after bytes_of None b (files name)) ≡ true → (is_some (files name) && not (is_released change files name)) ≡ true
     by_removed true e there = absurd (true≢false (sym there))
     by_removed false e there =
-        and_from (is_some (files name)) (not (is_let_go change files name)) there
-        (not_from_false (is_let_go change files name)
-        (false_from_ne_true (is_let_go change files name) (λ goes. true≢false (sym (let_go_removed change files name goes unwritten) ∙ e))))
+        and_from (is_some (files name)) (not (is_released change files name)) there
+        (not_from_false (is_released change files name)
+        (false_from_ne_true (is_released change files name) (λ goes. true≢false (sym (let_go_removed change files name goes unwritten) ∙ e))))
 
 by_written : (change : FileChange) (bytes_of : Listing → List ℕ) (files : Files) (name : List ℕ) → is_some (bytes_after bytes_of (written_as change files name) (is_removed change files name) (files name)) ≡ true
     → is_name_after (name_change change files) files name ≡ true
@@ -126,12 +126,12 @@ let_go_by true false true may e = absurd (true≢false (sym e))
 let_go_by true false false true e = absurd (true≢false (sym e))
 let_go_by true false false false e = refl
 
-removed_let_go : (change : FileChange) (files : Files) (name : List ℕ) → is_removed change files name ≡ true → is_let_go change files name ≡ true
-unfolding is_let_go is_kept is_removed
+removed_let_go : (change : FileChange) (files : Files) (name : List ℕ) → is_removed change files name ≡ true → is_released change files name ≡ true
+unfolding is_released is_kept is_removed
 removed_let_go change files name removed =
-    let_go_by (was_listed change name) (is_claimed change name) (is_written change files name) (may_stay change name (files name) (old_entry change name)) removed
+    let_go_by (was_listed change name) (is_claimed change name) (is_written change files name) (may_be_kept change name (files name) (old_entry change name)) removed
 
-pub name_stands : (change : FileChange) (bytes_of : Listing → List ℕ) (records : Records) (files : Files) (name : List ℕ) → is_some (files name) ≡ true → is_let_go change files name ≡ false → is_record_name records name ≡ false
+pub name_stands : (change : FileChange) (bytes_of : Listing → List ℕ) (records : Records) (files : Files) (name : List ℕ) → is_some (files name) ≡ true → is_released change files name ≡ false → is_record_name records name ≡ false
     → is_some (changed_files change bytes_of records files name) ≡ true
 name_stands change bytes_of records files name there stays other = ap is_some (changed_so change bytes_of records files name other) ∙ by_listing (written_as change files name)
   where
@@ -142,7 +142,7 @@ name_stands change bytes_of records files name there stays other = ap is_some (c
     by_listing (Some l) = refl
     by_listing None = ap (λ (b : Bool). is_some (bytes_after bytes_of None b (files name))) unremoved ∙ there
 
-pub name_goes : (change : FileChange) (bytes_of : Listing → List ℕ) (records : Records) (files : Files) (name : List ℕ) → is_let_go change files name ≡ true → is_written change files name ≡ false → is_record_name records name ≡ false
+pub name_goes : (change : FileChange) (bytes_of : Listing → List ℕ) (records : Records) (files : Files) (name : List ℕ) → is_released change files name ≡ true → is_written change files name ≡ false → is_record_name records name ≡ false
     → changed_files change bytes_of records files name ≡ None
 name_goes change bytes_of records files name goes unwritten other =
     is_gone change bytes_of records files name (let_go_removed change files name goes unwritten) other

@@ -57,8 +57,8 @@ is_at folder file e = (e.folder == folder) && (e.file == file)
 apart : (a b : ℕ) → a < b → (b == a) ≡ false
 apart a b below = false_from_ne_true (b == a) (λ e. let same = eqb-true b a e in omega (arith, same, below))
 
-behind_apart : (a b : ℕ) → a < b → (a == b) ≡ false
-behind_apart a b below = false_from_ne_true (a == b) (λ e. let same = eqb-true a b e in omega (arith, same, below))
+after_apart : (a b : ℕ) → a < b → (a == b) ≡ false
+after_apart a b below = false_from_ne_true (a == b) (λ e. let same = eqb-true a b e in omega (arith, same, below))
 
 same_position : (n : ℕ) → (n == n) ≡ true
 same_position n = eq-eqb n n refl
@@ -112,7 +112,7 @@ in_folder m place folder i above (entry ∷ entries) l (inr more) =
       of_member = rest.of_member;
       at_place = rest.at_place;
       expected = passed_over (is_at folder l.file) (is_with_contents entry) (expected_of folder i entry) (expected_files folder (i + 1) entries)
-          (and_right (folder == folder) (i == l.file) (behind_apart i l.file (omega (arith, rest.from))))
+          (and_right (folder == folder) (i == l.file) (after_apart i l.file (omega (arith, rest.from))))
           ∙ rest.expected;
     }
 
@@ -145,7 +145,7 @@ in_folders m place i (f ∷ folders) l here =
             of_member = there.of_member;
             at_place = there.at_place;
             expected = find_joined (is_at l.folder l.file) (expected_files i 1 (files_in f)) (expected_folders (i + 1) folders)
-                (none_in_files l.folder l.file i 1 (files_in f) (λ j le. and_left (i == l.folder) (j == l.file) (behind_apart i l.folder (omega (arith, there.from)))))
+                (none_in_files l.folder l.file i 1 (files_in f) (λ j le. and_left (i == l.folder) (j == l.file) (after_apart i l.folder (omega (arith, there.from)))))
                 ∙ there.expected;
           })
     ]

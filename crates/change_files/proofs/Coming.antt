@@ -10,8 +10,8 @@ use Rattle.base_core.specs.Name.{IsName, is_name, is_part, parts_of}
 use Rattle.db_core.specs.Members.{Listing}
 use Rattle.file_guard.specs.AsListed.{do_entries_agree, is_as_listed}
 use Rattle.change_files.specs.Fate.{Fate, agrees_with_old, aside_name, fate_beside, fate_by, fate_of, gives_way, goes_aside, goes_in, is_as_old, is_guarded}
-use Rattle.change_files.specs.FileChange.{FileChange, coming_owner, is_claimed, old_entry}
-use Rattle.change_files.specs.FilesAfter.{if_aside, if_in, laid_beside, path_beside, written_as}
+use Rattle.change_files.specs.FileChange.{FileChange, added_owner_listing, is_claimed, old_entry}
+use Rattle.change_files.specs.FilesAfter.{if_aside, if_in, aside_listing_at, path_beside, written_as}
 use Rattle.std.specs.Option.{option_or}
 use Rattle.change_files.specs.Touched.{IsNewEntry, IsUsersFile}
 use Rattle.change_files.proofs.Owned.{aside_found, claimed_by_owner, coming_is, is_beside, nobody_beside}
@@ -24,7 +24,7 @@ guarded_so true e = refl
 guarded_so false e = absurd (true≢false e)
 
 -- a file of which the tests say so is the user's
-users_file : (change : FileChange) (files : Files) (path bytes : List ℕ) (l : Listing) → coming_owner change path ≡ Some l → files path ≡ Some bytes
+users_file : (change : FileChange) (files : Files) (path bytes : List ℕ) (l : Listing) → added_owner_listing change path ≡ Some l → files path ≡ Some bytes
     → (not (is_guarded path) || (is_as_listed l.entry bytes || is_as_old (old_entry change path) bytes)) ≡ false → IsUsersFile change files path bytes
 users_file change files path bytes l comes present tests =
     let (unguarded, listed) = or_parts (not (is_guarded path)) (is_as_listed l.entry bytes || is_as_old (old_entry change path) bytes) tests in
@@ -36,13 +36,13 @@ users_file change files path bytes l comes present tests =
       unlike_old = λ entry is. ap (λ (o : Option Plain). is_as_old o bytes) (sym is) ∙ old;
     }
 
-fate_at : (change : FileChange) (files : Files) (path : List ℕ) (l : Listing) → coming_owner change path ≡ Some l → fate_of change files l ≡ fate_by change path l.entry (files path)
+fate_at : (change : FileChange) (files : Files) (path : List ℕ) (l : Listing) → added_owner_listing change path ≡ Some l → fate_of change files l ≡ fate_by change path l.entry (files path)
 unfolding fate_of
 fate_at change files path l comes =
     let (owner, coming) = coming_is change path l comes in
     ap (λ (q : List ℕ). fate_by change q l.entry (files q)) owner.of_path
 
-nobodys_fate : (change : FileChange) (files : Files) (path : List ℕ) (l : Listing) → coming_owner change path ≡ Some l → ((bytes : List ℕ) → IsUsersFile change files path bytes → ⊥) → fate_of change files l ≡ goes_in
+nobodys_fate : (change : FileChange) (files : Files) (path : List ℕ) (l : Listing) → added_owner_listing change path ≡ Some l → ((bytes : List ℕ) → IsUsersFile change files path bytes → ⊥) → fate_of change files l ≡ goes_in
 nobodys_fate change files path l comes nobodys = fate_at change files path l comes ∙ by_file (files path) refl
   where
     by_file : (found : Option (List ℕ)) → files path ≡ found → fate_by change path l.entry found ≡ goes_in
@@ -53,10 +53,10 @@ nobodys_fate change files path l comes nobodys = fate_at change files path l com
         by_tests true tests = refl
         by_tests false tests = absurd (nobodys bytes (users_file change files path bytes l comes present tests))
 
-pub takes_path : (change : FileChange) (files : Files) (path : List ℕ) (l : Listing) → coming_owner change path ≡ Some l → ((bytes : List ℕ) → IsUsersFile change files path bytes → ⊥) → written_as change files path ≡ Some l
+pub takes_path : (change : FileChange) (files : Files) (path : List ℕ) (l : Listing) → added_owner_listing change path ≡ Some l → ((bytes : List ℕ) → IsUsersFile change files path bytes → ⊥) → written_as change files path ≡ Some l
 unfolding written_as
 takes_path change files path l comes nobodys =
-    let beside : Option Listing = option_and_then (laid_beside change files) (path_beside path) in
+    let beside : Option Listing = option_and_then (aside_listing_at change files) (path_beside path) in
     ap (λ (o : Option Listing). option_or (option_and_then (λ l. if_in l (fate_of change files l)) o) beside) comes
     ∙ ap (λ (f : Fate). option_or (if_in l f) beside) (nobodys_fate change files path l comes nobodys)
 
@@ -77,8 +77,8 @@ new_disagrees change path entry differs = by_entry (old_entry change path) diffe
     by_entry None differs = refl
     by_entry (Some old) differs = differs old refl
 
-pub lies_beside : (change : FileChange) (files : Files) (path bytes : List ℕ) (l : Listing) → coming_owner change path ≡ Some l → IsUsersFile change files path bytes → IsNewEntry change path l.entry
-    → IsName (aside_name path) → is_claimed change (aside_name path) ≡ false → laid_beside change files path ≡ Some l
+pub lies_beside : (change : FileChange) (files : Files) (path bytes : List ℕ) (l : Listing) → added_owner_listing change path ≡ Some l → IsUsersFile change files path bytes → IsNewEntry change path l.entry
+    → IsName (aside_name path) → is_claimed change (aside_name path) ≡ false → aside_listing_at change files path ≡ Some l
 lies_beside change files path bytes l comes own differs named free =
     let tests : (not (agrees_with_old (old_entry change path) l.entry) && (nat_le (length (aside_name path)) 1024 && not (is_claimed change (aside_name path)))) ≡ true =
     and_from (not (agrees_with_old (old_entry change path) l.entry)) (nat_le (length (aside_name path)) 1024 && not (is_claimed change (aside_name path)))
@@ -100,14 +100,14 @@ new_entry change path entry aside old is = by_tests (do_entries_agree old entry)
         (ap (λ (o : Option Plain). agrees_with_old o entry) is ∙ agrees) in
         absurd (cc)
 
-pub beside_users_file : (change : FileChange) (files : Files) (path : List ℕ) (l : Listing) → laid_beside change files path ≡ Some l
+pub beside_users_file : (change : FileChange) (files : Files) (path : List ℕ) (l : Listing) → aside_listing_at change files path ≡ Some l
     → ((bytes : List ℕ) × IsUsersFile change files path bytes) × IsNewEntry change path l.entry × (is_claimed change (aside_name path) ≡ false)
 beside_users_file change files path l laid =
     let (comes, aside) = aside_found change files path l laid in
     let (own, differs) = by_file comes (files path) refl (sym (fate_at change files path l comes) ∙ aside) in
     (own, differs, nobody_beside change files path l laid)
   where
-    by_file : coming_owner change path ≡ Some l → (found : Option (List ℕ)) → files path ≡ found → fate_by change path l.entry found ≡ goes_aside
+    by_file : added_owner_listing change path ≡ Some l → (found : Option (List ℕ)) → files path ≡ found → fate_by change path l.entry found ≡ goes_aside
         → ((bytes : List ℕ) × IsUsersFile change files path bytes) × IsNewEntry change path l.entry
     by_file comes None present aside = absurd (cc)
     by_file comes (Some bytes) present aside = by_tests (not (is_guarded path) || (is_as_listed l.entry bytes || is_as_old (old_entry change path) bytes)) refl aside
@@ -119,16 +119,16 @@ beside_users_file change files path l laid =
 
 -- ---- under the name beside it
 
-no_owner : (change : FileChange) (name : List ℕ) → is_claimed change name ≡ false → coming_owner change name ≡ None
-no_owner change name free = by_owner (coming_owner change name) refl
+no_owner : (change : FileChange) (name : List ℕ) → is_claimed change name ≡ false → added_owner_listing change name ≡ None
+no_owner change name free = by_owner (added_owner_listing change name) refl
   where
-    by_owner : (o : Option Listing) → coming_owner change name ≡ o → o ≡ None
+    by_owner : (o : Option Listing) → added_owner_listing change name ≡ o → o ≡ None
     by_owner None e = refl
     by_owner (Some l) e = absurd (true≢false (sym (claimed_by_owner change name l (coming_is change name l e).0) ∙ free))
 
-pub written_beside : (change : FileChange) (files : Files) (path : List ℕ) (l : Listing) → laid_beside change files path ≡ Some l → written_as change files (aside_name path) ≡ Some l
+pub written_beside : (change : FileChange) (files : Files) (path : List ℕ) (l : Listing) → aside_listing_at change files path ≡ Some l → written_as change files (aside_name path) ≡ Some l
 unfolding written_as
 written_beside change files path l laid =
-    ap (λ (o : Option Listing). option_or (option_and_then (λ l. if_in l (fate_of change files l)) o) (option_and_then (laid_beside change files) (path_beside (aside_name path))))
+    ap (λ (o : Option Listing). option_or (option_and_then (λ l. if_in l (fate_of change files l)) o) (option_and_then (aside_listing_at change files) (path_beside (aside_name path))))
     (no_owner change (aside_name path) (nobody_beside change files path l laid))
-    ∙ (ap (option_and_then (laid_beside change files)) (is_beside path) ∙ laid)
+    ∙ (ap (option_and_then (aside_listing_at change files)) (is_beside path) ∙ laid)

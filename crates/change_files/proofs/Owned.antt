@@ -9,14 +9,14 @@ use Rattle.std.proofs.lemmas.Slice.Eq.{bytes_eq-Decides}
 use Rattle.adb_view.specs.Plain.{Plain}
 use Rattle.base_core.specs.Files.{Files}
 use Rattle.base_core.proofs.Rising.{IsIn}
-use Rattle.db_core.specs.Members.{Listing, Member, claims_of, is_coming, member_listings}
+use Rattle.db_core.specs.Members.{Listing, Member, claims_of, is_added, member_listings}
 use Rattle.file_owners.specs.Owners.{owner_of_path}
 use Rattle.file_guard.specs.AsListed.{is_as_listed}
 use Rattle.change_files.specs.Fate.{Fate, agrees_with_old, aside_name, fate_beside, fate_by, fate_of, gives_way, goes_aside, goes_in, is_as_old, is_guarded}
-use Rattle.change_files.specs.FileChange.{FileChange, coming_owner, if_it_comes, is_claimed, old_entry, old_listings, owner_listing}
-use Rattle.change_files.specs.FilesAfter.{if_aside, if_in, laid_beside, path_beside, written_as, written_in}
+use Rattle.change_files.specs.FileChange.{FileChange, added_owner_listing, if_member_added, is_claimed, old_entry, old_listings, owner_listing}
+use Rattle.change_files.specs.FilesAfter.{if_aside, if_in, aside_listing_at, path_beside, written_as, written_in}
 use Rattle.std.specs.Option.{option_or}
-use Rattle.change_files.specs.NamesAfter.{coming_paths}
+use Rattle.change_files.specs.NamesAfter.{added_paths}
 use Rattle.change_files.proofs.Lists.{IsOneOf, any_passes, contains_from_one, found_passes, kept_passes, passing_kept, seen_in}
 
 -- ---- the owner
@@ -52,26 +52,26 @@ unfolding is_claimed
 claimed_by_owner change path l owner =
     any_passes (λ l. bytes_eq l.path path) (member_listings change.members) l owner.listed ((bytes_eq-Decides l.path path).1 owner.of_path)
 
-if_comes : (o : Option Listing) (l : Listing) → if_it_comes o ≡ Some l → (o ≡ Some l) × (is_coming l.member ≡ true)
+if_comes : (o : Option Listing) (l : Listing) → if_member_added o ≡ Some l → (o ≡ Some l) × (is_added l.member ≡ true)
 if_comes None l e = absurd (cc)
-if_comes (Some m) l e = by_test (is_coming m.member) refl e
+if_comes (Some m) l e = by_test (is_added m.member) refl e
   where
-    by_test : (b : Bool) → is_coming m.member ≡ b → (if b then Some m else None) ≡ Some l → (Some m ≡ Some l) × (is_coming l.member ≡ true)
-    by_test true t e = let same : l ≡ m = (cc) in (e, ap (λ (l : Listing). is_coming l.member) same ∙ t)
+    by_test : (b : Bool) → is_added m.member ≡ b → (if b then Some m else None) ≡ Some l → (Some m ≡ Some l) × (is_added l.member ≡ true)
+    by_test true t e = let same : l ≡ m = (cc) in (e, ap (λ (l : Listing). is_added l.member) same ∙ t)
     by_test false t e = absurd (cc)
 
-pub coming_is : (change : FileChange) (path : List ℕ) (l : Listing) → coming_owner change path ≡ Some l → IsOwner change path l × (is_coming l.member ≡ true)
+pub coming_is : (change : FileChange) (path : List ℕ) (l : Listing) → added_owner_listing change path ≡ Some l → IsOwner change path l × (is_added l.member ≡ true)
 coming_is change path l e = let found = if_comes (owner_listing change path) l e in (owner_is change path l found.0, found.1)
 
-pub owner_stays : (change : FileChange) (path : List ℕ) (l : Listing) → owner_listing change path ≡ Some l → is_coming l.member ≡ false → coming_owner change path ≡ None
-owner_stays change path l e stays = ap if_it_comes e ∙ ap (λ (b : Bool). if b then Some l else None) stays
+pub owner_stays : (change : FileChange) (path : List ℕ) (l : Listing) → owner_listing change path ≡ Some l → is_added l.member ≡ false → added_owner_listing change path ≡ None
+owner_stays change path l e stays = ap if_member_added e ∙ ap (λ (b : Bool). if b then Some l else None) stays
 
-pub in_coming_paths : (change : FileChange) (path : List ℕ) (l : Listing) → coming_owner change path ≡ Some l → IsIn path (coming_paths change.members)
+pub in_coming_paths : (change : FileChange) (path : List ℕ) (l : Listing) → added_owner_listing change path ≡ Some l → IsIn path (added_paths change.members)
 in_coming_paths change path l e =
     let (owner, comes) = coming_is change path l e in
-    subst (λ (q : List ℕ). IsIn q (coming_paths change.members)) owner.of_path
-    (seen_in (λ l. l.path) (filter (λ l. is_coming l.member) (member_listings change.members)) l
-    (passing_kept (λ l. is_coming l.member) (member_listings change.members) l owner.listed comes))
+    subst (λ (q : List ℕ). IsIn q (added_paths change.members)) owner.of_path
+    (seen_in (λ l. l.path) (filter (λ l. is_added l.member) (member_listings change.members)) l
+    (passing_kept (λ l. is_added l.member) (member_listings change.members) l owner.listed comes))
 
 -- ---- what was listed before
 
@@ -106,11 +106,11 @@ only_aside (Some m) fate l e = by_fate (fate m) refl e
     by_fate gives_way is e = absurd (cc)
     by_fate goes_aside is e = let same : l ≡ m = (cc) in (e, ap fate same ∙ is)
 
-pub goes_in_found : (change : FileChange) (files : Files) (path : List ℕ) (l : Listing) → written_in change files path ≡ Some l → (coming_owner change path ≡ Some l) × (fate_of change files l ≡ goes_in)
-goes_in_found change files path l e = only_in (coming_owner change path) (fate_of change files) l e
+pub goes_in_found : (change : FileChange) (files : Files) (path : List ℕ) (l : Listing) → written_in change files path ≡ Some l → (added_owner_listing change path ≡ Some l) × (fate_of change files l ≡ goes_in)
+goes_in_found change files path l e = only_in (added_owner_listing change path) (fate_of change files) l e
 
-pub aside_found : (change : FileChange) (files : Files) (path : List ℕ) (l : Listing) → laid_beside change files path ≡ Some l → (coming_owner change path ≡ Some l) × (fate_of change files l ≡ goes_aside)
-aside_found change files path l e = only_aside (coming_owner change path) (fate_of change files) l e
+pub aside_found : (change : FileChange) (files : Files) (path : List ℕ) (l : Listing) → aside_listing_at change files path ≡ Some l → (added_owner_listing change path ≡ Some l) × (fate_of change files l ≡ goes_aside)
+aside_found change files path l e = only_aside (added_owner_listing change path) (fate_of change files) l e
 
 -- beside a file nothing is laid under a name that a package lists
 free_beside : (change : FileChange) (path : List ℕ) (entry : Plain) → fate_beside change path entry ≡ goes_aside → is_claimed change (aside_name path) ≡ false
@@ -130,7 +130,7 @@ free_by change path entry (Some bytes) e = by_test (not (is_guarded path) || (is
     by_test true e = absurd (cc)
     by_test false e = free_beside change path entry e
 
-pub nobody_beside : (change : FileChange) (files : Files) (path : List ℕ) (l : Listing) → laid_beside change files path ≡ Some l → is_claimed change (aside_name path) ≡ false
+pub nobody_beside : (change : FileChange) (files : Files) (path : List ℕ) (l : Listing) → aside_listing_at change files path ≡ Some l → is_claimed change (aside_name path) ≡ false
 unfolding fate_of
 nobody_beside change files path l e =
     let (comes, fate) = aside_found change files path l e in
@@ -164,24 +164,24 @@ is_beside path =
 
 -- the file goes in under its own path, or is laid beside it
 pub record IsWritten (change : FileChange) (files : Files) (name : List ℕ) (l : Listing) : Type 0 where
-  pub comes : coming_owner change l.path ≡ Some l
-  pub under : ((name ≡ l.path) × (written_in change files name ≡ Some l)) ⊎ ((name ≡ aside_name l.path) × (laid_beside change files l.path ≡ Some l))
+  pub comes : added_owner_listing change l.path ≡ Some l
+  pub under : ((name ≡ l.path) × (written_in change files name ≡ Some l)) ⊎ ((name ≡ aside_name l.path) × (aside_listing_at change files l.path ≡ Some l))
 
 either : (inside beside : Option Listing) (l : Listing) → option_or inside beside ≡ Some l → (inside ≡ Some l) ⊎ ((inside ≡ None) × (beside ≡ Some l))
 either None beside l e = inr (refl, e)
 either (Some m) beside l e = inl e
 
-beside_at : (change : FileChange) (files : Files) (path : Option (List ℕ)) (l : Listing) → option_and_then (laid_beside change files) path ≡ Some l → (q : List ℕ) × (path ≡ Some q) × (laid_beside change files q ≡ Some l)
+beside_at : (change : FileChange) (files : Files) (path : Option (List ℕ)) (l : Listing) → option_and_then (aside_listing_at change files) path ≡ Some l → (q : List ℕ) × (path ≡ Some q) × (aside_listing_at change files q ≡ Some l)
 beside_at change files None l e = absurd (cc)
 beside_at change files (Some q) l e = (q, refl, e)
 
-own_path : (change : FileChange) (path : List ℕ) (l : Listing) → coming_owner change path ≡ Some l → coming_owner change l.path ≡ Some l
-own_path change path l e = let (owner, comes) = coming_is change path l e in subst (λ (q : List ℕ). coming_owner change q ≡ Some l) (sym owner.of_path) e
+own_path : (change : FileChange) (path : List ℕ) (l : Listing) → added_owner_listing change path ≡ Some l → added_owner_listing change l.path ≡ Some l
+own_path change path l e = let (owner, comes) = coming_is change path l e in subst (λ (q : List ℕ). added_owner_listing change q ≡ Some l) (sym owner.of_path) e
 
 pub written_is : (change : FileChange) (files : Files) (name : List ℕ) (l : Listing) → written_as change files name ≡ Some l → IsWritten change files name l
 unfolding written_as
 written_is change files name l e =
-    elim (either (written_in change files name) (option_and_then (laid_beside change files) (path_beside name)) l e) [
+    elim (either (written_in change files name) (option_and_then (aside_listing_at change files) (path_beside name)) l e) [
       | inl inside ↦ (let (comes, fate) = goes_in_found change files name l inside in
           let (owner, coming) = coming_is change name l comes in
           record { comes = own_path change name l comes; under = inl (sym owner.of_path, inside) })
@@ -192,15 +192,15 @@ written_is change files name l e =
             comes = own_path change path l comes;
             under = inr (
               beside_is name path at ∙ ap aside_name (sym owner.of_path),
-              subst (λ (q : List ℕ). laid_beside change files q ≡ Some l) (sym owner.of_path) laid,
+              subst (λ (q : List ℕ). aside_listing_at change files q ≡ Some l) (sym owner.of_path) laid,
             );
           })
     ]
 
 -- nothing goes in, and nothing is laid beside another file under this name
-pub not_written : (change : FileChange) (files : Files) (name : List ℕ) → written_in change files name ≡ None → is_some (option_and_then (laid_beside change files) (path_beside name)) ≡ false → written_as change files name ≡ None
+pub not_written : (change : FileChange) (files : Files) (name : List ℕ) → written_in change files name ≡ None → is_some (option_and_then (aside_listing_at change files) (path_beside name)) ≡ false → written_as change files name ≡ None
 unfolding written_as
-not_written change files name none beside = ap (λ (o : Option Listing). option_or o (option_and_then (laid_beside change files) (path_beside name))) none ∙ no_value (option_and_then (laid_beside change files) (path_beside name)) beside
+not_written change files name none beside = ap (λ (o : Option Listing). option_or o (option_and_then (aside_listing_at change files) (path_beside name))) none ∙ no_value (option_and_then (aside_listing_at change files) (path_beside name)) beside
   where
     no_value : (o : Option Listing) → is_some o ≡ false → o ≡ None
     no_value None e = refl
@@ -208,13 +208,13 @@ not_written change files name none beside = ap (λ (o : Option Listing). option_
 
 -- ---- as laws say it
 
-pub coming_listed : (change : FileChange) (path : List ℕ) (l : Listing) → coming_owner change path ≡ Some l
-    → (l.path ≡ path) × (is_coming l.member ≡ true) × Contains (member_listings change.members) l × (owner_of_path change.members path ≡ Some l.place)
+pub coming_listed : (change : FileChange) (path : List ℕ) (l : Listing) → added_owner_listing change path ≡ Some l
+    → (l.path ≡ path) × (is_added l.member ≡ true) × Contains (member_listings change.members) l × (owner_of_path change.members path ≡ Some l.place)
 coming_listed change path l e =
     let (owner, comes) = coming_is change path l e in
     (owner.of_path, comes, contains_from_one (member_listings change.members) l owner.listed, owner.place)
 
-pub written_under : (change : FileChange) (files : Files) (name : List ℕ) (l : Listing) → written_as change files name ≡ Some l → (coming_owner change l.path ≡ Some l) × ((name ≡ l.path) ⊎ (name ≡ aside_name l.path))
+pub written_under : (change : FileChange) (files : Files) (name : List ℕ) (l : Listing) → written_as change files name ≡ Some l → (added_owner_listing change l.path ≡ Some l) × ((name ≡ l.path) ⊎ (name ≡ aside_name l.path))
 written_under change files name l e =
     let written = written_is change files name l e in
     (written.comes, elim written.under [ inl own ↦ inl own.0 | inr beside ↦ inr beside.0 ])

@@ -9,8 +9,8 @@ use Rattle.base_core.proofs.Rising.{IsIn, contains_from_in, in_from_contains, pa
 use Rattle.db_core.specs.Members.{Listing}
 use Rattle.change_files.specs.Fate.{aside_name}
 use Rattle.change_files.specs.FileChange.{FileChange}
-use Rattle.change_files.specs.FilesAfter.{is_kept, is_removed, is_written, laid_beside, written_as}
-use Rattle.change_files.specs.NamesAfter.{coming_paths}
+use Rattle.change_files.specs.FilesAfter.{is_kept, is_removed, is_written, aside_listing_at, written_as}
+use Rattle.change_files.specs.NamesAfter.{added_paths}
 use Rattle.change_files.specs.PlanLists.{FileWrite, aside_of, file_writes_of, kept_of, names_in_order, old_paths, removals_of, write_to}
 use Rattle.change_files.specs.Touched.{IsWriteOf}
 use Rattle.change_files.proofs.InOrder.{filter_rises, from_filter, in_filter, in_left, in_map, in_order, in_right, order_rises}
@@ -53,17 +53,17 @@ written_one found (x ∷ names) q w here e = by_write (write_by found x) refl he
     by_write (Some v) is (inr more) f = inr (f more)
 
 abbrev written_names : FileChange → List (List ℕ)
-written_names change = names_in_order (coming_paths change.members ++ map aside_name (coming_paths change.members))
+written_names change = names_in_order (added_paths change.members ++ map aside_name (added_paths change.members))
 
 among_written : (change : FileChange) (files : Files) (name : List ℕ) (l : Listing) → written_as change files name ≡ Some l → IsIn name (written_names change)
 among_written change files name l e =
     let written = written_is change files name l e in
     let path = in_coming_paths change l.path l written.comes in
-    in_order name (coming_paths change.members ++ map aside_name (coming_paths change.members))
+    in_order name (added_paths change.members ++ map aside_name (added_paths change.members))
     (elim written.under [
-      | inl own ↦ in_left name (coming_paths change.members) (map aside_name (coming_paths change.members)) (subst (λ (q : List ℕ). IsIn q (coming_paths change.members)) (sym own.0) path)
-      | inr beside ↦ in_right name (coming_paths change.members) (map aside_name (coming_paths change.members))
-          (subst (λ (q : List ℕ). IsIn q (map aside_name (coming_paths change.members))) (sym beside.0) (in_map aside_name l.path (coming_paths change.members) path))
+      | inl own ↦ in_left name (added_paths change.members) (map aside_name (added_paths change.members)) (subst (λ (q : List ℕ). IsIn q (added_paths change.members)) (sym own.0) path)
+      | inr beside ↦ in_right name (added_paths change.members) (map aside_name (added_paths change.members))
+          (subst (λ (q : List ℕ). IsIn q (map aside_name (added_paths change.members))) (sym beside.0) (in_map aside_name l.path (added_paths change.members) path))
     ])
 
 some_listing : (o : Option Listing) → is_some o ≡ true → (l : Listing) × (o ≡ Some l)
@@ -77,7 +77,7 @@ writes_names change files = names_written (written_as change files) (written_nam
 pub writes_rise : (change : FileChange) (files : Files) → IsRising (map (λ w. w.name) (file_writes_of change files))
 writes_rise change files =
     subst IsRising (sym (writes_names change files))
-    (pairs_from_rises _ (filter_rises (is_written change files) (written_names change) (order_rises (coming_paths change.members ++ map aside_name (coming_paths change.members)))))
+    (pairs_from_rises _ (filter_rises (is_written change files) (written_names change) (order_rises (added_paths change.members ++ map aside_name (added_paths change.members)))))
 
 pub writes_hold : (change : FileChange) (files : Files) (name : List ℕ) → Contains (map (λ w. w.name) (file_writes_of change files)) name ↔ (is_written change files name ≡ true)
 writes_hold change files name = (
@@ -131,15 +131,15 @@ pub kept_rise : (change : FileChange) (files : Files) → IsRising (kept_of chan
 unfolding kept_of
 kept_rise change files = rises_just (is_kept change files) (old_paths change)
 
-pub aside_hold : (change : FileChange) (files : Files) (path : List ℕ) → Contains (aside_of change files) path ↔ (is_some (laid_beside change files path) ≡ true)
+pub aside_hold : (change : FileChange) (files : Files) (path : List ℕ) → Contains (aside_of change files) path ↔ (is_some (aside_listing_at change files path) ≡ true)
 unfolding aside_of
 aside_hold change files path =
-    holds_just (λ path. is_some (laid_beside change files path)) (coming_paths change.members)
-    (λ q laid. (let found = some_listing (laid_beside change files q) laid in in_coming_paths change q found.0 ((aside_found change files q found.0 found.1).0))) path
+    holds_just (λ path. is_some (aside_listing_at change files path)) (added_paths change.members)
+    (λ q laid. (let found = some_listing (aside_listing_at change files q) laid in in_coming_paths change q found.0 ((aside_found change files q found.0 found.1).0))) path
 
 pub aside_rise : (change : FileChange) (files : Files) → IsRising (aside_of change files)
 unfolding aside_of
-aside_rise change files = rises_just (λ path. is_some (laid_beside change files path)) (coming_paths change.members)
+aside_rise change files = rises_just (λ path. is_some (aside_listing_at change files path)) (added_paths change.members)
 
 -- ---- no name is in two of the lists
 

@@ -13,7 +13,7 @@ use Rattle.base_core.specs.ByteOrder.{precedes, smaller_text, smallest_text}
 use Rattle.change_files.specs.Fate.{aside_name}
 use Rattle.change_files.specs.FileChange.{FileChange}
 use Rattle.change_files.specs.FilesAfter.{Records, database_name, text_database_name, world_name, written_as}
-use Rattle.change_files.specs.NamesAfter.{coming_paths}
+use Rattle.change_files.specs.NamesAfter.{added_paths}
 use Rattle.change_files.specs.PlanLists.{first_reserved}
 use Rattle.change_files.specs.Touched.{is_record_name}
 use Rattle.change_files.proofs.InOrder.{in_filter}
@@ -33,20 +33,20 @@ none_smallest (x ∷ xs) e q here = some_smaller x (smallest_text xs) e
     some_smaller x None e = (cc)
     some_smaller x (Some a) e = some_if (precedes a x) a x e
 
-pub unreserved_path : (change : FileChange) (path : List ℕ) → first_reserved change.members ≡ None → IsIn path (coming_paths change.members) → is_reserved path ≡ false
+pub unreserved_path : (change : FileChange) (path : List ℕ) → first_reserved change.members ≡ None → IsIn path (added_paths change.members) → is_reserved path ≡ false
 unfolding first_reserved
 unreserved_path change path none here =
     false_from_ne_true (is_reserved path) (λ reserved.
-    none_smallest (filter is_reserved (coming_paths change.members)) none path (in_filter is_reserved (coming_paths change.members) path here reserved))
+    none_smallest (filter is_reserved (added_paths change.members)) none path (in_filter is_reserved (added_paths change.members) path here reserved))
 
 -- ---- names beside paths
 
 abbrev without_dot : List ℕ → Bool
 without_dot bytes = list_all (λ b. not (b == 46)) bytes
 
-no_dot_behind : (p rest : List ℕ) → without_dot (p ++ 46 ∷ rest) ≡ false
-no_dot_behind [] rest = refl
-no_dot_behind (x ∷ p) rest = by_test (not (x == 46)) (no_dot_behind p rest)
+no_dot_after : (p rest : List ℕ) → without_dot (p ++ 46 ∷ rest) ≡ false
+no_dot_after [] rest = refl
+no_dot_after (x ∷ p) rest = by_test (not (x == 46)) (no_dot_after p rest)
   where
     by_test : (b : Bool) → without_dot (p ++ 46 ∷ rest) ≡ false → (b && without_dot (p ++ 46 ∷ rest)) ≡ false
     by_test true h = h
@@ -73,7 +73,7 @@ below_before_dot : (top p : List ℕ) → is_plain top ≡ true → is_at_or_bel
 below_before_dot top p plain h =
     let (whole, front) = and_parts (without_dot top) (without_dot (top ++ codes "/")) plain in
     elim (or_cases (bytes_eq (aside_name p) top) (starts_with nat_eq (aside_name p) (top ++ codes "/")) h) [
-      | inl is ↦ absurd (true≢false (sym whole ∙ (ap without_dot (sym ((bytes_eq-Decides (aside_name p) top).0 is)) ∙ no_dot_behind p (codes "apk-new"))))
+      | inl is ↦ absurd (true≢false (sym whole ∙ (ap without_dot (sym ((bytes_eq-Decides (aside_name p) top).0 is)) ∙ no_dot_after p (codes "apk-new"))))
       | inr starts ↦ or_right (bytes_eq p top) (starts_with nat_eq p (top ++ codes "/")) (starts_before_dot (top ++ codes "/") p (codes "apk-new") front starts)
     ]
 

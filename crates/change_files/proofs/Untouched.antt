@@ -5,13 +5,13 @@ use Rattle.std.specs.Str.{bytes_eq}
 use Rattle.std.proofs.lemmas.Bool.{and_from, and_left, and_parts, and_right, not_from_false, not_from_true, or_from, or_parts}
 use Rattle.adb_view.specs.Plain.{Plain}
 use Rattle.base_core.specs.Files.{Files}
-use Rattle.db_core.specs.Members.{Listing, is_coming}
+use Rattle.db_core.specs.Members.{Listing, is_added}
 use Rattle.file_guard.specs.AsListed.{is_as_listed}
 use Rattle.change_files.specs.Fate.{agrees_with_old, aside_name, fate_beside, fate_by, fate_of, gives_way, goes_aside, goes_in, is_as_old, is_guarded}
-use Rattle.change_files.specs.FileChange.{FileChange, coming_owner, is_claimed, old_entry, owner_listing, was_listed}
-use Rattle.change_files.specs.FilesAfter.{Records, bytes_after, changed_files, database_name, if_in, is_changed, is_kept, is_left_over, is_removed, is_written, laid_beside, may_stay, path_beside, text_database_name, world_bytes_after, world_name, written_as, written_in}
-use Rattle.change_files.specs.NamesAfter.{coming_paths}
-use Rattle.change_files.specs.Touched.{IsUsersFile, is_aside_name, is_coming_path, is_record_name}
+use Rattle.change_files.specs.FileChange.{FileChange, added_owner_listing, is_claimed, old_entry, owner_listing, was_listed}
+use Rattle.change_files.specs.FilesAfter.{Records, bytes_after, changed_files, database_name, if_in, is_changed, is_kept, is_left_over, is_removed, is_written, aside_listing_at, may_be_kept, path_beside, text_database_name, world_bytes_after, world_name, written_as, written_in}
+use Rattle.change_files.specs.NamesAfter.{added_paths}
+use Rattle.change_files.specs.Touched.{IsUsersFile, is_aside_name, is_added_path, is_record_name}
 use Rattle.change_files.proofs.Lists.{any_name}
 use Rattle.change_files.proofs.Owned.{beside_is, claimed_by_owner, coming_is, in_coming_paths, nobody_beside, not_written, owner_is, owner_stays}
 
@@ -44,7 +44,7 @@ claimed_not_left change files path claimed =
 
 removed_left : (change : FileChange) (files : Files) (path : List ℕ) → is_left_over change files path ≡ false → is_removed change files path ≡ false
 unfolding is_removed
-removed_left change files path e = and_left (is_left_over change files path) (not (may_stay change path (files path) (old_entry change path))) e
+removed_left change files path e = and_left (is_left_over change files path) (not (may_be_kept change path (files path) (old_entry change path))) e
 
 never_listed : (change : FileChange) (files : Files) (name : List ℕ) → was_listed change name ≡ false → is_removed change files name ≡ false
 never_listed change files name never =
@@ -66,16 +66,16 @@ left_over_is change files path e =
     let (unclaimed, unwritten) = and_parts (not (is_claimed change path)) (not (is_written change files path)) behind in
     record { listed = listed; unclaimed = not_true (is_claimed change path) unclaimed; unwritten = not_true (is_written change files path) unwritten }
 
-pub removed_is : (change : FileChange) (files : Files) (path : List ℕ) → is_removed change files path ≡ true → IsLeftOver change files path × (may_stay change path (files path) (old_entry change path) ≡ false)
+pub removed_is : (change : FileChange) (files : Files) (path : List ℕ) → is_removed change files path ≡ true → IsLeftOver change files path × (may_be_kept change path (files path) (old_entry change path) ≡ false)
 unfolding is_removed
 removed_is change files path e =
-    let (left, gone) = and_parts (is_left_over change files path) (not (may_stay change path (files path) (old_entry change path))) e in
-    (left_over_is change files path left, not_true (may_stay change path (files path) (old_entry change path)) gone)
+    let (left, gone) = and_parts (is_left_over change files path) (not (may_be_kept change path (files path) (old_entry change path))) e in
+    (left_over_is change files path left, not_true (may_be_kept change path (files path) (old_entry change path)) gone)
 
-pub kept_is : (change : FileChange) (files : Files) (path : List ℕ) → is_kept change files path ≡ true → IsLeftOver change files path × (may_stay change path (files path) (old_entry change path) ≡ true)
+pub kept_is : (change : FileChange) (files : Files) (path : List ℕ) → is_kept change files path ≡ true → IsLeftOver change files path × (may_be_kept change path (files path) (old_entry change path) ≡ true)
 unfolding is_kept
 kept_is change files path e =
-    let (left, stays) = and_parts (is_left_over change files path) (may_stay change path (files path) (old_entry change path)) e in
+    let (left, stays) = and_parts (is_left_over change files path) (may_be_kept change path (files path) (old_entry change path)) e in
     (left_over_is change files path left, stays)
 
 not_some : (o : Option Listing) → is_some o ≡ false → o ≡ None
@@ -98,11 +98,11 @@ is_gone change bytes_of records files name gone other =
     ∙ (ap (λ (o : Option Listing). bytes_after bytes_of o (is_removed change files name) (files name)) (not_some (written_as change files name) left.unwritten)
     ∙ ap (λ (b : Bool). bytes_after bytes_of None b (files name)) gone)
 
-may_stay_unremoved : (change : FileChange) (files : Files) (name : List ℕ) → may_stay change name (files name) (old_entry change name) ≡ true → is_removed change files name ≡ false
+may_stay_unremoved : (change : FileChange) (files : Files) (name : List ℕ) → may_be_kept change name (files name) (old_entry change name) ≡ true → is_removed change files name ≡ false
 unfolding is_removed
 may_stay_unremoved change files name stays =
-    and_right (is_left_over change files name) (not (may_stay change name (files name) (old_entry change name)))
-    (not_from_true (may_stay change name (files name) (old_entry change name)) stays)
+    and_right (is_left_over change files name) (not (may_be_kept change name (files name) (old_entry change name)))
+    (not_from_true (may_be_kept change name (files name) (old_entry change name)) stays)
 
 pub is_spared : (change : FileChange) (bytes_of : Listing → List ℕ) (records : Records) (files : Files) (name : List ℕ) → is_kept change files name ≡ true → is_record_name records name ≡ false
     → changed_files change bytes_of records files name ≡ files name
@@ -116,20 +116,20 @@ is_spared change bytes_of records files name kept other =
 claimed_not_beside : (change : FileChange) (files : Files) (name : List ℕ) → is_claimed change name ≡ true → is_aside_name change files name ≡ false
 claimed_not_beside change files name claimed = by_path (path_beside name) refl
   where
-    by_path : (o : Option (List ℕ)) → path_beside name ≡ o → is_some (option_and_then (laid_beside change files) o) ≡ false
+    by_path : (o : Option (List ℕ)) → path_beside name ≡ o → is_some (option_and_then (aside_listing_at change files) o) ≡ false
     by_path None e = refl
-    by_path (Some path) e = by_listing (laid_beside change files path) refl
+    by_path (Some path) e = by_listing (aside_listing_at change files path) refl
       where
-        by_listing : (o : Option Listing) → laid_beside change files path ≡ o → is_some o ≡ false
+        by_listing : (o : Option Listing) → aside_listing_at change files path ≡ o → is_some o ≡ false
         by_listing None laid = refl
         by_listing (Some l) laid =
             let free : is_claimed change (aside_name path) ≡ false = nobody_beside change files path l laid in
             absurd (true≢false (sym claimed ∙ (ap (is_claimed change) (beside_is name path e) ∙ free)))
 
-no_owner_comes : (change : FileChange) (files : Files) (path : List ℕ) → coming_owner change path ≡ None → written_in change files path ≡ None
+no_owner_comes : (change : FileChange) (files : Files) (path : List ℕ) → added_owner_listing change path ≡ None → written_in change files path ≡ None
 no_owner_comes change files path none = ap (option_and_then (λ l. if_in l (fate_of change files l))) none
 
-pub unwritten_where_it_stays : (change : FileChange) (files : Files) (path : List ℕ) (l : Listing) → owner_listing change path ≡ Some l → is_coming l.member ≡ false → written_as change files path ≡ None
+pub unwritten_where_it_stays : (change : FileChange) (files : Files) (path : List ℕ) (l : Listing) → owner_listing change path ≡ Some l → is_added l.member ≡ false → written_as change files path ≡ None
 unwritten_where_it_stays change files path l owner stays =
     let claimed = claimed_by_owner change path l (owner_is change path l owner) in
     not_written change files path (no_owner_comes change files path (owner_stays change path l owner stays)) (claimed_not_beside change files path claimed)
@@ -138,7 +138,7 @@ pub left_where_it_stays : (change : FileChange) (files : Files) (path : List ℕ
 left_where_it_stays change files path l owner =
     removed_left change files path (claimed_not_left change files path (claimed_by_owner change path l (owner_is change path l owner)))
 
-pub stays_as_it_is : (change : FileChange) (bytes_of : Listing → List ℕ) (records : Records) (files : Files) (path : List ℕ) (l : Listing) → owner_listing change path ≡ Some l → is_coming l.member ≡ false → is_record_name records path ≡ false
+pub stays_as_it_is : (change : FileChange) (bytes_of : Listing → List ℕ) (records : Records) (files : Files) (path : List ℕ) (l : Listing) → owner_listing change path ≡ Some l → is_added l.member ≡ false → is_record_name records path ≡ false
     → changed_files change bytes_of records files path ≡ files path
 stays_as_it_is change bytes_of records files path l owner stays other =
     untouched change bytes_of records files path (unwritten_where_it_stays change files path l owner stays) (left_where_it_stays change files path l owner) other
@@ -152,7 +152,7 @@ unlike_old change path bytes differs = by_entry (old_entry change path) differs
     by_entry None differs = refl
     by_entry (Some entry) differs = differs entry refl
 
-pub users_fate : (change : FileChange) (files : Files) (path bytes : List ℕ) (l : Listing) → IsUsersFile change files path bytes → coming_owner change path ≡ Some l → fate_of change files l ≡ fate_beside change path l.entry
+pub users_fate : (change : FileChange) (files : Files) (path bytes : List ℕ) (l : Listing) → IsUsersFile change files path bytes → added_owner_listing change path ≡ Some l → fate_of change files l ≡ fate_beside change path l.entry
 unfolding fate_of
 users_fate change files path bytes l own comes =
     let (owner, coming) = coming_is change path l comes in
@@ -168,9 +168,9 @@ never_in l true = refl
 never_in l false = refl
 
 users_file_not_taken : (change : FileChange) (files : Files) (path bytes : List ℕ) → IsUsersFile change files path bytes → written_in change files path ≡ None
-users_file_not_taken change files path bytes own = by_owner (coming_owner change path) refl
+users_file_not_taken change files path bytes own = by_owner (added_owner_listing change path) refl
   where
-    by_owner : (o : Option Listing) → coming_owner change path ≡ o → written_in change files path ≡ None
+    by_owner : (o : Option Listing) → added_owner_listing change path ≡ o → written_in change files path ≡ None
     by_owner None comes = no_owner_comes change files path comes
     by_owner (Some l) comes =
         ap (option_and_then (λ l. if_in l (fate_of change files l))) comes
@@ -188,8 +188,8 @@ users_file_stays change files path bytes (inl no_purge) own = by_entry (old_entr
         and_from (is_guarded path) (not change.purge && is_changed entry (Some bytes)) own.guarded
         (and_from (not change.purge) (is_changed entry (Some bytes)) (not_from_false change.purge no_purge) (not_from_false (is_as_listed entry bytes) (own.unlike_old entry e))) in
         may_stay_unremoved change files path
-        (ap (λ (found : Option (List ℕ)). may_stay change path found (old_entry change path)) own.present
-        ∙ (ap (may_stay change path (Some bytes)) e ∙ stays))
+        (ap (λ (found : Option (List ℕ)). may_be_kept change path found (old_entry change path)) own.present
+        ∙ (ap (may_be_kept change path (Some bytes)) e ∙ stays))
 
 pub users_file_is_spared : (change : FileChange) (bytes_of : Listing → List ℕ) (records : Records) (files : Files) (path bytes : List ℕ) → (change.purge ≡ false) ⊎ (is_claimed change path ≡ true) → IsUsersFile change files path bytes → is_aside_name change files path ≡ false → is_record_name records path ≡ false
     → changed_files change bytes_of records files path ≡ Some bytes
@@ -199,14 +199,14 @@ users_file_is_spared change bytes_of records files path bytes unpurged own besid
 
 -- ---- names that nobody lists
 
-no_owner : (change : FileChange) (path : List ℕ) → is_coming_path change path ≡ false → coming_owner change path ≡ None
-no_owner change path never = by_owner (coming_owner change path) refl
+no_owner : (change : FileChange) (path : List ℕ) → is_added_path change path ≡ false → added_owner_listing change path ≡ None
+no_owner change path never = by_owner (added_owner_listing change path) refl
   where
-    by_owner : (o : Option Listing) → coming_owner change path ≡ o → o ≡ None
+    by_owner : (o : Option Listing) → added_owner_listing change path ≡ o → o ≡ None
     by_owner None e = refl
-    by_owner (Some l) e = absurd (true≢false (sym (any_name path (coming_paths change.members) (in_coming_paths change path l e)) ∙ never))
+    by_owner (Some l) e = absurd (true≢false (sym (any_name path (added_paths change.members) (in_coming_paths change path l e)) ∙ never))
 
-pub others_stay : (change : FileChange) (bytes_of : Listing → List ℕ) (records : Records) (files : Files) (name : List ℕ) → was_listed change name ≡ false → is_coming_path change name ≡ false → is_aside_name change files name ≡ false → is_record_name records name ≡ false
+pub others_stay : (change : FileChange) (bytes_of : Listing → List ℕ) (records : Records) (files : Files) (name : List ℕ) → was_listed change name ≡ false → is_added_path change name ≡ false → is_aside_name change files name ≡ false → is_record_name records name ≡ false
     → changed_files change bytes_of records files name ≡ files name
 others_stay change bytes_of records files name never_before never_now beside other =
     untouched change bytes_of records files name

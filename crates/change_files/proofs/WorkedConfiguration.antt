@@ -2,7 +2,7 @@
 use Rattle.std.proofs.Common.{◌≡◌, ℕ, Bool, List, [], ◌∷◌, Some, refl, codes, true, false}
 use Rattle.adb_view.specs.Plain.{Plain}
 use Rattle.base_core.specs.Files.{Files, no_names}
-use Rattle.db_core.specs.Members.{claims_of, coming_member, member_listings}
+use Rattle.db_core.specs.Members.{claims_of, member_of_added, member_listings}
 use Rattle.path_claims.specs.Contest.{winner}
 use Rattle.file_owners.specs.Owners.{owner_of_path}
 use Rattle.file_guard.specs.AsListed.{do_entries_agree, is_as_listed_by}
@@ -31,7 +31,7 @@ records = record { database = []; world = []; takes_text_over = false }
 -- ---- another version comes
 
 abbrev upgrade : FileChange
-upgrade = record { old = c (codes "1") ∷ []; members = coming_member (c (codes "2")) [] ∷ []; purge = false }
+upgrade = record { old = c (codes "1") ∷ []; members = member_of_added (c (codes "2")) [] ∷ []; purge = false }
 
 -- the user's file stays, and the new one lies beside it
 aside : aside_of upgrade changed ≡ conf ∷ []
@@ -51,7 +51,7 @@ unfolding member_listings claims_of owner_of_path winner old_listings old_entry 
 file_beside = refl
 
 -- also where configuration is to be purged: a package lists it
-purged_upgrade : aside_of (record { old = c (codes "1") ∷ []; members = coming_member (c (codes "2")) [] ∷ []; purge = true }) changed ≡ conf ∷ []
+purged_upgrade : aside_of (record { old = c (codes "1") ∷ []; members = member_of_added (c (codes "2")) [] ∷ []; purge = true }) changed ≡ conf ∷ []
 unfolding member_listings claims_of owner_of_path winner old_listings old_entry is_claimed owner_listing is_as_listed_by do_entries_agree fate_of written_as names_in_order aside_of
 purged_upgrade = refl
 
@@ -68,7 +68,7 @@ as_new = refl
 -- ---- nobody listed the path before
 
 abbrev fresh : FileChange
-fresh = record { old = []; members = coming_member (c (codes "2")) [] ∷ []; purge = false }
+fresh = record { old = []; members = member_of_added (c (codes "2")) [] ∷ []; purge = false }
 
 -- what stands there is the user's
 fresh_aside : aside_of fresh changed ≡ conf ∷ []
@@ -119,7 +119,7 @@ absent_kept = refl
 -- ---- the same version comes once more: nothing is new
 
 abbrev reinstall : FileChange
-reinstall = record { old = c (codes "2") ∷ []; members = coming_member (c (codes "2")) [] ∷ []; purge = false }
+reinstall = record { old = c (codes "2") ∷ []; members = member_of_added (c (codes "2")) [] ∷ []; purge = false }
 
 nothing_new : file_writes_of reinstall changed ≡ []
 unfolding member_listings claims_of owner_of_path winner old_listings old_entry is_claimed owner_listing is_as_listed_by do_entries_agree fate_of written_as names_in_order file_writes_of

@@ -2,7 +2,7 @@
 use Rattle.std.proofs.Common.{◌≡◌, ℕ, List, [], ◌∷◌, refl, codes, false}
 use Rattle.adb_view.specs.Plain.{Plain}
 use Rattle.base_core.specs.Files.{no_names}
-use Rattle.db_core.specs.Members.{Listing, claims_of, coming_member, member_listing, member_listings}
+use Rattle.db_core.specs.Members.{Listing, claims_of, member_of_added, member_listing, member_listings}
 use Rattle.path_claims.specs.Contest.{winner}
 use Rattle.pkg_core.specs.Contents.{Contents}
 use Rattle.file_owners.specs.Owners.{owner_of_path}
@@ -17,7 +17,7 @@ abbrev two : Plain
 two = package_with (info (codes "t") (codes "1") []) (folder (codes "a") (plain_file (codes "x") 0 [] ∷ plain_file (codes "y") 1 [] ∷ []) ∷ [])
 
 abbrev comes : FileChange
-comes = record { old = []; members = coming_member two [] ∷ []; purge = false }
+comes = record { old = []; members = member_of_added two [] ∷ []; purge = false }
 
 -- ---- where a plan finds the files
 
@@ -32,7 +32,7 @@ abbrev has_y : ℕ → List Contents
 has_y place = record { folder = 1; file = 2; bytes = codes "y" } ∷ []
 
 abbrev listing_at : ℕ → Plain → Listing
-listing_at file entry = member_listing (coming_member two []) 0 1 file (codes "a") entry
+listing_at file entry = member_listing (member_of_added two []) 0 1 file (codes "a") entry
 
 with_contents : listing_bytes has_y (listing_at 2 (plain_file (codes "y") 1 [])) ≡ codes "y"
 unfolding listing_bytes

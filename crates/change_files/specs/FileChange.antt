@@ -3,7 +3,7 @@
 use Rattle.std.specs.Prelude.{ℕ, ◌==◌, Bool, List, map, Option, Some, None, option_map, option_and_then, is_some, bytes_eq, if◌then◌else◌}
 use Rattle.std.specs.List.{find, list_any}
 use Rattle.adb_view.specs.Plain.{Plain}
-use Rattle.db_core.specs.Members.{Listing, Member, claims_of, is_coming, member_listings, staying_member}
+use Rattle.db_core.specs.Members.{Listing, Member, claims_of, is_added, member_listings, member_of_kept}
 use Rattle.file_owners.specs.Owners.{owner_of_path}
 
 -- a change of packages, for their files: the packages of the database before, those after, and whether
@@ -17,7 +17,7 @@ pub record FileChange : Type 0 where
 
 -- the files that the old packages list
 unfoldable pub old_listings : FileChange → List Listing
-old_listings change = member_listings (map staying_member change.old)
+old_listings change = member_listings (map member_of_kept change.old)
 
 -- the entry of the old packages for a path; no two of them list it
 unfoldable pub old_entry : FileChange → List ℕ → Option Plain
@@ -41,10 +41,10 @@ owner_listing change path =
     (owner_of_path change.members path)
 
 -- a file, if its member is added: that of a kept package is not written
-abbrev pub if_it_comes : Option Listing → Option Listing
-if_it_comes None = None
-if_it_comes (Some l) = if is_coming l.member then Some l else None
+abbrev pub if_member_added : Option Listing → Option Listing
+if_member_added None = None
+if_member_added (Some l) = if is_added l.member then Some l else None
 
 -- the file by which the owner of a path lists it, if that member is added
-abbrev pub coming_owner : FileChange → List ℕ → Option Listing
-coming_owner change path = if_it_comes (owner_listing change path)
+abbrev pub added_owner_listing : FileChange → List ℕ → Option Listing
+added_owner_listing change path = if_member_added (owner_listing change path)

@@ -10,7 +10,7 @@ use Rattle.pkg_core.specs.Contents as Packages
 use Rattle.file_guard.specs.AsListed.{has_target, is_as_listed, link_bytes}
 pub use Rattle.root_names.specs.RootNames.{database_name, text_database_name, world_name}
 use Rattle.change_files.specs.Fate.{Fate, aside_ending, fate_of, gives_way, goes_aside, goes_in, is_guarded}
-use Rattle.change_files.specs.FileChange.{FileChange, coming_owner, is_claimed, old_entry, was_listed}
+use Rattle.change_files.specs.FileChange.{FileChange, added_owner_listing, is_claimed, old_entry, was_listed}
 
 -- ---- what is written
 
@@ -29,12 +29,12 @@ if_aside l goes_aside = Some l
 -- the file that takes this path, if one does
 abbrev pub written_in : FileChange → Files → List ℕ → Option Listing
 written_in change files path =
-    option_and_then (λ l. if_in l (fate_of change files l)) (coming_owner change path)
+    option_and_then (λ l. if_in l (fate_of change files l)) (added_owner_listing change path)
 
 -- the file that is laid beside the one under this path, if one is
-abbrev pub laid_beside : FileChange → Files → List ℕ → Option Listing
-laid_beside change files path =
-    option_and_then (λ l. if_aside l (fate_of change files l)) (coming_owner change path)
+abbrev pub aside_listing_at : FileChange → Files → List ℕ → Option Listing
+aside_listing_at change files path =
+    option_and_then (λ l. if_aside l (fate_of change files l)) (added_owner_listing change path)
 
 -- the path beside which a file of this name would be laid: the name without the ending
 abbrev pub path_beside : List ℕ → Option (List ℕ)
@@ -46,7 +46,7 @@ path_beside name =
 unfoldable pub written_as : FileChange → Files → List ℕ → Option Listing
 written_as change files name =
     option_or (written_in change files name)
-    (option_and_then (laid_beside change files) (path_beside name))
+    (option_and_then (aside_listing_at change files) (path_beside name))
 
 -- whether a file of a package is written under this name, be it its path or the name beside another
 abbrev pub is_written : FileChange → Files → List ℕ → Bool
@@ -61,9 +61,9 @@ is_changed entry (Some bytes) = not (is_as_listed entry bytes)
 
 -- whether a file that no package lists any more is configuration that the user changed and that is not
 -- to be purged
-abbrev pub may_stay : FileChange → List ℕ → Option (List ℕ) → Option Plain → Bool
-may_stay change path bytes None = false
-may_stay change path bytes (Some entry) =
+abbrev pub may_be_kept : FileChange → List ℕ → Option (List ℕ) → Option Plain → Bool
+may_be_kept change path bytes None = false
+may_be_kept change path bytes (Some entry) =
     is_guarded path && (not change.purge && is_changed entry bytes)
 
 -- whether a path was listed before, and now no package lists it and nothing is written there
@@ -74,12 +74,12 @@ is_left_over change files path =
 -- whether the user's file is kept under a path although its package is removed
 unfoldable pub is_kept : FileChange → Files → List ℕ → Bool
 is_kept change files path =
-    is_left_over change files path && may_stay change path (files path) (old_entry change path)
+    is_left_over change files path && may_be_kept change path (files path) (old_entry change path)
 
 -- whether a change removes the file under a path, if there is one
 unfoldable pub is_removed : FileChange → Files → List ℕ → Bool
 is_removed change files path =
-    is_left_over change files path && not (may_stay change path (files path) (old_entry change path))
+    is_left_over change files path && not (may_be_kept change path (files path) (old_entry change path))
 
 -- ---- the contents of an added file
 

@@ -4,29 +4,33 @@ use Rattle.std.specs.Prelude.{ℕ, Bool, not, ◌&&◌, ◌||◌, List, ◌∷�
 use Rattle.std.specs.List.{filter, list_any}
 use Rattle.base_core.specs.Files.{Files}
 use Rattle.path_clashes.specs.Clash.{NameChange}
-use Rattle.db_core.specs.Members.{Member, is_coming, member_listings}
+use Rattle.db_core.specs.Members.{Member, is_added, member_listings}
 use Rattle.change_files.specs.FileChange.{FileChange, is_claimed, was_listed}
-use Rattle.change_files.specs.FilesAfter.{database_name, is_kept, laid_beside, path_beside, world_name}
+use Rattle.change_files.specs.FilesAfter.{database_name, is_kept, aside_listing_at, path_beside, world_name}
 
 -- the paths that added packages list
-abbrev pub coming_paths : List Member → List (List ℕ)
-coming_paths members =
-    map (λ l. l.path) (filter (λ l. is_coming l.member) (member_listings members))
+abbrev pub added_paths : List Member → List (List ℕ)
+added_paths members =
+    map (λ l. l.path) (filter (λ l. is_added l.member) (member_listings members))
 
 -- whether a change counts as writing a name: an added package lists it, or a file is laid beside
 -- another under it; the database and the world always count
 unfoldable pub counts_as_written : FileChange → Files → List ℕ → Bool
 counts_as_written change files name =
-    list_any (bytes_eq name) (database_name ∷ world_name ∷ coming_paths change.members)
-    || is_some (option_and_then (laid_beside change files) (path_beside name))
+    list_any (bytes_eq name) (database_name ∷ world_name ∷ added_paths change.members)
+    || is_some (option_and_then (aside_listing_at change files) (path_beside name))
 
 -- whether a change lets go of a name: a package listed it before, none does now, and the user's
 -- file is not kept
-unfoldable pub is_let_go : FileChange → Files → List ℕ → Bool
-is_let_go change files name =
+unfoldable pub is_released : FileChange → Files → List ℕ → Bool
+is_released change files name =
     was_listed change name && not (is_claimed change name || is_kept change files name)
 
 -- the names of a change, as the search for the first clash needs them
 abbrev pub name_change : FileChange → Files → NameChange
 name_change change files =
-    record { counts_as_written = counts_as_written change files; lets_go = is_let_go change files }
+    record {
+      counts_as_written = counts_as_written change files;
+      does_release = is_released change
+          files;
+    }

@@ -8,10 +8,10 @@ use Rattle.base_core.specs.ByteOrder.{bytes_cmp, smallest_text}
 use Rattle.base_core.specs.Sorted.{sorted_by}
 use Rattle.adb_schema.specs.Reserved.{is_reserved}
 use Rattle.db_core.specs.Members.{Listing, Member}
-use Rattle.change_files.specs.NamesAfter.{coming_paths}
+use Rattle.change_files.specs.NamesAfter.{added_paths}
 use Rattle.change_files.specs.Fate.{aside_name}
 use Rattle.change_files.specs.FileChange.{FileChange, old_listings}
-use Rattle.change_files.specs.FilesAfter.{is_kept, is_removed, laid_beside, written_as}
+use Rattle.change_files.specs.FilesAfter.{is_kept, is_removed, aside_listing_at, written_as}
 
 -- ---- names in byte order, each once
 
@@ -51,7 +51,7 @@ write_to name l = record { name = name; member = l.place; folder = l.folder; fil
 unfoldable pub file_writes_of : FileChange → Files → List FileWrite
 file_writes_of change files =
     filter_map (λ name. option_map (write_to name) (written_as change files name))
-    (names_in_order (coming_paths change.members ++ map aside_name (coming_paths change.members)))
+    (names_in_order (added_paths change.members ++ map aside_name (added_paths change.members)))
 
 -- the names that are removed, in byte order
 unfoldable pub removals_of : FileChange → Files → List (List ℕ)
@@ -64,11 +64,11 @@ kept_of change files = filter (is_kept change files) (names_in_order (old_paths 
 -- the paths beside which a file is laid, in byte order
 unfoldable pub aside_of : FileChange → Files → List (List ℕ)
 aside_of change files =
-    filter (λ path. is_some (laid_beside change files path))
-    (names_in_order (coming_paths change.members))
+    filter (λ path. is_some (aside_listing_at change files path))
+    (names_in_order (added_paths change.members))
 
 -- ---- reserved paths
 
 -- the first reserved path in byte order that an added package lists
 unfoldable pub first_reserved : List Member → Option (List ℕ)
-first_reserved members = smallest_text (filter is_reserved (coming_paths members))
+first_reserved members = smallest_text (filter is_reserved (added_paths members))

@@ -8,9 +8,9 @@ use Rattle.db_core.specs.Members.{Listing}
 use Rattle.adb_view.specs.Plain.{Plain}
 use Rattle.file_guard.specs.AsListed.{do_entries_agree, is_as_listed}
 use Rattle.change_files.specs.Fate.{is_guarded}
-use Rattle.change_files.specs.FileChange.{FileChange, coming_owner, old_entry}
-use Rattle.change_files.specs.FilesAfter.{Records, database_name, laid_beside, path_beside, text_database_name, world_name, written_as}
-use Rattle.change_files.specs.NamesAfter.{coming_paths}
+use Rattle.change_files.specs.FileChange.{FileChange, added_owner_listing, old_entry}
+use Rattle.change_files.specs.FilesAfter.{Records, database_name, aside_listing_at, path_beside, text_database_name, world_name, written_as}
+use Rattle.change_files.specs.NamesAfter.{added_paths}
 use Rattle.change_files.specs.PlanLists.{FileWrite, write_to}
 
 -- whether a name is that of the database, of the world, or of a converted text database
@@ -22,18 +22,18 @@ is_record_name records name =
 -- whether a file is laid beside another one under this name
 abbrev pub is_aside_name : FileChange → Files → List ℕ → Bool
 is_aside_name change files name =
-    is_some (option_and_then (laid_beside change files) (path_beside name))
+    is_some (option_and_then (aside_listing_at change files) (path_beside name))
 
 -- whether an added package lists the path
-abbrev pub is_coming_path : FileChange → List ℕ → Bool
-is_coming_path change path = list_any (bytes_eq path) (coming_paths change.members)
+abbrev pub is_added_path : FileChange → List ℕ → Bool
+is_added_path change path = list_any (bytes_eq path) (added_paths change.members)
 
 -- configuration that the user changed: the file under a protected path is neither as an added package
 -- lists it nor as a package listed it before
 pub record IsUsersFile (change : FileChange) (files : Files) (path bytes : List ℕ) : Type 0 where
   pub guarded : is_guarded path ≡ true
   pub present : files path ≡ Some bytes
-  pub unlike_new : (l : Listing) → coming_owner change path ≡ Some l
+  pub unlike_new : (l : Listing) → added_owner_listing change path ≡ Some l
       → is_as_listed l.entry bytes ≡ false
   pub unlike_old : (entry : Plain) → old_entry change path ≡ Some entry
       → is_as_listed entry bytes ≡ false

@@ -7,41 +7,41 @@ ghost use Rattle.adb_schema.specs.Texts.{is_with_contents};
 ghost use Rattle.base_core.specs.Files.{Files};
 ghost use Rattle.base_core.specs.Listed.{IsRising};
 ghost use Rattle.base_core.specs.Name.{IsName};
-ghost use Rattle.db_core.specs.Members.{Listing, Member, is_coming, member_listings};
+ghost use Rattle.db_core.specs.Members.{Listing, Member, is_added, member_listings};
 ghost use Rattle.file_guard.specs.AsListed.{has_target, is_as_listed};
 ghost use Rattle.file_owners.specs.Owners.{owner_of_path};
 ghost use Rattle.path_clashes.specs.Clash.{is_name_after};
 ghost use Rattle.pkg_core.specs.Contents.{Contents, expected_contents};
 ghost use Rattle.pkg_core.specs.GoodContents.{AreContentsOf, HaveDigests};
 ghost use Rattle.change_files.specs.Fate.{aside_name};
-ghost use Rattle.change_files.specs.FileChange.{FileChange, coming_owner, is_claimed, old_listings, owner_listing, was_listed};
-ghost use Rattle.change_files.specs.FilesAfter.{Records, changed_files, database_name, is_kept, is_left_over, is_removed, is_written, laid_beside, listing_bytes, text_database_name, world_name, written_as};
-ghost use Rattle.change_files.specs.NamesAfter.{is_let_go, name_change};
+ghost use Rattle.change_files.specs.FileChange.{FileChange, added_owner_listing, is_claimed, old_listings, owner_listing, was_listed};
+ghost use Rattle.change_files.specs.FilesAfter.{Records, changed_files, database_name, is_kept, is_left_over, is_removed, is_written, aside_listing_at, listing_bytes, text_database_name, world_name, written_as};
+ghost use Rattle.change_files.specs.NamesAfter.{is_released, name_change};
 ghost use Rattle.change_files.specs.PlanLists.{FileWrite, aside_of, file_writes_of, first_reserved, kept_of, removals_of};
-ghost use Rattle.change_files.specs.Touched.{IsNewEntry, IsUsersFile, IsWriteOf, is_aside_name, is_coming_path, is_record_name};
+ghost use Rattle.change_files.specs.Touched.{IsNewEntry, IsUsersFile, IsWriteOf, is_aside_name, is_added_path, is_record_name};
 
 // ---- what is written
 
 /// An added package that owns a path lists it. So does the owner of everything that is written:
 /// under that path, or beside it.
-pub fn what_is_written_is_owned_by_a_package_that_comes()
+pub fn what_is_written_is_owned_by_an_added_package()
     // Of the added owner of a path.
     ensures owner { (change : FileChange) (path : List ℕ) (l : Listing)
-        → coming_owner change path ≡ Some l
-        → (l.path ≡ path) × (is_coming l.member ≡ true)
+        → added_owner_listing change path ≡ Some l
+        → (l.path ≡ path) × (is_added l.member ≡ true)
         × Contains (member_listings change.members) l
         × (owner_of_path change.members path ≡ Some l.place) }
     // Of each name under which something is written.
     ensures written { (change : FileChange) (files : Files) (name : List ℕ) (l : Listing)
         → written_as change files name ≡ Some l
-        → (coming_owner change l.path ≡ Some l)
+        → (added_owner_listing change l.path ≡ Some l)
         × ((name ≡ l.path) ⊎ (name ≡ aside_name l.path)) }
 {}
 
 /// A file of an added owner takes its path, unless the user changed the file there.
-pub fn what_comes_takes_its_path()
+pub fn an_added_file_takes_its_path()
     ensures { (change : FileChange) (files : Files) (path : List ℕ) (l : Listing)
-        → coming_owner change path ≡ Some l
+        → added_owner_listing change path ≡ Some l
         → ((bytes : List ℕ) → IsUsersFile change files path bytes → ⊥)
         → written_as change files path ≡ Some l }
 {}
@@ -49,28 +49,28 @@ pub fn what_comes_takes_its_path()
 /// A new file is laid beside one that the user changed exactly if no package listed the path before
 /// or the old entry differs, and no package lists the name beside it. It is written under that
 /// name.
-pub fn what_differs_lies_beside_the_users_file()
+pub fn what_differs_is_written_beside_the_users_file()
     // When the new file is laid beside.
     ensures beside { (change : FileChange) (files : Files) (path bytes : List ℕ) (l : Listing)
-        → coming_owner change path ≡ Some l → IsUsersFile change files path bytes
+        → added_owner_listing change path ≡ Some l → IsUsersFile change files path bytes
         → IsNewEntry change path l.entry
         → IsName (aside_name path) → is_claimed change (aside_name path) ≡ false
-        → laid_beside change files path ≡ Some l }
+        → aside_listing_at change files path ≡ Some l }
     // Only then.
     ensures only { (change : FileChange) (files : Files) (path : List ℕ) (l : Listing)
-        → laid_beside change files path ≡ Some l
+        → aside_listing_at change files path ≡ Some l
         → ((bytes : List ℕ) × IsUsersFile change files path bytes)
         × IsNewEntry change path l.entry × (is_claimed change (aside_name path) ≡ false) }
     // It is written under that name.
-    ensures stands { (change : FileChange) (files : Files) (path : List ℕ) (l : Listing)
-        → laid_beside change files path ≡ Some l
+    ensures located { (change : FileChange) (files : Files) (path : List ℕ) (l : Listing)
+        → aside_listing_at change files path ≡ Some l
         → written_as change files (aside_name path) ≡ Some l }
 {}
 
 /// The contents that a package has for a path are as its entry says: a link's text; contents of its
 /// size and its digest; or, if the entry says so, an empty file. For each added member, the
 /// contents are those of a package in which no test fails.
-pub fn what_a_package_brings_is_as_listed()
+pub fn the_files_of_an_added_package_are_as_listed()
     ensures { (contents : ℕ → List Contents) (members : List Member) (l : Listing)
         → Contains (member_listings members) l
         → HaveDigests (expected_contents l.member.pkg)
@@ -121,7 +121,7 @@ pub fn what_is_removed_is_not_reserved()
 /// A path that was listed before is removed, if no package lists it now and nothing is written
 /// there, unless the user changed its file; and each kept file was changed by the user and is not
 /// to be purged.
-pub fn what_is_left_over_goes_unless_it_is_the_users()
+pub fn what_is_left_over_is_removed_unless_it_is_the_users()
     ensures goes { (change : FileChange) (files : Files) (path : List ℕ)
         → is_left_over change files path ≡ true
         → ((bytes : List ℕ) → IsUsersFile change files path bytes → ⊥) ⊎ (change.purge ≡ true)
@@ -134,22 +134,22 @@ pub fn what_is_left_over_goes_unless_it_is_the_users()
 // ---- what is unchanged
 
 /// A path with a kept owner is unchanged.
-pub fn the_file_of_a_package_that_stays_is_not_touched()
+pub fn the_file_of_a_kept_package_is_not_touched()
     // The plan of the change neither writes nor removes it.
     ensures plan { (change : FileChange) (files : Files) (path : List ℕ) (l : Listing)
-        → owner_listing change path ≡ Some l → is_coming l.member ≡ false
+        → owner_listing change path ≡ Some l → is_added l.member ≡ false
         → (written_as change files path ≡ None) × (is_removed change files path ≡ false) }
     // So it is as before.
     ensures file { (change : FileChange) (bytes_of : Listing → List ℕ) (records : Records)
         (files : Files) (path : List ℕ) (l : Listing)
-        → owner_listing change path ≡ Some l → is_coming l.member ≡ false
+        → owner_listing change path ≡ Some l → is_added l.member ≡ false
         → is_record_name records path ≡ false
         → changed_files change bytes_of records files path ≡ files path }
 {}
 
 /// Configuration that the user changed keeps its bytes, unless it is to be purged and no package
 /// lists it. A file that was laid beside another is replaced by the one that is laid there now.
-pub fn configuration_that_the_user_changed_stays()
+pub fn configuration_that_the_user_changed_is_kept()
     ensures { (change : FileChange) (bytes_of : Listing → List ℕ) (records : Records)
         (files : Files) (path bytes : List ℕ)
         → (change.purge ≡ false) ⊎ (is_claimed change path ≡ true)
@@ -159,7 +159,7 @@ pub fn configuration_that_the_user_changed_stays()
 {}
 
 /// A kept file is unchanged.
-pub fn what_is_kept_stays()
+pub fn what_is_kept_is_unchanged()
     ensures { (change : FileChange) (bytes_of : Listing → List ℕ) (records : Records)
         (files : Files) (path : List ℕ) → is_kept change files path ≡ true
         → is_record_name records path ≡ false
@@ -171,7 +171,7 @@ pub fn what_is_kept_stays()
 pub fn a_name_that_nobody_lists_is_not_touched()
     ensures { (change : FileChange) (bytes_of : Listing → List ℕ) (records : Records)
         (files : Files) (name : List ℕ) → was_listed change name ≡ false
-        → is_coming_path change name ≡ false
+        → is_added_path change name ≡ false
         → is_aside_name change files name ≡ false → is_record_name records name ≡ false
         → changed_files change bytes_of records files name ≡ files name }
 {}
@@ -179,7 +179,7 @@ pub fn a_name_that_nobody_lists_is_not_touched()
 // ---- the names
 
 /// Each file after a change has one of the names after.
-pub fn the_files_after_a_change_stand_under_its_names()
+pub fn the_files_after_a_change_are_under_its_names()
     ensures { (change : FileChange) (bytes_of : Listing → List ℕ) (records : Records)
         (files : Files) (name : List ℕ)
         → is_some (changed_files change bytes_of records files name) ≡ true
@@ -189,14 +189,14 @@ pub fn the_files_after_a_change_stand_under_its_names()
 /// A file of before is present after a change that does not let go of its name. If the change lets
 /// go of the name and writes nothing there, the file is absent.
 pub fn the_names_after_a_change_are_those_of_its_files()
-    ensures stands { (change : FileChange) (bytes_of : Listing → List ℕ) (records : Records)
+    ensures located { (change : FileChange) (bytes_of : Listing → List ℕ) (records : Records)
         (files : Files) (name : List ℕ)
-        → is_some (files name) ≡ true → is_let_go change files name ≡ false
+        → is_some (files name) ≡ true → is_released change files name ≡ false
         → is_record_name records name ≡ false
         → is_some (changed_files change bytes_of records files name) ≡ true }
     ensures gone { (change : FileChange) (bytes_of : Listing → List ℕ) (records : Records)
         (files : Files) (name : List ℕ)
-        → is_let_go change files name ≡ true → is_written change files name ≡ false
+        → is_released change files name ≡ true → is_written change files name ≡ false
         → is_record_name records name ≡ false
         → changed_files change bytes_of records files name ≡ None }
 {}
@@ -205,7 +205,7 @@ pub fn the_names_after_a_change_are_those_of_its_files()
 
 /// The new database and the new world are under their names. An absent world that would be empty
 /// stays absent, and a converted text database is absent.
-pub fn the_records_of_a_change_stand_under_their_names()
+pub fn the_records_of_a_change_are_under_their_names()
     ensures database { (change : FileChange) (bytes_of : Listing → List ℕ) (records : Records)
         (files : Files)
         → changed_files change bytes_of records files database_name ≡ Some records.database }
@@ -238,7 +238,7 @@ pub fn the_lists_of_a_plan_hold_just_its_names()
         → Contains (kept_of change files) path ↔ (is_kept change files path ≡ true) }
     ensures aside { (change : FileChange) (files : Files) (path : List ℕ)
         → Contains (aside_of change files) path
-        ↔ (is_some (laid_beside change files path) ≡ true) }
+        ↔ (is_some (aside_listing_at change files path) ≡ true) }
 {}
 
 /// Each list of a plan is in byte order, and no name is repeated.

@@ -12,12 +12,13 @@ mod laws;
 
 pub use laws::{
     a_name_has_one_place_in_a_plan, a_name_that_nobody_lists_is_not_touched,
-    configuration_that_the_user_changed_stays, the_file_of_a_package_that_stays_is_not_touched,
-    the_files_after_a_change_stand_under_its_names, the_lists_of_a_plan_hold_just_its_names,
+    an_added_file_takes_its_path, configuration_that_the_user_changed_is_kept,
+    the_file_of_a_kept_package_is_not_touched, the_files_after_a_change_are_under_its_names,
+    the_files_of_an_added_package_are_as_listed, the_lists_of_a_plan_hold_just_its_names,
     the_lists_of_a_plan_rise, the_names_after_a_change_are_those_of_its_files,
-    the_records_of_a_change_stand_under_their_names, what_a_package_brings_is_as_listed,
-    what_comes_takes_its_path, what_differs_lies_beside_the_users_file, what_is_kept_stays,
-    what_is_left_over_goes_unless_it_is_the_users, what_is_removed_is_not_reserved,
-    what_is_removed_was_listed_before, what_is_written_is_not_reserved,
-    what_is_written_is_owned_by_a_package_that_comes, what_is_written_takes_its_name,
+    the_records_of_a_change_are_under_their_names, what_differs_is_written_beside_the_users_file,
+    what_is_kept_is_unchanged, what_is_left_over_is_removed_unless_it_is_the_users,
+    what_is_removed_is_not_reserved, what_is_removed_was_listed_before,
+    what_is_written_is_not_reserved, what_is_written_is_owned_by_an_added_package,
+    what_is_written_takes_its_name,
 };

@@ -13,12 +13,12 @@ use Rattle.root_names.specs.RootNames.{database_name, repositories_name, text_da
 use Rattle.adb_view.specs.Plain.{Plain}
 use Rattle.change_inputs.proofs.Handed.{failure_agrees, handed_on_disk, refused_part, refused_part_disk, unless_disk}
 use Rattle.change_inputs.proofs.IndexSteps.{unread, unread_stands}
-use Rattle.change_inputs.specs.Answers.{Agrees, AgreesUnlessDisk, IsFailure, StandAt, StandsAt}
+use Rattle.change_inputs.specs.Answers.{Agrees, AgreesUnlessDisk, IsFailure, AreInTreeAt, IsInTreeAt}
 use Rattle.change_inputs.specs.Chains.{and_then}
 use Rattle.change_inputs.specs.Database.{Database, root_database}
 use Rattle.change_inputs.specs.Indexes.{index_files_from, indexes_in_files, root_indexes}
 use Rattle.change_inputs.specs.Inputs.{Inputs, Root, database_for, index_reads_from, indexes_of, inputs_by, inputs_of, root_for, root_found}
-use Rattle.change_inputs.specs.RootFiles.{StandInRoot}
+use Rattle.change_inputs.specs.RootFiles.{AreInTreeAsRoot}
 use Rattle.change_inputs.specs.declared.root.Refused.{Refused}
 use Rattle.change_inputs.specs.declared.root.RootFiles.{RootFiles}
 
@@ -44,13 +44,13 @@ found_from (f ∷ fs) = (refl, later (nth_found (f ∷ fs)) 0 fs (found_from fs)
 
 -- what is found under the paths of repositories
 
-reads_unobserved : (found : ℕ → Option (List ℕ)) (n : ℕ) (rs : List Repository) (fs : List (Option (List ℕ))) → StandAt [] rs fs → FindFrom found n fs → index_reads_from (λ k name. found k) n rs ≡ fs
+reads_unobserved : (found : ℕ → Option (List ℕ)) (n : ℕ) (rs : List Repository) (fs : List (Option (List ℕ))) → AreInTreeAt [] rs fs → FindFrom found n fs → index_reads_from (λ k name. found k) n rs ≡ fs
 reads_unobserved found n [] [] stand h = refl
 reads_unobserved found n [] (f ∷ fs) stand h = absurd stand
 reads_unobserved found n (r ∷ rs) [] stand h = absurd stand
 reads_unobserved found n (r ∷ rs) (f ∷ fs) stand h = λ i. h.0 i ∷ reads_unobserved found (suc n) rs fs stand.1 h.1 i
 
-reads_observed : (v : TreeState) (earlier : List TreeState) (n : ℕ) (rs : List Repository) (fs : List (Option (List ℕ))) → StandAt (v ∷ earlier) rs fs → index_reads_from (λ k name. files_of v name) n rs ≡ fs
+reads_observed : (v : TreeState) (earlier : List TreeState) (n : ℕ) (rs : List Repository) (fs : List (Option (List ℕ))) → AreInTreeAt (v ∷ earlier) rs fs → index_reads_from (λ k name. files_of v name) n rs ≡ fs
 reads_observed v earlier n [] [] stand = refl
 reads_observed v earlier n [] (f ∷ fs) stand = absurd stand
 reads_observed v earlier n (r ∷ rs) [] stand = absurd stand
@@ -66,7 +66,7 @@ pub record AreReads (read : Reads) (file text world repositories : Option (List 
   pub indexes_are : index_reads_from read 4 rs ≡ fs
 
 pub explained_root : (history : List TreeState) (file text world repositories : Option (List ℕ)) (rs : List Repository) (fs : List (Option (List ℕ)))
-    → StandsAt history database_name file → StandsAt history text_database_name text → StandsAt history world_name world → StandsAt history repositories_name repositories → StandAt history rs fs
+    → IsInTreeAt history database_name file → IsInTreeAt history text_database_name text → IsInTreeAt history world_name world → IsInTreeAt history repositories_name repositories → AreInTreeAt history rs fs
     → Explains history (λ read. AreReads read file text world repositories rs fs)
 explained_root [] file text world repositories rs fs a b c d stand =
     let all = file ∷ text ∷ world ∷ repositories ∷ fs in
@@ -102,7 +102,7 @@ text_or : (history : List TreeState) (text file : Option (List ℕ)) → Option 
 text_or history text None = text
 text_or history text (Some file) = unread history text_database_name
 
-text_stands : (history : List TreeState) (text file : Option (List ℕ)) → (file ≡ None → StandsAt history text_database_name text) → StandsAt history text_database_name (text_or history text file)
+text_stands : (history : List TreeState) (text file : Option (List ℕ)) → (file ≡ None → IsInTreeAt history text_database_name text) → IsInTreeAt history text_database_name (text_or history text file)
 unfolding text_or
 text_stands history text None h = h refl
 text_stands history text (Some file) h = unread_stands history text_database_name
@@ -118,10 +118,10 @@ same_root command history text None world repositories = refl
 same_root command history text (Some file) world repositories = refl
 
 -- the database alone
-pub explained_database : (history : List TreeState) (command : CommandLine) (file text : Option (List ℕ)) → StandsAt history database_name file → (file ≡ None → StandsAt history text_database_name text)
+pub explained_database : (history : List TreeState) (command : CommandLine) (file text : Option (List ℕ)) → IsInTreeAt history database_name file → (file ≡ None → IsInTreeAt history text_database_name text)
     → Explains history (λ read. database_for command read ≡ root_database command.flags.initdb file text)
-explained_database history command file text stands text_stand =
-    let e = explained_root history file (text_or history text file) (unread history world_name) (unread history repositories_name) [] [] stands (text_stands history text file text_stand) (unread_stands history world_name) (unread_stands history repositories_name) tt in
+explained_database history command file text located text_stand =
+    let e = explained_root history file (text_or history text file) (unread history world_name) (unread history repositories_name) [] [] located (text_stands history text file text_stand) (unread_stands history world_name) (unread_stands history repositories_name) tt in
     record {
       read = e.read;
       observed = e.observed;
@@ -132,23 +132,23 @@ pub database_failed : {A : Type 0} (view : A → Database) (history : List TreeS
     → Explains history (λ read. AgreesUnlessDisk view r (database_for command read))
 database_failed view history command r fault is failed = explained history (λ read. AgreesUnlessDisk view r (database_for command read)) (λ read. failure_agrees view (database_for command read) r fault is failed)
 
-pub database_refused : {A B : Type 0} (view : A → Database) (seen : B → Database) (history : List TreeState) (command : CommandLine) (file text : Option (List ℕ)) (r : Result A Refused) (fault : Refused) → StandsAt history database_name file → (file ≡ None → StandsAt history text_database_name text)
+pub database_refused : {A B : Type 0} (view : A → Database) (seen : B → Database) (history : List TreeState) (command : CommandLine) (file text : Option (List ℕ)) (r : Result A Refused) (fault : Refused) → IsInTreeAt history database_name file → (file ≡ None → IsInTreeAt history text_database_name text)
     → IsErrAnd r (λ e. e ≡ fault) → Agrees seen (Err fault) (root_database command.flags.initdb file text) → Explains history (λ read. AgreesUnlessDisk view r (database_for command read))
-database_refused view seen history command file text r fault stands text_stand is h =
-    let e = explained_database history command file text stands text_stand in
+database_refused view seen history command file text r fault located text_stand is h =
+    let e = explained_database history command file text located text_stand in
     record {
       read = e.read;
       observed = e.observed;
       is = handed_on_disk view (database_for command e.read) r fault is (unless_disk view (database_for command e.read) (Err fault) (subst (λ x. Agrees seen (Err fault) x) (sym e.is) h));
     }
 
-pub database_given : (history : List TreeState) (command : CommandLine) (file text : Option (List ℕ)) (database : Database) → StandsAt history database_name file → (file ≡ None → StandsAt history text_database_name text)
+pub database_given : (history : List TreeState) (command : CommandLine) (file text : Option (List ℕ)) (database : Database) → IsInTreeAt history database_name file → (file ≡ None → IsInTreeAt history text_database_name text)
     → root_database command.flags.initdb file text ≡ Ok database → Explains history (λ read. database_for command read ≡ Ok database)
-database_given history command file text database stands text_stand is =
-    let e = explained_database history command file text stands text_stand in
+database_given history command file text database located text_stand is =
+    let e = explained_database history command file text located text_stand in
     record { read = e.read; observed = e.observed; is = e.is ∙ is }
 
-pub explained_files : (history : List TreeState) (command : CommandLine) (files : RootFiles) (rs : List Repository) (fs : List (Option (List ℕ))) → StandInRoot history files → StandAt history rs fs
+pub explained_files : (history : List TreeState) (command : CommandLine) (files : RootFiles) (rs : List Repository) (fs : List (Option (List ℕ))) → AreInTreeAsRoot history files → AreInTreeAt history rs fs
     → Explains history (λ read. (root_for command read ≡ root_found command (bytes_in files.database) (bytes_in files.text_database) (bytes_in files.world) (bytes_in files.repositories)) × (index_reads_from read 4 rs ≡ fs))
 explained_files history command files rs fs stand indexes =
     let file = bytes_in files.database in
@@ -173,7 +173,7 @@ abbrev then_indexes : Reads → Root → Result Inputs Refusals.Refusal
 then_indexes read root = and_then (indexes_of read root.repositories) (λ indexes. Ok (inputs_by root indexes))
 
 -- a root that is refused
-pub explained_refusal : {A B : Type 0} (view : A → Inputs) (seen : B → Root) (history : List TreeState) (command : CommandLine) (files : RootFiles) (r : Result A Refused) (fault : Refused) → StandInRoot history files → IsErrAnd r (λ e. e ≡ fault)
+pub explained_refusal : {A B : Type 0} (view : A → Inputs) (seen : B → Root) (history : List TreeState) (command : CommandLine) (files : RootFiles) (r : Result A Refused) (fault : Refused) → AreInTreeAsRoot history files → IsErrAnd r (λ e. e ≡ fault)
     → Agrees seen (Err fault) (root_found command (bytes_in files.database) (bytes_in files.text_database) (bytes_in files.world) (bytes_in files.repositories))
     → Explains history (λ read. AgreesUnlessDisk view r (inputs_of command read))
 unfolding inputs_of
@@ -188,9 +188,9 @@ explained_refusal view seen history command files r fault stand is h =
     }
 
 -- a root that is good, and what comes of its indexes
-pub explained_indexes : {A : Type 0} (view : A → Inputs) (history : List TreeState) (command : CommandLine) (files : RootFiles) (root : Root) (fs : List (Option (List ℕ))) (r : Result A Refused) → StandInRoot history files
+pub explained_indexes : {A : Type 0} (view : A → Inputs) (history : List TreeState) (command : CommandLine) (files : RootFiles) (root : Root) (fs : List (Option (List ℕ))) (r : Result A Refused) → AreInTreeAsRoot history files
     → root_found command (bytes_in files.database) (bytes_in files.text_database) (bytes_in files.world) (bytes_in files.repositories) ≡ Ok root
-    → StandAt history root.repositories fs → AgreesUnlessDisk view r (and_then (root_indexes fs) (λ indexes. Ok (inputs_by root indexes)))
+    → AreInTreeAt history root.repositories fs → AgreesUnlessDisk view r (and_then (root_indexes fs) (λ indexes. Ok (inputs_by root indexes)))
     → Explains history (λ read. AgreesUnlessDisk view r (inputs_of command read))
 unfolding inputs_of
 explained_indexes view history command files root fs r stand good indexes h =
@@ -227,9 +227,9 @@ indexes_good root fs files indexes there good =
     ap (λ (x : Result (List (List ℕ)) Refusals.Refusal). and_then (and_then x (indexes_in_files 1)) (λ indexes. Ok (inputs_by root indexes))) there
     ∙ ap (λ (x : Result (List Plain) Refusals.Refusal). and_then x (λ indexes. Ok (inputs_by root indexes))) good
 
-pub explained_good : (history : List TreeState) (command : CommandLine) (files : RootFiles) (root : Root) (fs : List (Option (List ℕ))) (found : List (List ℕ)) (indexes : List Plain) → StandInRoot history files
+pub explained_good : (history : List TreeState) (command : CommandLine) (files : RootFiles) (root : Root) (fs : List (Option (List ℕ))) (found : List (List ℕ)) (indexes : List Plain) → AreInTreeAsRoot history files
     → root_found command (bytes_in files.database) (bytes_in files.text_database) (bytes_in files.world) (bytes_in files.repositories) ≡ Ok root
-    → StandAt history root.repositories fs → index_files_from 1 fs ≡ Ok found → indexes_in_files 1 found ≡ Ok indexes
+    → AreInTreeAt history root.repositories fs → index_files_from 1 fs ≡ Ok found → indexes_in_files 1 found ≡ Ok indexes
     → Explains history (λ read. inputs_of command read ≡ Ok (inputs_by root indexes))
 explained_good history command files root fs found indexes stand good those there are =
     explained_indexes {A = Inputs} (λ inputs. inputs) history command files root fs (Ok (inputs_by root indexes)) stand good those (indexes_good root fs found indexes there are)
@@ -239,5 +239,5 @@ explained_good history command files root fs found indexes stand good those ther
 pub as_before : (old now : List TreeState) (P : Reads → Type 0) → now ≡ old → Explains now P → Explains old P
 as_before old now P same h = subst (λ (t : List TreeState). Explains t P) same h
 
-pub root_as_now : (old now : List TreeState) (files : RootFiles) → now ≡ old → StandInRoot old files → StandInRoot now files
-root_as_now old now files same h = subst (λ (t : List TreeState). StandInRoot t files) (sym same) h
+pub root_as_now : (old now : List TreeState) (files : RootFiles) → now ≡ old → AreInTreeAsRoot old files → AreInTreeAsRoot now files
+root_as_now old now files same h = subst (λ (t : List TreeState). AreInTreeAsRoot t files) (sym same) h

@@ -31,13 +31,13 @@ IsFailure Disk = Unit {0}
 IsFailure Memory = Unit {0}
 
 -- if the tree's files are observable, what was found is the file under the name
-abbrev pub StandsAt : List TreeState → List ℕ → Option (List ℕ) → Type 0
-StandsAt history name found = IfObservable history (λ v. found ≡ files_of v name)
+abbrev pub IsInTreeAt : List TreeState → List ℕ → Option (List ℕ) → Type 0
+IsInTreeAt history name found = IfObservable history (λ v. found ≡ files_of v name)
 
 -- if the tree's files are observable, what was found are the files under the paths of the repositories
-abbrev pub StandAt : List TreeState → List Repository → List (Option (List ℕ)) → Type 0
-StandAt history [] [] = Unit {0}
-StandAt history [] (f ∷ found) = ⊥
-StandAt history (repository ∷ repositories) [] = ⊥
-StandAt history (repository ∷ repositories) (f ∷ found) =
-    StandsAt history repository.path f × StandAt history repositories found
+abbrev pub AreInTreeAt : List TreeState → List Repository → List (Option (List ℕ)) → Type 0
+AreInTreeAt history [] [] = Unit {0}
+AreInTreeAt history [] (f ∷ found) = ⊥
+AreInTreeAt history (repository ∷ repositories) [] = ⊥
+AreInTreeAt history (repository ∷ repositories) (f ∷ found) =
+    IsInTreeAt history repository.path f × AreInTreeAt history repositories found

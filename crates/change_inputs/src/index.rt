@@ -10,7 +10,7 @@ ghost use Rattle.adb_view.specs.declared.tables.Kind.TheVariants as Kinds;
 ghost use Rattle.adb_view.specs.declared.tables.Which.TheVariants as Tables;
 ghost use Rattle.adb_view.specs.Head.{head_fault, root_of};
 ghost use Rattle.base_core.specs.Read.{OnlyReads, bytes_in};
-ghost use Rattle.change_inputs.specs.Answers.{Agrees, AgreesUnlessDisk, StandAt, StandsAt};
+ghost use Rattle.change_inputs.specs.Answers.{Agrees, AgreesUnlessDisk, AreInTreeAt, IsInTreeAt};
 ghost use Rattle.change_inputs.specs.IndexFiles.{are_indexes, bytes_of_each, index_of_file, is_index};
 ghost use Rattle.change_inputs.specs.Indexes.{index_file, index_files_from, index_in_file, indexes_in_files};
 ghost use Rattle.std.specs.Prelude.{◌≡◌, ◌<◌, ◌++◌, ◌∷◌, [], true, ℕ, List, Option, Some, IfOk, OnOk, is_none, length, slice_get};
@@ -95,7 +95,7 @@ pub(crate) fn read_index_files<T: Tree>(
     // If the tree's files are observable, they are what is found; all files are returned, or the
     // first absent one is refused.
     ensures found { (found : List (Option (List ℕ)))
-        × StandAt (T.history tree.old) repositories.now found
+        × AreInTreeAt (T.history tree.old) repositories.now found
         × AgreesUnlessDisk (λ files. bytes_of_each files.items) result (index_files_from 1 found) }
     // There is one file for each repository.
     ensures count { IfOk result (λ files. length files.items ≡ length repositories.now) }
@@ -127,7 +127,7 @@ fn read_index_file<T: Tree>(
     path: &Name,
     tree: &mut T,
 ) -> Result<Vec<u8>, Refused>
-    ensures found { (found : Option (List ℕ)) × StandsAt (T.history tree.old) path.now found
+    ensures found { (found : Option (List ℕ)) × IsInTreeAt (T.history tree.old) path.now found
         × AgreesUnlessDisk (λ file. file.items) result (index_file number found) }
     ensures tree { OnlyReads Refused.Disk (T.history tree.old) (T.history tree.new)
         (T.counts tree.old) (T.counts tree.new) result }

@@ -17,5 +17,5 @@ mod world;
 
 pub use installed::Installed;
 pub use loaded::Loaded;
-pub use root::{Refused, inputs_rest_on_their_own_reads};
+pub use root::{Refused, inputs_depend_on_their_own_reads};
 pub use world::operand_texts;

@@ -5,7 +5,7 @@ ghost use Rattle.base_core.specs.Read.{OnlyReads};
 ghost use Rattle.change_inputs.specs.Answers.{Agrees, AgreesUnlessDisk};
 ghost use Rattle.change_inputs.specs.Candidates.{candidates_from, candidates_of, root_pool};
 ghost use Rattle.change_inputs.specs.Inputs.{inputs_of};
-ghost use Rattle.change_inputs.specs.RootFiles.{StandInRoot};
+ghost use Rattle.change_inputs.specs.RootFiles.{AreInTreeAsRoot};
 ghost use Rattle.db_core.specs.Seen.{packages_of};
 ghost use Rattle.package_files.specs.Runs.{Explains};
 ghost use Rattle.candidate_core.specs.declared.candidate_list.TheConstants.{MOST_CANDIDATES};
@@ -15,7 +15,7 @@ ghost use Rattle.std.specs.Prelude.{◌≡◌, ◌≤◌, [], IfErr, IfOk, OnOk,
 
 use crate::index::{IndexFiles, read_index_files};
 use crate::root::{Refused, RootFiles, TestedRoot, read_root, test_root};
-use base_core::{Tree, readings_in_a_row_join};
+use base_core::{Tree, consecutive_reads_compose};
 use command_core::Command;
 use db_core::Db;
 use dep_core::{Repos, World};
@@ -57,7 +57,7 @@ impl Loaded {
             (T.counts tree.old) (T.counts tree.new) result }
     {
         // A law that the proof needs; it computes nothing.
-        readings_in_a_row_join::<RootFiles, Loaded, Refused>();
+        consecutive_reads_compose::<RootFiles, Loaded, Refused>();
         let files = read_root(alloc, tree)?;
         Loaded::of_files(alloc, command, files, tree)
     }
@@ -69,7 +69,7 @@ impl Loaded {
         files: RootFiles,
         tree: &mut T,
     ) -> Result<Loaded, Refused>
-        requires { StandInRoot (T.history tree.old) files }
+        requires { AreInTreeAsRoot (T.history tree.old) files }
         ensures found { Explains (T.history tree.old) (λ read.
             AgreesUnlessDisk inputs_seen result (inputs_of command.now read)) }
         ensures tree { OnlyReads Refused.Disk (T.history tree.old) (T.history tree.new)

@@ -3,9 +3,9 @@
 //! `del`", what is read and refused.
 
 ghost use Rattle.base_core.specs.Read.{OnlyReads, bytes_in};
-ghost use Rattle.change_inputs.specs.Answers.{Agrees, IsFailure, StandsAt};
+ghost use Rattle.change_inputs.specs.Answers.{Agrees, IsFailure, IsInTreeAt};
 ghost use Rattle.change_inputs.specs.Inputs.{root_found, Inputs, first_index_read, inputs_of};
-ghost use Rattle.change_inputs.specs.RootFiles.{StandInRoot};
+ghost use Rattle.change_inputs.specs.RootFiles.{AreInTreeAsRoot};
 ghost use Rattle.change_inputs.specs.Seen.{root_seen};
 ghost use Rattle.root_names.specs.RootNames.{database_name, text_database_name};
 ghost use Rattle.std.specs.Prelude.{◌≡◌, IfErr, IfOk, None, OnOk, ◌<◌, ◌+◌, ℕ, List, Ok, length};
@@ -20,7 +20,7 @@ use crate::index::repositories_of;
 use crate::world::{Worlds, worlds_of};
 use adb_block::Blocks;
 use adb_schema::{ReadFault, Which, read_adb};
-use base_core::{Name, Tree, TreeFault, read_all, readings_in_a_row_join};
+use base_core::{Name, Tree, TreeFault, consecutive_reads_compose, read_all};
 use command_core::Command;
 use dep_core::Repos;
 use report_core::Refusal;
@@ -55,7 +55,7 @@ pub(crate) struct TestedRoot {
 /// Reads the files of a root: first the databases, then world and the repositories.
 pub(crate) fn read_root<T: Tree>(alloc: Global, tree: &mut T) -> Result<RootFiles, Refused>
     // If the tree's files are observable, each is the one under its name.
-    ensures found { IfOk result (λ files. StandInRoot (T.history tree.old) files) }
+    ensures found { IfOk result (λ files. AreInTreeAsRoot (T.history tree.old) files) }
     // Nothing is refused here.
     ensures failed { IfErr result IsFailure }
     // The tree is only read; a fault of it has its cause.
@@ -63,7 +63,7 @@ pub(crate) fn read_root<T: Tree>(alloc: Global, tree: &mut T) -> Result<RootFile
         (T.counts tree.old) (T.counts tree.new) result }
 {
     // A law that the proof needs; it computes nothing.
-    readings_in_a_row_join::<(Option<Vec<u8>>, Option<Vec<u8>>), Option<Vec<u8>>, Refused>();
+    consecutive_reads_compose::<(Option<Vec<u8>>, Option<Vec<u8>>), Option<Vec<u8>>, Refused>();
     let world_name = world_name(alloc)?;
     let repositories_name = repositories_name(alloc)?;
     let (database, text_database) = read_databases(alloc, tree)?;
@@ -84,17 +84,17 @@ pub(crate) fn read_databases<T: Tree>(
 ) -> Result<(Option<Vec<u8>>, Option<Vec<u8>>), Refused>
     // If the tree's files are observable, the database is there.
     ensures database { IfOk result (λ found.
-        StandsAt (T.history tree.old) database_name (bytes_in found.0)) }
+        IsInTreeAt (T.history tree.old) database_name (bytes_in found.0)) }
     // So does the text database, which counts only if there is no other.
     ensures text_database { IfOk result (λ found. bytes_in found.0 ≡ None
-        → StandsAt (T.history tree.old) text_database_name (bytes_in found.1)) }
+        → IsInTreeAt (T.history tree.old) text_database_name (bytes_in found.1)) }
     // Nothing is refused here.
     ensures failed { IfErr result IsFailure }
     ensures tree { OnlyReads Refused.Disk (T.history tree.old) (T.history tree.new)
         (T.counts tree.old) (T.counts tree.new) result }
 {
     // A law that the proof needs; it computes nothing.
-    readings_in_a_row_join::<Option<Vec<u8>>, Option<Vec<u8>>, Refused>();
+    consecutive_reads_compose::<Option<Vec<u8>>, Option<Vec<u8>>, Refused>();
     let name = database_name(alloc)?;
     let text_name = text_database_name(alloc)?;
     let database = read_file(alloc, tree, &name)?;
@@ -144,7 +144,7 @@ pub(crate) fn read_file<T: Tree>(
 ) -> Result<Option<Vec<u8>>, Refused>
     // If the tree's files are observable, it is the one there.
     ensures found { IfOk result (λ found.
-        StandsAt (T.history tree.old) name.now (bytes_in found)) }
+        IsInTreeAt (T.history tree.old) name.now (bytes_in found)) }
     // Nothing is refused here.
     ensures failed { IfErr result IsFailure }
     ensures tree { OnlyReads Refused.Disk (T.history tree.old) (T.history tree.new)
@@ -221,7 +221,7 @@ impl From<TreeFault> for Refused {
 
 /// Inputs depend only on the reads of their own files: those of a root, and one for each index.
 /// Later reads of a command do not matter.
-pub fn inputs_rest_on_their_own_reads()
+pub fn inputs_depend_on_their_own_reads()
     ensures { (command : CommandLine) (read other : Reads) (inputs : Inputs)
         → inputs_of command read ≡ Ok inputs
         → ((n : ℕ) (name : List ℕ) → n < first_index_read + length inputs.root.repositories

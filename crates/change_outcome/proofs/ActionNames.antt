@@ -92,8 +92,8 @@ module _ (inputs : Inputs) (change : FileChange) (files : Files) (records : Reco
 
   -- ---- they are free, and each stands once
 
-  pub record_names : (q : List ℕ) → IsIn q own_writes → (q ≡ database_name) ⊎ (q ≡ world_name)
-  record_names q here =
+  pub database_and_world_names : (q : List ℕ) → IsIn q own_writes → (q ≡ database_name) ⊎ (q ≡ world_name)
+  database_and_world_names q here =
       elim (split_in q database_write world_write here) [
         | inl database ↦ inl (needed (is_other_file inputs.root.database.file records.database) database_name q database).0
         | inr world ↦ inr (needed (not (bytes_eq inputs.root.world_text records.world)) world_name q world).0
@@ -112,7 +112,7 @@ module _ (inputs : Inputs) (change : FileChange) (files : Files) (records : Reco
 
     pub write_outside : (q : List ℕ) → IsOneOf q actions.writes → is_intent_or_stage_name q ≡ false
     write_outside q among =
-        elim (from_writes q among) [ inl written ↦ outside_unreserved q (written_free q written) | inr own ↦ record_outside q (record_names q own) ]
+        elim (from_writes q among) [ inl written ↦ outside_unreserved q (written_free q written) | inr own ↦ record_outside q (database_and_world_names q own) ]
 
     pub removal_outside : (q : List ℕ) → IsOneOf q actions.removals → is_intent_or_stage_name q ≡ false
     removal_outside q among =
@@ -137,7 +137,7 @@ module _ (inputs : Inputs) (change : FileChange) (files : Files) (records : Reco
             | inl removed ↦ written_or_removed change files q written removed
             | inr text ↦ true≢false (sym (ap is_reserved text.0) ∙ written_free q written)
           ]
-          | inr own ↦ not_removed q (record_names q own) gone
+          | inr own ↦ not_removed q (database_and_world_names q own) gone
         ]
 
     pub free_names : HasFreeNames (intent_of_lists actions.removals actions.writes)

@@ -4,12 +4,12 @@ use Rattle.std.specs.Prelude.{not, ◌&&◌, ◌||◌, is_some, option_and_then}
 use Rattle.std.specs.Str.{bytes_eq}
 use Rattle.std.specs.List.{list_any}
 use Rattle.std.proofs.lemmas.Bool.{and_parts, eq-eqb, eqb-true, or_cases}
-use Rattle.base_core.specs.Files.{Files, IsFolderOf, IsWithin}
+use Rattle.base_core.specs.Files.{Files, IsFolderOf, HasNamesAmong}
 use Rattle.base_core.proofs.Rising.{IsIn}
 use Rattle.change_files.specs.Fate.{aside_name}
 use Rattle.change_files.specs.FileChange.{FileChange}
-use Rattle.change_files.specs.FilesAfter.{database_name, laid_beside, path_beside, world_name}
-use Rattle.change_files.specs.NamesAfter.{coming_paths, counts_as_written, name_change}
+use Rattle.change_files.specs.FilesAfter.{database_name, aside_listing_at, path_beside, world_name}
+use Rattle.change_files.specs.NamesAfter.{added_paths, counts_as_written, name_change}
 use Rattle.change_files.proofs.InOrder.{in_left, in_map, in_right}
 use Rattle.change_files.proofs.Owned.{aside_found, beside_is, in_coming_paths}
 use Rattle.db_core.specs.Members.{Listing}
@@ -171,40 +171,40 @@ first_of_all change files names all = by_found (first_among change files (all_pa
 
 -- ---- of a change of files
 
-module _ (change : FileChange) (files : Files) (within : List (List ℕ)) (finite : IsWithin within files) where
+module _ (change : FileChange) (files : Files) (within : List (List ℕ)) (finite : HasNamesAmong within files) where
   abbrev names : List (List ℕ)
-  names = within ++ (database_name ∷ world_name ∷ (coming_paths change.members ++ map aside_name (coming_paths change.members)))
+  names = within ++ (database_name ∷ world_name ∷ (added_paths change.members ++ map aside_name (added_paths change.members)))
 
   abbrev written : List (List ℕ)
-  written = database_name ∷ world_name ∷ (coming_paths change.members ++ map aside_name (coming_paths change.members))
+  written = database_name ∷ world_name ∷ (added_paths change.members ++ map aside_name (added_paths change.members))
 
-  listed_in : (q : List ℕ) → IsIn q (database_name ∷ world_name ∷ coming_paths change.members) → IsIn q written
+  listed_in : (q : List ℕ) → IsIn q (database_name ∷ world_name ∷ added_paths change.members) → IsIn q written
   listed_in q (inl is) = inl is
   listed_in q (inr (inl is)) = inr (inl is)
-  listed_in q (inr (inr path)) = inr (inr (in_left q (coming_paths change.members) (map aside_name (coming_paths change.members)) path))
+  listed_in q (inr (inr path)) = inr (inr (in_left q (added_paths change.members) (map aside_name (added_paths change.members)) path))
 
-  beside_in : (q : List ℕ) (path : Option (List ℕ)) → path_beside q ≡ path → is_some (option_and_then (laid_beside change files) path) ≡ true → IsIn q written
+  beside_in : (q : List ℕ) (path : Option (List ℕ)) → path_beside q ≡ path → is_some (option_and_then (aside_listing_at change files) path) ≡ true → IsIn q written
   beside_in q None is e = absurd (true≢false (sym e))
-  beside_in q (Some p) is e = by_listing (laid_beside change files p) refl e
+  beside_in q (Some p) is e = by_listing (aside_listing_at change files p) refl e
     where
-      by_listing : (o : Option Listing) → laid_beside change files p ≡ o → is_some o ≡ true → IsIn q written
+      by_listing : (o : Option Listing) → aside_listing_at change files p ≡ o → is_some o ≡ true → IsIn q written
       by_listing None laid e = absurd (true≢false (sym e))
       by_listing (Some l) laid e =
-          inr (inr (in_right q (coming_paths change.members) (map aside_name (coming_paths change.members))
-          (subst (λ (x : List ℕ). IsIn x (map aside_name (coming_paths change.members))) (sym (beside_is q p is)) (in_map aside_name p (coming_paths change.members) (in_coming_paths change p l (aside_found change files p l laid).0)))))
+          inr (inr (in_right q (added_paths change.members) (map aside_name (added_paths change.members))
+          (subst (λ (x : List ℕ). IsIn x (map aside_name (added_paths change.members))) (sym (beside_is q p is)) (in_map aside_name p (added_paths change.members) (in_coming_paths change p l (aside_found change files p l laid).0)))))
 
   counted_in : (q : List ℕ) → counts_as_written change files q ≡ true → IsIn q written
   unfolding counts_as_written
   counted_in q counts =
-      elim (or_cases (list_any (bytes_eq q) (database_name ∷ world_name ∷ coming_paths change.members)) (is_some (option_and_then (laid_beside change files) (path_beside q))) counts) [
-        | inl listed ↦ listed_in q (name_of_any q (database_name ∷ world_name ∷ coming_paths change.members) listed)
+      elim (or_cases (list_any (bytes_eq q) (database_name ∷ world_name ∷ added_paths change.members)) (is_some (option_and_then (aside_listing_at change files) (path_beside q))) counts) [
+        | inl listed ↦ listed_in q (name_of_any q (database_name ∷ world_name ∷ added_paths change.members) listed)
         | inr beside ↦ beside_in q (path_beside q) refl beside
       ]
 
   after_in : (q : List ℕ) → is_name_after (name_change change files) files q ≡ true → IsIn q names
   after_in q there =
-      elim (or_cases (is_some (files q) && not ((name_change change files).lets_go q)) (counts_as_written change files q) there) [
-        | inl standing ↦ in_left q within written (name_of_any q within (finite q (and_parts (is_some (files q)) (not ((name_change change files).lets_go q)) standing).0))
+      elim (or_cases (is_some (files q) && not ((name_change change files).does_release q)) (counts_as_written change files q) there) [
+        | inl present_files ↦ in_left q within written (name_of_any q within (finite q (and_parts (is_some (files q)) (not ((name_change change files).does_release q)) present_files).0))
         | inr counts ↦ in_right q within written (counted_in q counts)
       ]
 

@@ -7,7 +7,7 @@ use Rattle.std.proofs.lemmas.Slice.Eq.{bytes_eq-Decides}
 use Rattle.std.proofs.lemmas.Cmp.{nat_list_cmp_total, tied_itself}
 use Rattle.adb_schema.specs.Reserved.{is_at_or_below, is_intent_or_stage_name, is_reserved}
 use Rattle.base_core.proofs.Rising.{IsIn, Rises, order}
-use Rattle.journal_intent.specs.FreeNames.{AreFreeNames, AreOnce, IsFreeName, IsNoneOf, IsOneOf}
+use Rattle.journal_intent.specs.FreeNames.{AreFreeNames, HaveNoRepeats, IsFreeName, IsNoneOf, IsOneOf}
 use Rattle.journal_intent.specs.Intent.{intent_name, is_staged, stage_folder, stage_name}
 use Rattle.journal_intent.proofs.AtName.{other_name}
 
@@ -67,6 +67,6 @@ frees (x ∷ xs) each = (each x (inl refl), frees xs (λ q at. each q (inr at)))
 pub not_itself : (x : List ℕ) → order x x ≡ Less → ⊥
 not_itself x less = absurd (let tied = tied_itself nat_list_cmp_total x in cc)
 
-pub once_rising : (names : List (List ℕ)) → Rises names → AreOnce names
+pub once_rising : (names : List (List ℕ)) → Rises names → HaveNoRepeats names
 once_rising [] rises = tt
 once_rising (x ∷ xs) rises = (none_of x xs (λ at. not_itself x (rises.0 x at)), once_rising xs rises.1)

@@ -1,7 +1,7 @@
 -- What is known of a change that nothing refuses.
 use Rattle.std.proofs.Common.{◌≡◌, ◌∙◌, ℕ, false, List, Option, Some, None, Result, Ok, Err, refl, sym, ap, subst}
 use Rattle.adb_write.specs.Canonical.{PayloadCounts, overflow_of}
-use Rattle.base_core.specs.Files.{Files, IsWithin}
+use Rattle.base_core.specs.Files.{Files, HasNamesAmong}
 use Rattle.change_files.specs.FileChange.{FileChange}
 use Rattle.change_files.specs.NamesAfter.{name_change}
 use Rattle.change_files.specs.PlanLists.{first_reserved}
@@ -13,7 +13,7 @@ use Rattle.change_outcome.specs.Triggers.{unless_trigger}
 use Rattle.db_core.specs.Members.{Member}
 use Rattle.db_write.specs.NewDatabase.{database_of}
 use Rattle.file_owners.specs.Owners.{contested_of, owned_of}
-use Rattle.journal_core.specs.Staged.{HasRoomToStage}
+use Rattle.journal_core.specs.Staged.{AreStagingPathsFree}
 use Rattle.journal_intent.specs.Intent.{intent_name}
 use Rattle.journal_intent.specs.IntentValue.{intent_of_lists, value_of_intent}
 use Rattle.make_info.specs.Reads.{Reads}
@@ -99,9 +99,9 @@ module _ (inputs : Inputs) (r : Replacement) (wishes : ChangeWishes) (read : Rea
       let at : IsClashFound inputs wishes files (Ok m.found) clash = subst (λ (x : Result (List MemberFound) Refusal). IsClashFound inputs wishes files x clash) m.members clashes in
       subst (λ (o : Option NamePair). IsClashOf (name_change (file_change inputs wishes m.found) files) files o) m.no_clash at
 
-  pub keeps_room : IsChangeMade inputs r wishes read clash files done → IsClashOfChange inputs r wishes read files clash → HasRoomToStage files → HasRoomToStage done.files
+  pub keeps_room : IsChangeMade inputs r wishes read clash files done → IsClashOfChange inputs r wishes read files clash → AreStagingPathsFree files → AreStagingPathsFree done.files
   keeps_room m clashes stage =
-      subst (λ (d : ChangeDone). HasRoomToStage d.files) (sym m.is)
+      subst (λ (d : ChangeDone). AreStagingPathsFree d.files) (sym m.is)
       (room (file_change inputs wishes m.found) _ (new_records inputs m.database) files m.unreserved stage (no_clash_found m clashes))
 
   pub brings_no_intent : IsChangeMade inputs r wishes read clash files done → files intent_name ≡ None → done.files intent_name ≡ None
@@ -119,10 +119,10 @@ pub clash_once : (inputs : Inputs) (r : Replacement) (wishes : ChangeWishes) (re
     → IsClashOfChange inputs r wishes read files a → IsClashOfChange inputs r wishes read files b → a ≡ b
 clash_once inputs r wishes read files a b one other = found_once inputs wishes files (change_members inputs r wishes read) a b one other
 
-clash_of_found : (inputs : Inputs) (wishes : ChangeWishes) (within : List (List ℕ)) (files : Files) → IsWithin within files → (members : Result (List MemberFound) Refusal) → (clash : Option NamePair) × IsClashFound inputs wishes files members clash
+clash_of_found : (inputs : Inputs) (wishes : ChangeWishes) (within : List (List ℕ)) (files : Files) → HasNamesAmong within files → (members : Result (List MemberFound) Refusal) → (clash : Option NamePair) × IsClashFound inputs wishes files members clash
 clash_of_found inputs wishes within files finite (Ok found) = clash_exists (file_change inputs wishes found) files within finite
 clash_of_found inputs wishes within files finite (Err refusal) = (None, refl)
 
-pub a_clash_found : (inputs : Inputs) (r : Replacement) (wishes : ChangeWishes) (read : Reads) (within : List (List ℕ)) (files : Files) → IsWithin within files
+pub a_clash_found : (inputs : Inputs) (r : Replacement) (wishes : ChangeWishes) (read : Reads) (within : List (List ℕ)) (files : Files) → HasNamesAmong within files
     → (clash : Option NamePair) × IsClashOfChange inputs r wishes read files clash
 a_clash_found inputs r wishes read within files finite = clash_of_found inputs wishes within files finite (change_members inputs r wishes read)

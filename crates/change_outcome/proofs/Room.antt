@@ -10,17 +10,17 @@ use Rattle.adb_schema.specs.Reserved.{is_at_or_below, is_reserved}
 use Rattle.base_core.specs.Files.{Files, IsFolderOf}
 use Rattle.base_core.proofs.Rising.{IsIn}
 use Rattle.change_files.specs.FileChange.{FileChange}
-use Rattle.change_files.specs.FilesAfter.{Records, bytes_after, changed_files, database_name, is_removed, laid_beside, path_beside, text_database_name, world_name, written_as, written_in}
+use Rattle.change_files.specs.FilesAfter.{Records, bytes_after, changed_files, database_name, is_removed, aside_listing_at, path_beside, text_database_name, world_name, written_as, written_in}
 use Rattle.std.specs.Option.{option_or}
-use Rattle.change_files.specs.NamesAfter.{coming_paths, counts_as_written, name_change}
+use Rattle.change_files.specs.NamesAfter.{added_paths, counts_as_written, name_change}
 use Rattle.change_files.specs.PlanLists.{first_reserved}
 use Rattle.change_files.specs.Touched.{is_record_name}
 use Rattle.change_files.proofs.AfterNames.{names_after}
 use Rattle.change_files.proofs.Reserved.{unreserved_path, written_unreserved}
 use Rattle.change_files.proofs.Untouched.{changed_so}
 use Rattle.db_core.specs.Members.{Listing}
-use Rattle.journal_core.specs.Staged.{HasRoomBeside, HasRoomToStage, IsEmptyStage, MayBePresent}
-use Rattle.journal_intent.specs.FreeNames.{IsTakenName}
+use Rattle.journal_core.specs.Staged.{AreJournalPathsFree, AreStagingPathsFree, IsEmptyStage, MayBePresent}
+use Rattle.journal_intent.specs.FreeNames.{IsUsedByJournal}
 use Rattle.journal_intent.specs.Intent.{intent_name, is_staged, stage_name}
 use Rattle.path_clashes.specs.Clash.{HasNoClash, is_name_after}
 use Rattle.path_clashes.proofs.FolderLike.{folder_like}
@@ -59,7 +59,7 @@ in_stage p q k rest p_is e =
     behind [] q_is f = ap is_reserved (p_is ∙ ap (λ (x : List ℕ). codes "lib/apk/" ++ x) q_is)
     behind (x ∷ t) q_is f = let slash : 47 ≡ x = cc in ap is_reserved (p_is ∙ (ap (λ (y : List ℕ). codes "lib/apk/" ++ y) q_is ∙ ap (λ (y : ℕ). codes "lib/apk/" ++ (codes "stage" ++ y ∷ t)) (sym slash)))
 
-pub above_taken : (p q : List ℕ) → IsTakenName q → IsFolderOf p q → IsFolderOf p database_name ⊎ (is_reserved p ≡ true)
+pub above_taken : (p q : List ℕ) → IsUsedByJournal q → IsFolderOf p q → IsFolderOf p database_name ⊎ (is_reserved p ≡ true)
 above_taken p q (inl is) (rest, e) =
     elim (cut (codes "lib/apk/") (codes "intent") (codes "db/installed.adb") p rest (sym is ∙ e)) [
       | inl found ↦ inl found
@@ -71,7 +71,7 @@ above_taken p q (inr (k, is)) (rest, e) =
       | inr found ↦ inr (in_stage p found.0 k rest found.1 found.2)
     ]
 
-pub below_taken : (p q : List ℕ) → IsTakenName p → IsFolderOf p q → is_reserved q ≡ true
+pub below_taken : (p q : List ℕ) → IsUsedByJournal p → IsFolderOf p q → is_reserved q ≡ true
 below_taken p q (inl is) (rest, e) = ap is_reserved (e ∙ ap (λ (x : List ℕ). x ++ 47 ∷ rest) is)
 below_taken p q (inr (k, is)) (rest, e) = ap is_reserved (e ∙ ap (λ (x : List ℕ). x ++ 47 ∷ rest) is) ∙ in_stage_folder k rest
   where
@@ -80,9 +80,9 @@ below_taken p q (inr (k, is)) (rest, e) = ap is_reserved (e ∙ ap (λ (x : List
 
 -- ---- names that count as written
 
-beside_written : (change : FileChange) (files : Files) (name : List ℕ) → is_some (option_and_then (laid_beside change files) (path_beside name)) ≡ true → (l : Listing) × (written_as change files name ≡ Some l)
+beside_written : (change : FileChange) (files : Files) (name : List ℕ) → is_some (option_and_then (aside_listing_at change files) (path_beside name)) ≡ true → (l : Listing) × (written_as change files name ≡ Some l)
 unfolding written_as
-beside_written change files name there = by_both (written_in change files name) (option_and_then (laid_beside change files) (path_beside name)) there
+beside_written change files name there = by_both (written_in change files name) (option_and_then (aside_listing_at change files) (path_beside name)) there
   where
     by_both : (a b : Option Listing) → is_some b ≡ true → (l : Listing) × (option_or a b ≡ Some l)
     by_both None None e = absurd (true≢false (sym e))
@@ -94,12 +94,12 @@ pub counted_is : (change : FileChange) (files : Files) (name : List ℕ) → fir
     → (name ≡ database_name) ⊎ ((name ≡ world_name) ⊎ (is_reserved name ≡ false))
 unfolding counts_as_written
 counted_is change files name none counts =
-    elim (or_cases (list_any (bytes_eq name) (database_name ∷ world_name ∷ coming_paths change.members)) (is_some (option_and_then (laid_beside change files) (path_beside name))) counts) [
-      | inl listed ↦ by_place (name_of_any name (database_name ∷ world_name ∷ coming_paths change.members) listed)
+    elim (or_cases (list_any (bytes_eq name) (database_name ∷ world_name ∷ added_paths change.members)) (is_some (option_and_then (aside_listing_at change files) (path_beside name))) counts) [
+      | inl listed ↦ by_place (name_of_any name (database_name ∷ world_name ∷ added_paths change.members) listed)
       | inr beside ↦ inr (inr (let l = beside_written change files name beside in written_unreserved change files name l.0 none l.1))
     ]
   where
-    by_place : IsIn name (database_name ∷ world_name ∷ coming_paths change.members) → (name ≡ database_name) ⊎ ((name ≡ world_name) ⊎ (is_reserved name ≡ false))
+    by_place : IsIn name (database_name ∷ world_name ∷ added_paths change.members) → (name ≡ database_name) ⊎ ((name ≡ world_name) ⊎ (is_reserved name ≡ false))
     by_place (inl is) = inl is
     by_place (inr (inl is)) = inr (inl is)
     by_place (inr (inr path)) = inr (inr (unreserved_path change name none path))
@@ -110,19 +110,19 @@ database_counts change files = refl
 
 -- ---- apart by their bytes
 
-database_no_folder : (q : List ℕ) → IsTakenName q → IsFolderOf database_name q → ⊥
+database_no_folder : (q : List ℕ) → IsUsedByJournal q → IsFolderOf database_name q → ⊥
 database_no_folder q (inl is) (rest, e) = let same : 105 ≡ 100 = ap (λ (x : List ℕ). get_or x 8 0) (sym is ∙ e) in omega (arith, same)
 database_no_folder q (inr (k, is)) (rest, e) = let same : 115 ≡ 100 = ap (λ (x : List ℕ). get_or x 8 0) (sym is ∙ e) in omega (arith, same)
 
-world_no_folder : (q : List ℕ) → IsTakenName q → IsFolderOf world_name q → ⊥
+world_no_folder : (q : List ℕ) → IsUsedByJournal q → IsFolderOf world_name q → ⊥
 world_no_folder q (inl is) (rest, e) = let same : 108 ≡ 101 = ap (λ (x : List ℕ). get_or x 0 0) (sym is ∙ e) in omega (arith, same)
 world_no_folder q (inr (k, is)) (rest, e) = let same : 108 ≡ 101 = ap (λ (x : List ℕ). get_or x 0 0) (sym is ∙ e) in omega (arith, same)
 
-no_folder_of_database : (p : List ℕ) → IsTakenName p → IsFolderOf p database_name → ⊥
+no_folder_of_database : (p : List ℕ) → IsUsedByJournal p → IsFolderOf p database_name → ⊥
 no_folder_of_database p (inl is) (rest, e) = let same : 100 ≡ 105 = ap (λ (x : List ℕ). get_or x 8 0) (e ∙ ap (λ (x : List ℕ). x ++ 47 ∷ rest) is) in omega (arith, same)
 no_folder_of_database p (inr (k, is)) (rest, e) = let same : 100 ≡ 115 = ap (λ (x : List ℕ). get_or x 8 0) (e ∙ ap (λ (x : List ℕ). x ++ 47 ∷ rest) is) in omega (arith, same)
 
-no_folder_of_world : (p : List ℕ) → IsTakenName p → IsFolderOf p world_name → ⊥
+no_folder_of_world : (p : List ℕ) → IsUsedByJournal p → IsFolderOf p world_name → ⊥
 no_folder_of_world p (inl is) (rest, e) = let same : 101 ≡ 108 = ap (λ (x : List ℕ). get_or x 0 0) (e ∙ ap (λ (x : List ℕ). x ++ 47 ∷ rest) is) in omega (arith, same)
 no_folder_of_world p (inr (k, is)) (rest, e) = let same : 101 ≡ 108 = ap (λ (x : List ℕ). get_or x 0 0) (e ∙ ap (λ (x : List ℕ). x ++ 47 ∷ rest) is) in omega (arith, same)
 
@@ -178,7 +178,7 @@ module _ (change : FileChange) (bytes_of : Listing → List ℕ) (records : Reco
   pub no_intent : files intent_name ≡ None → changed_files change bytes_of records files intent_name ≡ None
   no_intent absent = reserved_absent intent_name refl (intent_no_record records) absent
 
-module _ (change : FileChange) (bytes_of : Listing → List ℕ) (records : Records) (files : Files) (none : first_reserved change.members ≡ None) (stage : HasRoomToStage files) (apart : HasNoClash (name_change change files) files) where
+module _ (change : FileChange) (bytes_of : Listing → List ℕ) (records : Records) (files : Files) (none : first_reserved change.members ≡ None) (stage : AreStagingPathsFree files) (apart : HasNoClash (name_change change files) files) where
   abbrev after : Files
   after = changed_files change bytes_of records files
 
@@ -188,18 +188,18 @@ module _ (change : FileChange) (bytes_of : Listing → List ℕ) (records : Reco
   -- a name after the change stands, or counts as written
   stands_or_counts : (q : List ℕ) → is_after q ≡ true → IsSome (files q) ⊎ (counts_as_written change files q ≡ true)
   stands_or_counts q there =
-      elim (or_cases (is_some (files q) && not ((name_change change files).lets_go q)) (counts_as_written change files q) there) [
-        | inl standing ↦ inl (and_parts (is_some (files q)) (not ((name_change change files).lets_go q)) standing).0
+      elim (or_cases (is_some (files q) && not ((name_change change files).does_release q)) (counts_as_written change files q) there) [
+        | inl present_files ↦ inl (and_parts (is_some (files q)) (not ((name_change change files).does_release q)) present_files).0
         | inr counts ↦ inr counts
       ]
 
   after_there : (q : List ℕ) → IsSome (after q) → is_after q ≡ true
   after_there q there = names_after change bytes_of records files q there
 
-  no_folder : (p q : List ℕ) → IsFolderOf p q → IsSome (after p) → IsTakenName q → ⊥
+  no_folder : (p q : List ℕ) → IsFolderOf p q → IsSome (after p) → IsUsedByJournal q → ⊥
   no_folder p q above there taken =
       elim (stands_or_counts p (after_there p there)) [
-        | inl stands ↦ stage.beside.folders p q above (inl stands) (inr taken)
+        | inl located ↦ stage.beside.folders p q above (inl located) (inr taken)
         | inr counts ↦ elim (counted_is change files p none counts) [
           | inl is ↦ database_no_folder q taken (subst (λ (x : List ℕ). IsFolderOf x q) is above)
           | inr (inl is) ↦ world_no_folder q taken (subst (λ (x : List ℕ). IsFolderOf x q) is above)
@@ -207,7 +207,7 @@ module _ (change : FileChange) (bytes_of : Listing → List ℕ) (records : Reco
             | inl database ↦ apart (record { path = p; other = database_name }) (record {
               folder = database;
               path_after = after_there p there;
-              other_after = or_right (is_some (files database_name) && not ((name_change change files).lets_go database_name)) (counts_as_written change files database_name) (database_counts change files);
+              other_after = or_right (is_some (files database_name) && not ((name_change change files).does_release database_name)) (counts_as_written change files database_name) (database_counts change files);
               written = or_left (counts_as_written change files p) (counts_as_written change files database_name) counts;
             })
             | inr reserved ↦ true≢false (sym reserved ∙ unreserved)
@@ -215,10 +215,10 @@ module _ (change : FileChange) (bytes_of : Listing → List ℕ) (records : Reco
         ]
       ]
 
-  nothing_below : (p q : List ℕ) → IsFolderOf p q → IsTakenName p → IsSome (after q) → ⊥
+  nothing_below : (p q : List ℕ) → IsFolderOf p q → IsUsedByJournal p → IsSome (after q) → ⊥
   nothing_below p q above taken there =
       elim (stands_or_counts q (after_there q there)) [
-        | inl stands ↦ stage.beside.folders p q above (inr taken) (inl stands)
+        | inl located ↦ stage.beside.folders p q above (inr taken) (inl located)
         | inr counts ↦ elim (counted_is change files q none counts) [
           | inl is ↦ no_folder_of_database p taken (subst (λ (x : List ℕ). IsFolderOf p x) is above)
           | inr (inl is) ↦ no_folder_of_world p taken (subst (λ (x : List ℕ). IsFolderOf p x) is above)
@@ -226,7 +226,7 @@ module _ (change : FileChange) (bytes_of : Listing → List ℕ) (records : Reco
         ]
       ]
 
-  beside : HasRoomBeside after
+  beside : AreJournalPathsFree after
   beside = record { folders = apart_names }
     where
       apart_names : (p q : List ℕ) → IsFolderOf p q → MayBePresent after p → MayBePresent after q → ⊥
@@ -239,5 +239,5 @@ module _ (change : FileChange) (bytes_of : Listing → List ℕ) (records : Reco
   empty : IsEmptyStage after
   empty q staged = reserved_absent change bytes_of records files none q (staged_reserved q staged) (no_record records q staged) (stage.empty q staged)
 
-  pub room : HasRoomToStage after
+  pub room : AreStagingPathsFree after
   room = record { empty = empty; beside = beside }

@@ -2,7 +2,7 @@
 use Rattle.std.proofs.Common.{◌≡◌, refl, true, false, ℕ, List, [], ◌∷◌, codes}
 use Rattle.adb_view.specs.Plain.{Plains, arr, blob, blob_value, more, none, null, obj}
 use Rattle.change_files.specs.PlanLists.{names_in_order}
-use Rattle.db_core.specs.Members.{Member, staying_member}
+use Rattle.db_core.specs.Members.{Member, member_of_kept}
 use Rattle.change_outcome.specs.ConfigurationLines.{configuration_lines}
 use Rattle.change_outcome.specs.PackageFiles.{package_path}
 use Rattle.package_files.specs.Folders.{folder_of}
@@ -111,7 +111,7 @@ by_path = refl
 
 -- a package with this name, trigger script and patterns
 watcher : List ℕ → List ℕ → Plains → Member
-watcher name script patterns = staying_member
+watcher name script patterns = member_of_kept
     (obj (more (obj (more (blob name) none)) (more null (more (obj (more (blob_value script) none)) (more (arr patterns) none)))))
 
 man : Member

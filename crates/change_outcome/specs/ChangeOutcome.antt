@@ -28,7 +28,7 @@ use Rattle.report_core.specs.declared.refusal.Refusal.{Refusal}
 use Rattle.report_core.specs.declared.refusal.Refusal.TheVariants.{Owned, PathClash, Reserved, ResultTooLarge}
 use Rattle.root_names.specs.RootNames.{database_name, text_database_name, world_name}
 use Rattle.change_outcome.specs.ConfigurationLines.{configuration_lines}
-use Rattle.change_outcome.specs.MembersAfter.{MemberFound, contents_found, members_after, members_found}
+use Rattle.change_outcome.specs.MembersAfter.{MemberFound, found_package_contents, members_after, found_members}
 use Rattle.change_outcome.specs.Triggers.{trigger_lines, unless_trigger}
 
 -- the wishes of a command beside its world: whether changed configuration is removed too (`--purge`),
@@ -36,7 +36,7 @@ use Rattle.change_outcome.specs.Triggers.{trigger_lines, unless_trigger}
 pub record ChangeWishes : Type 0 where
   pub purge : Bool
   pub no_scripts : Bool
-  pub to_go : List (List ℕ)
+  pub to_remove : List (List ℕ)
 
 -- ---- the files
 
@@ -44,7 +44,7 @@ pub record ChangeWishes : Type 0 where
 abbrev pub file_change : Inputs → ChangeWishes → List MemberFound → FileChange
 file_change inputs wishes found = record {
   old = inputs.root.database.packages;
-  members = members_found found;
+  members = found_members found;
   purge = wishes.purge;
 }
 
@@ -150,7 +150,7 @@ touched_paths change files = map (λ w. w.name) (file_writes_of change files) ++
 -- all lines of a report, in their order
 abbrev pub change_report : Replacement → ChangeWishes → FileChange → Files → List ℕ
 change_report r wishes change files =
-    change_lines (changes_of r) ++ stay_lines r.before r.selected wishes.to_go
+    change_lines (changes_of r) ++ stay_lines r.before r.selected wishes.to_remove
     ++ configuration_lines (aside_of change files) (kept_of change files)
     ++ trigger_lines (touched_paths change files) change.members ++ member_sum_line change.members
 
@@ -169,7 +169,7 @@ change_done inputs r wishes found files records =
     let change = file_change inputs wishes found in
     record {
       report = change_report r wishes change files;
-      files = changed_files change (listing_bytes (contents_found found)) records files;
+      files = changed_files change (listing_bytes (found_package_contents found)) records files;
       commits = does_something (actions_of inputs change files records);
     }
 
@@ -217,28 +217,28 @@ change_or_refusal inputs r wishes read clash files =
 
 -- The first clash of the names after a change, if the packages after it are found; otherwise there is
 -- none. `files` decide whether configuration is kept or a file is laid beside it; names clash among the
--- `standing` ones.
-abbrev pub IsClashFoundOver :
+-- `present_files` ones.
+abbrev pub IsClashFoundAmong :
     Inputs → ChangeWishes → Files → Files → Result (List MemberFound) Refusal → Option NamePair
     → Type 0
-IsClashFoundOver inputs wishes files standing (Ok found) clash =
-    IsClashOf (name_change (file_change inputs wishes found) files) standing clash
-IsClashFoundOver inputs wishes files standing (Err refusal) clash = clash ≡ None
+IsClashFoundAmong inputs wishes files present_files (Ok found) clash =
+    IsClashOf (name_change (file_change inputs wishes found) files) present_files clash
+IsClashFoundAmong inputs wishes files present_files (Err refusal) clash = clash ≡ None
 
--- *IsClashFoundOver* for the packages that the reads find
-abbrev pub IsClashOfChangeOver :
+-- *IsClashFoundAmong* for the packages that the reads find
+abbrev pub IsClashOfChangeAmong :
     Inputs → Replacement → ChangeWishes → Reads → Files → Files → Option NamePair → Type 0
-IsClashOfChangeOver inputs r wishes read files standing clash =
-    IsClashFoundOver inputs wishes files standing (change_members inputs r wishes read) clash
+IsClashOfChangeAmong inputs r wishes read files present_files clash =
+    IsClashFoundAmong inputs wishes files present_files (change_members inputs r wishes read) clash
 
--- *IsClashFoundOver* for one set of files, as on a tree whose files are observable
+-- *IsClashFoundAmong* for one set of files, as on a tree whose files are observable
 abbrev pub IsClashFound :
     Inputs → ChangeWishes → Files → Result (List MemberFound) Refusal → Option NamePair → Type 0
 IsClashFound inputs wishes files members clash =
-    IsClashFoundOver inputs wishes files files members clash
+    IsClashFoundAmong inputs wishes files files members clash
 
--- *IsClashOfChangeOver* for one set of files
+-- *IsClashOfChangeAmong* for one set of files
 abbrev pub IsClashOfChange :
     Inputs → Replacement → ChangeWishes → Reads → Files → Option NamePair → Type 0
 IsClashOfChange inputs r wishes read files clash =
-    IsClashOfChangeOver inputs r wishes read files files clash
+    IsClashOfChangeAmong inputs r wishes read files files clash

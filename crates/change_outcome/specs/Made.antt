@@ -6,7 +6,7 @@ use Rattle.base_core.specs.Files.{Files}
 use Rattle.change_files.specs.PlanLists.{first_reserved}
 use Rattle.change_inputs.specs.Inputs.{Inputs}
 use Rattle.change_outcome.specs.ChangeOutcome.{ChangeDone, ChangeWishes, actions_of, change_done, change_members, file_change, new_records}
-use Rattle.change_outcome.specs.MembersAfter.{MemberFound, members_found}
+use Rattle.change_outcome.specs.MembersAfter.{MemberFound, found_members}
 use Rattle.db_write.specs.NewDatabase.{database_of}
 use Rattle.file_owners.specs.Owners.{contested_of, owned_of}
 use Rattle.journal_intent.specs.IntentValue.{intent_of_lists, value_of_intent}
@@ -19,11 +19,11 @@ pub record IsChangeMade (inputs : Inputs) (r : Replacement) (wishes : ChangeWish
     (clash : Option NamePair) (files : Files) (done : ChangeDone) : Type 0 where
   pub found : List MemberFound
   pub members : change_members inputs r wishes read ≡ Ok found
-  pub unreserved : first_reserved (members_found found) ≡ None
+  pub unreserved : first_reserved (found_members found) ≡ None
   pub no_clash : clash ≡ None
-  pub uncontested : contested_of (members_found found) ≡ None
+  pub uncontested : contested_of (found_members found) ≡ None
   pub database : List ℕ
-  pub new_database : database_of (members_found found) (owned_of (members_found found))
+  pub new_database : database_of (found_members found) (owned_of (found_members found))
       ≡ Ok database
   pub fits : (let actions = actions_of inputs (file_change inputs wishes found) files
       (new_records inputs database) in

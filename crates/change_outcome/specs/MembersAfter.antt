@@ -6,7 +6,7 @@ use Rattle.std.specs.List.{cons_option, find}
 use Rattle.adb_view.specs.Plain.{Plain}
 use Rattle.change_inputs.specs.Chains.{and_then}
 use Rattle.change_inputs.specs.Inputs.{first_index_read}
-use Rattle.db_core.specs.Members.{Member, coming_member, staying_member}
+use Rattle.db_core.specs.Members.{Member, member_of_added, member_of_kept}
 use Rattle.db_core.specs.Packages.{is_package_named}
 use Rattle.dep_core.specs.Repositories.{Repository}
 use Rattle.make_info.specs.Reads.{Reads}
@@ -15,7 +15,7 @@ use Rattle.pkg_core.specs.Contents.{Contents}
 use Rattle.candidate_core.specs.Candidates.{Candidate}
 use Rattle.report_core.specs.Reports.{Change}
 use Rattle.report_core.specs.declared.refusal.Refusal.{Refusal}
-use Rattle.change_outcome.specs.PackageFiles.{ComingPackage, package_file_of, package_found, scripts_of_change, unless_script}
+use Rattle.change_outcome.specs.PackageFiles.{AddedPackage, package_file_of, package_found, scripts_of_change, unless_script}
 
 -- a package after the change; and for an added one its file, and the contents of its files
 pub record MemberFound : Type 0 where
@@ -24,37 +24,37 @@ pub record MemberFound : Type 0 where
   pub contents : List Contents
 
 -- a kept package, whose files are not read
-abbrev pub staying_found : Plain → MemberFound
-staying_found pkg = record { member = staying_member pkg; file = None; contents = [] }
+abbrev pub kept_member_found : Plain → MemberFound
+kept_member_found pkg = record { member = member_of_kept pkg; file = None; contents = [] }
 
 -- an added package, with its file and the contents of its files
-abbrev pub coming_found : ComingPackage → MemberFound
-coming_found pkg = record {
-  member = coming_member pkg.value pkg.id;
+abbrev pub added_member_found : AddedPackage → MemberFound
+added_member_found pkg = record {
+  member = member_of_added pkg.value pkg.id;
   file = Some pkg.file;
   contents = pkg.contents;
 }
 
 -- the package of an added candidate, given what a read finds under the name of its file, if it has one
-abbrev pub coming_by_path :
-    Reads → ℕ → Candidate → Option (List ℕ) → Result ComingPackage Refusal
-coming_by_path read n c None = package_found c None
-coming_by_path read n c (Some path) = package_found c (read n path)
+abbrev pub added_package_by_path :
+    Reads → ℕ → Candidate → Option (List ℕ) → Result AddedPackage Refusal
+added_package_by_path read n c None = package_found c None
+added_package_by_path read n c (Some path) = package_found c (read n path)
 
 -- the member of an added candidate, whose file is the read with this number, or its refusal
-abbrev pub name_that_comes :
+abbrev pub member_of_added_name :
     Reads → List Repository → Bool → ℕ → List ℕ → Change → Candidate
     → Result (Option MemberFound) Refusal
-name_that_comes read repositories no_scripts n name change c =
-    and_then (coming_by_path read n c (package_file_of repositories c)) (λ pkg.
-    unless_script no_scripts name pkg.value (scripts_of_change change) (Some (coming_found pkg)))
+member_of_added_name read repositories no_scripts n name change c =
+    and_then (added_package_by_path read n c (package_file_of repositories c)) (λ pkg.
+    unless_script no_scripts name pkg.value (scripts_of_change change) (Some (added_member_found pkg)))
 
 -- a removed package: it is no member any more, unless one of its scripts would have to run, which
 -- refuses the change
-abbrev pub name_that_goes :
+abbrev pub member_of_removed_name :
     Bool → List ℕ → Change → Option Plain → Result (Option MemberFound) Refusal
-name_that_goes no_scripts name change None = Ok None
-name_that_goes no_scripts name change (Some pkg) =
+member_of_removed_name no_scripts name change None = Ok None
+member_of_removed_name no_scripts name change (Some pkg) =
     unless_script no_scripts name pkg (scripts_of_change change) None
 
 -- the result for a name that changes: with a selected candidate its package is added, otherwise removed
@@ -62,9 +62,9 @@ abbrev pub name_by_selected :
     Reads → List Repository → Bool → ℕ → List ℕ → Change → Option Plain → Option Candidate
     → Result (Option MemberFound) Refusal
 name_by_selected read repositories no_scripts n name change before None =
-    name_that_goes no_scripts name change before
+    member_of_removed_name no_scripts name change before
 name_by_selected read repositories no_scripts n name change before (Some c) =
-    name_that_comes read repositories no_scripts n name change c
+    member_of_added_name read repositories no_scripts n name change c
 
 -- the result for a name, a member or none, given the change of its package; without a change it is
 -- kept. `n` is the number of the read of its file
@@ -72,7 +72,7 @@ abbrev pub name_by_change :
     Reads → List Repository → Bool → ℕ → List ℕ → Option Change → Option Plain
     → Option Candidate → Result (Option MemberFound) Refusal
 name_by_change read repositories no_scripts n name None before selected =
-    Ok (option_map staying_found before)
+    Ok (option_map kept_member_found before)
 name_by_change read repositories no_scripts n name (Some change) before selected =
     name_by_selected read repositories no_scripts n name change before selected
 
@@ -104,9 +104,9 @@ members_after r read repositories no_scripts =
     (names_on_both_sides r)
 
 -- the members alone of the packages that are found
-abbrev pub members_found : List MemberFound → List Member
-members_found found = map (λ m. m.member) found
+abbrev pub found_members : List MemberFound → List Member
+found_members found = map (λ m. m.member) found
 
 -- the contents of the package of the member at a place
-abbrev pub contents_found : List MemberFound → ℕ → List Contents
-contents_found found place = option_map_or (λ m. m.contents) (slice_get found place) []
+abbrev pub found_package_contents : List MemberFound → ℕ → List Contents
+found_package_contents found place = option_map_or (λ m. m.contents) (slice_get found place) []

@@ -63,14 +63,14 @@ package_file_of repositories c = by_number c.repository
 
 -- an added package, as its file has it: the file's bytes, its value, its identity, and the contents of
 -- its files
-pub record ComingPackage : Type 0 where
+pub record AddedPackage : Type 0 where
   pub file : List ℕ
   pub value : Plain
   pub id : List ℕ
   pub contents : List Contents
 
 -- the package in a container
-abbrev pub package_in_file : List ℕ → ComingPackage
+abbrev pub package_in_file : List ℕ → AddedPackage
 package_in_file file = record {
   file = file;
   value = root_value Tables.Package (payload_in file);
@@ -80,7 +80,7 @@ package_in_file file = record {
 
 -- a package, unless it is not the candidate's: first its identity is compared, then its name, then
 -- its version
-abbrev pub unless_different : Candidate → ComingPackage → Result ComingPackage Refusal
+abbrev pub unless_different : Candidate → AddedPackage → Result AddedPackage Refusal
 unless_different c pkg =
     if not (is_same_id c.id pkg.id)
     then Err (PackageDiffers c.name (selected_version c) HASHES_FIELD c.id pkg.id)
@@ -93,12 +93,12 @@ unless_different c pkg =
 
 -- the package, unless a test of its file fails
 abbrev pub unless_package_bad :
-    Candidate → Option Cause → ComingPackage → Result ComingPackage Refusal
+    Candidate → Option Cause → AddedPackage → Result AddedPackage Refusal
 unless_package_bad c None pkg = unless_different c pkg
 unless_package_bad c (Some cause) pkg = Err (PackageBad c.name (selected_version c) cause)
 
 -- the package of a candidate, given what is found under the name of its file, or why it is refused
-abbrev pub package_found : Candidate → Option (List ℕ) → Result ComingPackage Refusal
+abbrev pub package_found : Candidate → Option (List ℕ) → Result AddedPackage Refusal
 package_found c None = Err (PackageMissing c.name (selected_version c))
 package_found c (Some file) = unless_package_bad c (package_fault file) (package_in_file file)
 
@@ -140,12 +140,12 @@ scripts_of_change (Downgrade name old new) = upgrade_scripts
 scripts_of_change (Replace name old new) = upgrade_scripts
 
 -- a value, unless a script would have to run, which refuses the change
-abbrev pub unless_number : {A : Type 0} → List ℕ → Option ℕ → A → Result A Refusal
-unless_number name None a = Ok a
-unless_number name (Some number) a = Err (ScriptNeeded name number)
+abbrev pub unless_script_number : {A : Type 0} → List ℕ → Option ℕ → A → Result A Refusal
+unless_script_number name None a = Ok a
+unless_script_number name (Some number) a = Err (ScriptNeeded name number)
 
 -- a value, unless one of these scripts of a package would have to run, and scripts may not be left out
 abbrev pub unless_script :
     {A : Type 0} → Bool → List ℕ → Plain → List ℕ → A → Result A Refusal
 unless_script true name pkg numbers a = Ok a
-unless_script false name pkg numbers a = unless_number name (first_script_of pkg numbers) a
+unless_script false name pkg numbers a = unless_script_number name (first_script_of pkg numbers) a

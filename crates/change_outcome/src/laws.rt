@@ -2,7 +2,7 @@
 //! "`add` and `del`", and in `docs/crash-safety.md`, "A change of several files".
 
 ghost use Rattle.std.specs.Prelude.{◌≡◌, ◌<◌, ◌++◌, ℕ, false, List, All, None, Ok, Option, length, map};
-ghost use Rattle.base_core.specs.Files.{Files, IsWithin};
+ghost use Rattle.base_core.specs.Files.{Files, HasNamesAmong};
 ghost use Rattle.base_core.specs.Name.{IsName};
 ghost use Rattle.change_files.specs.FileChange.{FileChange};
 ghost use Rattle.change_files.specs.FilesAfter.{Records, changed_files};
@@ -11,7 +11,7 @@ ghost use Rattle.change_outcome.specs.ChangeOutcome.{ChangeDone, ChangeWishes, I
 ghost use Rattle.command_core.specs.Command.{CommandLine};
 ghost use Rattle.db_core.specs.Members.{Listing};
 ghost use Rattle.journal_core.specs.Recovery.{after_actions};
-ghost use Rattle.journal_core.specs.Staged.{HasRoomToStage, IsEmptyStage, with_staged};
+ghost use Rattle.journal_core.specs.Staged.{AreStagingPathsFree, IsEmptyStage, with_staged};
 ghost use Rattle.journal_intent.specs.Intent.{AreChangeNames, intent_name};
 ghost use Rattle.journal_intent.specs.IntentValue.{intent_of_lists};
 ghost use Rattle.make_info.specs.Reads.{Reads};
@@ -24,7 +24,7 @@ ghost use Rattle.change_outcome.specs.Premises.{HasNoReservedPath, IsRootOfFiles
 // ---- what is read
 
 /// The database's file and world's text, among the inputs of a change, are those of the root.
-pub fn what_is_read_of_a_root_stands_there()
+pub fn what_is_read_of_a_root_is_in_the_tree()
     ensures { (command : CommandLine) (read : Reads) (inputs : Inputs) (files : Files)
         → ((n : ℕ) (name : List ℕ) → read n name ≡ files name)
         → inputs_of command read ≡ Ok inputs → IsRootOfFiles files inputs.root }
@@ -93,12 +93,12 @@ pub fn a_change_that_is_made_passes_each_test()
 
 /// If the paths of a stage are free before a change, they are free after it, for each later change.
 /// And a change adds no intent (journal entry).
-pub fn a_change_keeps_room()
+pub fn a_change_keeps_paths_free()
     ensures room { (inputs : Inputs) (r : Replacement) (wishes : ChangeWishes) (read : Reads)
         (clash : Option NamePair) (files : Files) (done : ChangeDone)
         → change_or_refusal inputs r wishes read clash files ≡ Ok done
         → IsClashOfChange inputs r wishes read files clash
-        → HasRoomToStage files → HasRoomToStage done.files }
+        → AreStagingPathsFree files → AreStagingPathsFree done.files }
     ensures intent { (inputs : Inputs) (r : Replacement) (wishes : ChangeWishes) (read : Reads)
         (clash : Option NamePair) (files : Files) (done : ChangeDone)
         → change_or_refusal inputs r wishes read clash files ≡ Ok done
@@ -114,6 +114,6 @@ pub fn a_change_has_a_first_clash_or_none()
         → IsClashOfChange inputs r wishes read files b → a ≡ b }
     // There is one, if a property of all names can be decided.
     ensures exists { (inputs : Inputs) (r : Replacement) (wishes : ChangeWishes) (read : Reads)
-        (within : List (List ℕ)) (files : Files) → IsWithin within files
+        (within : List (List ℕ)) (files : Files) → HasNamesAmong within files
         → (clash : Option NamePair) × IsClashOfChange inputs r wishes read files clash }
 {}

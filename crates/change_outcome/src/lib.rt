@@ -17,8 +17,8 @@
 mod laws;
 
 pub use laws::{
-    a_change_has_a_first_clash_or_none, a_change_keeps_room,
+    a_change_has_a_first_clash_or_none, a_change_keeps_paths_free,
     a_change_that_is_made_passes_each_test, a_change_that_writes_nothing_leaves_the_files,
     actions_lead_to_given_files, the_actions_of_a_change_lead_to_its_files,
-    the_names_of_a_change_may_be_changed, what_is_read_of_a_root_stands_there,
+    the_names_of_a_change_may_be_changed, what_is_read_of_a_root_is_in_the_tree,
 };

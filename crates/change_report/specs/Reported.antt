@@ -23,6 +23,6 @@ pub record IsReportedOf (c : ReportedChange) (again : List (List ℕ)) (wishes :
     (change : FileChange) (files : Files) : Type 0 where
   pub changes : map (λ (p : PlacedChange). p.change) (changes_seen c.changes.now)
       ≡ changes_of (replacement_reported c again)
-  pub to_go : wishes.to_go ≡ c.to_go.now
+  pub to_remove : wishes.to_remove ≡ c.to_remove.now
   pub members : change.members ≡ members_of c.members.now
   pub plan : ArePlanLists change files c.plan.now

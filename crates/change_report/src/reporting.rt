@@ -33,7 +33,7 @@ pub struct ReportedChange<'c, 'd, 'm> {
     /// The change of each package.
     pub changes: &'c Changes<'d>,
     /// The names that were to be removed: the operands of `del`.
-    pub to_go: &'c Words,
+    pub to_remove: &'c Words,
     /// The packages after the change.
     pub members: &'c Members<'m>,
     /// The plan of its files, for the lines on configuration and triggers.
@@ -63,7 +63,7 @@ pub fn change_report(
         reported.db,
         reported.pool,
         reported.trace,
-        reported.to_go,
+        reported.to_remove,
     )?;
     push_configuration_lines(alloc, &mut report, reported.plan)?;
     push_planned_triggers(alloc, &mut report, reported.plan, reported.members)?;

@@ -68,13 +68,13 @@ abbrev pub exactly : ℕ → OperandKind → OperandRule
 exactly count kind = record { kind = kind; least = count; most = Some count }
 
 -- whether one more operand may follow some, by the most that there may be and how many precede it
-abbrev pub has_room : Option ℕ → ℕ → Bool
-has_room None before = true
-has_room (Some most) before = nat_lt before most
+abbrev pub allows_one_more : Option ℕ → ℕ → Bool
+allows_one_more None before = true
+allows_one_more (Some most) before = nat_lt before most
 
 -- whether a rule takes a text as an operand, by how many operands precede it
 abbrev pub takes : OperandRule → ℕ → List ℕ → Bool
-takes rule before text = has_room rule.most before && is_of_kind rule.kind text
+takes rule before text = allows_one_more rule.most before && is_of_kind rule.kind text
 
 -- the place of the first operand that a rule does not take, if this many precede it
 abbrev pub first_refused : OperandRule → ℕ → List Operand → Option ℕ

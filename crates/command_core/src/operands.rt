@@ -6,7 +6,7 @@ ghost use Rattle.std.specs.Prelude.{◌≡◌, ◌<◌, ◌==◌, ◌++◌, ◌�
 ghost use Rattle.std.specs.Option.{option_map};
 ghost use Rattle.command_core.specs.Files.{without_dot, is_file, is_output};
 ghost use Rattle.command_core.specs.Named.{file_name, are_files, operand_file};
-ghost use Rattle.command_core.specs.Operands.{at_least, at_most, exactly, first_refused, has_room, is_of_kind, operand_at, takes};
+ghost use Rattle.command_core.specs.Operands.{at_least, at_most, exactly, first_refused, allows_one_more, is_of_kind, operand_at, takes};
 ghost use Rattle.command_core.specs.Applets.{needed_option, operand_rule};
 ghost use Rattle.command_core.specs.Sound.{value_rules, IsCommand, are_operands, are_values, is_value_by, rule_for};
 ghost use Rattle.command_core.specs.Command.{CommandLine};
@@ -123,15 +123,15 @@ impl OperandRule {
     fn takes(&self, before: usize, text: &[u8]) -> bool
         ensures { result ≡ takes self.now before text.now }
     {
-        if !self.has_room(before) {
+        if !self.allows_one_more(before) {
             return false;
         }
         self.kind.has(text)
     }
 
     // Whether there may be one more operand, by how many precede it.
-    fn has_room(&self, before: usize) -> bool
-        ensures { result ≡ has_room self.now.most before }
+    fn allows_one_more(&self, before: usize) -> bool
+        ensures { result ≡ allows_one_more self.now.most before }
     {
         match self.most {
             Some(most) => before < most,

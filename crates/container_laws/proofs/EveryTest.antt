@@ -7,7 +7,7 @@ use Rattle.adb_block.specs.Framing.{HeadFields, Step, block, ended, failed, head
 use Rattle.adb_block.specs.Header.{header_of}
 use Rattle.adb_block.specs.Piece.{Piece, comes_after, least_payload}
 use Rattle.adb_block.specs.Reading.{Reading, done, fault, more, reading_by_step, reading_from, reading_of}
-use Rattle.adb_block.specs.Standing.{start_of}
+use Rattle.adb_block.specs.ReaderPosition.{start_of}
 use Rattle.adb_block.specs.declared.block.BlockKind.{BlockKind}
 use Rattle.adb_schema.specs.Soundness.{blocks_fault, file_fault, is_schema_wanted, payload_fault, root_value, schema_fault, schema_word}
 use Rattle.adb_schema.specs.declared.read.TheConstants.{PACKAGE_WORD, INDEX_WORD, IDB_WORD, INTENT_WORD}
@@ -23,38 +23,38 @@ use Rattle.base_core.specs.declared.cause.Cause.{Cause}
 use Rattle.base_core.specs.declared.cause.Cause.TheVariants.{WrongSchema}
 use Rattle.container_laws.specs.TestsInOrder.{PassesEveryTest, tests_of_values}
 use Rattle.container_laws.proofs.FirstTests.{chain, five}
-use Rattle.pkg_core.specs.Whole.{behind_fault, container_fault, fault_by_header, fault_by_schema, root_of_schema, whole_fault}
+use Rattle.pkg_core.specs.Whole.{fault_after_first, container_fault, fault_by_header, fault_by_schema, root_of_schema, whole_fault}
 
 -- ---- a file without a block is refused
 
 -- a step that is no end
-abbrev GoesOn : Step → Type 0
-GoesOn s = s ≡ ended → ⊥
+abbrev CountsOnlyRise : Step → Type 0
+CountsOnlyRise s = s ≡ ended → ⊥
 
-either_goes_on : (b : Bool) (s t : Step) → GoesOn s → GoesOn t → GoesOn (if b then s else t)
+either_goes_on : (b : Bool) (s t : Step) → CountsOnlyRise s → CountsOnlyRise t → CountsOnlyRise (if b then s else t)
 either_goes_on true s t f g = f
 either_goes_on false s t f g = g
 
-size_goes_on : (at : ℕ) (bytes : List ℕ) (head : HeadFields) (kind : BlockKind) → GoesOn (step_by_size at bytes head kind)
+size_goes_on : (at : ℕ) (bytes : List ℕ) (head : HeadFields) (kind : BlockKind) → CountsOnlyRise (step_by_size at bytes head kind)
 size_goes_on at bytes head kind =
     either_goes_on (nat_lt head.raw head.len || nat_lt (length bytes) head.raw) _ _ (λ e. absurd cc)
     (either_goes_on (nat_lt (head.raw - head.len) (least_payload kind)) _ _ (λ e. absurd cc) (λ e. absurd cc))
 
-order_goes_on : (at : ℕ) (bytes : List ℕ) (head : HeadFields) (kind : Option BlockKind) → GoesOn (step_by_order None at bytes head kind)
+order_goes_on : (at : ℕ) (bytes : List ℕ) (head : HeadFields) (kind : Option BlockKind) → CountsOnlyRise (step_by_order None at bytes head kind)
 order_goes_on at bytes head None e = absurd cc
 order_goes_on at bytes head (Some kind) e =
     either_goes_on (comes_after None kind) _ _ (size_goes_on at bytes head kind) (λ e. absurd cc) e
 
-head_goes_on : (at : ℕ) (bytes : List ℕ) (head : Option HeadFields) → GoesOn (step_by_head None at bytes head)
+head_goes_on : (at : ℕ) (bytes : List ℕ) (head : Option HeadFields) → CountsOnlyRise (step_by_head None at bytes head)
 head_goes_on at bytes None e = absurd cc
 head_goes_on at bytes (Some head) e = order_goes_on at bytes head (kind_of_number head.kind) e
 
-first_goes_on : (at : ℕ) (bytes : List ℕ) → GoesOn (next_step None at bytes)
+first_goes_on : (at : ℕ) (bytes : List ℕ) → CountsOnlyRise (next_step None at bytes)
 unfolding next_step
 first_goes_on at bytes =
     either_goes_on (eqb (length bytes) 0) _ _ (λ e. absurd cc) (head_goes_on at bytes (head_of bytes))
 
-by_step : (at : ℕ) (further : Piece → ℕ → Reading) (s : Step) → GoesOn s → reading_by_step at further s ≡ done → ⊥
+by_step : (at : ℕ) (further : Piece → ℕ → Reading) (s : Step) → CountsOnlyRise s → reading_by_step at further s ≡ done → ⊥
 by_step at further ended on e = on refl
 by_step at further (failed c) on e = absurd cc
 by_step at further (block b size) on e = absurd cc
@@ -121,17 +121,17 @@ wanted schema which e =
 
 -- ---- both ways
 
-by_reading : (which : Which) (r : Reading) → (r ≡ done → ⊥) → blocks_fault (behind_fault which) which r ≡ None
+by_reading : (which : Which) (r : Reading) → (r ≡ done → ⊥) → blocks_fault (fault_after_first which) which r ≡ None
     → (first : Piece) × (at : ℕ) × (behind : Reading) × (r ≡ more first at behind) × EachPasses (tests_of_values which first.payload behind)
 by_reading which done on e = absurd (on refl)
 by_reading which (fault c) on e = absurd cc
 by_reading which (more b at r) on e =
-    (b, at, r, refl, none_fails (tests_of_values which b.payload r) (sym (five (head_fault b.payload) (shape_fault b.payload (shape_of (Obj which)) (root_of b.payload)) (text_fault which (root_value which b.payload)) (repeated_fault which (root_value which b.payload)) (behind_fault which (root_value which b.payload) r)) ∙ e))
+    (b, at, r, refl, none_fails (tests_of_values which b.payload r) (sym (five (head_fault b.payload) (shape_fault b.payload (shape_of (Obj which)) (root_of b.payload)) (text_fault which (root_value which b.payload)) (repeated_fault which (root_value which b.payload)) (fault_after_first which (root_value which b.payload) r)) ∙ e))
 
 by_table : (file : List ℕ) (schema : ℕ) (which : Which) → header_of file ≡ Ok schema → root_of_schema schema ≡ Some which → whole_fault which file ≡ None → PassesEveryTest file
 unfolding whole_fault
 by_table file schema which header root e =
-    let all : file_fault (behind_fault which) which file (Ok schema) ≡ None = sym (ap (file_fault (behind_fault which) which file) header) ∙ e in
+    let all : file_fault (fault_after_first which) which file (Ok schema) ≡ None = sym (ap (file_fault (fault_after_first which) which file) header) ∙ e in
     let blocks = (both_none (schema_fault which schema) _ all).1 in
     let (first, at, behind, is, each) = by_reading which (reading_of (start_of schema file)) (not_done schema file) blocks in
     record {
@@ -162,15 +162,15 @@ accepted : (file : List ℕ) → PassesEveryTest file → container_fault file �
 unfolding container_fault whole_fault
 accepted file p =
     let values = tests_of_values p.which p.first.payload p.behind in
-    let blocks : blocks_fault (behind_fault p.which) p.which (reading_of (start_of p.schema file)) ≡ None =
-    ap (blocks_fault (behind_fault p.which) p.which) p.blocks
+    let blocks : blocks_fault (fault_after_first p.which) p.which (reading_of (start_of p.schema file)) ≡ None =
+    ap (blocks_fault (fault_after_first p.which) p.which) p.blocks
     ∙ five (head_fault p.first.payload) (shape_fault p.first.payload (shape_of (Obj p.which)) (root_of p.first.payload)) (text_fault p.which (root_value p.which p.first.payload)) (repeated_fault p.which (root_value p.which p.first.payload))
-    (behind_fault p.which (root_value p.which p.first.payload) p.behind)
+    (fault_after_first p.which (root_value p.which p.first.payload) p.behind)
     ∙ each_holds values p.each in
     ap (fault_by_header file) p.header
     ∙ ap (fault_by_schema file p.schema) p.root
-    ∙ ap (file_fault (behind_fault p.which) p.which file) p.header
-    ∙ ap (λ (b : Bool). option_or (if b then None else Some (WrongSchema p.schema)) (blocks_fault (behind_fault p.which) p.which (reading_of (start_of p.schema file)))) (wanted p.schema p.which p.root)
+    ∙ ap (file_fault (fault_after_first p.which) p.which file) p.header
+    ∙ ap (λ (b : Bool). option_or (if b then None else Some (WrongSchema p.schema)) (blocks_fault (fault_after_first p.which) p.which (reading_of (start_of p.schema file)))) (wanted p.schema p.which p.root)
     ∙ blocks
 
 pub every_test : (file : List ℕ) → (container_fault file ≡ None) ↔ PassesEveryTest file

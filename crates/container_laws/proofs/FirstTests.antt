@@ -4,14 +4,14 @@ use Rattle.std.specs.Prelude.{slice_get}
 use Rattle.std.specs.Option.{option_or}
 use Rattle.adb_block.specs.Header.{header_of}
 use Rattle.adb_block.specs.Reading.{Reading, done, fault, more, reading_of}
-use Rattle.adb_block.specs.Standing.{start_of}
+use Rattle.adb_block.specs.ReaderPosition.{start_of}
 use Rattle.adb_schema.specs.Soundness.{blocks_fault, file_fault, is_schema_wanted, root_value, schema_word}
 use Rattle.adb_view.specs.declared.tables.Which.{Which}
 use Rattle.base_core.specs.declared.cause.Cause.{Cause}
 use Rattle.base_core.specs.declared.cause.Cause.TheVariants.{WrongSchema}
 use Rattle.container_laws.specs.TestsInOrder.{IsBlocksFault, IsContainerFault, IsFaultOfTable, IsFirstFailing, tests_of_values}
 use Rattle.container_laws.proofs.FirstHeader.{header_told}
-use Rattle.pkg_core.specs.Whole.{behind_fault, container_fault, fault_by_header, fault_by_schema, root_of_schema, whole_fault}
+use Rattle.pkg_core.specs.Whole.{fault_after_first, container_fault, fault_by_header, fault_by_schema, root_of_schema, whole_fault}
 
 -- ---- tests in sequence
 
@@ -47,20 +47,20 @@ five None None None e f = ap (option_or e) (sym (or_none f))
 
 -- ---- the blocks
 
-blocks_told : (which : Which) (r : Reading) (c : Cause) → blocks_fault (behind_fault which) which r ≡ Some c → IsBlocksFault which r c
+blocks_told : (which : Which) (r : Reading) (c : Cause) → blocks_fault (fault_after_first which) which r ≡ Some c → IsBlocksFault which r c
 blocks_told which done c e = absurd (cc (e))
 blocks_told which (fault d) c e = let same : d ≡ c = cc (e) in inl (ap fault same)
 blocks_told which (more b at r) c e =
-    inr (b, at, r, refl, first_of (tests_of_values which b.payload r) c (sym (five _ _ _ _ (behind_fault which (root_value which b.payload) r)) ∙ e))
+    inr (b, at, r, refl, first_of (tests_of_values which b.payload r) c (sym (five _ _ _ _ (fault_after_first which (root_value which b.payload) r)) ∙ e))
 
 table_by : (which : Which) (file : List ℕ) (c : Cause) (schema : ℕ) (b : Bool) → header_of file ≡ Ok schema → is_schema_wanted (schema_word which) schema ≡ b
-    → option_or (if b then None else Some (WrongSchema schema)) (blocks_fault (behind_fault which) which (reading_of (start_of schema file))) ≡ Some c → IsFaultOfTable which file c
+    → option_or (if b then None else Some (WrongSchema schema)) (blocks_fault (fault_after_first which) which (reading_of (start_of schema file))) ≡ Some c → IsFaultOfTable which file c
 table_by which file c schema true header wanted e = inr (schema, header, inr (wanted, blocks_told which (reading_of (start_of schema file)) c e))
 table_by which file c schema false header wanted e =
     let same : WrongSchema schema ≡ c = cc (e) in
     inr (schema, header, inl (wanted, sym same))
 
-by_header : (which : Which) (file : List ℕ) (c : Cause) (h : Result ℕ Cause) → header_of file ≡ h → file_fault (behind_fault which) which file h ≡ Some c → IsFaultOfTable which file c
+by_header : (which : Which) (file : List ℕ) (c : Cause) (h : Result ℕ Cause) → header_of file ≡ h → file_fault (fault_after_first which) which file h ≡ Some c → IsFaultOfTable which file c
 by_header which file c (Err d) header e =
     let same : d ≡ c = cc (e) in
     inl (header_told file c (header ∙ ap Err same))

@@ -6,7 +6,7 @@ use Rattle.base_core.specs.declared.cause.Cause.TheVariants.{WrongSchema}
 use Rattle.adb_block.specs.Header.{header_of}
 use Rattle.adb_block.specs.Piece.{Piece}
 use Rattle.adb_block.specs.Reading.{Reading, fault, more, reading_of}
-use Rattle.adb_block.specs.Standing.{start_of}
+use Rattle.adb_block.specs.ReaderPosition.{start_of}
 use Rattle.adb_fields.specs.Repeated.{repeated_fault}
 use Rattle.adb_schema.specs.Texts.{text_fault}
 use Rattle.adb_schema.specs.Soundness.{is_schema_wanted, root_value, schema_word}
@@ -16,7 +16,7 @@ use Rattle.adb_view.specs.declared.tables.Kind.TheVariants.{Obj}
 use Rattle.adb_view.specs.declared.tables.Which.{Which}
 use Rattle.adb_view.specs.Head.{head_fault, root_of}
 use Rattle.container_laws.specs.HeaderFaults.{IsHeaderFault}
-use Rattle.pkg_core.specs.Whole.{behind_fault, root_of_schema}
+use Rattle.pkg_core.specs.Whole.{fault_after_first, root_of_schema}
 
 -- the fault of tests in their order: one test has it, and no test before that has one
 pub record IsFirstFailing (tests : List (Option Cause)) (c : Cause) : Type 0 where
@@ -32,7 +32,7 @@ tests_of_values which payload behind =
     ∷ (shape_fault payload (shape_of (Obj which)) (root_of payload)
     ∷ (text_fault which (root_value which payload)
     ∷ (repeated_fault which (root_value which payload)
-    ∷ (behind_fault which (root_value which payload) behind ∷ []))))
+    ∷ (fault_after_first which (root_value which payload) behind ∷ []))))
 
 -- the fault of a file's blocks: the first block is bad; or it is good, and the fault is the first of
 -- its tests or of the further blocks

@@ -21,8 +21,8 @@ use Rattle.adb_schema.specs.Reserved.{is_reserved}
 use Rattle.adb_schema.specs.Rules.{is_file_name, is_folder_name, is_one_part}
 use Rattle.adb_schema.specs.SoundValues.{IsFileOf, IsFolder, IsPackage}
 use Rattle.db_core.specs.EntrySeen.{member_by}
-use Rattle.db_core.specs.Members.{Member, is_coming, listings_by, listings_from, listings_in_folder, listings_in_folders, member_listings, staying_member}
-use Rattle.db_core.specs.Packages.{comes_or_lists_no_reserved, lists_names, lists_no_reserved}
+use Rattle.db_core.specs.Members.{Member, is_added, listings_by, listings_from, listings_in_folder, listings_in_folders, member_listings, member_of_kept}
+use Rattle.db_core.specs.Packages.{is_added_or_lists_no_reserved, lists_names, lists_no_reserved}
 
 -- ---- a name behind another one and a slash
 
@@ -141,18 +141,18 @@ module _ (q : Member → List ℕ → Bool) where
   unfolding member_listings
   all_pass ms h k d l = passes_at (λ l. q l.member l.path) (listings_from 0 ms) (in_members 0 ms ∙ h) k d l
 
-packages_all_pass : (p : List ℕ → Bool) (pkgs : List Plain) → list_all (λ v. list_all p (paths_in v)) pkgs ≡ true → All (λ l. p l.path ≡ true) (member_listings (map staying_member pkgs))
-packages_all_pass p pkgs h = all_pass (λ m. p) (map staying_member pkgs) (list_all-map (λ (m : Member). list_all p (paths_in m.pkg)) staying_member pkgs ∙ h)
+packages_all_pass : (p : List ℕ → Bool) (pkgs : List Plain) → list_all (λ v. list_all p (paths_in v)) pkgs ≡ true → All (λ l. p l.path ≡ true) (member_listings (map member_of_kept pkgs))
+packages_all_pass p pkgs h = all_pass (λ m. p) (map member_of_kept pkgs) (list_all-map (λ (m : Member). list_all p (paths_in m.pkg)) member_of_kept pkgs ∙ h)
 
-pub packages_named : (pkgs : List Plain) → list_all lists_names pkgs ≡ true → All (λ l. IsName l.path) (member_listings (map staying_member pkgs))
+pub packages_named : (pkgs : List Plain) → list_all lists_names pkgs ≡ true → All (λ l. IsName l.path) (member_listings (map member_of_kept pkgs))
 packages_named pkgs h = packages_all_pass is_name pkgs h
 
 absent : (b : Bool) → not b ≡ true → b ≡ false
 absent true e = absurd (true≢false (sym e))
 absent false e = refl
 
-pub packages_unreserved : (pkgs : List Plain) → list_all lists_no_reserved pkgs ≡ true → All (λ l. is_reserved l.path ≡ false) (member_listings (map staying_member pkgs))
-packages_unreserved pkgs h k d l = absent (is_reserved (get_or (member_listings (map staying_member pkgs)) k d).path) (packages_all_pass (λ path. not (is_reserved path)) pkgs h k d l)
+pub packages_unreserved : (pkgs : List Plain) → list_all lists_no_reserved pkgs ≡ true → All (λ l. is_reserved l.path ≡ false) (member_listings (map member_of_kept pkgs))
+packages_unreserved pkgs h k d l = absent (is_reserved (get_or (member_listings (map member_of_kept pkgs)) k d).path) (packages_all_pass (λ path. not (is_reserved path)) pkgs h k d l)
 
 abbrev pub Kept : Type 0
 Kept = List ℕ × ℕ × Option (List ℕ)
@@ -172,21 +172,21 @@ either true b h off = absurd (true≢false off)
 either false b h off = h
 
 comes_or_free : Member → List ℕ → Bool
-comes_or_free m path = is_coming m || not (is_reserved path)
+comes_or_free m path = is_added m || not (is_reserved path)
 
 paths_free : (b : Bool) (paths : List (List ℕ)) → (b || list_all (λ path. not (is_reserved path)) paths) ≡ true → list_all (λ path. b || not (is_reserved path)) paths ≡ true
 paths_free true [] h = refl
 paths_free true (path ∷ paths) h = paths_free true paths h
 paths_free false paths h = h
 
-members_free : (ms : List Member) → list_all comes_or_lists_no_reserved ms ≡ true → list_all (λ m. list_all (comes_or_free m) (paths_in m.pkg)) ms ≡ true
+members_free : (ms : List Member) → list_all is_added_or_lists_no_reserved ms ≡ true → list_all (λ m. list_all (comes_or_free m) (paths_in m.pkg)) ms ≡ true
 unfolding comes_or_free
 members_free [] h = refl
 members_free (m ∷ ms) h =
-    let parts = and_parts (comes_or_lists_no_reserved m) (list_all comes_or_lists_no_reserved ms) h in
-    both_true _ _ (paths_free (is_coming m) (paths_in m.pkg) parts.0) (members_free ms parts.1)
+    let parts = and_parts (is_added_or_lists_no_reserved m) (list_all is_added_or_lists_no_reserved ms) h in
+    both_true _ _ (paths_free (is_added m) (paths_in m.pkg) parts.0) (members_free ms parts.1)
 
-pub stays_unreserved : (es : List Kept) → list_all (λ e. comes_or_lists_no_reserved (member_by e)) es ≡ true → All (λ l. is_coming l.member ≡ false → is_reserved l.path ≡ false) (member_listings (map member_by es))
+pub stays_unreserved : (es : List Kept) → list_all (λ e. is_added_or_lists_no_reserved (member_by e)) es ≡ true → All (λ l. is_added l.member ≡ false → is_reserved l.path ≡ false) (member_listings (map member_by es))
 unfolding comes_or_free
 stays_unreserved es h k d l stays =
-    absent _ (either _ _ (all_pass comes_or_free (map member_by es) (members_free (map member_by es) (list_all-map comes_or_lists_no_reserved member_by es ∙ h)) k d l) stays)
+    absent _ (either _ _ (all_pass comes_or_free (map member_by es) (members_free (map member_by es) (list_all-map is_added_or_lists_no_reserved member_by es ∙ h)) k d l) stays)

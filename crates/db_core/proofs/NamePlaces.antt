@@ -59,8 +59,8 @@ is_behind a q h e = ap is_lt (nat_list_cmp_total.antisymm q a) ∙ behind (bytes
 
 -- ---- a sort keeps the first of those that are one
 
-behind_other : (a b q : List ℕ) → is_gt (bytes_cmp a b) ≡ true → bytes_eq a q ≡ true → bytes_eq b q ≡ false
-behind_other a b q h e = go (bytes_eq b q) refl
+after_other : (a b q : List ℕ) → is_gt (bytes_cmp a b) ≡ true → bytes_eq a q ≡ true → bytes_eq b q ≡ false
+after_other a b q h e = go (bytes_eq b q) refl
   where
     go : (t : Bool) → bytes_eq b q ≡ t → t ≡ false
     go false s = refl
@@ -79,7 +79,7 @@ found_put q x (y ∷ ys) = go (is_gt (placed_name_cmp x y)) refl (found_put q x 
   where
     go : (t : Bool) → is_gt (placed_name_cmp x y) ≡ t → find (is_named q) (with_element placed_name_cmp x ys) ≡ cond (is_named q x) (Some x) (find (is_named q) ys)
         → find (is_named q) (if t then y ∷ with_element placed_name_cmp x ys else x ∷ y ∷ ys) ≡ cond (is_named q x) (Some x) (cond (is_named q y) (Some y) (find (is_named q) ys))
-    go true g r = ap (λ o. cond (is_named q y) (Some y) o) r ∙ cond_swap (is_named q x) (is_named q y) x y (find (is_named q) ys) (behind_other x.name y.name q g)
+    go true g r = ap (λ o. cond (is_named q y) (Some y) o) r ∙ cond_swap (is_named q x) (is_named q y) x y (find (is_named q) ys) (after_other x.name y.name q g)
     go false g r = refl
 
 found_sorted : (q : List ℕ) (xs : List NameWithPlace) → find (is_named q) (sorted_by placed_name_cmp xs) ≡ find (is_named q) xs

@@ -8,9 +8,9 @@ use Rattle.base_core.specs.Listed.{IsRising}
 use Rattle.base_core.proofs.Rising.{IsIn, Rises, pairs_from_rises, rises_from_pairs}
 use Rattle.base_core.specs.ByteOrder.{bytes_cmp, precedes}
 use Rattle.db_core.specs.EntrySeen.{member_by}
-use Rattle.db_core.specs.Members.{AreInOrder, Member, comes_behind, member_name}
+use Rattle.db_core.specs.Members.{AreInOrder, Member, is_after_members, member_name}
 
--- as comes_behind, of names
+-- as is_after_members, of names
 abbrev pub IsBehind : List ℕ → List (List ℕ) → Type 0
 IsBehind name [] = Unit {0}
 IsBehind name (x ∷ []) = bytes_cmp x name ≡ Less
@@ -50,16 +50,16 @@ less Less h = refl
 less Equal h = absurd (true≢false (sym h))
 less Greater h = absurd (true≢false (sym h))
 
-behind_names : (name : List ℕ) (members : List Member) → comes_behind name members ≡ true → IsBehind name (map member_name members)
-behind_names name [] h = tt
-behind_names name (m ∷ []) h = less (bytes_cmp (member_name m) name) h
-behind_names name (m ∷ n ∷ members) h = behind_names name (n ∷ members) h
+after_names : (name : List ℕ) (members : List Member) → is_after_members name members ≡ true → IsBehind name (map member_name members)
+after_names name [] h = tt
+after_names name (m ∷ []) h = less (bytes_cmp (member_name m) name) h
+after_names name (m ∷ n ∷ members) h = after_names name (n ∷ members) h
 
-pub in_order_more : (members : List Member) (m : Member) → AreInOrder members → comes_behind (member_name m) members ≡ true → AreInOrder (members ++ m ∷ [])
+pub in_order_more : (members : List Member) (m : Member) → AreInOrder members → is_after_members (member_name m) members ≡ true → AreInOrder (members ++ m ∷ [])
 in_order_more members m rising behind =
     let rises : Rises (map member_name members) = rises_from_pairs _ rising in
     subst IsRising (sym (names_more members m))
-    (pairs_from_rises _ (rises_more (member_name m) (map member_name members) rises (all_before (member_name m) (map member_name members) rises (behind_names (member_name m) members behind))))
+    (pairs_from_rises _ (rises_more (member_name m) (map member_name members) rises (all_before (member_name m) (map member_name members) rises (after_names (member_name m) members behind))))
 
 -- ---- as the program keeps them
 
@@ -81,7 +81,7 @@ pub members_in_order : (es : List Kept) → IsRising (kept_names es) → AreInOr
 members_in_order es h = subst IsRising (names_are es) h
 
 pub kept_more : {A B : Type 0} (r : Result A B) (es new : List Kept) (e : Kept) → new ≡ (if is_ok r then es ++ e ∷ [] else es) → IsRising (kept_names es)
-    → comes_behind (member_name (member_by e)) (map member_by es) ≡ true → IsRising (kept_names new)
+    → is_after_members (member_name (member_by e)) (map member_by es) ≡ true → IsRising (kept_names new)
 kept_more (Ok x) es new e is h behind =
     let ordered : AreInOrder (map member_by es ++ member_by e ∷ []) = in_order_more (map member_by es) (member_by e) (members_in_order es h) behind in
     subst IsRising (sym (ap kept_names is ∙ names_are (es ++ e ∷ []))) (subst AreInOrder (sym (members_more es e)) ordered)
@@ -93,7 +93,7 @@ few_more (Ok x) es new e most is h few = omega (arith, ap length is, length-appe
 few_more (Err x) es new e most is h few = omega (arith, ap length is, h)
 
 -- the last one decides
-pub last_decides : (name : List ℕ) (es : List Kept) (e : Kept) (k : ℕ) → suc k ≡ length (map member_by es) → e ≡ get_or es k e → precedes (member_name (member_by e)) name ≡ comes_behind name (map member_by es)
+pub last_decides : (name : List ℕ) (es : List Kept) (e : Kept) (k : ℕ) → suc k ≡ length (map member_by es) → e ≡ get_or es k e → precedes (member_name (member_by e)) name ≡ is_after_members name (map member_by es)
 last_decides name [] e k h at = absurd (omega (arith, h))
 last_decides name (x ∷ []) e zero h at = ap (λ (z : Kept). precedes (member_name (member_by z)) name) at
 last_decides name (x ∷ []) e (suc k) h at = absurd (omega (arith, h))

@@ -20,5 +20,5 @@ payload_of_database None = []
 payload_of_database (Some idb) = payload_of idb.adb
 
 -- whether an entry has an id, so that its package is added, or has this payload
-abbrev pub comes_or_is_in : List ℕ → List ℕ × ℕ × Option (List ℕ) → Bool
-comes_or_is_in payload e = is_some e.2 || bytes_eq e.0 payload
+abbrev pub is_added_or_has_payload : List ℕ → List ℕ × ℕ × Option (List ℕ) → Bool
+is_added_or_has_payload payload e = is_some e.2 || bytes_eq e.0 payload

@@ -1,6 +1,6 @@
 -- The place of a file that members list.
 -- Positions count as in `docs/formats.md`, "The other blocks". Serves the law
--- `listings_stand_at_their_places`.
+-- `listings_are_at_their_places`.
 use Rattle.std.specs.Prelude.{◌≡◌, ◌≤◌, ◌-◌, List, Some, slice_get}
 use Rattle.adb_view.specs.Plain.{Plain}
 use Rattle.adb_fields.specs.Paths.{path_of}

@@ -15,24 +15,24 @@ pub record Member : Type 0 where
   pub id : Option (List ℕ)
 
 -- the member of a kept package of the database
-abbrev pub staying_member : Plain → Member
-staying_member pkg = record { pkg = pkg; id = None }
+abbrev pub member_of_kept : Plain → Member
+member_of_kept pkg = record { pkg = pkg; id = None }
 
 -- kept packages of the database, as members
-abbrev pub staying_members : List Plain → List Member
-staying_members packages = map staying_member packages
+abbrev pub members_of_kept : List Plain → List Member
+members_of_kept packages = map member_of_kept packages
 
 -- the member of an added package, with its container's id
-abbrev pub coming_member : Plain → List ℕ → Member
-coming_member pkg id = record { pkg = pkg; id = Some id }
+abbrev pub member_of_added : Plain → List ℕ → Member
+member_of_added pkg id = record { pkg = pkg; id = Some id }
 
 -- the name of a member's package
 abbrev pub member_name : Member → List ℕ
 member_name m = package_name m.pkg
 
 -- whether a member is added; a kept one has no id
-abbrev pub is_coming : Member → Bool
-is_coming m = is_some m.id
+abbrev pub is_added : Member → Bool
+is_added m = is_some m.id
 
 -- ---- their order
 
@@ -41,10 +41,10 @@ abbrev pub AreInOrder : List Member → Type 0
 AreInOrder members = IsRising (map member_name members)
 
 -- whether a name is after the last of some members, and so after all of them
-abbrev pub comes_behind : List ℕ → List Member → Bool
-comes_behind name [] = true
-comes_behind name (m ∷ []) = precedes (member_name m) name
-comes_behind name (m ∷ n ∷ members) = comes_behind name (n ∷ members)
+abbrev pub is_after_members : List ℕ → List Member → Bool
+is_after_members name [] = true
+is_after_members name (m ∷ []) = precedes (member_name m) name
+is_after_members name (m ∷ n ∷ members) = is_after_members name (n ∷ members)
 
 -- whether a place is the one that was found, if one was
 abbrev pub is_place : ℕ → Option ℕ → Bool

@@ -9,7 +9,7 @@ use Rattle.adb_view.specs.FieldIndexes.{IDB_PACKAGES, INFO_HASHES, PACKAGE_INFO}
 use Rattle.adb_view.specs.Values.{entry_in, text_in}
 use Rattle.adb_schema.specs.Reserved.{is_reserved}
 use Rattle.adb_fields.specs.Repeated.{entries_at, package_name, paths_in}
-use Rattle.db_core.specs.Members.{Member, is_coming}
+use Rattle.db_core.specs.Members.{Member, is_added}
 
 -- whether a package has a name
 abbrev pub is_package_named : List ℕ → Plain → Bool
@@ -32,8 +32,8 @@ abbrev pub lists_no_reserved : Plain → Bool
 lists_no_reserved pkg = list_all (λ path. not (is_reserved path)) (paths_in pkg)
 
 -- whether a member is added, or lists no reserved path: a package may list one, a database may not
-abbrev pub comes_or_lists_no_reserved : Member → Bool
-comes_or_lists_no_reserved m = is_coming m || lists_no_reserved m.pkg
+abbrev pub is_added_or_lists_no_reserved : Member → Bool
+is_added_or_lists_no_reserved m = is_added m || lists_no_reserved m.pkg
 
 -- the packages of the value of a database; none if there is no database
 abbrev pub packages_by : Option Plain → List Plain

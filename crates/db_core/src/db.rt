@@ -54,7 +54,7 @@ pub struct Db<'a> {
 impl<'a> Db<'a> {
     ghost use Rattle.adb_schema.specs.Reserved.{is_reserved};
     ghost use Rattle.base_core.specs.Name.{IsName};
-    ghost use Rattle.db_core.specs.Members.{member_listings, staying_members};
+    ghost use Rattle.db_core.specs.Members.{member_listings, members_of_kept};
     ghost use Rattle.db_core.specs.Seen.{packages_of};
 
     /// A database without packages.
@@ -159,14 +159,14 @@ impl<'a> Db<'a> {
     /// under it.
     pub fn listed_paths_are_names(&self)
         ensures { All (λ l. IsName l.path)
-            (member_listings (staying_members (packages_of self.now))) }
+            (member_listings (members_of_kept (packages_of self.now))) }
     {}
 
     /// No path that a package of the database lists is reserved: so a change never removes one of
     /// the package keeper's own files as a package's file.
     pub fn no_listed_path_is_reserved(&self)
         ensures { All (λ l. is_reserved l.path ≡ false)
-            (member_listings (staying_members (packages_of self.now))) }
+            (member_listings (members_of_kept (packages_of self.now))) }
     {}
 }
 

@@ -15,5 +15,5 @@ mod name_places;
 mod owned;
 
 pub use db::{Db, open_idb};
-pub use members::{MOST_MEMBERS, Members, listings_stand_at_their_places};
+pub use members::{MOST_MEMBERS, Members, listings_are_at_their_places};
 pub use owned::Owned;

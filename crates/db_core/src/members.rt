@@ -8,11 +8,11 @@ ghost use Rattle.adb_schema.specs.Views.{package_value};
 ghost use Rattle.adb_view.specs.Adb.{payload_of};
 ghost use Rattle.adb_view.specs.Plain.{Plain};
 ghost use Rattle.base_core.specs.Listed.{IsRising};
-ghost use Rattle.db_core.specs.EntrySeen.{comes_or_is_in, member_by, payload_of_database};
-ghost use Rattle.db_core.specs.Members.{Member, comes_behind, coming_member, is_coming, is_place, member_name, staying_member, Listing, member_listings};
+ghost use Rattle.db_core.specs.EntrySeen.{is_added_or_has_payload, member_by, payload_of_database};
+ghost use Rattle.db_core.specs.Members.{Member, is_after_members, member_of_added, is_added, is_place, member_name, member_of_kept, Listing, member_listings};
 ghost use Rattle.base_core.specs.ByteOrder.{precedes};
 ghost use Rattle.std.specs.List.Sorted.{IsPartitionPoint};
-ghost use Rattle.db_core.specs.Packages.{comes_or_lists_no_reserved, lists_names};
+ghost use Rattle.db_core.specs.Packages.{is_added_or_lists_no_reserved, lists_names};
 ghost use Rattle.db_core.specs.SoundMembers.{AreOfSoundContainers};
 ghost use Rattle.db_core.specs.declared.members.TheConstants.{MOST_MEMBERS};
 ghost use Rattle.pkg_core.specs.Values.{payload_of_contents, value_of_contents};
@@ -68,11 +68,12 @@ pub struct Members<'a> {
     ghost few: { length entries.items ≤ MOST_MEMBERS },
     // Each path that a package lists is a name; a kept package lists no reserved path.
     ghost named: { list_all (λ e. lists_names (member_by e).pkg) entries.items ≡ true },
-    ghost free: { list_all (λ e. comes_or_lists_no_reserved (member_by e)) entries.items ≡ true },
+    ghost free: { list_all (λ e. is_added_or_lists_no_reserved (member_by e)) entries.items
+        ≡ true },
     // The packages are from sound containers.
     ghost sound: { ∥ AreOfSoundContainers (map member_by entries.items) ∥₁ },
     // A kept package is read from the payload of the database.
-    ghost lent: { list_all (comes_or_is_in (payload_of_database db.now.idb)) entries.items
+    ghost lent: { list_all (is_added_or_has_payload (payload_of_database db.now.idb)) entries.items
         ≡ true },
 }
 
@@ -117,10 +118,10 @@ impl<'a> Members<'a> {
     pub fn stays(&mut self, i: usize) -> Result<(), AllocError>
         requires at { i < length (packages_before self.old) }
         requires behind { (pkg : Plain) → slice_get (packages_before self.old) i ≡ Some pkg
-            → comes_behind (package_name pkg) (members_of self.old) ≡ true }
+            → is_after_members (package_name pkg) (members_of self.old) ≡ true }
         requires few { length (members_of self.old) < MOST_MEMBERS }
         ensures ok { OnOk result ((pkg : Plain) → slice_get (packages_before self.old) i ≡ Some pkg
-            → members_of self.new ≡ members_of self.old ++ staying_member pkg ∷ []) }
+            → members_of self.new ≡ members_of self.old ++ member_of_kept pkg ∷ []) }
         ensures err { OnErr result (members_of self.new ≡ members_of self.old) }
         ensures before { packages_before self.new ≡ packages_before self.old }
     {
@@ -135,11 +136,11 @@ impl<'a> Members<'a> {
     ///
     /// Out of memory.
     pub fn comes_in_pieces(&mut self, contents: &Contents<'a>) -> Result<(), AllocError>
-        requires behind { comes_behind (package_name (value_of_contents contents.now))
+        requires behind { is_after_members (package_name (value_of_contents contents.now))
             (members_of self.old) ≡ true }
         requires few { length (members_of self.old) < MOST_MEMBERS }
         ensures ok { OnOk result (members_of self.new ≡ members_of self.old
-            ++ coming_member (value_of_contents contents.now)
+            ++ member_of_added (value_of_contents contents.now)
             (sha256 (payload_of_contents contents.now)) ∷ []) }
         ensures err { OnErr result (members_of self.new ≡ members_of self.old) }
         ensures before { packages_before self.new ≡ packages_before self.old }
@@ -153,8 +154,8 @@ impl<'a> Members<'a> {
     }
 
     /// Whether this name is after those of all packages, as that of the next member has to be.
-    pub fn comes_behind(&self, name: &[u8]) -> bool
-        ensures { result ≡ comes_behind name.now (members_of self.now) }
+    pub fn is_after_members(&self, name: &[u8]) -> bool
+        ensures { result ≡ is_after_members name.now (members_of self.now) }
     {
         let count = self.len();
         if count == 0 {
@@ -213,7 +214,7 @@ impl<'a> Members<'a> {
         ensures value { (m : Member) → slice_get (members_of self.now) i ≡ Some m
             → package_value result.now ≡ m.pkg }
         ensures stays { (m : Member) → slice_get (members_of self.now) i ≡ Some m
-            → is_coming m ≡ false → payload_of result.now.adb ≡ payload_before self.now }
+            → is_added m ≡ false → payload_of result.now.adb ≡ payload_before self.now }
     {
         &self.entries[i].view
     }
@@ -239,8 +240,8 @@ impl<'a> Members<'a> {
 
     /// A kept member lists no reserved path, since its database passed the tests; an added package
     /// may list one.
-    pub fn no_path_that_stays_is_reserved(&self)
-        ensures { All (λ l. is_coming l.member ≡ false → is_reserved l.path ≡ false)
+    pub fn no_kept_path_is_reserved(&self)
+        ensures { All (λ l. is_added l.member ≡ false → is_reserved l.path ≡ false)
             (member_listings (members_of self.now)) }
     {}
 
@@ -254,7 +255,7 @@ impl<'a> Members<'a> {
 /// Each file that members list is at its places: the member among members, the folder in it, and
 /// the file in the folder. Its path is that of the folder and the file. So a claim leads back to
 /// the entry of its file.
-pub fn listings_stand_at_their_places()
+pub fn listings_are_at_their_places()
     ensures { (members : List Member) (i : ℕ) (l : Listing)
         → slice_get (member_listings members) i ≡ Some l → IsListedAt members l }
 {}

@@ -13,7 +13,7 @@ use Rattle.adb_copy.specs.Zeros.{all_without_zeros, info_with, int_value, with_a
 use Rattle.adb_view.proofs.ValueEntries.{nth_obj}
 use Rattle.adb_copy.proofs.WithoutZeros.{int_zeros, text_zeros}
 use Rattle.adb_copy.proofs.Zeros.{at_other, at_same, nth_zeros, zeros_arr, zeros_obj, zeros_twice}
-use Rattle.db_core.specs.Members.{Member, staying_members}
+use Rattle.db_core.specs.Members.{Member, members_of_kept}
 use Rattle.adb_view.specs.FieldIndexes.{INFO_FILE_SIZE, INFO_HASHES}
 use Rattle.db_core.specs.Packages.{installed_id}
 use Rattle.db_write.specs.Information.{file_size_of}
@@ -119,10 +119,10 @@ database_free members flags =
 -- ---- written again
 
 pub written_again : Back → (members : List Member) (flags : List Bool) (bytes : List ℕ) → IsRootOf Idb (database_value members flags) → database_of members flags ≡ Ok bytes
-    → database_of (staying_members (entries_at 0 (root_value Idb (payload_in bytes)))) (all_owned (staying_members (entries_at 0 (root_value Idb (payload_in bytes))))) ≡ Ok bytes
+    → database_of (members_of_kept (entries_at 0 (root_value Idb (payload_in bytes)))) (all_owned (members_of_kept (entries_at 0 (root_value Idb (payload_in bytes))))) ≡ Ok bytes
 unfolding database_of
 written_again law members flags bytes root h =
     let v : Plain = database_value members flags in
     let back : root_value Idb (payload_in bytes) ≡ v = ap (λ (file : List ℕ). root_value Idb (payload_in file)) (sym (is_file members flags bytes h)) ∙ law Idb IDB_WORD v refl root in
-    (λ j. database_of (staying_members (entries_at 0 (back j))) (all_owned (staying_members (entries_at 0 (back j)))))
+    (λ j. database_of (members_of_kept (entries_at 0 (back j))) (all_owned (members_of_kept (entries_at 0 (back j)))))
     ∙ (ap (λ u. database_container (written_of u)) (database_same v root.shaped ∙ database_free members flags) ∙ h)

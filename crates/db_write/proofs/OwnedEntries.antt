@@ -5,7 +5,7 @@ use Rattle.std.specs.List.{flat_map}
 use Rattle.adb_view.specs.Plain.{Plain}
 use Rattle.adb_fields.specs.Repeated.{files_in, folders_in, list_of, name_of}
 use Rattle.adb_copy.specs.Zeros.{without_zeros}
-use Rattle.db_core.specs.Members.{Listing, Member, listings_by, listings_from, listings_in_folder, listings_in_folders, member_listings, staying_member}
+use Rattle.db_core.specs.Members.{Listing, Member, listings_by, listings_from, listings_in_folder, listings_in_folders, member_listings, member_of_kept}
 use Rattle.db_core.specs.OwnedListings.{owned_listings}
 use Rattle.db_write.specs.NewDatabase.{file_count, folders_after, member_file_count, owned_entries, package_after, packages_after}
 use Rattle.db_write.proofs.Listed.{in_folder, in_folders}
@@ -28,11 +28,11 @@ listed_in_folders m place i (d ∷ ds) =
     map-append (λ l. l.entry) (listings_in_folder m place i 1 (name_of d) (files_in d)) (listings_in_folders m place (i + 1) ds)
     ∙ (λ j. listed_in_folder m place i 1 (name_of d) (files_in d) j ++ listed_in_folders m place (i + 1) ds j)
 
-listed_from : (place : ℕ) (pkgs : List Plain) → map (λ l. l.entry) (listings_from place (map staying_member pkgs)) ≡ flat_map entries_of pkgs
+listed_from : (place : ℕ) (pkgs : List Plain) → map (λ l. l.entry) (listings_from place (map member_of_kept pkgs)) ≡ flat_map entries_of pkgs
 listed_from place [] = refl
 listed_from place (v ∷ pkgs) =
-    map-append (λ l. l.entry) (listings_by place (staying_member v)) (listings_from (place + 1) (map staying_member pkgs))
-    ∙ (λ j. listed_in_folders (staying_member v) place 1 (folders_in v) j ++ listed_from (place + 1) pkgs j)
+    map-append (λ l. l.entry) (listings_by place (member_of_kept v)) (listings_from (place + 1) (map member_of_kept pkgs))
+    ∙ (λ j. listed_in_folders (member_of_kept v) place 1 (folders_in v) j ++ listed_from (place + 1) pkgs j)
 
 -- ---- what they own
 
@@ -68,6 +68,6 @@ members_owned place (m ∷ members) flags =
     ∙ sym (joined (listings_by place m) (listings_from (place + 1) members) (member_file_count m) flags (in_folders m place 1 (folders_in m.pkg)))
 
 pub entries_kept : (members : List Member) (flags : List Bool)
-    → map (λ l. l.entry) (member_listings (map staying_member (list_of (packages_after members flags)))) ≡ map (λ l. without_zeros l.entry) (owned_listings (member_listings members) flags)
+    → map (λ l. l.entry) (member_listings (map member_of_kept (list_of (packages_after members flags)))) ≡ map (λ l. without_zeros l.entry) (owned_listings (member_listings members) flags)
 unfolding member_listings
 entries_kept members flags = listed_from 0 (list_of (packages_after members flags)) ∙ members_owned 0 members flags

@@ -5,7 +5,7 @@ use Rattle.std.proofs.lemmas.Bool.{ltb-false}
 use Rattle.adb_view.specs.Plain.{IsNormal, Plain}
 use Rattle.adb_view.specs.declared.tables.Which.{Which}
 use Rattle.adb_view.specs.declared.tables.Which.TheVariants.{Idb}
-use Rattle.adb_fields.specs.Once.{NamesStandOnce}
+use Rattle.adb_fields.specs.Once.{HasNoRepeatedName}
 use Rattle.adb_fields.specs.Repeated.{repeated_fault}
 use Rattle.adb_schema.specs.SoundValues.{KeepsRules}
 use Rattle.adb_schema.specs.Texts.{text_fault}
@@ -44,7 +44,7 @@ abbrev pub Kept : Type 0
 Kept = (which : Which) (v : Plain) → (text_fault which v ≡ None) ↔ KeepsRules which v
 
 abbrev pub Once : Type 0
-Once = (which : Which) (v : Plain) → (repeated_fault which v ≡ None) ↔ NamesStandOnce which v
+Once = (which : Which) (v : Plain) → (repeated_fault which v ≡ None) ↔ HasNoRepeatedName which v
 
 pub database_root : Exact → Kept → Once → (members : List Member) (flags : List Bool) (bytes : List ℕ) → AreOfSoundContainers members → AreInOrder members → MayBeListed (owned_listings (member_listings members) flags)
     → database_of members flags ≡ Ok bytes → IsRootOf Idb (database_value members flags)

@@ -11,7 +11,7 @@ use Rattle.adb_view.specs.Plain.{Plain, Plains, int, blob}
 use Rattle.adb_view.specs.Values.{entries_in, entry_in, int_in, text_in}
 use Rattle.adb_view.specs.declared.tables.Which.TheVariants.{Idb}
 use Rattle.adb_fields.specs.FirstPair.{IsIn}
-use Rattle.adb_fields.specs.Once.{AllDistinct, AreDistinctNames, NamesStandOnce, StandOnceBetween, StandOnceInside}
+use Rattle.adb_fields.specs.Once.{AllDistinct, AreDistinctNames, HasNoRepeatedName, HaveNoRepeatBetween, HaveNoRepeatInside}
 use Rattle.adb_fields.specs.Repeated.{files_in, folders_in, list_of, name_of, package_name}
 use Rattle.adb_copy.specs.Zeros.{info_with, with_at, without_zeros}
 use Rattle.adb_view.proofs.ValueEntries.{entries_arr, nth_obj, text_blob}
@@ -140,10 +140,10 @@ rising_distinct (x ∷ xs) pairs = (
 -- ---- the database
 
 pub names_once : (members : List Member) (flags : List Bool) → EachIn (λ (m : Member). MayEnter m.pkg) members → AreInOrder members → HaveOneOwner (owned_listings (member_listings members) flags)
-    → NamesStandOnce Idb (database_value members flags)
+    → HasNoRepeatedName Idb (database_value members flags)
 names_once members flags enter order owned =
     let packages : List Plain = list_of (packages_after members flags) in
-    subst (λ (ps : List Plain). StandOnceInside ps × StandOnceBetween ps) (sym (packages_in members flags)) (
+    subst (λ (ps : List Plain). HaveNoRepeatInside ps × HaveNoRepeatBetween ps) (sym (packages_in members flags)) (
       record { folders = folders_inside members flags enter; files = files_inside members flags enter },
       record {
         packages_once = subst AreDistinctNames (sym (package_names members flags)) (rising_distinct (map member_name members) order);

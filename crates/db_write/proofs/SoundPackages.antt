@@ -10,7 +10,7 @@ use Rattle.adb_view.specs.declared.tables.Kind.TheVariants.{Obj}
 use Rattle.adb_view.specs.declared.tables.Which.{Which}
 use Rattle.adb_view.specs.declared.tables.Which.TheVariants as Tables
 use Rattle.adb_fields.specs.FirstPair.{IsIn}
-use Rattle.adb_fields.specs.Once.{AllDistinct, AreDistinctNames, StandOnceInside}
+use Rattle.adb_fields.specs.Once.{AllDistinct, AreDistinctNames, HaveNoRepeatInside}
 use Rattle.adb_fields.specs.Repeated.{entries_at, files_in, folders_in, list_of, name_of}
 use Rattle.adb_schema.specs.Rules.{is_digest_length, is_digest_length_or_none, is_file_name, is_folder_name, is_target}
 use Rattle.adb_schema.specs.SoundValues.{IsFileOf, IsFolder, IsInformation, IsPackage}
@@ -110,7 +110,7 @@ of_package v h = record {
 package_enters : (pkg : Plain) (id : List ℕ) → IsOfSoundPackage pkg id → MayEnter pkg
 package_enters pkg id h =
     let rules : IsPackage Tables.Package pkg = h.sound.rules in
-    let once : StandOnceInside (pkg ∷ []) = h.sound.once in
+    let once : HaveNoRepeatInside (pkg ∷ []) = h.sound.once in
     record {
       ints = normal_ints pkg h.normal;
       shape = h.sound.shape;
@@ -127,7 +127,7 @@ database_enters pkg h =
     let packages : IsArrayOf (HasShape (shape_of (Obj Tables.Package))) (entry_in h.database 0) =
     nth_shape (shapes_of (table Tables.Idb)) (entries_in h.database) 0 (entries_shape 9 (shapes_of (table Tables.Idb)) h.database h.sound.shape) in
     let rules : IsPackage Tables.Idb pkg = each_in (IsPackage Tables.Idb) pkg vs h.sound.rules h.listed in
-    let once : StandOnceInside (entries_at 0 h.database) = h.sound.once.0 in
+    let once : HaveNoRepeatInside (entries_at 0 h.database) = h.sound.once.0 in
     record {
       ints = each_in HasInts pkg vs (each_ints vs (entries_ints (entry_in h.database 0) (nth_ints (entries_in h.database) 0 (entries_ints h.database (normal_ints h.database h.normal))))) h.listed;
       shape = each_in (HasShape (shape_of (Obj Tables.Package))) pkg vs (array_entries (HasShape (shape_of (Obj Tables.Package))) (entry_in h.database 0) packages) h.listed;
@@ -149,8 +149,8 @@ Holds = (which : Which) (file : List ℕ) → IsSound which file → IsSoundValu
 abbrev pub HoldsNormal : Type 0
 HoldsNormal = (which : Which) (file : List ℕ) → IsSound which file → All (λ b. b < 256) (payload_in file) → IsNormal (root_value which (payload_in file))
 
-pub may_stay : Holds → HoldsNormal → (file : List ℕ) (pkg : Plain) → IsSound Tables.Idb file → All (λ b. b < 256) (payload_in file) → IsIn pkg (entries_at 0 (root_value Tables.Idb (payload_in file))) → IsOfSoundContainer pkg None
-may_stay holds normal file pkg sound bytes listed = record { database = root_value Tables.Idb (payload_in file); sound = holds Tables.Idb file sound; normal = normal Tables.Idb file sound bytes; listed = listed }
+pub may_be_kept : Holds → HoldsNormal → (file : List ℕ) (pkg : Plain) → IsSound Tables.Idb file → All (λ b. b < 256) (payload_in file) → IsIn pkg (entries_at 0 (root_value Tables.Idb (payload_in file))) → IsOfSoundContainer pkg None
+may_be_kept holds normal file pkg sound bytes listed = record { database = root_value Tables.Idb (payload_in file); sound = holds Tables.Idb file sound; normal = normal Tables.Idb file sound bytes; listed = listed }
 
 pub may_come : Holds → HoldsNormal → (file id : List ℕ) → IsSound Tables.Package file → All (λ b. b < 256) (payload_in file) → is_digest_length (length id) ≡ true
     → IsOfSoundContainer (root_value Tables.Package (payload_in file)) (Some id)

@@ -14,7 +14,7 @@ use Rattle.adb_copy.specs.Zeros.{all_without_zeros, int_value, without_zeros}
 use Rattle.adb_copy.proofs.Fields.{INFO, info_written, object_written}
 use Rattle.adb_copy.proofs.Shapes.{entries_shape, nth_shape}
 use Rattle.adb_copy.proofs.Zeros.{zeros_array}
-use Rattle.db_core.specs.Members.{Member, staying_member, staying_members}
+use Rattle.db_core.specs.Members.{Member, member_of_kept, members_of_kept}
 use Rattle.db_core.proofs.Places.{count_listed}
 use Rattle.db_write.specs.NewDatabase.{database_container, database_of, database_value, each_by_flags, file_count, folder_after, folders_after, info_after, member_file_count, owned_entries, package_after, packages_after, total_of}
 use Rattle.db_write.specs.Unchanged.{all_owned}
@@ -78,7 +78,7 @@ info_same info h =
     refl refl refl refl refl refl refl refl refl refl refl refl refl refl refl refl refl refl refl refl
     ∙ object_written 3 INFO info h
 
-package_same : (v : Plain) (m : ℕ) → HasShape (shape_of (Kinds.Obj Tables.Package)) v → member_file_count (staying_member v) ≤ m → package_after (staying_member v) (replicate m true) ≡ without_zeros v
+package_same : (v : Plain) (m : ℕ) → HasShape (shape_of (Kinds.Obj Tables.Package)) v → member_file_count (member_of_kept v) ≤ m → package_after (member_of_kept v) (replicate m true) ≡ without_zeros v
 unfolding shape_of HasShape
 package_same v m h enough =
     let fields = entries_shape 7 (shapes_of (table Tables.Package)) v h in
@@ -96,18 +96,18 @@ package_same v m h enough =
 
 -- ---- the database
 
-pub database_same : (v : Plain) → HasShape (shape_of (Kinds.Obj Tables.Idb)) v → database_value (staying_members (entries_at 0 v)) (all_owned (staying_members (entries_at 0 v))) ≡ without_zeros v
+pub database_same : (v : Plain) → HasShape (shape_of (Kinds.Obj Tables.Idb)) v → database_value (members_of_kept (entries_at 0 v)) (all_owned (members_of_kept (entries_at 0 v))) ≡ without_zeros v
 unfolding shape_of HasShape database_value
 database_same v h =
     let packages : IsArrayOf (HasShape (shape_of (Kinds.Obj Tables.Package))) (entry_in v 0) = nth_shape (shapes_of (table Tables.Idb)) (entries_in v) 0 (entries_shape 9 (shapes_of (table Tables.Idb)) v h) in
-    let members : List Member = staying_members (entries_at 0 v) in
+    let members : List Member = members_of_kept (entries_at 0 v) in
     let all : packages_after members (all_owned members) ≡ all_without_zeros (entries_in (entry_in v 0)) =
-    each_all member_file_count package_after staying_member (HasShape (shape_of (Kinds.Obj Tables.Package))) package_same (entries_in (entry_in v 0)) (total_of member_file_count members)
+    each_all member_file_count package_after member_of_kept (HasShape (shape_of (Kinds.Obj Tables.Package))) package_same (entries_in (entry_in v 0)) (total_of member_file_count members)
     (array_entries (HasShape (shape_of (Kinds.Obj Tables.Package))) (entry_in v 0) packages) (omega arith) in
     ap (λ ps. obj_value (more ps none)) (ap arr_value all ∙ sym (zeros_array (HasShape (shape_of (Kinds.Obj Tables.Package))) (entry_in v 0) packages))
     ∙ object_written 9 (shapes_of (table Tables.Idb)) v h
 
 pub bytes_same : (v : Plain) (payload : List ℕ) → HasShape (shape_of (Kinds.Obj Tables.Idb)) v → without_zeros v ≡ v → written_of v ≡ Ok payload
-    → database_of (staying_members (entries_at 0 v)) (all_owned (staying_members (entries_at 0 v))) ≡ Ok (file_of IDB_WORD payload)
+    → database_of (members_of_kept (entries_at 0 v)) (all_owned (members_of_kept (entries_at 0 v))) ≡ Ok (file_of IDB_WORD payload)
 unfolding database_of
 bytes_same v payload h free canonical = ap (λ u. database_container (written_of u)) (database_same v h ∙ free) ∙ ap database_container canonical

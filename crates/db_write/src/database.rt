@@ -14,9 +14,7 @@ ghost use Rattle.db_core.specs.SoundMembers.{MayBeListed};
 ghost use Rattle.db_write.specs.NewDatabase.{database_of, database_value};
 ghost use Rattle.std.specs.Prelude.{◌≡◌, ◌≤◌, IfOk, OnOk, length};
 
-use crate::laws::{
-    a_database_of_sound_packages_may_stand_at_the_root, a_written_database_is_read_back,
-};
+use crate::laws::{a_database_of_sound_packages_may_be_the_root, a_written_database_is_read_back};
 use crate::packages::write_packages;
 use adb_schema::IDB_WORD;
 use adb_values::Draft;
@@ -42,7 +40,7 @@ pub fn write_db(alloc: Global, members: &Members<'_>, owned: &Owned) -> Result<V
 {
     members.members_are_in_order();
     members.packages_are_sound();
-    a_database_of_sound_packages_may_stand_at_the_root();
+    a_database_of_sound_packages_may_be_the_root();
     a_written_database_is_read_back();
     let payload = match database_payload(alloc, members, owned.as_slice()) {
         Ok(payload) => payload,

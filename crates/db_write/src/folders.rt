@@ -48,7 +48,7 @@ pub(crate) fn flags_behind<'f>(adb: Adb<'_>, pkg: Val, flags: &'f [bool]) -> &'f
         (value_at (payload_of adb.entry) (Kinds.Obj Tables.Package) pkg))) flags.entry.now }
 {
     let folders = objects_field(adb, Which::Package, pkg, PACKAGE_PATHS, Which::Dir);
-    flags_behind_folders(adb, folders, flags)
+    flags_after_folders(adb, folders, flags)
 }
 
 /// Writes folders with the files whose flag is set.
@@ -73,13 +73,13 @@ fn write_folder_list<'a>(
         let folder = entry_word(folders, i);
         write_folder(draft, adb, known, folder, left)?;
         // The next folder takes the flags after those of this one.
-        left = flags_behind_folder(adb, folder, left);
+        left = flags_after_folder(adb, folder, left);
     }
     draft.close_array()
 }
 
 /// The flags after those of the files of these folders.
-fn flags_behind_folders<'a, 'f>(adb: Adb<'a>, folders: Arr<'a>, flags: &'f [bool]) -> &'f [bool]
+fn flags_after_folders<'a, 'f>(adb: Adb<'a>, folders: Arr<'a>, flags: &'f [bool]) -> &'f [bool]
     requires { are_all_sound (payload_of adb) (Kinds.Obj Tables.Dir) (array_entries folders)
         ≡ true }
     ensures { result.now ≡ drop (total_of file_count (list_of (entries_in
@@ -88,14 +88,14 @@ fn flags_behind_folders<'a, 'f>(adb: Adb<'a>, folders: Arr<'a>, flags: &'f [bool
 {
     let mut left = flags;
     for i in 0..folders.len() {
-        left = flags_behind_folder(adb, entry_word(folders, i), left);
+        left = flags_after_folder(adb, entry_word(folders, i), left);
     }
     left
 }
 
 /// The flags after those of the files of the folder with this word; none are left if there are too
 /// few.
-fn flags_behind_folder<'f>(adb: Adb<'_>, folder: Val, flags: &'f [bool]) -> &'f [bool]
+fn flags_after_folder<'f>(adb: Adb<'_>, folder: Val, flags: &'f [bool]) -> &'f [bool]
     requires { is_sound (payload_of adb) (Kinds.Obj Tables.Dir) folder ≡ true }
     ensures { result.now ≡ drop
         (file_count (value_at (payload_of adb.entry) (Kinds.Obj Tables.Dir) folder))

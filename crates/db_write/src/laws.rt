@@ -19,7 +19,7 @@ ghost use Rattle.adb_view.specs.Plain.{Plain};
 ghost use Rattle.adb_view.specs.Shaped.{HasShape};
 ghost use Rattle.adb_write.specs.Canonical.{written_of};
 ghost use Rattle.adb_write.specs.File.{file_of};
-ghost use Rattle.db_core.specs.Members.{AreInOrder, Member, coming_member, member_listings, staying_member, staying_members};
+ghost use Rattle.db_core.specs.Members.{AreInOrder, Member, member_of_added, member_listings, member_of_kept, members_of_kept};
 ghost use Rattle.db_core.specs.Packages.{installed_id};
 ghost use Rattle.db_write.specs.Information.{file_size_of};
 ghost use Rattle.db_write.specs.NewDatabase.{database_of, database_value, package_after, packages_after};
@@ -31,7 +31,7 @@ ghost use Rattle.std.specs.List.{flat_map};
 ghost use Rattle.std.specs.Prelude.{◌≡◌, ◌≢◌, ◌<◌, ℕ, All, Bool, List, None, Ok, Some, length, map, true};
 
 use adb_block::what_is_spelled_is_read;
-use adb_fields::no_name_is_repeated_where_each_stands_once;
+use adb_fields::no_repeated_name_is_reported_if_there_is_none;
 use adb_schema::{no_text_is_bad_where_each_keeps_its_rule, sound_containers_hold_sound_values};
 use adb_sound::{a_container_of_a_good_value_is_sound, what_a_container_is_made_of_is_read_back};
 use adb_write::{a_file_is_spelled, a_value_overflows_exactly_past_a_limit};
@@ -59,7 +59,7 @@ pub fn a_written_database_is_read_back()
 /// The value of a written database may be at the root of a container under these conditions: each
 /// kept member was read from a sound database, and each added one from a sound package with its id;
 /// members are in order, each owned path has one owner, and none is reserved.
-pub fn a_database_of_sound_packages_may_stand_at_the_root()
+pub fn a_database_of_sound_packages_may_be_the_root()
     ensures { (members : List Member) (flags : List Bool) (bytes : List ℕ)
         → AreOfSoundContainers members → AreInOrder members
         → MayBeListed (owned_listings (member_listings members) flags)
@@ -68,7 +68,7 @@ pub fn a_database_of_sound_packages_may_stand_at_the_root()
 {
     a_value_overflows_exactly_past_a_limit();
     no_text_is_bad_where_each_keeps_its_rule();
-    no_name_is_repeated_where_each_stands_once();
+    no_repeated_name_is_reported_if_there_is_none();
 }
 
 /// The contents of sound containers may be members: each package of a database as a kept one, and
@@ -98,13 +98,13 @@ pub fn a_database_lists_the_owned_files()
 /// bytes.
 pub fn a_database_without_changes_stays_the_same()
     ensures value { (v : Plain) → HasShape (shape_of (Kinds.Obj Tables.Idb)) v
-        → database_value (staying_members (entries_at IDB_PACKAGES v))
-        (all_owned (staying_members (entries_at IDB_PACKAGES v)))
+        → database_value (members_of_kept (entries_at IDB_PACKAGES v))
+        (all_owned (members_of_kept (entries_at IDB_PACKAGES v)))
         ≡ without_zeros v }
     ensures bytes { (v : Plain) (payload : List ℕ) → HasShape (shape_of (Kinds.Obj Tables.Idb)) v
         → without_zeros v ≡ v → written_of v ≡ Ok payload
-        → database_of (staying_members (entries_at IDB_PACKAGES v))
-        (all_owned (staying_members (entries_at IDB_PACKAGES v)))
+        → database_of (members_of_kept (entries_at IDB_PACKAGES v))
+        (all_owned (members_of_kept (entries_at IDB_PACKAGES v)))
         ≡ Ok (file_of IDB_WORD payload) }
 {}
 
@@ -112,9 +112,9 @@ pub fn a_database_without_changes_stays_the_same()
 /// of its file is unchanged, and so is each other field, in which an integer 0 is Null.
 pub fn a_package_keeps_its_information()
     ensures comes { (pkg : Plain) (id : List ℕ) (flags : List Bool)
-        → installed_id (package_after (coming_member pkg id) flags) ≡ id }
+        → installed_id (package_after (member_of_added pkg id) flags) ≡ id }
     ensures stays { (pkg : Plain) (flags : List Bool)
-        → installed_id (package_after (staying_member pkg) flags) ≡ installed_id pkg }
+        → installed_id (package_after (member_of_kept pkg) flags) ≡ installed_id pkg }
     ensures size { (m : Member) (flags : List Bool)
         → file_size_of (package_after m flags) ≡ file_size_of m.pkg }
     ensures others { (m : Member) (flags : List Bool) (i : ℕ)
@@ -138,7 +138,7 @@ pub fn a_package_keeps_its_folders()
 pub fn a_database_keeps_the_entries_of_owned_files()
     ensures { (members : List Member) (flags : List Bool)
         → map (λ l. l.entry)
-        (member_listings (staying_members (list_of (packages_after members flags))))
+        (member_listings (members_of_kept (list_of (packages_after members flags))))
         ≡ map (λ l. without_zeros l.entry) (owned_listings (member_listings members) flags) }
 {}
 
@@ -162,9 +162,9 @@ pub fn a_written_database_is_written_again_alike()
     ensures { (members : List Member) (flags : List Bool) (bytes : List ℕ)
         → IsRootOf Tables.Idb (database_value members flags) → database_of members flags ≡ Ok bytes
         → database_of
-        (staying_members (entries_at IDB_PACKAGES (root_value Tables.Idb (payload_in bytes))))
+        (members_of_kept (entries_at IDB_PACKAGES (root_value Tables.Idb (payload_in bytes))))
         (all_owned
-        (staying_members (entries_at IDB_PACKAGES (root_value Tables.Idb (payload_in bytes)))))
+        (members_of_kept (entries_at IDB_PACKAGES (root_value Tables.Idb (payload_in bytes)))))
         ≡ Ok bytes }
 {
     what_a_container_is_made_of_is_read_back();

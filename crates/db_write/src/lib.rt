@@ -16,7 +16,7 @@ mod packages;
 pub use database::write_db;
 pub use laws::{
     a_database_keeps_the_entries_of_owned_files, a_database_lists_the_owned_files,
-    a_database_of_sound_packages_may_stand_at_the_root, a_database_without_changes_stays_the_same,
+    a_database_of_sound_packages_may_be_the_root, a_database_without_changes_stays_the_same,
     a_package_keeps_its_folders, a_package_keeps_its_information,
     a_package_keeps_its_scripts_and_its_priority, a_written_database_is_read_back,
     a_written_database_is_written_again_alike, packages_of_sound_containers_may_be_members,

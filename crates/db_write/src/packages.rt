@@ -44,13 +44,13 @@ pub(crate) fn write_packages(
     for i in 0..members.len() {
         write_member(alloc, draft, members, &mut known, i, left)?;
         // The next package takes the flags after those of this one.
-        left = flags_behind_member(members, i, left);
+        left = flags_after_member(members, i, left);
     }
     draft.close_array()
 }
 
 /// The flags after those of the files of the member at a place, counted from 0.
-fn flags_behind_member<'f>(members: &Members<'_>, i: usize, flags: &'f [bool]) -> &'f [bool]
+fn flags_after_member<'f>(members: &Members<'_>, i: usize, flags: &'f [bool]) -> &'f [bool]
     requires { i < length (members_of members.now) }
     ensures { (m : Member) → slice_get (members_of members.now) i ≡ Some m
         → result.now ≡ drop (member_file_count m) flags.entry.now }

@@ -7,7 +7,7 @@ use Rattle.std.proofs.lemmas.Bool.{and_parts, and_from, eqb-true, cases_Bool}
 use Rattle.version_core.specs.Order.{is_version}
 use Rattle.dep_core.specs.Dependency.{Dependency, dependency_by, is_dep_name, is_name_byte, is_tag, is_tag_byte}
 use Rattle.dep_core.specs.DependencyText.{IsDependency, is_constraint, is_tag_or_none, mark_text, operator_text, tag_text}
-use Rattle.dep_core.specs.Reading.{at_tag, rest_behind, dependency_of, at_version_end, is_not_at, is_operator_byte, at_constraint, at_operator_end, at_name, operator_bits, at_name_end, at_version, with_constraint, with_tag}
+use Rattle.dep_core.specs.Reading.{at_tag, rest_after, dependency_of, at_version_end, is_not_at, is_operator_byte, at_constraint, at_operator_end, at_name, operator_bits, at_name_end, at_version, with_constraint, with_tag}
 use Rattle.dep_core.specs.Spelling.{SpellsDependency, SpellsConstraint}
 use Rattle.dep_core.proofs.Operators.{operator-is, some-inj}
 
@@ -22,7 +22,7 @@ none-from (Some x) h = (cc)
 some-none : {A : Type 0} {x : A} → Some x ≡ None → ⊥
 some-none h = (cc)
 
-front-behind : (p : ℕ → Bool) (text : List ℕ) → take_while p text ++ rest_behind p text ≡ text
+front-behind : (p : ℕ → Bool) (text : List ℕ) → take_while p text ++ rest_after p text ≡ text
 front-behind p text = take-append-drop (prefix_len p text) text
 
 abbrev bare : List ℕ → Bool → Option (List ℕ) → Dependency
@@ -58,7 +58,7 @@ versioned-out : (name : List ℕ) (conflict : Bool) (tag : Option (List ℕ)) (b
 unfolding at_version
 versioned-out name conflict tag bits op rest text d n t o e h =
     let v : List ℕ = take_while is_not_at rest in
-    let tail : List ℕ = rest_behind is_not_at rest in
+    let tail : List ℕ = rest_after is_not_at rest in
     let found : (is_version v ≡ true) × (at_version_end (with_constraint (bare name conflict tag) v bits) tail ≡ Some d) =
     cond_some (is_version v) (at_version_end (with_constraint (bare name conflict tag) v bits) tail) d h in
     let limited_well : is_constraint (Some v) bits ≡ true = and_from (is_version v) (is_some (operator_text bits)) found.0 (operator-is op bits o).2 in
@@ -101,7 +101,7 @@ limited-out name conflict tag [] d n t h =
       placed = inl (refl, refl);
     })
 limited-out name conflict tag (c ∷ rest) d n t h =
-    limited-by-out name conflict tag (operator_bits (take_while is_operator_byte (c ∷ rest))) (take_while is_operator_byte (c ∷ rest)) (rest_behind is_operator_byte (c ∷ rest)) (c ∷ rest) d n t refl (front-behind is_operator_byte (c ∷ rest)) h
+    limited-by-out name conflict tag (operator_bits (take_while is_operator_byte (c ∷ rest))) (take_while is_operator_byte (c ∷ rest)) (rest_after is_operator_byte (c ∷ rest)) (c ∷ rest) d n t refl (front-behind is_operator_byte (c ∷ rest)) h
 
 -- ---- after the name
 
@@ -118,7 +118,7 @@ at_tag-out : (name : List ℕ) (conflict : Bool) (c : ℕ) (rest : List ℕ) (d 
 unfolding at_tag
 at_tag-out name conflict c rest d n e h =
     let tag : List ℕ = take_while is_tag_byte rest in
-    let tail : List ℕ = rest_behind is_tag_byte rest in
+    let tail : List ℕ = rest_after is_tag_byte rest in
     let found : (is_tag tag ≡ true) × (at_constraint (bare name conflict (Some tag)) tail ≡ Some d) =
     cond_some (is_tag tag) (at_constraint (bare name conflict (Some tag)) tail) d h in
     let out : IsLimited name conflict (Some tag) tail d = limited-out name conflict (Some tag) tail d n found.0 found.1 in
@@ -172,7 +172,7 @@ named-out : (conflict : Bool) (text : List ℕ) (d : Dependency) (whole : List �
 unfolding at_name
 named-out conflict text d whole e h =
     let name : List ℕ = take_while is_name_byte text in
-    let rest : List ℕ = rest_behind is_name_byte text in
+    let rest : List ℕ = rest_after is_name_byte text in
     let found : (is_dep_name name ≡ true) × (at_name_end (bare name conflict None) rest ≡ Some d) =
     cond_some (is_dep_name name) (at_name_end (bare name conflict None) rest) d h in
     let out : IsTagged name conflict rest d = tagged-out name conflict rest d found.0 found.1 in

@@ -13,7 +13,7 @@ use Rattle.std.proofs.lemmas.List.Splits.{slice_split_at}
 use Rattle.base_core.specs.Name.{is_name, is_part, parts_of}
 use Rattle.dep_core.specs.Dependency.{is_tag, is_tag_byte}
 use Rattle.dep_core.specs.DependencyText.{is_tag_or_none}
-use Rattle.dep_core.specs.Reading.{rest_behind}
+use Rattle.dep_core.specs.Reading.{rest_after}
 use Rattle.dep_core.specs.Repositories.{Repository, at_path, with_repositories, begins_with_blank, is_comment, singleton, repositories_from, repositories_of, repositories_on, repository, repository_of, tagged_repository, without_outer_blanks, without_trailing_blanks}
 use Rattle.dep_core.specs.RepositoryText.{is_line_path, is_line_repository, repositories_text, tag_front}
 use Rattle.dep_core.specs.World.{is_blank, is_line_end, lines_of}
@@ -77,8 +77,8 @@ unfolding tagged_repository
 tagged-read tag path t n =
     let bytes : list_all is_tag_byte tag ≡ true = (and_parts (nat_lt 0 (length tag)) (list_all is_tag_byte tag) t).1 in
     let first : take_while is_tag_byte (tag ++ (32 ∷ (47 ∷ path))) ≡ tag = run is_tag_byte tag (32 ∷ (47 ∷ path)) bytes refl in
-    let rest : rest_behind is_tag_byte (tag ++ (32 ∷ (47 ∷ path))) ≡ 32 ∷ (47 ∷ path) = past_run is_tag_byte tag (32 ∷ (47 ∷ path)) bytes refl in
-    (λ i. cond (is_tag (first i) && begins_with_blank (rest i)) (at_path (Some (first i)) (rest_behind is_blank (rest i))) None)
+    let rest : rest_after is_tag_byte (tag ++ (32 ∷ (47 ∷ path))) ≡ 32 ∷ (47 ∷ path) = past_run is_tag_byte tag (32 ∷ (47 ∷ path)) bytes refl in
+    (λ i. cond (is_tag (first i) && begins_with_blank (rest i)) (at_path (Some (first i)) (rest_after is_blank (rest i))) None)
     ∙ (ap (λ b. cond (b && true) (at_path (Some tag) (47 ∷ path)) None) t ∙ path-read (Some tag) path n)
 
 line-read : (tag : Option (List ℕ)) (path : List ℕ) → is_tag_or_none tag ≡ true → is_name path ≡ true → repository_of (tag_front tag ++ (47 ∷ path)) ≡ Some (repository tag path)

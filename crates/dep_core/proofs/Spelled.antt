@@ -9,7 +9,7 @@ use Rattle.std.proofs.lemmas.Bool.Decides.{nat_tests}
 use Rattle.version_core.specs.Order.{is_version}
 use Rattle.dep_core.specs.Dependency.{Dependency, dependency_by, is_dep_name, is_name_byte, is_tag, is_tag_byte}
 use Rattle.dep_core.specs.DependencyText.{IsDependency, is_constraint, is_tag_or_none, dep_text, constraint_text, mark_text, operator_text, tag_text}
-use Rattle.dep_core.specs.Reading.{any_version, at_tag, rest_behind, dependency_of, at_version_end, is_not_at, is_operator_byte, at_constraint, at_operator_end, at_name, operator_bits, at_name_end, at_version, with_constraint, with_tag}
+use Rattle.dep_core.specs.Reading.{any_version, at_tag, rest_after, dependency_of, at_version_end, is_not_at, is_operator_byte, at_constraint, at_operator_end, at_name, operator_bits, at_name_end, at_version, with_constraint, with_tag}
 use Rattle.dep_core.specs.Spelling.{SpellsDependency, SpellsConstraint}
 use Rattle.dep_core.proofs.Operators.{IsOperator, begins_as_operator, operator-is, text-read}
 use Rattle.dep_core.proofs.Versions.{Versions, all-imp}
@@ -35,7 +35,7 @@ run-len p (x ∷ xs) ys h s =
 pub run : (p : ℕ → Bool) (xs ys : List ℕ) → list_all p xs ≡ true → stops p ys ≡ true → take_while p (xs ++ ys) ≡ xs
 run p xs ys h s = ap (λ n. take n (xs ++ ys)) (run-len p xs ys h s) ∙ take-append_seam xs ys
 
-pub past_run : (p : ℕ → Bool) (xs ys : List ℕ) → list_all p xs ≡ true → stops p ys ≡ true → rest_behind p (xs ++ ys) ≡ ys
+pub past_run : (p : ℕ → Bool) (xs ys : List ℕ) → list_all p xs ≡ true → stops p ys ≡ true → rest_after p (xs ++ ys) ≡ ys
 past_run p xs ys h s = ap (λ n. drop n (xs ++ ys)) (run-len p xs ys h s) ∙ drop-append_seam xs ys
 
 -- ---- bytes

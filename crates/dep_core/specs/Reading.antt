@@ -9,8 +9,8 @@ use Rattle.version_core.specs.Order.{is_version}
 use Rattle.dep_core.specs.Dependency.{Dependency, dependency_by, is_name_byte, is_dep_name, is_tag_byte, is_tag, operators}
 
 -- the text after its longest front of bytes that have a property
-abbrev pub rest_behind : (ℕ → Bool) → List ℕ → List ℕ
-rest_behind p text = drop (prefix_len p text) text
+abbrev pub rest_after : (ℕ → Bool) → List ℕ → List ℕ
+rest_after p text = drop (prefix_len p text) text
 
 -- whether a byte occurs in operators: `<`, `=`, `>` or `~`
 abbrev pub is_operator_byte : ℕ → Bool
@@ -47,7 +47,7 @@ unfoldable pub at_version : Dependency → ℕ → List ℕ → Option Dependenc
 at_version d bits text =
     if is_version (take_while is_not_at text)
     then at_version_end (with_constraint d (take_while is_not_at text) bits)
-    (rest_behind is_not_at text)
+    (rest_after is_not_at text)
     else None
 
 -- reads after the bytes of an operator, with its match bits; None if they are no operator
@@ -60,14 +60,14 @@ unfoldable pub at_constraint : Dependency → List ℕ → Option Dependency
 at_constraint d [] = Some d
 at_constraint d (b ∷ rest) =
     at_operator_end d (operator_bits (take_while is_operator_byte (b ∷ rest)))
-    (rest_behind is_operator_byte (b ∷ rest))
+    (rest_after is_operator_byte (b ∷ rest))
 
 -- reads after the `@`: the tag
 unfoldable pub at_tag : Dependency → List ℕ → Option Dependency
 at_tag d text =
     if is_tag (take_while is_tag_byte text)
     then at_constraint (with_tag d (take_while is_tag_byte text))
-    (rest_behind is_tag_byte text)
+    (rest_after is_tag_byte text)
     else None
 
 -- reads after the name: `@` (64) and the tag, if there is one
@@ -80,7 +80,7 @@ unfoldable pub at_name : Bool → List ℕ → Option Dependency
 at_name conflict text =
     if is_dep_name (take_while is_name_byte text)
     then at_name_end (any_version conflict (take_while is_name_byte text))
-    (rest_behind is_name_byte text)
+    (rest_after is_name_byte text)
     else None
 
 -- the dependency that a text denotes, or None if it denotes none; a leading `!` (33) makes it a

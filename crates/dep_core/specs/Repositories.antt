@@ -6,7 +6,7 @@ use Rattle.std.specs.List.{suffix_len, take_while}
 use Rattle.base_core.specs.Name.{is_name}
 use Rattle.dep_core.specs.Dependency.{is_tag_byte, is_tag}
 use Rattle.dep_core.specs.LeadingSlash.{without_slash}
-use Rattle.dep_core.specs.Reading.{rest_behind}
+use Rattle.dep_core.specs.Reading.{rest_after}
 use Rattle.dep_core.specs.World.{is_blank, lines_of}
 
 -- the file of an index, and the tag under which world may ask for its packages
@@ -24,7 +24,7 @@ without_trailing_blanks text = take (length text - suffix_len is_blank text) tex
 
 -- the text without spaces and tabs at both ends
 abbrev pub without_outer_blanks : List ℕ → List ℕ
-without_outer_blanks text = without_trailing_blanks (rest_behind is_blank text)
+without_outer_blanks text = without_trailing_blanks (rest_after is_blank text)
 
 -- whether a line, without blanks at its ends, is skipped: it is empty, or begins with `#` (35)
 abbrev pub is_comment : List ℕ → Bool
@@ -46,8 +46,8 @@ at_path tag path =
 unfoldable pub tagged_repository : List ℕ → Option Repository
 tagged_repository text =
     let tag = take_while is_tag_byte text in
-    let rest = rest_behind is_tag_byte text in
-    if is_tag tag && begins_with_blank rest then at_path (Some tag) (rest_behind is_blank rest)
+    let rest = rest_after is_tag_byte text in
+    if is_tag tag && begins_with_blank rest then at_path (Some tag) (rest_after is_blank rest)
     else None
 
 -- the repository of a line that is not skipped, without blanks at its ends; `@` (64) precedes a tag

@@ -4,7 +4,7 @@ use Rattle.std.proofs.lemmas.Bool.{eqb-true}
 use Rattle.std.specs.Prelude.{All, IfSome, IsSome, unwrap_or}
 use Rattle.base_core.specs.declared.cause.Cause.{Cause}
 use Rattle.adb_block.specs.Header.{header_of}
-use Rattle.adb_block.specs.Standing.{start_of}
+use Rattle.adb_block.specs.ReaderPosition.{start_of}
 use Rattle.adb_block.specs.Reading.{Reading, reading_of}
 use Rattle.adb_view.specs.Plain.{Plain, null, plain_of, IsNormal}
 use Rattle.adb_view.specs.Head.{root_of}
@@ -14,7 +14,7 @@ use Rattle.adb_view.specs.declared.tables.Which.{Which}
 use Rattle.adb_view.specs.declared.tables.Which.TheVariants.{Package, Index, Idb, Intent}
 use Rattle.adb_view.specs.declared.tables.Kind.TheVariants.{Obj}
 use Rattle.adb_view.proofs.FoundShapes.{shape_null}
-use Rattle.adb_schema.specs.Soundness.{first_payload, payload_behind, payload_in, root_value, schema_word}
+use Rattle.adb_schema.specs.Soundness.{first_payload, payload_after_header, payload_in, root_value, schema_word}
 use Rattle.adb_schema.specs.declared.read.TheConstants.{PACKAGE_WORD, INDEX_WORD, IDB_WORD, INTENT_WORD}
 use Rattle.adb_write.specs.Canonical.{PayloadCounts, canonical, written_of}
 use Rattle.adb_write.specs.File.{file_of}
@@ -26,7 +26,7 @@ use Rattle.adb_dump.proofs.Booleans.{chosen}
 use Rattle.gen_core.specs.Dumps.{IsRootValue}
 use Rattle.gen_core.specs.Generated.{DumpedRoot, dumped_root, file_of_root, file_unless_too_large, generated_file, word_of_root}
 use Rattle.outcome.specs.Dump.{dump_fault, dump_of, dump_of_blocks, dump_with_root, dump_with_schema, or_text}
-use Rattle.dump_laws.proofs.Printed.{IsWithin, Overflows, printed, within}
+use Rattle.dump_laws.proofs.Printed.{HasNamesAmong, Overflows, printed, within}
 
 -- what the layers below say of texts and of values that are found
 pub record Texts : Type 0 where
@@ -110,7 +110,7 @@ unfolding dump_of payload_in
 printed_text file text schema which e h root =
     let r = reading_of (start_of schema file) in
     let blocks : dump_of_blocks which r ≡ Ok text = sym (ap (dump_with_schema file) h ∙ ap (dump_with_root schema r) root) ∙ e in
-    ap (λ (o : Result ℕ Cause). dump_text which (root_value which (payload_behind file o))) h ∙ text_of_blocks which r text blocks
+    ap (λ (o : Result ℕ Cause). dump_text which (root_value which (payload_after_header file o))) h ∙ text_of_blocks which r text blocks
 
 null_root : (which : Which) → IsValueOf which null × IsOfBytes null
 unfolding IsNormal IsOfBytes

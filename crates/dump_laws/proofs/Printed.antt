@@ -6,7 +6,7 @@ use Rattle.std.proofs.lemmas.Bool.{le-ltb, ltb-false}
 use Rattle.base_core.specs.declared.cause.Cause.{Cause}
 use Rattle.adb_block.specs.Piece.{Piece}
 use Rattle.adb_block.specs.Header.{header_of}
-use Rattle.adb_block.specs.Standing.{start_of}
+use Rattle.adb_block.specs.ReaderPosition.{start_of}
 use Rattle.adb_block.specs.Reading.{Reading, done, more, reading_of}
 use Rattle.adb_view.specs.Plain.{Plain, null, IsNormal}
 use Rattle.adb_view.specs.Head.{head_fault, root_of}
@@ -30,7 +30,7 @@ use Rattle.adb_dump.specs.Dump.{dump_text}
 use Rattle.outcome.specs.Dump.{dump_fault, dump_of, dump_of_blocks, dump_with_root, dump_with_schema, form_fault, framing_fault, or_text}
 
 -- a value within both limits, of a table
-pub record IsWithin (which : Which) (v : Plain) : Type 0 where
+pub record HasNamesAmong (which : Which) (v : Plain) : Type 0 where
   pub normal : IsNormal v
   pub shaped : HasShape (shape_of (Obj which)) v
   pub fits : size_of v ≤ MOST_BYTES
@@ -59,7 +59,7 @@ neither : (a b : Bool) → false ≡ (a || b) → (a ≡ false) × (b ≡ false)
 neither true b e = absurd cc
 neither false b e = (refl, sym e)
 
-pub within : Overflows → (which : Which) (v : Plain) (payload : List ℕ) → IsNormal v → HasShape (shape_of (Obj which)) v → written_of v ≡ Ok payload → IsWithin which v × (canonical v ≡ payload)
+pub within : Overflows → (which : Which) (v : Plain) (payload : List ℕ) → IsNormal v → HasShape (shape_of (Obj which)) v → written_of v ≡ Ok payload → HasNamesAmong which v × (canonical v ≡ payload)
 within law which v payload n h e =
     let w = written v payload e in
     let passed = sym (ap is_some w.none) ∙ law v n in
@@ -71,29 +71,29 @@ within law which v payload n h e =
 head_good : (root : ℕ) (out : Layout) → head_fault (payload_with_root root out) ≡ None
 head_good root out = let t : ltb (length (payload_with_root root out)) 8 ≡ false = le-ltb _ _ (payload_long root out) in rw t refl
 
-shape_good : Lower → (which : Which) (v : Plain) → IsWithin which v → shape_fault (canonical v) (shape_of (Obj which)) (root_of (canonical v)) ≡ None
+shape_good : Lower → (which : Which) (v : Plain) → HasNamesAmong which v → shape_fault (canonical v) (shape_of (Obj which)) (root_of (canonical v)) ≡ None
 shape_good laws which v g =
     let visits_are = laws.visited (shape_of (Obj which)) v g.normal g.shaped g.fits in
     let few = g.few in
     (laws.faultless (canonical v) (shape_of (Obj which)) (root_of (canonical v))).1
     (ap is_some (laws.back (shape_of (Obj which)) v g.normal g.shaped g.fits), omega arith)
 
-form_good : Lower → (which : Which) (v : Plain) → IsWithin which v → form_fault which (canonical v) ≡ None
+form_good : Lower → (which : Which) (v : Plain) → HasNamesAmong which v → form_fault which (canonical v) ≡ None
 form_good laws which v g = none_of _ _ (head_good (write v empty_layout).0 (write v empty_layout).1) (shape_good laws which v g)
 
-value_is : Lower → (which : Which) (v : Plain) → IsWithin which v → root_value which (canonical v) ≡ v
+value_is : Lower → (which : Which) (v : Plain) → HasNamesAmong which v → root_value which (canonical v) ≡ v
 unfolding value_at
 value_is laws which v g = ap (λ (o : Option Plain). unwrap_or o null) (laws.back (shape_of (Obj which)) v g.normal g.shaped g.fits)
 
 -- ---- the file
 
-blocks_printed : Lower → (which : Which) (v : Plain) → IsWithin which v → (r : Reading) (at : ℕ) → r ≡ more (adb_piece (canonical v)) at done → dump_of_blocks which r ≡ Ok (dump_text which v)
+blocks_printed : Lower → (which : Which) (v : Plain) → HasNamesAmong which v → (r : Reading) (at : ℕ) → r ≡ more (adb_piece (canonical v)) at done → dump_of_blocks which r ≡ Ok (dump_text which v)
 blocks_printed laws which v g r at is =
     ap (dump_of_blocks which) is
     ∙ ap (λ (o : Option Cause). or_text o (dump_text which (root_value which (canonical v)))) (none_of _ _ (form_good laws which v g) refl)
     ∙ ap (λ (u : Plain). let text : Result (List ℕ) Cause = Ok (dump_text which u) in text) (value_is laws which v g)
 
-pub printed : Lower → (which : Which) (schema : ℕ) (v : Plain) → schema_word which ≡ Some schema → IsWithin which v → dump_of (file_of schema (canonical v)) ≡ Ok (dump_text which v)
+pub printed : Lower → (which : Which) (schema : ℕ) (v : Plain) → schema_word which ≡ Some schema → HasNamesAmong which v → dump_of (file_of schema (canonical v)) ≡ Ok (dump_text which v)
 unfolding dump_of
 printed laws which schema v word g =
     let w = word_is which schema word in

@@ -24,20 +24,20 @@ use Rattle.change_outcome.specs.Premises.{HasNoReservedPath, IsRootOfFiles}
 use Rattle.change_outcome.proofs.ChangeLeads.{leads}
 use Rattle.change_outcome.proofs.ChangeNames.{change_names}
 use Rattle.change_outcome.proofs.FreeNames.{name_of_any, none_of, once_rising}
-use Rattle.journal_intent.specs.FreeNames.{AreOnce}
+use Rattle.journal_intent.specs.FreeNames.{HaveNoRepeats}
 use Rattle.journal_intent.specs.Intent.{AreChangeNames}
 use Rattle.engine_core.proofs.Once.{once_both}
 use Rattle.change_outcome.proofs.Leading.{acted_is}
 use Rattle.change_outcome.proofs.Room.{room}
 use Rattle.change_outcome.specs.ChangeOutcome.{Actions, ChangeDone, ChangeWishes, actions_of, bytes_under, change_done, does_something, file_change, is_other_file, name_if_needed, new_records, unless_overflow, written_records}
-use Rattle.change_outcome.specs.MembersAfter.{MemberFound, contents_found, members_found}
+use Rattle.change_outcome.specs.MembersAfter.{MemberFound, found_package_contents, found_members}
 use Rattle.journal_core.specs.Recovery.{after_actions, intent_name}
-use Rattle.journal_core.specs.Staged.{HasRoomBeside, HasRoomToStage, IsEmptyStage, Staging, action_count, new_stage, with_staged}
+use Rattle.journal_core.specs.Staged.{AreJournalPathsFree, AreStagingPathsFree, IsEmptyStage, Staging, action_count, new_stage, with_staged}
 use Rattle.journal_intent.specs.IntentValue.{intent_of_lists, value_of_intent}
 use Rattle.change_files.specs.NamesAfter.{name_change}
-use Rattle.db_core.specs.Members.{Member, is_coming, member_name}
+use Rattle.db_core.specs.Members.{Member, is_added, member_name}
 use Rattle.file_owners.specs.Replaces.{version_text}
-use Rattle.own_core.specs.Planned.{IsOfComingFile, IsOpenName, written_names}
+use Rattle.own_core.specs.Planned.{IsOfAddedFile, IsOpenName, written_names}
 use Rattle.path_clashes.specs.Clash.{HasNoClash}
 use Rattle.own_core.specs.WritesSeen.{writes_in}
 use Rattle.base_core.specs.declared.cause.Cause.{Cause}
@@ -45,7 +45,7 @@ use Rattle.report_core.specs.declared.refusal.Refusal.{Refusal}
 use Rattle.report_core.specs.declared.refusal.Refusal.TheVariants.{PackageBad}
 use Rattle.root_names.specs.RootNames.{database_name, text_database_name, world_name}
 use Rattle.stage_files.specs.Carried.{IsCarriedTo}
-use Rattle.stage_files.specs.Sources.{StandForEach}
+use Rattle.stage_files.specs.Sources.{EachDenotes}
 use Rattle.stage_files.specs.Spoiled.{HasSpoiledFile, IsSpoiledAt, IsSpoiledFile}
 use Rattle.package_test.specs.Tested.{IsTestedOf}
 use Rattle.package_test.specs.declared.package.TestedPackage.{TestedPackage}
@@ -55,9 +55,9 @@ use Rattle.stage_files.specs.declared.writes.StageFault.{StageFault}
 use Rattle.stage_files.specs.declared.writes.StageFault.TheVariants as Stages
 use Rattle.stage_files.specs.declared.writes.StagedWrite.{StagedWrite}
 use Rattle.engine_core.specs.Carrying.{IsRefusedPackage, ready_change}
-use Rattle.engine_core.specs.ChangeRun.{ComesTo, DoesCommit, IsNoneOrCommit, report_in}
-use Rattle.engine_core.specs.Finishing.{AreRecordWrites, AreRecordsOf, IsPlanned, bytes_if, inputs_arrived, members_arrived, replacement_arrived}
-use Rattle.engine_core.specs.Writing.{HasBytes, IsRecordOf, IsSourceOfWrite, IsWriteBy, package_at, record_names, write_name}
+use Rattle.engine_core.specs.ChangeRun.{CarriesOut, DoesCommit, IsUnchangedOrCommit, report_of_result}
+use Rattle.engine_core.specs.Finishing.{AreRecordWrites, AreRecordsOf, IsPlanned, bytes_if, arrived_inputs, arrived_members, arrived_replacement}
+use Rattle.engine_core.specs.Writing.{HasBytes, IsRecordOf, IsSourceOfWrite, IsWriteBy, package_at, database_and_world_names, write_name}
 use Rattle.engine_core.specs.declared.planning.Planned.{Planned}
 use Rattle.engine_core.specs.declared.finishing.NewRecords.{NewRecords}
 use Rattle.engine_core.specs.declared.writes.RecordWrites.{RecordWrites}
@@ -83,14 +83,14 @@ some_copied (Some x) false bytes is = absurd (cc)
 
 -- ---- what is made ready
 
-pub record IsReady (history : List TreeState) (wishes : ChangeWishes) (p : Planned) (found : List MemberFound) (files : Files) (records : NewRecords)
+pub record IsReadyToCommit (history : List TreeState) (wishes : ChangeWishes) (p : Planned) (found : List MemberFound) (files : Files) (records : NewRecords)
     (rw : RecordWrites) (writes : List StagedWrite) (removals : List (List ℕ)) : Type 0 where
   pub plan : IsPlanned history wishes p found files
-  pub own : AreRecordsOf (inputs_arrived p.arrived.now) records
-  pub which : AreRecordWrites (inputs_arrived p.arrived.now) records rw
-  pub names : map write_name writes ≡ names_in_order (written_names p.plan.now ++ record_names rw)
-  pub each : All (IsWriteBy (members_arrived p.arrived.now) (package_at p.arrived.now.arrivals.now) (writes_in p.plan.now.writes) rw) writes
-  pub removed : removals ≡ names_in_order (p.plan.now.removals ++ name_if_needed (inputs_arrived p.arrived.now).root.database.from_text text_database_name)
+  pub own : AreRecordsOf (arrived_inputs p.arrived.now) records
+  pub which : AreRecordWrites (arrived_inputs p.arrived.now) records rw
+  pub names : map write_name writes ≡ names_in_order (written_names p.plan.now ++ database_and_world_names rw)
+  pub each : All (IsWriteBy (arrived_members p.arrived.now) (package_at p.arrived.now.arrivals.now) (writes_in p.plan.now.writes) rw) writes
+  pub removed : removals ≡ names_in_order (p.plan.now.removals ++ name_if_needed (arrived_inputs p.arrived.now).root.database.from_text text_database_name)
 
 -- ---- names stand once
 
@@ -99,12 +99,12 @@ all_in P [] all q here = absurd here
 all_in P (x ∷ xs) all q (inl is) = subst P (sym is) (all 0 x (omega arith))
 all_in P (x ∷ xs) all q (inr more) = all_in P xs (λ k d below. all (suc k) d (omega (arith, below))) q more
 
-pub once_reserved : (names more : List (List ℕ)) → All IsOpenName names → IsRising names → AreOnce more → ((q : List ℕ) → IsIn q more → is_reserved q ≡ true) → AreOnce (names ++ more)
+pub once_reserved : (names more : List (List ℕ)) → All IsOpenName names → IsRising names → HaveNoRepeats more → ((q : List ℕ) → IsIn q more → is_reserved q ≡ true) → HaveNoRepeats (names ++ more)
 once_reserved names more listed rise once reserved =
     once_both names more (once_rising names (rises_from_pairs names rise)) once
     (λ q at. none_of q more (λ here. true≢false (sym (reserved q here) ∙ (all_in IsOpenName names listed q (name_of_any q names at)).unreserved)))
 
-pub text_once : (b : Bool) → AreOnce (name_if_needed b text_database_name)
+pub text_once : (b : Bool) → HaveNoRepeats (name_if_needed b text_database_name)
 text_once true = (refl, tt)
 text_once false = tt
 
@@ -113,7 +113,7 @@ text_reserved true q (inl is) = ap is_reserved is
 text_reserved true q (inr here) = absurd here
 text_reserved false q here = absurd here
 
-two_once : (a b : Bool) → AreOnce (name_if_needed a database_name ++ name_if_needed b world_name)
+two_once : (a b : Bool) → HaveNoRepeats (name_if_needed a database_name ++ name_if_needed b world_name)
 two_once true true = (refl, (refl, tt))
 two_once true false = (refl, tt)
 two_once false true = (refl, tt)
@@ -129,7 +129,7 @@ two_reserved true b q (inl is) = ap is_reserved is
 two_reserved true b q (inr here) = world_reserved b q here
 two_reserved false b q here = world_reserved b q here
 
-records_once : (inputs : Inputs) (records : Records) → AreOnce (written_records inputs records)
+records_once : (inputs : Inputs) (records : Records) → HaveNoRepeats (written_records inputs records)
 records_once inputs records = two_once (is_other_file inputs.root.database.file records.database) (not (bytes_eq inputs.root.world_text records.world))
 
 records_are_reserved : (inputs : Inputs) (records : Records) (q : List ℕ) → IsIn q (written_records inputs records) → is_reserved q ≡ true
@@ -137,27 +137,27 @@ records_are_reserved inputs records q here = two_reserved (is_other_file inputs.
 
 -- of the plan alone
 module _ (history : List TreeState) (wishes : ChangeWishes) (p : Planned) (found : List MemberFound) (files : Files) (plan : IsPlanned history wishes p found files) where
-  pub no_reserved : HasNoReservedPath (file_change (inputs_arrived p.arrived.now) wishes found)
+  pub no_reserved : HasNoReservedPath (file_change (arrived_inputs p.arrived.now) wishes found)
   no_reserved = record { before = plan.unreserved; coming = sym (ap first_reserved plan.arrived.members) ∙ plan.owners.allowed }
 
-  module _ (records : NewRecords) (own : AreRecordsOf (inputs_arrived p.arrived.now) records) (rw : RecordWrites) (which : AreRecordWrites (inputs_arrived p.arrived.now) records rw) where
-    pub record_names_are : record_names rw ≡ written_records (inputs_arrived p.arrived.now) (new_records (inputs_arrived p.arrived.now) records.database.items)
+  module _ (records : NewRecords) (own : AreRecordsOf (arrived_inputs p.arrived.now) records) (rw : RecordWrites) (which : AreRecordWrites (arrived_inputs p.arrived.now) records rw) where
+    pub record_names_are : database_and_world_names rw ≡ written_records (arrived_inputs p.arrived.now) (new_records (arrived_inputs p.arrived.now) records.database.items)
     record_names_are =
-        let inputs = inputs_arrived p.arrived.now in
+        let inputs = arrived_inputs p.arrived.now in
         let named = which.database_name ∙ own.database_name in
         let world_named = which.world_name ∙ own.world_name in
         let database = some_copied rw.database _ records.database.items which.database in
         let world = some_copied rw.world _ records.world which.world ∙ ap (λ (w : List ℕ). not (bytes_eq inputs.root.world_text w)) own.world in
         λ i. name_if_needed (database i) (named i) ++ name_if_needed (world i) (world_named i)
 
-    pub written_once : AreOnce (written_names p.plan.now ++ record_names rw)
+    pub written_once : HaveNoRepeats (written_names p.plan.now ++ database_and_world_names rw)
     written_once =
-        once_reserved (written_names p.plan.now) (record_names rw) plan.names.writes plan.names.writes_rise
-        (subst AreOnce (sym record_names_are) (records_once (inputs_arrived p.arrived.now) (new_records (inputs_arrived p.arrived.now) records.database.items)))
-        (λ q here. records_are_reserved (inputs_arrived p.arrived.now) (new_records (inputs_arrived p.arrived.now) records.database.items) q (subst (λ (ns : List (List ℕ)). IsIn q ns) record_names_are here))
+        once_reserved (written_names p.plan.now) (database_and_world_names rw) plan.names.writes plan.names.writes_rise
+        (subst HaveNoRepeats (sym record_names_are) (records_once (arrived_inputs p.arrived.now) (new_records (arrived_inputs p.arrived.now) records.database.items)))
+        (λ q here. records_are_reserved (arrived_inputs p.arrived.now) (new_records (arrived_inputs p.arrived.now) records.database.items) q (subst (λ (ns : List (List ℕ)). IsIn q ns) record_names_are here))
 
-    pub write_names_are : written_names p.plan.now ++ record_names rw
-        ≡ map (λ w. w.name) (file_writes_of (file_change (inputs_arrived p.arrived.now) wishes found) files) ++ written_records (inputs_arrived p.arrived.now) (new_records (inputs_arrived p.arrived.now) records.database.items)
+    pub write_names_are : written_names p.plan.now ++ database_and_world_names rw
+        ≡ map (λ w. w.name) (file_writes_of (file_change (arrived_inputs p.arrived.now) wishes found) files) ++ written_records (arrived_inputs p.arrived.now) (new_records (arrived_inputs p.arrived.now) records.database.items)
     write_names_are = let lists = plan.lists.writes in λ i. map (λ w. w.name) (lists i) ++ record_names_are i
 
 contained : {X : Type 0} (P : X → Type 0) (xs : List X) (x : X) → All P xs → Contains xs x → P x
@@ -165,7 +165,7 @@ contained P xs x all (k, less, is) = subst P is (all k x less)
 
 -- the package of a file that is written comes, and it is the one that is spoiled
 module _ (history : List TreeState) (wishes : ChangeWishes) (p : Planned) (found : List MemberFound) (files : Files) (plan : IsPlanned history wishes p found files)
-    (writes : List StagedWrite) (rw : RecordWrites) (each : All (IsWriteBy (members_arrived p.arrived.now) (package_at p.arrived.now.arrivals.now) (writes_in p.plan.now.writes) rw) writes) (member : ℕ) (cause : Cause) where
+    (writes : List StagedWrite) (rw : RecordWrites) (each : All (IsWriteBy (arrived_members p.arrived.now) (package_at p.arrived.now.arrivals.now) (writes_in p.plan.now.writes) rw) writes) (member : ℕ) (cause : Cause) where
   given_no_file : (bytes : List ℕ) (s : Source) → HasBytes bytes s → IsSpoiledAt member cause s → ⊥
   given_no_file bytes (Bytes own) has is = is
   given_no_file bytes (Link target) has is = is
@@ -179,31 +179,31 @@ module _ (history : List TreeState) (wishes : ChangeWishes) (p : Planned) (found
   Spoiled place = (pkg : TestedPackage) × (package_at p.arrived.now.arrivals.now place ≡ Some pkg)
       × ((name tested : List ℕ) → IsTestedOf name tested pkg → (file : List ℕ) × IsSpoiledFile tested file cause)
 
-  planned_at : (w : FileWrite) (s : Source) → IsSourceOfWrite (members_arrived p.arrived.now) (package_at p.arrived.now.arrivals.now) w s → IsSpoiledAt member cause s → (w.member ≡ member) × Spoiled w.member
+  planned_at : (w : FileWrite) (s : Source) → IsSourceOfWrite (arrived_members p.arrived.now) (package_at p.arrived.now.arrivals.now) w s → IsSpoiledAt member cause s → (w.member ≡ member) × Spoiled w.member
   planned_at w (Bytes own) source at = absurd at
   planned_at w (Link target) source at = absurd at
   planned_at w (File f) source at = (sym source.1.member ∙ at.0, (f.package.now, source.1.read, at.1))
 
   abbrev ComesSpoiled : Type 0
-  ComesSpoiled = (m : Member) × (slice_get (members_arrived p.arrived.now) member ≡ Some m) × (is_coming m ≡ true) × Spoiled member
+  ComesSpoiled = (m : Member) × (slice_get (arrived_members p.arrived.now) member ≡ Some m) × (is_added m ≡ true) × Spoiled member
 
-  by_write : (w : StagedWrite) → IsWriteBy (members_arrived p.arrived.now) (package_at p.arrived.now.arrivals.now) (writes_in p.plan.now.writes) rw w → IsSpoiledAt member cause w.source → ComesSpoiled
+  by_write : (w : StagedWrite) → IsWriteBy (arrived_members p.arrived.now) (package_at p.arrived.now.arrivals.now) (writes_in p.plan.now.writes) rw w → IsSpoiledAt member cause w.source → ComesSpoiled
   by_write w (inl f) at =
-      let of = contained (IsOfComingFile (members_arrived p.arrived.now)) (writes_in p.plan.now.writes) f.file plan.sources f.planned_file in
+      let of = contained (IsOfAddedFile (arrived_members p.arrived.now)) (writes_in p.plan.now.writes) f.file plan.sources f.planned_file in
       let (here, spoiled) = planned_at f.file w.source f.source at in
-      (of.member, subst (λ (n : ℕ). slice_get (members_arrived p.arrived.now) n ≡ Some of.member) here of.at, of.comes, subst Spoiled here spoiled)
+      (of.member, subst (λ (n : ℕ). slice_get (arrived_members p.arrived.now) n ≡ Some of.member) here of.at, of.comes, subst Spoiled here spoiled)
   by_write w (inr (inl r)) at = absurd (record_no_file rw.database_name.now rw.database w r at)
   by_write w (inr (inr r)) at = absurd (record_no_file rw.world_name.now rw.world w r at)
 
   pub file_comes : HasSpoiledFile member cause writes → ComesSpoiled
   file_comes has =
       by_write has.write
-      (all_at (IsWriteBy (members_arrived p.arrived.now) (package_at p.arrived.now.arrivals.now) (writes_in p.plan.now.writes) rw) writes has.number has.write each has.at) has.is
+      (all_at (IsWriteBy (arrived_members p.arrived.now) (package_at p.arrived.now.arrivals.now) (writes_in p.plan.now.writes) rw) writes has.number has.write each has.at) has.is
 
 module _ (history : List TreeState) (wishes : ChangeWishes) (p : Planned) (found : List MemberFound) (files : Files) (own : NewRecords)
-    (rw : RecordWrites) (writes : List StagedWrite) (removals : List (List ℕ)) (ready : IsReady history wishes p found files own rw writes removals) where
+    (rw : RecordWrites) (writes : List StagedWrite) (removals : List (List ℕ)) (ready : IsReadyToCommit history wishes p found files own rw writes removals) where
   abbrev inputs : Inputs
-  inputs = inputs_arrived p.arrived.now
+  inputs = arrived_inputs p.arrived.now
 
   abbrev change : FileChange
   change = file_change inputs wishes found
@@ -215,10 +215,10 @@ module _ (history : List TreeState) (wishes : ChangeWishes) (p : Planned) (found
   actions = actions_of inputs change files records
 
   abbrev done : ChangeDone
-  done = change_done inputs (replacement_arrived p.arrived.now) wishes found files records
+  done = change_done inputs (arrived_replacement p.arrived.now) wishes found files records
 
   abbrev wanted : Result ChangeDone Refusal
-  wanted = ready_change inputs (replacement_arrived p.arrived.now) wishes found files own.database.items
+  wanted = ready_change inputs (arrived_replacement p.arrived.now) wishes found files own.database.items
 
   pub written_is : map write_name writes ≡ actions.writes
   written_is = ready.names ∙ ap names_in_order (write_names_are history wishes p found files ready.plan own ready.own rw ready.which)
@@ -257,62 +257,62 @@ module _ (history : List TreeState) (wishes : ChangeWishes) (p : Planned) (found
     acted v told root empty =
         let of_files : after_actions (intent_of_lists actions.removals actions.writes) (with_staged 1 (map (bytes_under done.files) actions.writes) files) ≡ done.files =
         acted_is actions.removals actions.writes files done.files
-        (leads inputs change (listing_bytes (contents_found found)) own.database.items files (subst (λ (f : Files). IsRootOfFiles f inputs.root) (sym told) root) free
+        (leads inputs change (listing_bytes (found_package_contents found)) own.database.items files (subst (λ (f : Files). IsRootOfFiles f inputs.root) (sym told) root) free
         (subst IsEmptyStage (sym told) empty) (subst (λ (names : List (List ℕ)). length names < 2 ^ 63) written_is few)) in
         (λ i. after_actions (is_new i).intent (with_staged 1 (map (bytes_under done.files) (map write_name writes)) (sym told i)))
         ∙ ((λ i. after_actions (intent_of_lists (removed_is i) (written_is i)) (with_staged 1 (map (bytes_under done.files) (written_is i)) files))
         ∙ of_files)
 
-    stands : (v : TreeState) (earlier : List TreeState) → FilesAreRead (v ∷ earlier) found (package_at p.arrived.now.arrivals.now) → files ≡ files_of v → IsRootOfFiles (files_of v) inputs.root
-        → StandForEach (files_of v) writes (map (bytes_under done.files) (map write_name writes))
-    stands v earlier read told root =
+    located : (v : TreeState) (earlier : List TreeState) → FilesAreRead (v ∷ earlier) found (package_at p.arrived.now.arrivals.now) → files ≡ files_of v → IsRootOfFiles (files_of v) inputs.root
+        → EachDenotes (files_of v) writes (map (bytes_under done.files) (map write_name writes))
+    located v earlier read told root =
         all_stand inputs change found own rw (package_at p.arrived.now.arrivals.now) ready.own ready.which free v earlier read files (subst (λ (f : Files). IsRootOfFiles f inputs.root) (sym told) root) writes
         (subst (λ (ms : List Member). All (IsWriteBy ms (package_at p.arrived.now.arrivals.now) (file_writes_of change files) rw) writes) ready.plan.arrived.members
-        (subst (λ (ws : List FileWrite). All (IsWriteBy (members_arrived p.arrived.now) (package_at p.arrived.now.arrivals.now) ws rw) writes) ready.plan.lists.writes ready.each))
+        (subst (λ (ws : List FileWrite). All (IsWriteBy (arrived_members p.arrived.now) (package_at p.arrived.now.arrivals.now) ws rw) writes) ready.plan.lists.writes ready.each))
 
     -- what holds of the run by its contents and the files that it leads to holds by those of the change
     pub where_shown : (ws : List StagedWrite) → ws ≡ writes → (P : TreeState → Files → Type 0) → FilesAreRead history found (package_at p.arrived.now.arrivals.now)
-        → IfObservable history (λ v. (contents : List (List ℕ)) → v.names intent_name ≡ None → IsEmptyStage (files_of v) → StandForEach (files_of v) ws contents → P v (after_actions stage.intent (with_staged 1 contents (files_of v))))
+        → IfObservable history (λ v. (contents : List (List ℕ)) → v.names intent_name ≡ None → IsEmptyStage (files_of v) → EachDenotes (files_of v) ws contents → P v (after_actions stage.intent (with_staged 1 contents (files_of v))))
         → IfObservable history (λ v. v.names intent_name ≡ None → IsEmptyStage (files_of v) → P v done.files)
     where_shown ws ws_is P read run =
         by history refl read
-        (subst (λ (ws : List StagedWrite). IfObservable history (λ v. (contents : List (List ℕ)) → v.names intent_name ≡ None → IsEmptyStage (files_of v) → StandForEach (files_of v) ws contents → P v (after_actions stage.intent (with_staged 1 contents (files_of v))))) ws_is run)
+        (subst (λ (ws : List StagedWrite). IfObservable history (λ v. (contents : List (List ℕ)) → v.names intent_name ≡ None → IsEmptyStage (files_of v) → EachDenotes (files_of v) ws contents → P v (after_actions stage.intent (with_staged 1 contents (files_of v))))) ws_is run)
         ready.plan.told ready.plan.arrived.read.root
       where
         by : (h : List TreeState) → h ≡ history → FilesAreRead h found (package_at p.arrived.now.arrivals.now)
-            → IfObservable h (λ v. (contents : List (List ℕ)) → v.names intent_name ≡ None → IsEmptyStage (files_of v) → StandForEach (files_of v) writes contents → P v (after_actions stage.intent (with_staged 1 contents (files_of v))))
+            → IfObservable h (λ v. (contents : List (List ℕ)) → v.names intent_name ≡ None → IsEmptyStage (files_of v) → EachDenotes (files_of v) writes contents → P v (after_actions stage.intent (with_staged 1 contents (files_of v))))
             → IfObservable h (λ v. files ≡ files_of v) → IfObservable h (λ v. IsRootOfFiles (files_of v) inputs.root)
             → IfObservable h (λ v. v.names intent_name ≡ None → IsEmptyStage (files_of v) → P v done.files)
         by [] same read run told root = tt
         by (v ∷ earlier) same read run told root = λ absent empty.
-            subst (P v) (acted v told root empty) (run (map (bytes_under done.files) (map write_name writes)) absent empty (stands v earlier read told root))
+            subst (P v) (acted v told root empty) (run (map (bytes_under done.files) (map write_name writes)) absent empty (located v earlier read told root))
 
     -- files that leave room leave it after the change
-    pub room_after : IfObservable history (λ v. HasRoomToStage (files_of v) → HasRoomBeside done.files)
+    pub room_after : IfObservable history (λ v. AreStagingPathsFree (files_of v) → AreJournalPathsFree done.files)
     room_after = by history ready.plan.told ready.plan.no_clash
       where
         by : (h : List TreeState) → IfObservable h (λ v. files ≡ files_of v) → IfObservable h (λ v. HasNoClash (name_change change files) files)
-            → IfObservable h (λ v. HasRoomToStage (files_of v) → HasRoomBeside done.files)
+            → IfObservable h (λ v. AreStagingPathsFree (files_of v) → AreJournalPathsFree done.files)
         by [] told apart = tt
         by (v ∷ earlier) told apart = λ stage.
-            (room change (listing_bytes (contents_found found)) records files free.coming (subst HasRoomToStage (sym told) stage) apart).beside
+            (room change (listing_bytes (found_package_contents found)) records files free.coming (subst AreStagingPathsFree (sym told) stage) apart).beside
 
     -- no call is a misuse where there is room
     pub proper_shown : (ws : List StagedWrite) → ws ≡ writes → (before after : ℕ) → FilesAreRead history found (package_at p.arrived.now.arrivals.now)
-        → IfObservable history (λ v. (contents : List (List ℕ)) → v.names intent_name ≡ None → IsEmptyStage (files_of v) → StandForEach (files_of v) ws contents → HasRoomBeside (files_of v)
-        → HasRoomBeside (after_actions stage.intent (with_staged 1 contents (files_of v))) → after ≡ before)
-        → IfObservable history (λ v. v.names intent_name ≡ None → IsEmptyStage (files_of v) → HasRoomToStage (files_of v) → after ≡ before)
-    proper_shown ws ws_is before after read proper = both history (where_shown ws ws_is (λ v left. HasRoomBeside (files_of v) → HasRoomBeside left → after ≡ before) read proper) room_after
+        → IfObservable history (λ v. (contents : List (List ℕ)) → v.names intent_name ≡ None → IsEmptyStage (files_of v) → EachDenotes (files_of v) ws contents → AreJournalPathsFree (files_of v)
+        → AreJournalPathsFree (after_actions stage.intent (with_staged 1 contents (files_of v))) → after ≡ before)
+        → IfObservable history (λ v. v.names intent_name ≡ None → IsEmptyStage (files_of v) → AreStagingPathsFree (files_of v) → after ≡ before)
+    proper_shown ws ws_is before after read proper = both history (where_shown ws ws_is (λ v left. AreJournalPathsFree (files_of v) → AreJournalPathsFree left → after ≡ before) read proper) room_after
       where
-        both : (h : List TreeState) → IfObservable h (λ v. v.names intent_name ≡ None → IsEmptyStage (files_of v) → HasRoomBeside (files_of v) → HasRoomBeside done.files → after ≡ before)
-            → IfObservable h (λ v. HasRoomToStage (files_of v) → HasRoomBeside done.files) → IfObservable h (λ v. v.names intent_name ≡ None → IsEmptyStage (files_of v) → HasRoomToStage (files_of v) → after ≡ before)
+        both : (h : List TreeState) → IfObservable h (λ v. v.names intent_name ≡ None → IsEmptyStage (files_of v) → AreJournalPathsFree (files_of v) → AreJournalPathsFree done.files → after ≡ before)
+            → IfObservable h (λ v. AreStagingPathsFree (files_of v) → AreJournalPathsFree done.files) → IfObservable h (λ v. v.names intent_name ≡ None → IsEmptyStage (files_of v) → AreStagingPathsFree (files_of v) → after ≡ before)
         both [] proper has = tt
         both (v ∷ earlier) proper has = λ absent empty stage. proper absent empty stage.beside (has stage)
 
   -- ---- nothing is carried through
 
   pub large_comes : (names : List (List ℕ)) → names ≡ map write_name writes → (counts : Counts) (fault : Refused)
-      → Agrees {A = Bool} (λ _. true) (Err fault) (unless_overflow (overflow_of (value_of_intent (intent_of_lists removals names))) true) → ComesTo (Ok found) wanted history history counts counts (Err fault)
+      → Agrees {A = Bool} (λ _. true) (Err fault) (unless_overflow (overflow_of (value_of_intent (intent_of_lists removals names))) true) → CarriesOut (Ok found) wanted history history counts counts (Err fault)
   large_comes names names_is counts (IsRefused refusal) told =
       comes_to_refusal (Ok found) wanted history history counts counts (nothing_read history counts) refusal
       (ready_large refusal (ap (λ (ns : List (List ℕ)). unless_overflow (overflow_of (value_of_intent (intent_of_lists removals ns))) true) (sym names_is) ∙ told))
@@ -331,28 +331,28 @@ module _ (history : List TreeState) (wishes : ChangeWishes) (p : Planned) (found
       twice true = refl
       twice false = refl
 
-  pub idle_comes : wanted ≡ Ok done → done.commits ≡ false → (counts : Counts) (report : List ℕ) → report ≡ done.report → ComesTo (Ok found) wanted history history counts counts (Ok report)
+  pub idle_comes : wanted ≡ Ok done → done.commits ≡ false → (counts : Counts) (report : List ℕ) → report ≡ done.report → CarriesOut (Ok found) wanted history history counts counts (Ok report)
   idle_comes is idle counts report told = comes_to_idle (Ok found) wanted history history counts counts (nothing_read history counts) done report is idle told
 
   -- ---- what comes of the run
 
   module _ (is : wanted ≡ Ok done) (commits : done.commits ≡ true) (now : List TreeState) (before after : Counts)
-      (proper : IfObservable history (λ v. v.names intent_name ≡ None → IsEmptyStage (files_of v) → HasRoomToStage (files_of v) → after.misuses ≡ before.misuses)) where
-    proper_where : IfObservable history (λ v. v.names intent_name ≡ None → IsEmptyStage (files_of v) → (DoesCommit wanted → HasRoomToStage (files_of v)) → after.misuses ≡ before.misuses)
+      (proper : IfObservable history (λ v. v.names intent_name ≡ None → IsEmptyStage (files_of v) → AreStagingPathsFree (files_of v) → after.misuses ≡ before.misuses)) where
+    proper_where : IfObservable history (λ v. v.names intent_name ≡ None → IsEmptyStage (files_of v) → (DoesCommit wanted → AreStagingPathsFree (files_of v)) → after.misuses ≡ before.misuses)
     proper_where = if_told history _ _ proper (λ v same absent empty has. same absent empty (has (subst DoesCommit (sym is) commits)))
 
     abbrev Carried : Result (Unit {0}) StageFault → Type 0
     Carried r = IfObservable history (λ v. v.names intent_name ≡ None → IsEmptyStage (files_of v) → IsCarriedTo {A = Unit {0}} done.files v history now r)
 
-    pub done_comes : Carried (Ok tt) → (report : List ℕ) → report ≡ done.report → ComesTo (Ok found) wanted history now before after (Ok report)
+    pub done_comes : Carried (Ok tt) → (report : List ℕ) → report ≡ done.report → CarriesOut (Ok found) wanted history now before after (Ok report)
     done_comes run report told = record {
-      told = inl (ap report_in is ∙ ap Ok (sym told));
+      told = inl (ap report_of_result is ∙ ap Ok (sym told));
       run = if_told history _ _ run (λ v carried absent empty.
           inr (record { done = done; is = is; commits = commits; run = (carried absent empty).run; ok = (carried absent empty).ok; err = tt }));
       proper = proper_where;
     }
 
-    pub disk_comes : (fault : StageFault) → fault ≡ Stages.Disk → Carried (Err fault) → ComesTo (Ok found) wanted history now before after (Err Disk)
+    pub disk_comes : (fault : StageFault) → fault ≡ Stages.Disk → Carried (Err fault) → CarriesOut (Ok found) wanted history now before after (Err Disk)
     disk_comes fault is_disk run = record {
       told = inl tt;
       run = if_told history _ _ run (λ v carried absent empty.
@@ -367,14 +367,14 @@ module _ (history : List TreeState) (wishes : ChangeWishes) (p : Planned) (found
           never : Stages.Bad member cause ≡ Stages.Disk → ⊥
           never e = cc
 
-      run_where : (result : Result (List ℕ) Refused) → IfObservable history (λ v. v.names intent_name ≡ None → IsEmptyStage (files_of v) → IsNoneOrCommit wanted v history now result)
+      run_where : (result : Result (List ℕ) Refused) → IfObservable history (λ v. v.names intent_name ≡ None → IsEmptyStage (files_of v) → IsUnchangedOrCommit wanted v history now result)
       run_where result = if_told history _ _ unseen (λ v never absent empty. absurd (never absent empty))
 
-      pub bad_comes : (refused : Refused) → IsRefusedPackage (members_arrived p.arrived.now) member cause refused → ComesTo (Ok found) wanted history now before after (Err refused)
+      pub bad_comes : (refused : Refused) → IsRefusedPackage (arrived_members p.arrived.now) member cause refused → CarriesOut (Ok found) wanted history now before after (Err refused)
       bad_comes (IsRefused refusal) bad =
           let (m, at, told) = bad in
           let coming = file_comes history wishes p found files ready.plan writes rw ready.each member cause has in
-          let place : slice_get (members_found found) member ≡ Some m = subst (λ (ms : List Member). slice_get ms member ≡ Some m) ready.plan.arrived.members at in
+          let place : slice_get (found_members found) member ≡ Some m = subst (λ (ms : List Member). slice_get ms member ≡ Some m) ready.plan.arrived.members at in
           let spoiled = found_spoiled history _ _ found member m coming.3.0 cause ready.plan.arrived.read.read place coming.3.1 coming.3.2 in
           record {
             told = inr (record {
@@ -417,7 +417,7 @@ within_length (y ∷ ys) (suc i) x at = let less = within_length ys i x at in om
 -- ---- a part that is refused
 
 pub part_fails : {A B : Type 0} (packages : Result (List MemberFound) Refusal) (part other : Result B Refusal) (next : B → Result ChangeDone Refusal) (view : A → B) (history : List TreeState) (counts : Counts) (fault : Refused) → other ≡ part
-    → Agrees view (Err fault) other → ComesTo packages (and_then part next) history history counts counts (Err fault)
+    → Agrees view (Err fault) other → CarriesOut packages (and_then part next) history history counts counts (Err fault)
 part_fails {A} {B} packages part other next view history counts (IsRefused refusal) same told =
     comes_to_refusal packages (and_then part next) history history counts counts (nothing_read history counts) refusal (ap (λ (p : Result B Refusal). and_then p next) (sym same ∙ told))
 part_fails packages part other next view history counts Disk same told = absurd told

@@ -1,27 +1,27 @@
 -- The counts of a run behind calls that only read.
 use Rattle.std.proofs.Common.{◌≡◌, ◌∙◌, List, Result, Ok, Err, refl, ap, arith}
 use Rattle.std.specs.Prelude.{IfErr, OnOk}
-use Rattle.base_core.specs.Faults.{Counts, GoesOn, HasCause, IsNoFault}
+use Rattle.base_core.specs.Faults.{Counts, CountsOnlyRise, HasCause, IsNoFault}
 use Rattle.base_core.specs.Read.{OnlyReads}
 use Rattle.base_core.specs.Tree.{TreeState}
 use Rattle.change_inputs.specs.declared.root.Refused.{Refused}
 use Rattle.change_inputs.specs.declared.root.Refused.TheVariants.{Disk, Memory}
 use Rattle.engine_core.specs.Runs.{IsRunCounted}
 
-goes_on_both : (a b c : Counts) → GoesOn a b → GoesOn b c → GoesOn a c
+goes_on_both : (a b c : Counts) → CountsOnlyRise a b → CountsOnlyRise b c → CountsOnlyRise a c
 goes_on_both a b c one two = record {
   faults = omega (arith, one.faults, two.faults);
   misuses = omega (arith, one.misuses, two.misuses);
-  wants = omega (arith, one.wants, two.wants);
+  memory_faults = omega (arith, one.memory_faults, two.memory_faults);
   fallible = λ is. one.fallible (two.fallible is);
 }
 
 no_fault_both : (a b c : Counts) → IsNoFault a b → IsNoFault b c → IsNoFault a c
-no_fault_both a b c one two = record { faults = two.faults ∙ one.faults; wants = two.wants ∙ one.wants }
+no_fault_both a b c one two = record { faults = two.faults ∙ one.faults; memory_faults = two.memory_faults ∙ one.memory_faults }
 
 -- behind calls that count no fault
-pub counted_behind : {A : Type 0} (a b c : Counts) (result : Result A Refused) → GoesOn a b → IsNoFault a b → ((x y z : Counts) → GoesOn x y → HasCause y z → HasCause x z) → IsRunCounted b c result → IsRunCounted a c result
-counted_behind {A} a b c result on none cause counted = record {
+pub counted_after : {A : Type 0} (a b c : Counts) (result : Result A Refused) → CountsOnlyRise a b → IsNoFault a b → ((x y z : Counts) → CountsOnlyRise x y → HasCause y z → HasCause x z) → IsRunCounted b c result → IsRunCounted a c result
+counted_after {A} a b c result on none cause counted = record {
   goes_on = goes_on_both a b c on counted.goes_on;
   disk = λ is. cause a b c on (counted.disk is);
   kept = kept result counted.kept;

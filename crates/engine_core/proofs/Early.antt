@@ -4,9 +4,9 @@ use Rattle.std.specs.Prelude.{All, IsSome, OnOk}
 use Rattle.std.proofs.lemmas.List.Elements.{All-head}
 use Rattle.base_core.specs.Calls.{IfObservable}
 use Rattle.base_core.specs.Faults.{Counts}
-use Rattle.base_core.specs.Files.{Files, IsWithin, no_names}
+use Rattle.base_core.specs.Files.{Files, HasNamesAmong, no_names}
 use Rattle.base_core.specs.Read.{OnlyReads}
-use Rattle.base_core.specs.Tree.{IsWhole, TreeState, bytes_at, files_of}
+use Rattle.base_core.specs.Tree.{IsWellFormed, TreeState, bytes_at, files_of}
 use Rattle.change_inputs.specs.Answers.{AgreesUnlessDisk, IsFailure}
 use Rattle.change_inputs.specs.Chains.{and_then}
 use Rattle.change_inputs.specs.Inputs.{Inputs}
@@ -16,24 +16,24 @@ use Rattle.change_outcome.specs.ChangeOutcome.{ChangeDone, ChangeWishes, IsClash
 use Rattle.change_outcome.specs.MembersAfter.{MemberFound}
 use Rattle.command_core.specs.Command.{CommandLine}
 use Rattle.journal_core.specs.Recovery.{intent_name}
-use Rattle.journal_core.specs.Staged.{HasRoomToStage, IsEmptyStage}
+use Rattle.journal_core.specs.Staged.{AreStagingPathsFree, IsEmptyStage}
 use Rattle.make_info.specs.Reads.{Reads}
 use Rattle.package_files.specs.Runs.{AreObserved}
 use Rattle.path_clashes.specs.Clash.{NamePair}
 use Rattle.package_changes.specs.Changes.{Replacement}
 use Rattle.report_core.specs.declared.refusal.Refusal.{Refusal}
-use Rattle.engine_core.specs.ChangeRun.{ComesTo, DoesCommit, IsNoneOrCommit, report_as_is, report_in}
-use Rattle.engine_core.specs.Changed.{IsClashOfSelected, IsClashUnlessSimulated, Selected, change_of_selected, packages_found}
+use Rattle.engine_core.specs.ChangeRun.{CarriesOut, DoesCommit, IsUnchangedOrCommit, report_as_is, report_of_result}
+use Rattle.engine_core.specs.Changed.{IsClashOfSelected, IsClashUnlessSimulated, Selected, change_of_selected, found_packages}
 use Rattle.engine_core.specs.Runs.{IsSelectedRun}
 use Rattle.engine_core.specs.Wishes.{wishes_of}
 
 -- ---- there is a first clash
 
 pub record HaveClash : Type 0 where
-  pub exists : (inputs : Inputs) (r : Replacement) (wishes : ChangeWishes) (read : Reads) (names : List (List ℕ)) (files : Files) → IsWithin names files
+  pub exists : (inputs : Inputs) (r : Replacement) (wishes : ChangeWishes) (read : Reads) (names : List (List ℕ)) (files : Files) → HasNamesAmong names files
       → (clash : Option NamePair) × IsClashOfChange inputs r wishes read files clash
 
-module _ (have : HaveClash) (names : List (List ℕ)) (files : Files) (within : IsWithin names files) where
+module _ (have : HaveClash) (names : List (List ℕ)) (files : Files) (within : HasNamesAmong names files) where
   clash_unless : (b : Bool) (s : Selected) (wishes : ChangeWishes) (read : Reads)
       → (clash : Option NamePair) × IsClashUnlessSimulated b wishes read files s clash
   clash_unless true s wishes read = (None, refl)
@@ -54,10 +54,10 @@ pub record Seen (command : CommandLine) (selected : Result Selected Refusal) (ol
   pub clash : Option NamePair
   pub is_clash : IsClashOfSelected command read files selected clash
 
-pub nothing_within : IsWithin [] (no_names {X = List ℕ})
+pub nothing_within : HasNamesAmong [] (no_names {X = List ℕ})
 nothing_within q is = absurd (cc)
 
-within_files : (v : TreeState) (names : List (List ℕ)) → IsWithin names v.names → IsWithin names (files_of v)
+within_files : (v : TreeState) (names : List (List ℕ)) → HasNamesAmong names v.names → HasNamesAmong names (files_of v)
 within_files v names within q is = within q (by_number (v.names q) is)
   where
     by_number : (n : Option ℕ) → IsSome (bytes_at v.files n) → IsSome n
@@ -71,12 +71,12 @@ pub record FilesSeen (command : CommandLine) (selected : Result Selected Refusal
   pub clash : Option NamePair
   pub is_clash : IsClashOfSelected command read files selected clash
 
-pub files_seen : HaveClash → (command : CommandLine) (selected : Result Selected Refusal) (old : List TreeState) (read : Reads) → All IsWhole old → FilesSeen command selected old read
+pub files_seen : HaveClash → (command : CommandLine) (selected : Result Selected Refusal) (old : List TreeState) (read : Reads) → All IsWellFormed old → FilesSeen command selected old read
 files_seen have command selected [] read whole =
     let found = clash_selected have [] no_names nothing_within command read selected in
     record { files = no_names; there = tt; clash = found.0; is_clash = found.1 }
 files_seen have command selected (v ∷ earlier) read whole =
-    let finite = (All-head IsWhole v earlier whole).finite v.names (inl refl) in
+    let finite = (All-head IsWellFormed v earlier whole).finite v.names (inl refl) in
     let found = clash_selected have finite.0 (files_of v) (within_files v finite.0 finite.1) command read selected in
     record { files = files_of v; there = refl; clash = found.0; is_clash = found.1 }
 
@@ -84,7 +84,7 @@ some_reads : (old : List TreeState) → (read : Reads) × AreObserved old read
 some_reads [] = ((λ n name. None), tt)
 some_reads (v ∷ earlier) = ((λ n name. files_of v name), λ n name. refl)
 
-pub seen_any : HaveClash → (command : CommandLine) (selected : Result Selected Refusal) (old : List TreeState) → All IsWhole old → Seen command selected old
+pub seen_any : HaveClash → (command : CommandLine) (selected : Result Selected Refusal) (old : List TreeState) → All IsWellFormed old → Seen command selected old
 seen_any have command selected old whole =
     let (read, observed) = some_reads old in
     let seen = files_seen have command selected old read whole in
@@ -119,30 +119,30 @@ if_told [] P Q p f = tt
 if_told (v ∷ earlier) P Q p f = f v p
 
 module _ (packages : Result (List MemberFound) Refusal) (wanted : Result ChangeDone Refusal) (old now : List TreeState) (before after : Counts) (quiet : IsOnlyRead old now before after) where
-  none_run : (result : Result (List ℕ) Refused) → OnOk result (DoesCommit wanted → ⊥) → IfObservable old (λ v. v.names intent_name ≡ None → IsEmptyStage (files_of v) → IsNoneOrCommit wanted v old now result)
+  none_run : (result : Result (List ℕ) Refused) → OnOk result (DoesCommit wanted → ⊥) → IfObservable old (λ v. v.names intent_name ≡ None → IsEmptyStage (files_of v) → IsUnchangedOrCommit wanted v old now result)
   none_run result ok = by old quiet.same
     where
-      by : (h : List TreeState) → now ≡ old → IfObservable h (λ v. v.names intent_name ≡ None → IsEmptyStage (files_of v) → IsNoneOrCommit wanted v old now result)
+      by : (h : List TreeState) → now ≡ old → IfObservable h (λ v. v.names intent_name ≡ None → IsEmptyStage (files_of v) → IsUnchangedOrCommit wanted v old now result)
       by [] same = tt
       by (v ∷ earlier) same = λ absent empty. inl (same, ok)
 
-  none_proper : IfObservable old (λ v. v.names intent_name ≡ None → IsEmptyStage (files_of v) → (DoesCommit wanted → HasRoomToStage (files_of v)) → after.misuses ≡ before.misuses)
+  none_proper : IfObservable old (λ v. v.names intent_name ≡ None → IsEmptyStage (files_of v) → (DoesCommit wanted → AreStagingPathsFree (files_of v)) → after.misuses ≡ before.misuses)
   none_proper = if_told old _ _ quiet.proper (λ v same absent empty room. same)
 
-  pub comes_to_failure : (fault : Refused) → IsFailure fault → ComesTo packages wanted old now before after (Err fault)
+  pub comes_to_failure : (fault : Refused) → IsFailure fault → CarriesOut packages wanted old now before after (Err fault)
   comes_to_failure fault is = record { told = inl (failure_told fault is); run = none_run (Err fault) tt; proper = none_proper }
     where
-      failure_told : (e : Refused) → IsFailure e → AgreesUnlessDisk report_as_is (Err e) (report_in wanted)
+      failure_told : (e : Refused) → IsFailure e → AgreesUnlessDisk report_as_is (Err e) (report_of_result wanted)
       failure_told (IsRefused r) h = absurd h
       failure_told Disk h = tt
       failure_told Memory h = tt
 
-  pub comes_to_refusal : (refusal : Refusal) → wanted ≡ Err refusal → ComesTo packages wanted old now before after (Err (IsRefused refusal))
-  comes_to_refusal refusal is = record { told = inl (ap report_in is); run = none_run (Err (IsRefused refusal)) tt; proper = none_proper }
+  pub comes_to_refusal : (refusal : Refusal) → wanted ≡ Err refusal → CarriesOut packages wanted old now before after (Err (IsRefused refusal))
+  comes_to_refusal refusal is = record { told = inl (ap report_of_result is); run = none_run (Err (IsRefused refusal)) tt; proper = none_proper }
 
-  pub comes_to_idle : (done : ChangeDone) (report : List ℕ) → wanted ≡ Ok done → done.commits ≡ false → report ≡ done.report → ComesTo packages wanted old now before after (Ok report)
+  pub comes_to_idle : (done : ChangeDone) (report : List ℕ) → wanted ≡ Ok done → done.commits ≡ false → report ≡ done.report → CarriesOut packages wanted old now before after (Ok report)
   comes_to_idle done report is idle told = record {
-    told = inl (ap report_in is ∙ ap Ok (sym told));
+    told = inl (ap report_of_result is ∙ ap Ok (sym told));
     run = none_run (Ok report) (λ commits. true_is_not_false (subst DoesCommit is commits) idle);
     proper = none_proper;
   }
@@ -154,26 +154,26 @@ module _ (packages : Result (List MemberFound) Refusal) (wanted : Result ChangeD
 
 module _ (command : CommandLine) (selected : Result Selected Refusal) (old now : List TreeState) (before after : Counts) where
   pub of_seen : (seen : Seen command selected old) (result : Result (List ℕ) Refused)
-      → ComesTo (packages_found command seen.read selected) (and_then selected (change_of_selected command seen.read seen.files seen.clash)) old now before after result
+      → CarriesOut (found_packages command seen.read selected) (and_then selected (change_of_selected command seen.read seen.files seen.clash)) old now before after result
       → IsSelectedRun command selected old now before after result
   of_seen seen result comes = record {
     read = seen.read;
     observed = seen.observed;
     files = seen.files;
     there = seen.there;
-    standing = seen.files;
+    present_files = seen.files;
     stand = seen.there;
     clash = seen.clash;
     is_clash = seen.is_clash;
     comes = comes;
   }
 
-  pub selected_failure : HaveClash → All IsWhole old → IsOnlyRead old now before after → (fault : Refused) → IsFailure fault → IsSelectedRun command selected old now before after (Err fault)
+  pub selected_failure : HaveClash → All IsWellFormed old → IsOnlyRead old now before after → (fault : Refused) → IsFailure fault → IsSelectedRun command selected old now before after (Err fault)
   selected_failure have whole quiet fault is =
       let seen = seen_any have command selected old whole in
       of_seen seen (Err fault) (comes_to_failure _ _ old now before after quiet fault is)
 
-  pub selected_refusal : HaveClash → All IsWhole old → IsOnlyRead old now before after → (refusal : Refusal) → selected ≡ Err refusal → IsSelectedRun command selected old now before after (Err (IsRefused refusal))
+  pub selected_refusal : HaveClash → All IsWellFormed old → IsOnlyRead old now before after → (refusal : Refusal) → selected ≡ Err refusal → IsSelectedRun command selected old now before after (Err (IsRefused refusal))
   selected_refusal have whole quiet refusal is =
       let seen = seen_any have command selected old whole in
       of_seen seen (Err (IsRefused refusal))

@@ -8,8 +8,8 @@ use Rattle.adb_schema.specs.Reserved.{is_reserved}
 use Rattle.adb_view.specs.Plain.{Plain}
 use Rattle.base_core.specs.Calls.{IfObservable}
 use Rattle.base_core.specs.Faults.{Counts}
-use Rattle.base_core.specs.Files.{Files, IsWithin, no_names}
-use Rattle.base_core.specs.Tree.{IsWhole, TreeState, bytes_at, files_of}
+use Rattle.base_core.specs.Files.{Files, HasNamesAmong, no_names}
+use Rattle.base_core.specs.Tree.{IsWellFormed, TreeState, bytes_at, files_of}
 use Rattle.change_files.specs.FileChange.{FileChange, old_listings}
 use Rattle.change_files.specs.NamesAfter.{name_change}
 use Rattle.change_files.specs.PlanLists.{first_reserved}
@@ -19,9 +19,9 @@ use Rattle.change_inputs.specs.Inputs.{Inputs}
 use Rattle.change_inputs.specs.declared.root.Refused.{Refused}
 use Rattle.change_inputs.specs.declared.root.Refused.TheVariants as Commands
 use Rattle.change_outcome.specs.ChangeOutcome.{ChangeDone, ChangeWishes, IsClashFound, change_members, change_with_members, file_change, name_at_place, touched_paths, unless_clash, unless_contested, unless_reserved_path, unless_too_large}
-use Rattle.change_outcome.specs.MembersAfter.{MemberFound, members_found}
+use Rattle.change_outcome.specs.MembersAfter.{MemberFound, found_members}
 use Rattle.change_outcome.specs.Triggers.{unless_trigger}
-use Rattle.db_core.specs.Members.{Member, member_listings, member_name, staying_member}
+use Rattle.db_core.specs.Members.{Member, member_listings, member_name, member_of_kept}
 use Rattle.db_core.specs.Seen.{members_of, packages_of}
 use Rattle.file_owners.specs.Owners.{contested_of}
 use Rattle.make_info.specs.Reads.{Reads}
@@ -35,14 +35,14 @@ use Rattle.path_clashes.specs.Clash.{HasNoClash, NamePair}
 use Rattle.path_clashes.specs.FirstClash.{IsClashOf, MayBeClashOf}
 use Rattle.report_core.specs.declared.refusal.Refusal.{Refusal}
 use Rattle.report_core.specs.declared.refusal.Refusal.TheVariants.{Owned, PathClash, Reserved}
-use Rattle.engine_core.specs.ChangeRun.{ComesTo}
-use Rattle.engine_core.specs.Finishing.{AreArrivals, IsArrived, IsPlanned, inputs_arrived, replacement_arrived}
+use Rattle.engine_core.specs.ChangeRun.{CarriesOut}
+use Rattle.engine_core.specs.Finishing.{AreArrivals, IsArrived, IsPlanned, arrived_inputs, arrived_replacement}
 use Rattle.engine_core.specs.Plans.{HasNoPlan, IsPlanFrom, IsRefusedFor}
 use Rattle.engine_core.specs.declared.planning.Arrived.{Arrived}
 use Rattle.engine_core.specs.declared.planning.Planned.{Planned}
 use Rattle.engine_core.proofs.FoundRuns.{IsFoundRun}
 use Rattle.engine_core.proofs.Early.{HaveClash, IsOnlyRead, comes_to_failure, comes_to_refusal, nothing_within}
-use Rattle.engine_core.proofs.WholeRuns.{comes_behind_reads}
+use Rattle.engine_core.proofs.WholeRuns.{comes_after_reads}
 
 -- ---- the files of a history
 
@@ -54,7 +54,7 @@ there_now : (h : List TreeState) → IfObservable h (λ v. files_now h ≡ files
 there_now [] = tt
 there_now (v ∷ earlier) = refl
 
-within_files : (v : TreeState) (names : List (List ℕ)) → IsWithin names v.names → IsWithin names (files_of v)
+within_files : (v : TreeState) (names : List (List ℕ)) → HasNamesAmong names v.names → HasNamesAmong names (files_of v)
 within_files v names within q is = within q (by_number (v.names q) is)
   where
     by_number : (n : Option ℕ) → IsSome (bytes_at v.files n) → IsSome n
@@ -71,81 +71,81 @@ record ClashSeen (inputs : Inputs) (wishes : ChangeWishes) (found : List MemberF
 record ClashTold (change : FileChange) (old : List TreeState) (clash : Option NamePair) : Type 0 where
   pub files : Files
   pub there : IfObservable old (λ v. files ≡ files_of v)
-  pub standing : Files
-  pub stand : IfObservable old (λ v. standing ≡ files_of v)
-  pub is_clash : IsClashOf (name_change change files) standing clash
+  pub present_files : Files
+  pub stand : IfObservable old (λ v. present_files ≡ files_of v)
+  pub is_clash : IsClashOf (name_change change files) present_files clash
 
 clash_told : (change : FileChange) (old : List TreeState) (clash : Option NamePair) → IsClashBySome change old clash → IfObservable old (λ v. IsClashOf (name_change change (files_of v)) (files_of v) clash) → ClashTold change old clash
-clash_told change [] clash some told = record { files = some.files; there = tt; standing = some.may.0; stand = tt; is_clash = some.may.1 }
-clash_told change (v ∷ earlier) clash some told = record { files = files_of v; there = refl; standing = files_of v; stand = refl; is_clash = told }
+clash_told change [] clash some told = record { files = some.files; there = tt; present_files = some.may.0; stand = tt; is_clash = some.may.1 }
+clash_told change (v ∷ earlier) clash some told = record { files = files_of v; there = refl; present_files = files_of v; stand = refl; is_clash = told }
 
 -- the same by files that are given
 none_told : (change : FileChange) (files : Files) (old : List TreeState) → IfObservable old (λ v. files ≡ files_of v) → MayBeClashOf (name_change change files) None → IfObservable old (λ v. HasNoClash (name_change change files) files)
-    → (standing : Files) × IfObservable old (λ v. standing ≡ files_of v) × IsClashOf (name_change change files) standing None
+    → (present_files : Files) × IfObservable old (λ v. present_files ≡ files_of v) × IsClashOf (name_change change files) present_files None
 none_told change files [] there may told = (may.0, tt, may.1)
 none_told change files (v ∷ earlier) there may told = (files, there, told)
 
 module _ (have : HaveClash) (inputs : Inputs) (r : Replacement) (wishes : ChangeWishes) (read : Reads) (found : List MemberFound) (is_found : change_members inputs r wishes read ≡ Ok found) where
-  clash_seen : (old : List TreeState) → All IsWhole old → ClashSeen inputs wishes found old
+  clash_seen : (old : List TreeState) → All IsWellFormed old → ClashSeen inputs wishes found old
   clash_seen [] whole =
       let c = have.exists inputs r wishes read [] no_names nothing_within in
       record { clash = c.0; is_clash = subst (λ (f : Result (List MemberFound) Refusal). IsClashFound inputs wishes no_names f c.0) is_found c.1 }
   clash_seen (v ∷ earlier) whole =
-      let finite = (All-head IsWhole v earlier whole).finite v.names (inl refl) in
+      let finite = (All-head IsWellFormed v earlier whole).finite v.names (inl refl) in
       let c = have.exists inputs r wishes read finite.0 (files_of v) (within_files v finite.0 finite.1) in
       record { clash = c.0; is_clash = subst (λ (f : Result (List MemberFound) Refusal). IsClashFound inputs wishes (files_of v) f c.0) is_found c.1 }
 
-  module _ (old now : List TreeState) (before after : Counts) (whole : All IsWhole old) (quiet : IsOnlyRead old now before after) where
-    found_by : (result : Result (List ℕ) Refused) → ((clash : Option NamePair) → ComesTo (Ok found) (change_with_members inputs r wishes clash (files_now old) found) old now before after result)
+  module _ (old now : List TreeState) (before after : Counts) (whole : All IsWellFormed old) (quiet : IsOnlyRead old now before after) where
+    found_by : (result : Result (List ℕ) Refused) → ((clash : Option NamePair) → CarriesOut (Ok found) (change_with_members inputs r wishes clash (files_now old) found) old now before after result)
         → IsFoundRun inputs r wishes found old now before after result
     found_by result comes =
         let seen = clash_seen old whole in
-        record { files = files_now old; there = there_now old; standing = files_now old; stand = there_now old; clash = seen.clash; is_clash = seen.is_clash; comes = comes seen.clash }
+        record { files = files_now old; there = there_now old; present_files = files_now old; stand = there_now old; clash = seen.clash; is_clash = seen.is_clash; comes = comes seen.clash }
 
     pub found_failure : (fault : Refused) → IsFailure fault → IsFoundRun inputs r wishes found old now before after (Err fault)
     found_failure fault is = found_by (Err fault) (λ clash. comes_to_failure _ _ old now before after quiet fault is)
 
     -- ---- no plan
 
-    reserved_path : (path : List ℕ) → first_reserved (members_found found) ≡ Some path → IsFoundRun inputs r wishes found old now before after (Err (Commands.Refusal (Reserved path)))
+    reserved_path : (path : List ℕ) → first_reserved (found_members found) ≡ Some path → IsFoundRun inputs r wishes found old now before after (Err (Commands.Refusal (Reserved path)))
     reserved_path path is = found_by _ (λ clash. comes_to_refusal _ _ old now before after quiet (Reserved path)
-        (ap (λ (o : Option (List ℕ)). unless_reserved_path o (unless_clash clash (unless_contested (members_found found) (contested_of (members_found found))
-        (and_then (unless_trigger wishes.no_scripts (touched_paths (file_change inputs wishes found) (files_now old)) (members_found found)) (λ allowed. unless_too_large inputs r wishes found (files_now old)))))) is))
+        (ap (λ (o : Option (List ℕ)). unless_reserved_path o (unless_clash clash (unless_contested (found_members found) (contested_of (found_members found))
+        (and_then (unless_trigger wishes.no_scripts (touched_paths (file_change inputs wishes found) (files_now old)) (found_members found)) (λ allowed. unless_too_large inputs r wishes found (files_now old)))))) is))
 
     by_clash : (result : Result (List ℕ) Refused) (clash : Option NamePair) → (told : ClashTold (file_change inputs wishes found) old clash)
-        → ComesTo (Ok found) (change_with_members inputs r wishes clash told.files found) old now before after result → IsFoundRun inputs r wishes found old now before after result
+        → CarriesOut (Ok found) (change_with_members inputs r wishes clash told.files found) old now before after result → IsFoundRun inputs r wishes found old now before after result
     by_clash result clash told comes =
-        record { files = told.files; there = told.there; standing = told.standing; stand = told.stand; clash = clash; is_clash = told.is_clash; comes = comes }
+        record { files = told.files; there = told.there; present_files = told.present_files; stand = told.stand; clash = clash; is_clash = told.is_clash; comes = comes }
 
-    path_clash : (path other : List ℕ) → first_reserved (members_found found) ≡ None → ClashTold (file_change inputs wishes found) old (Some (record { path = path; other = other }))
+    path_clash : (path other : List ℕ) → first_reserved (found_members found) ≡ None → ClashTold (file_change inputs wishes found) old (Some (record { path = path; other = other }))
         → IsFoundRun inputs r wishes found old now before after (Err (Commands.Refusal (PathClash path other)))
     path_clash path other none told =
         let pair : NamePair = record { path = path; other = other } in
         by_clash _ (Some pair) told
         (comes_to_refusal _ _ old now before after quiet (PathClash path other)
-        (ap (λ (o : Option (List ℕ)). unless_reserved_path o (unless_clash (Some pair) (unless_contested (members_found found) (contested_of (members_found found))
-        (and_then (unless_trigger wishes.no_scripts (touched_paths (file_change inputs wishes found) told.files) (members_found found)) (λ allowed. unless_too_large inputs r wishes found told.files)))))
+        (ap (λ (o : Option (List ℕ)). unless_reserved_path o (unless_clash (Some pair) (unless_contested (found_members found) (contested_of (found_members found))
+        (and_then (unless_trigger wishes.no_scripts (touched_paths (file_change inputs wishes found) told.files) (found_members found)) (λ allowed. unless_too_large inputs r wishes found told.files)))))
         none))
 
-    named : (place : ℕ) (name : List ℕ) → member_name_at (members_found found) place ≡ Some name → name_at_place (members_found found) place ≡ name
-    named place name is = by (slice_get (members_found found) place) is
+    named : (place : ℕ) (name : List ℕ) → member_name_at (found_members found) place ≡ Some name → name_at_place (found_members found) place ≡ name
+    named place name is = by (slice_get (found_members found) place) is
       where
         by : (o : Option Member) → option_map member_name o ≡ Some name → option_map_or member_name o [] ≡ name
         by None e = absurd (cc (e))
         by (Some m) e = same_Some (member_name m) name e
 
-    owned_path : (path first second : List ℕ) → IsRefusalFor (members_found found) (Plans.Owned path first second) → ClashTold (file_change inputs wishes found) old None
+    owned_path : (path first second : List ℕ) → IsRefusalFor (found_members found) (Plans.Owned path first second) → ClashTold (file_change inputs wishes found) old None
         → IsFoundRun inputs r wishes found old now before after (Err (Commands.Refusal (Owned path first second)))
     owned_path path first second (none, contest) told =
-        let contested : Option ContestedPath = contested_of (members_found found) in
-        let rest = and_then (unless_trigger wishes.no_scripts (touched_paths (file_change inputs wishes found) told.files) (members_found found)) (λ allowed. unless_too_large inputs r wishes found told.files) in
+        let contested : Option ContestedPath = contested_of (found_members found) in
+        let rest = and_then (unless_trigger wishes.no_scripts (touched_paths (file_change inputs wishes found) told.files) (found_members found)) (λ allowed. unless_too_large inputs r wishes found told.files) in
         by_clash _ None told
         (comes_to_refusal _ _ old now before after quiet (Owned path first second)
-        (ap (λ (o : Option (List ℕ)). unless_reserved_path o (unless_contested (members_found found) contested rest)) none
-        ∙ ap (λ (o : Option ContestedPath). unless_contested (members_found found) o rest) contest.is
+        (ap (λ (o : Option (List ℕ)). unless_reserved_path o (unless_contested (found_members found) contested rest)) none
+        ∙ ap (λ (o : Option ContestedPath). unless_contested (found_members found) o rest) contest.is
         ∙ ((λ i. Err (Owned (sym contest.at i) (named contest.contest.rivals.first first contest.lister i) (named contest.contest.rivals.second second contest.other i))))))
 
-    pub unplanned : (fault : PlanFault) (refused : Refused) → IsRefusedFor fault refused → IsRefusalFor (members_found found) fault
+    pub unplanned : (fault : PlanFault) (refused : Refused) → IsRefusedFor fault refused → IsRefusalFor (found_members found) fault
         → IfObservable old (λ v. IsRefusalOf (file_change inputs wishes found) (files_of v) fault) → MayBeRefusalOf (file_change inputs wishes found) old fault → IsFoundRun inputs r wishes found old now before after (Err refused)
     unplanned (Plans.Reserved path) refused is cause first may = subst (λ (e : Refused). IsFoundRun inputs r wishes found old now before after (Err e)) (sym is) (reserved_path path cause)
     unplanned (Plans.PathClash path other) refused is cause first may = subst (λ (e : Refused). IsFoundRun inputs r wishes found old now before after (Err e)) (sym is) (path_clash path other cause (clash_told (file_change inputs wishes found) old (Some (record { path = path; other = other })) may first))
@@ -156,33 +156,33 @@ module _ (have : HaveClash) (inputs : Inputs) (r : Replacement) (wishes : Change
 -- ---- a plan
 
 change_is : (history : List TreeState) (a : Arrived) (wishes : ChangeWishes) (found : List MemberFound) → IsArrived history a found
-    → change_by a.selection.now.db a.members.now wishes.purge ≡ file_change (inputs_arrived a) wishes found
+    → change_by a.selection.now.db a.members.now wishes.purge ≡ file_change (arrived_inputs a) wishes found
 change_is history a wishes found arrived = λ i. record { old = arrived.read.database i; members = arrived.members i; purge = wishes.purge }
 
 -- why there is none, of the packages that are found
 pub unplanned_run : HaveClash → (old now : List TreeState) (before after : Counts) (a : Arrived) (wishes : ChangeWishes) (read : Reads) (found : List MemberFound) (fault : PlanFault) (refused : Refused)
-    → All IsWhole old → IsOnlyRead old now before after → IsArrived old a found → change_members (inputs_arrived a) (replacement_arrived a) wishes read ≡ Ok found
+    → All IsWellFormed old → IsOnlyRead old now before after → IsArrived old a found → change_members (arrived_inputs a) (arrived_replacement a) wishes read ≡ Ok found
     → IsRefusedFor fault refused → IsRefusalFor (members_of a.members.now) fault
     → IfObservable old (λ v. IsRefusalOf (change_by a.selection.now.db a.members.now wishes.purge) (files_of v) fault)
     → MayBeRefusalOf (change_by a.selection.now.db a.members.now wishes.purge) old fault
-    → IsFoundRun (inputs_arrived a) (replacement_arrived a) wishes found old now before after (Err refused)
+    → IsFoundRun (arrived_inputs a) (arrived_replacement a) wishes found old now before after (Err refused)
 unplanned_run have old now before after a wishes read found fault refused whole quiet arrived is_found is cause first may =
-    unplanned have (inputs_arrived a) (replacement_arrived a) wishes read found is_found old now before after whole quiet fault refused is
+    unplanned have (arrived_inputs a) (arrived_replacement a) wishes read found is_found old now before after whole quiet fault refused is
     (subst (λ (ms : List Member). IsRefusalFor ms fault) arrived.members cause)
     (subst (λ (c : FileChange). IfObservable old (λ v. IsRefusalOf c (files_of v) fault)) (change_is old a wishes found arrived) first)
     (subst (λ (c : FileChange). MayBeRefusalOf c old fault) (change_is old a wishes found arrived) may)
 
 -- the same, of the step that plans
 pub unplanned_step : HaveClash → (old now : List TreeState) (before after : Counts) (a : Arrived) (wishes : ChangeWishes) (read : Reads) (found : List MemberFound) (refused : Refused)
-    → HasNoPlan old wishes a refused → All IsWhole old → IsOnlyRead old now before after → IsArrived old a found → change_members (inputs_arrived a) (replacement_arrived a) wishes read ≡ Ok found
-    → IsFoundRun (inputs_arrived a) (replacement_arrived a) wishes found old now before after (Err refused)
+    → HasNoPlan old wishes a refused → All IsWellFormed old → IsOnlyRead old now before after → IsArrived old a found → change_members (arrived_inputs a) (arrived_replacement a) wishes read ≡ Ok found
+    → IsFoundRun (arrived_inputs a) (arrived_replacement a) wishes found old now before after (Err refused)
 unplanned_step have old now before after a wishes read found refused why whole quiet arrived is_found =
     unplanned_run have old now before after a wishes read found why.fault refused whole quiet arrived is_found why.reported why.cause why.first why.may
 
 pub planned_now : (old mid : List TreeState) → mid ≡ old → (p : Planned) (wishes : ChangeWishes) (found : List MemberFound) → IsArrived old p.arrived.now found
     → (plan : IsPlanOf (change_by p.arrived.now.selection.now.db p.arrived.now.members.now wishes.purge) old p.plan.now)
     → HasOwnNames p.plan.now → HasSources (members_of p.arrived.now.members.now) p.plan.now → IsPlanFor (members_of p.arrived.now.members.now) p.plan.now
-    → All (λ l. is_reserved l.path ≡ false) (member_listings (map staying_member (packages_of p.arrived.now.selection.now.db)))
+    → All (λ l. is_reserved l.path ≡ false) (member_listings (map member_of_kept (packages_of p.arrived.now.selection.now.db)))
     → IsPlanned mid wishes p found plan.files
 unfolding old_listings
 planned_now old mid same p wishes found arrived plan names sources owners unreserved =
@@ -195,19 +195,19 @@ planned_now old mid same p wishes found arrived plan names sources owners unrese
       sources = sources;
       owners = owners;
       no_clash = subst (λ (c : FileChange). IfObservable old (λ v. HasNoClash (name_change c plan.files) plan.files)) is plan.no_clash;
-      unreserved = subst (λ (ps : List Plain). All (λ l. is_reserved l.path ≡ false) (member_listings (map staying_member ps))) arrived.read.database unreserved;
+      unreserved = subst (λ (ps : List Plain). All (λ l. is_reserved l.path ≡ false) (member_listings (map member_of_kept ps))) arrived.read.database unreserved;
     })
 
 pub planned_run : (old mid now : List TreeState) (before between after : Counts) (a : Arrived) (p : FilePlan) (wishes : ChangeWishes) (found : List MemberFound) (result : Result (List ℕ) Refused)
     → IsOnlyRead old mid before between → IsArrived old a found → (plan : IsPlanOf (change_by a.selection.now.db a.members.now wishes.purge) old p) → IsPlanFor (members_of a.members.now) p
-    → ComesTo (Ok found)
-    (and_then (unless_trigger wishes.no_scripts (touched_paths (file_change (inputs_arrived a) wishes found) plan.files) (members_found found))
-    (λ allowed. unless_too_large (inputs_arrived a) (replacement_arrived a) wishes found plan.files)) mid now between after result
-    → IsFoundRun (inputs_arrived a) (replacement_arrived a) wishes found old now before after result
+    → CarriesOut (Ok found)
+    (and_then (unless_trigger wishes.no_scripts (touched_paths (file_change (arrived_inputs a) wishes found) plan.files) (found_members found))
+    (λ allowed. unless_too_large (arrived_inputs a) (arrived_replacement a) wishes found plan.files)) mid now between after result
+    → IsFoundRun (arrived_inputs a) (arrived_replacement a) wishes found old now before after result
 planned_run old mid now before between after a p wishes found result quiet arrived plan owners comes =
-    let inputs = inputs_arrived a in
-    let r = replacement_arrived a in
-    let members : List Member = members_found found in
+    let inputs = arrived_inputs a in
+    let r = arrived_replacement a in
+    let members : List Member = found_members found in
     let rest : Result ChangeDone Refusal = and_then (unless_trigger wishes.no_scripts (touched_paths (file_change inputs wishes found) plan.files) members) (λ allowed. unless_too_large inputs r wishes found plan.files) in
     let wanted_is : change_with_members inputs r wishes None plan.files found ≡ rest =
     ap (λ (o : Option (List ℕ)). unless_reserved_path o (unless_contested members (contested_of members) rest)) (sym (ap first_reserved arrived.members) ∙ owners.allowed)
@@ -218,12 +218,12 @@ planned_run old mid now before between after a p wishes found result quiet arriv
     record {
       files = plan.files;
       there = plan.told;
-      standing = none.0;
+      present_files = none.0;
       stand = none.1;
       clash = None;
       is_clash = none.2;
-      comes = subst (λ (w : Result ChangeDone Refusal). ComesTo (Ok found) w old now before after result) (sym wanted_is)
-          (comes_behind_reads (Ok found) rest old mid now before between after result quiet comes);
+      comes = subst (λ (w : Result ChangeDone Refusal). CarriesOut (Ok found) w old now before after result) (sym wanted_is)
+          (comes_after_reads (Ok found) rest old mid now before between after result quiet comes);
     }
 
 -- the same two, of the step that plans
@@ -234,16 +234,16 @@ planned_step old mid p wishes found plan same arrived =
 
 pub planned_step_run : (old mid now : List TreeState) (before between after : Counts) (p : Planned) (wishes : ChangeWishes) (found : List MemberFound) (result : Result (List ℕ) Refused)
     → ((files : Files) → IsPlanned mid wishes p found files
-    → ComesTo (Ok found)
-    (and_then (unless_trigger wishes.no_scripts (touched_paths (file_change (inputs_arrived p.arrived.now) wishes found) files) (members_found found))
-    (λ allowed. unless_too_large (inputs_arrived p.arrived.now) (replacement_arrived p.arrived.now) wishes found files)) mid now between after result)
+    → CarriesOut (Ok found)
+    (and_then (unless_trigger wishes.no_scripts (touched_paths (file_change (arrived_inputs p.arrived.now) wishes found) files) (found_members found))
+    (λ allowed. unless_too_large (arrived_inputs p.arrived.now) (arrived_replacement p.arrived.now) wishes found files)) mid now between after result)
     → IsPlanFrom old wishes p.arrived.now p.plan.now → IsOnlyRead old mid before between → IsArrived old p.arrived.now found
-    → IsFoundRun (inputs_arrived p.arrived.now) (replacement_arrived p.arrived.now) wishes found old now before after result
+    → IsFoundRun (arrived_inputs p.arrived.now) (arrived_replacement p.arrived.now) wishes found old now before after result
 planned_step_run old mid now before between after p wishes found result comes plan quiet arrived =
     planned_run old mid now before between after p.arrived.now p.plan.now wishes found result quiet arrived plan.lists plan.owners
     (comes plan.lists.files (planned_step old mid p wishes found plan quiet.same arrived))
 
 -- the packages after a change have arrived
-pub has_arrived : (history : List TreeState) (a : Arrived) (found : List MemberFound) → members_of a.members.now ≡ members_found found → AreArrivals history a.selection.now a.names.now a.arrivals.now found
+pub has_arrived : (history : List TreeState) (a : Arrived) (found : List MemberFound) → members_of a.members.now ≡ found_members found → AreArrivals history a.selection.now a.names.now a.arrivals.now found
     → IsArrived history a found
 has_arrived history a found members read = record { read = read; members = members }

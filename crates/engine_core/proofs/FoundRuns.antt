@@ -6,11 +6,11 @@ use Rattle.base_core.specs.Files.{Files}
 use Rattle.base_core.specs.Tree.{TreeState, files_of}
 use Rattle.change_inputs.specs.Inputs.{Inputs}
 use Rattle.change_inputs.specs.declared.root.Refused.{Refused}
-use Rattle.change_outcome.specs.ChangeOutcome.{ChangeWishes, IsClashFoundOver, change_with_members}
+use Rattle.change_outcome.specs.ChangeOutcome.{ChangeWishes, IsClashFoundAmong, change_with_members}
 use Rattle.change_outcome.specs.MembersAfter.{MemberFound}
 use Rattle.package_changes.specs.Changes.{Replacement}
 use Rattle.path_clashes.specs.Clash.{NamePair}
-use Rattle.engine_core.specs.ChangeRun.{ComesTo}
+use Rattle.engine_core.specs.ChangeRun.{CarriesOut}
 
 -- a run of a change by these packages, if reads find them
 pub record IsFoundRun (inputs : Inputs) (r : Replacement) (wishes : ChangeWishes)
@@ -18,9 +18,9 @@ pub record IsFoundRun (inputs : Inputs) (r : Replacement) (wishes : ChangeWishes
     (result : Result (List ℕ) Refused) : Type 0 where
   pub files : Files
   pub there : IfObservable old (λ v. files ≡ files_of v)
-  pub standing : Files
-  pub stand : IfObservable old (λ v. standing ≡ files_of v)
+  pub present_files : Files
+  pub stand : IfObservable old (λ v. present_files ≡ files_of v)
   pub clash : Option NamePair
-  pub is_clash : IsClashFoundOver inputs wishes files standing (Ok found) clash
-  pub comes : ComesTo (Ok found) (change_with_members inputs r wishes clash files found)
+  pub is_clash : IsClashFoundAmong inputs wishes files present_files (Ok found) clash
+  pub comes : CarriesOut (Ok found) (change_with_members inputs r wishes clash files found)
       old now before after result

@@ -2,18 +2,18 @@
 use Rattle.std.proofs.Common.{◌≡◌, ◌∙◌, ◌≤◌, ℕ, Bool, true, false, List, All, Option, Result, Ok, Err, length, refl, sym, ap, subst, arith}
 use Rattle.std.specs.Prelude.{if◌then◌else◌, nat_lt}
 use Rattle.std.proofs.lemmas.Bool.{ltb-false}
-use Rattle.arrivals.specs.Answered.{StandsUnlessDisk}
+use Rattle.arrivals.specs.Answered.{DenotesUnlessDisk}
 use Rattle.arrivals.specs.Arrivals.{AreMembersRead, arrivals_seen}
 use Rattle.arrivals.specs.declared.arrivals.Arrivals.{Arrivals}
 use Rattle.base_core.specs.Faults.{Counts}
 use Rattle.base_core.specs.Files.{Files}
-use Rattle.base_core.specs.Tree.{IsWhole, TreeState}
+use Rattle.base_core.specs.Tree.{IsWellFormed, TreeState}
 use Rattle.change_inputs.specs.Candidates.{candidates_of, root_pool}
 use Rattle.change_inputs.specs.Chains.{and_then}
 use Rattle.change_inputs.specs.Inputs.{Inputs}
 use Rattle.change_inputs.specs.declared.root.Refused.{Refused}
 use Rattle.change_inputs.specs.declared.root.Refused.TheVariants.{Disk, Memory, Refusal as IsRefused}
-use Rattle.change_outcome.specs.ChangeOutcome.{ChangeDone, ChangeWishes, IsClashFoundOver, change_members, change_or_refusal, change_with_members}
+use Rattle.change_outcome.specs.ChangeOutcome.{ChangeDone, ChangeWishes, IsClashFoundAmong, change_members, change_or_refusal, change_with_members}
 use Rattle.change_outcome.specs.MembersAfter.{MemberFound, members_after}
 use Rattle.command_core.specs.Command.{CommandLine}
 use Rattle.command_core.specs.declared.command.Flags.{Flags}
@@ -30,8 +30,8 @@ use Rattle.path_clashes.specs.Clash.{NamePair}
 use Rattle.candidate_core.specs.Rank.{SealedPool}
 use Rattle.candidate_core.specs.declared.candidate_list.TheConstants.{MOST_CANDIDATES}
 use Rattle.report_core.specs.declared.refusal.Refusal.{Refusal}
-use Rattle.engine_core.specs.ChangeRun.{ComesTo}
-use Rattle.engine_core.specs.Changed.{IsClashOfSelectedOver, IsClashUnlessSimulatedOver, change_of_selected, simulated_change}
+use Rattle.engine_core.specs.ChangeRun.{CarriesOut}
+use Rattle.engine_core.specs.Changed.{IsClashOfSelectedAmong, IsClashUnlessSimulatedAmong, change_of_selected, simulated_change}
 use Rattle.engine_core.specs.Finishing.{AreArrivals, IsRootRead}
 use Rattle.engine_core.specs.Runs.{IsSelectedRun}
 use Rattle.engine_core.specs.Selecting.{pool_by}
@@ -40,7 +40,7 @@ use Rattle.engine_core.specs.Wishes.{wishes_of}
 use Rattle.engine_core.specs.declared.choosing.Selection.{Selection}
 use Rattle.engine_core.proofs.FoundRuns.{IsFoundRun}
 use Rattle.engine_core.proofs.Early.{HaveClash, IsOnlyRead, comes_to_refusal, files_seen, selected_failure}
-use Rattle.engine_core.proofs.WholeRuns.{run_behind_reads}
+use Rattle.engine_core.proofs.WholeRuns.{run_after_reads}
 
 -- a pool that is not refused holds no more than members can be
 few_by : (b : Bool) (n : ℕ) (e : Refusal) (made pool : SealedPool) → nat_lt 65536 n ≡ b → n ≡ length made.candidates → (if b then Err e else Ok made) ≡ Ok pool → length pool.candidates ≤ 65536
@@ -82,17 +82,17 @@ module _ (s : Selection) (database : HasItsDatabase s) (command : CommandLine) w
     unfolding change_or_refusal
     by_found read files clash members is = change_is read files clash ∙ ap (λ (m : Result (List MemberFound) Refusal). and_then m (change_with_members inputs (replacement_seen s) wishes clash files)) is
 
-    clash_is : (read : Reads) (found : List MemberFound) (files standing : Files) (clash : Option NamePair) → change_members inputs (replacement_seen s) wishes read ≡ Ok found
-        → IsClashFoundOver inputs wishes files standing (Ok found) clash → IsClashOfSelectedOver command read files standing (Ok (selection_seen s)) clash
-    clash_is read found files standing clash is here =
-        subst (λ (b : Bool). IsClashUnlessSimulatedOver b wishes read files standing (selection_seen s) clash) (sym real)
-        (subst (λ (m : Result (List MemberFound) Refusal). IsClashFoundOver inputs wishes files standing m clash) (sym is) here)
+    clash_is : (read : Reads) (found : List MemberFound) (files present_files : Files) (clash : Option NamePair) → change_members inputs (replacement_seen s) wishes read ≡ Ok found
+        → IsClashFoundAmong inputs wishes files present_files (Ok found) clash → IsClashOfSelectedAmong command read files present_files (Ok (selection_seen s)) clash
+    clash_is read found files present_files clash is here =
+        subst (λ (b : Bool). IsClashUnlessSimulatedAmong b wishes read files present_files (selection_seen s) clash) (sym real)
+        (subst (λ (m : Result (List MemberFound) Refusal). IsClashFoundAmong inputs wishes files present_files m clash) (sym is) here)
 
-    module _ (have : HaveClash) (old mid : List TreeState) (before between : Counts) (whole : All IsWhole old) (quiet : IsOnlyRead old mid before between)
+    module _ (have : HaveClash) (old mid : List TreeState) (before between : Counts) (whole : All IsWellFormed old) (quiet : IsOnlyRead old mid before between)
         (repositories : List Repository) (are : repositories ≡ inputs.root.repositories) (flags : Flags) (is_flags : flags ≡ command.flags) where
       -- a package that comes is refused
       pub unarrived : (fault : Refused)
-          → Explains old (λ read. StandsUnlessDisk (λ (a : Arrivals) (found : List MemberFound). AreMembersRead old (packages_of s.db) (arrivals_seen a) found) (Err fault) (members_after placed read repositories flags.no_scripts))
+          → Explains old (λ read. DenotesUnlessDisk (λ (a : Arrivals) (found : List MemberFound). AreMembersRead old (packages_of s.db) (arrivals_seen a) found) (Err fault) (members_after placed read repositories flags.no_scripts))
           → IsSelectedRun command (Ok (selection_seen s)) old mid before between (Err fault)
       unarrived (IsRefused refusal) explained =
           let read = explained.read in
@@ -103,7 +103,7 @@ module _ (s : Selection) (database : HasItsDatabase s) (command : CommandLine) w
             observed = explained.observed;
             files = seen.files;
             there = seen.there;
-            standing = seen.files;
+            present_files = seen.files;
             stand = seen.there;
             clash = seen.clash;
             is_clash = seen.is_clash;
@@ -114,7 +114,7 @@ module _ (s : Selection) (database : HasItsDatabase s) (command : CommandLine) w
 
       -- the packages that come are read
       module _ (root : IsRootRead old inputs) (names : PlacedNames) (named : placed_names_seen names ≡ placed_names_of (replacement_by s.db s.pool s.trace s.again)) (arrivals : Arrivals)
-          (explained : Explains old (λ read. StandsUnlessDisk (λ a found. AreMembersRead old (packages_of s.db) (arrivals_seen a) found) (Ok arrivals) (members_after placed read repositories flags.no_scripts))) where
+          (explained : Explains old (λ read. DenotesUnlessDisk (λ a found. AreMembersRead old (packages_of s.db) (arrivals_seen a) found) (Ok arrivals) (members_after placed read repositories flags.no_scripts))) where
         found_is : change_members inputs (replacement_seen s) wishes explained.read ≡ Ok explained.is.0
         found_is = sym (members_are explained.read repositories flags are is_flags) ∙ explained.is.1
 
@@ -132,15 +132,15 @@ module _ (s : Selection) (database : HasItsDatabase s) (command : CommandLine) w
         arrived_run now after result found =
             let run = found found_is in
             let read = explained.read in
-            run_behind_reads command (Ok (selection_seen s)) old mid now before between after result quiet (record {
+            run_after_reads command (Ok (selection_seen s)) old mid now before between after result quiet (record {
               read = read;
               observed = subst (λ (h : List TreeState). AreObserved h read) (sym quiet.same) explained.observed;
               files = run.files;
               there = run.there;
-              standing = run.standing;
+              present_files = run.present_files;
               stand = run.stand;
               clash = run.clash;
-              is_clash = clash_is read explained.is.0 run.files run.standing run.clash found_is run.is_clash;
-              comes = subst (λ (p : Result (List MemberFound) Refusal). ComesTo p (change_of_selected command read run.files run.clash (selection_seen s)) mid now between after result) (sym found_is)
-                  (subst (λ (w : Result ChangeDone Refusal). ComesTo (Ok explained.is.0) w mid now between after result) (sym (by_found read run.files run.clash (Ok explained.is.0) found_is)) run.comes);
+              is_clash = clash_is read explained.is.0 run.files run.present_files run.clash found_is run.is_clash;
+              comes = subst (λ (p : Result (List MemberFound) Refusal). CarriesOut p (change_of_selected command read run.files run.clash (selection_seen s)) mid now between after result) (sym found_is)
+                  (subst (λ (w : Result ChangeDone Refusal). CarriesOut (Ok explained.is.0) w mid now between after result) (sym (by_found read run.files run.clash (Ok explained.is.0) found_is)) run.comes);
             })

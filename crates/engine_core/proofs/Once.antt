@@ -7,7 +7,7 @@ use Rattle.std.specs.declared.cmp.Ordering.{Ordering}
 use Rattle.std.specs.Str.{bytes_eq}
 use Rattle.std.proofs.lemmas.Slice.Eq.{bytes_eq-Decides}
 use Rattle.change_files.specs.PlanLists.{names_in_order, unless_next, without_repeats}
-use Rattle.journal_intent.specs.FreeNames.{AreOnce, IsNoneOf, IsOneOf}
+use Rattle.journal_intent.specs.FreeNames.{HaveNoRepeats, IsNoneOf, IsOneOf}
 use Rattle.base_core.specs.ByteOrder.{bytes_cmp}
 use Rattle.base_core.specs.Sorted.{sorted_by, with_element}
 use Rattle.base_core.proofs.Sorting.{Each}
@@ -49,19 +49,19 @@ same_swapped x y h = by (bytes_eq y x) refl
     by true e = let is : y ≡ x = (bytes_eq-Decides y x).0 e in let back : bytes_eq x y ≡ true = (bytes_eq-Decides x y).1 (sym is) in (cc)
     by false e = refl
 
-once_with : (x : List ℕ) (ys : List (List ℕ)) → IsNoneOf x ys → AreOnce ys → AreOnce (with_element bytes_cmp x ys)
+once_with : (x : List ℕ) (ys : List (List ℕ)) → IsNoneOf x ys → HaveNoRepeats ys → HaveNoRepeats (with_element bytes_cmp x ys)
 once_with x [] out once = (refl, tt)
 once_with x (y ∷ ys) out once = by (is_gt (bytes_cmp x y)) (once_with x ys (none_right (bytes_eq x y) _ out) once.1)
   where
-    by : (b : Bool) → AreOnce (with_element bytes_cmp x ys) → AreOnce (if b then y ∷ with_element bytes_cmp x ys else x ∷ y ∷ ys)
+    by : (b : Bool) → HaveNoRepeats (with_element bytes_cmp x ys) → HaveNoRepeats (if b then y ∷ with_element bytes_cmp x ys else x ∷ y ∷ ys)
     by true more = (any_with (bytes_eq y) x ys ∙ none_both (bytes_eq y x) _ (same_swapped x y (none_left (bytes_eq x y) _ out)) once.0, more)
     by false more = (out, once)
 
-once_sorted : (xs : List (List ℕ)) → AreOnce xs → AreOnce (sorted_by bytes_cmp xs)
+once_sorted : (xs : List (List ℕ)) → HaveNoRepeats xs → HaveNoRepeats (sorted_by bytes_cmp xs)
 once_sorted [] once = tt
 once_sorted (x ∷ xs) once = once_with x (sorted_by bytes_cmp xs) (any_in_order (bytes_eq x) xs ∙ once.0) (once_sorted xs once.1)
 
-without_same : (xs : List (List ℕ)) → AreOnce xs → without_repeats xs ≡ xs
+without_same : (xs : List (List ℕ)) → HaveNoRepeats xs → without_repeats xs ≡ xs
 without_same [] once = refl
 without_same (x ∷ []) once = refl
 without_same (x ∷ y ∷ ys) once =
@@ -69,11 +69,11 @@ without_same (x ∷ y ∷ ys) once =
     ∙ ap (λ b. cond b (y ∷ ys) (x ∷ y ∷ ys)) (none_left (bytes_eq x y) _ once.0)
 
 -- names that stand once are only sorted
-pub once_ordered : (xs : List (List ℕ)) → AreOnce xs → sorted_by bytes_cmp xs ≡ names_in_order xs
+pub once_ordered : (xs : List (List ℕ)) → HaveNoRepeats xs → sorted_by bytes_cmp xs ≡ names_in_order xs
 unfolding names_in_order
 once_ordered xs once = sym (without_same (sorted_by bytes_cmp xs) (once_sorted xs once))
 
-pub once_both : (xs ys : List (List ℕ)) → AreOnce xs → AreOnce ys → ((q : List ℕ) → IsOneOf q xs → IsNoneOf q ys) → AreOnce (xs ++ ys)
+pub once_both : (xs ys : List (List ℕ)) → HaveNoRepeats xs → HaveNoRepeats ys → ((q : List ℕ) → IsOneOf q xs → IsNoneOf q ys) → HaveNoRepeats (xs ++ ys)
 once_both [] ys one two apart = two
 once_both (x ∷ xs) ys one two apart =
     (any_both (bytes_eq x) xs ys one.0 (apart x (self x xs)), once_both xs ys one.1 two (λ q at. apart q (later (bytes_eq q x) _ at)))

@@ -3,7 +3,7 @@ use Rattle.std.proofs.Common.{◌≡◌, ℕ, Bool, true, List, Option, Some, No
 use Rattle.std.specs.Prelude.{All, if◌then◌else◌}
 use Rattle.std.specs.Result.{IsErrAnd}
 use Rattle.base_core.specs.Faults.{Counts}
-use Rattle.base_core.specs.Tree.{IsWhole, TreeState}
+use Rattle.base_core.specs.Tree.{IsWellFormed, TreeState}
 use Rattle.change_inputs.specs.Answers.{Agrees, IsFailure}
 use Rattle.change_inputs.specs.Candidates.{root_pool}
 use Rattle.change_inputs.specs.Chains.{and_then}
@@ -22,7 +22,7 @@ use Rattle.engine_core.specs.Chosen.{IsChosen}
 use Rattle.engine_core.specs.Runs.{IsSelectedRun}
 use Rattle.engine_core.specs.Selecting.{pool_by, replacement_of_choice}
 use Rattle.engine_core.specs.SelectionSeen.{IsSelectedFrom, selection_seen}
-use Rattle.engine_core.specs.Wishes.{names_to_go, names_to_reinstall, names_to_upgrade, unknown_place, unless_place, wishes_of}
+use Rattle.engine_core.specs.Wishes.{names_to_remove, names_to_reinstall, names_to_upgrade, unknown_operand_place, unless_unknown_operand, wishes_of}
 use Rattle.engine_core.specs.declared.choosing.Selection.{Selection}
 use Rattle.engine_core.proofs.Early.{HaveClash, IsOnlyRead, Seen, comes_to_idle, of_seen, seen_any, selected_failure, selected_refusal}
 
@@ -44,13 +44,13 @@ with_error P (Ok a) fault is p = absurd is
 with_error P (Err e) fault is p = let Q : Refused → Type 0 = λ f. P (Err f) in subst Q (sym is) p
 
 module _ (command : CommandLine) (inputs : Inputs) (old now : List TreeState) (before after : Counts) where
-  pub run_failure : HaveChoice → HaveClash → All IsWhole old → IsOnlyRead old now before after → (fault : Refused) → IsFailure fault → IsRunBy command inputs old now before after (Err fault)
+  pub run_failure : HaveChoice → HaveClash → All IsWellFormed old → IsOnlyRead old now before after → (fault : Refused) → IsFailure fault → IsRunBy command inputs old now before after (Err fault)
   run_failure choose have whole quiet fault is =
       let (chosen, choice) = choose (pool_by command inputs) in
       (chosen, choice, selected_failure command (selected_of_inputs command chosen inputs) old now before after have whole quiet fault is)
 
   -- nothing is selected
-  pub unselected_run : HaveClash → All IsWhole old → IsOnlyRead old now before after → (fault : Refused) → IsSelectedFrom command inputs (Err fault) → IsRunBy command inputs old now before after (Err fault)
+  pub unselected_run : HaveClash → All IsWellFormed old → IsOnlyRead old now before after → (fault : Refused) → IsSelectedFrom command inputs (Err fault) → IsRunBy command inputs old now before after (Err fault)
   unselected_run have whole quiet (IsRefused refusal) (chosen, choice, is) =
       (chosen, choice, selected_refusal command (selected_of_inputs command chosen inputs) old now before after have whole quiet refusal is)
   unselected_run have whole quiet Disk (chosen, choice, is) = absurd is
@@ -82,28 +82,28 @@ module _ (command : CommandLine) (inputs : Inputs) where
       by (IsRefused refusal) is = (
         None,
         subst (λ (p : Result SealedPool Refusal). IsChoiceFrom p None) (sym is) refl,
-        ap (λ (p : Result SealedPool Refusal). and_then p (λ pool. unless_place (unknown_place command.applet inputs command.operands) (selected_by command inputs pool None))) is,
+        ap (λ (p : Result SealedPool Refusal). and_then p (λ pool. unless_unknown_operand (unknown_operand_place command.applet inputs command.operands) (selected_by command inputs pool None))) is,
       )
       by Disk is = absurd is
       by Memory is = out_of_memory choose
 
   module _ (pool : SealedPool) (pool_is : pool_by command inputs ≡ Ok pool) where
-    selected_is : (chosen : Option (List ℕ)) (unknown : Option ℕ) → unknown_place command.applet inputs command.operands ≡ unknown
-        → selected_of_inputs command chosen inputs ≡ unless_place unknown (selected_by command inputs pool chosen)
+    selected_is : (chosen : Option (List ℕ)) (unknown : Option ℕ) → unknown_operand_place command.applet inputs command.operands ≡ unknown
+        → selected_of_inputs command chosen inputs ≡ unless_unknown_operand unknown (selected_by command inputs pool chosen)
     selected_is chosen unknown known_is =
-        ap (λ (p : Result SealedPool Refusal). and_then p (λ pool. unless_place (unknown_place command.applet inputs command.operands) (selected_by command inputs pool chosen))) pool_is
-        ∙ ap (λ (o : Option ℕ). unless_place o (selected_by command inputs pool chosen)) known_is
+        ap (λ (p : Result SealedPool Refusal). and_then p (λ pool. unless_unknown_operand (unknown_operand_place command.applet inputs command.operands) (selected_by command inputs pool chosen))) pool_is
+        ∙ ap (λ (o : Option ℕ). unless_unknown_operand o (selected_by command inputs pool chosen)) known_is
 
     choice_is : (chosen : Option (List ℕ)) → IsChoice pool chosen → IsChoiceFrom (pool_by command inputs) chosen
     choice_is chosen choice = subst (λ (p : Result SealedPool Refusal). IsChoiceFrom p chosen) (sym pool_is) choice
 
     -- an operand is not known
-    pub unknown_operand_found : HaveChoice → (place : ℕ) → unknown_place command.applet inputs command.operands ≡ Some place → IsSelectedFrom command inputs (Err (IsRefused (NotInstalled place)))
+    pub unknown_operand_found : HaveChoice → (place : ℕ) → unknown_operand_place command.applet inputs command.operands ≡ Some place → IsSelectedFrom command inputs (Err (IsRefused (NotInstalled place)))
     unknown_operand_found choose place is =
         let (chosen, choice) = choose (pool_by command inputs) in
         (chosen, choice, selected_is chosen (Some place) is)
 
-    module _ (known : unknown_place command.applet inputs command.operands ≡ None) (chosen : Option (List ℕ)) (choice : IsChoice pool chosen) where
+    module _ (known : unknown_operand_place command.applet inputs command.operands ≡ None) (chosen : Option (List ℕ)) (choice : IsChoice pool chosen) where
       -- no selection satisfies the world
       pub unchosen : (fault : Refused) → IsChosen chosen (Err fault) → IsSelectedFrom command inputs (Err fault)
       unchosen (IsRefused refusal) is =
@@ -120,8 +120,8 @@ module _ (command : CommandLine) (inputs : Inputs) where
 
 -- ---- a change that is only simulated
 
-pub simulated_run : HaveClash → (command : CommandLine) (s : Selected) (old now : List TreeState) (before after : Counts) (report : List ℕ) → All IsWhole old → IsOnlyRead old now before after → command.flags.simulate ≡ true
-    → report ≡ simulated_report s.replacement (names_to_go command.applet command.operands) → IsSelectedRun command (Ok s) old now before after (Ok report)
+pub simulated_run : HaveClash → (command : CommandLine) (s : Selected) (old now : List TreeState) (before after : Counts) (report : List ℕ) → All IsWellFormed old → IsOnlyRead old now before after → command.flags.simulate ≡ true
+    → report ≡ simulated_report s.replacement (names_to_remove command.applet command.operands) → IsSelectedRun command (Ok s) old now before after (Ok report)
 simulated_run have command s old now before after report whole quiet simulate told =
     let seen = seen_any have command (Ok s) old whole in
     let done : ChangeDone = simulated_change s.replacement (wishes_of command) seen.files in

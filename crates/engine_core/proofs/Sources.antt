@@ -23,7 +23,7 @@ use Rattle.change_inputs.specs.Inputs.{Inputs}
 use Rattle.change_outcome.specs.Premises.{HasNoReservedPath, IsRootOfFiles}
 use Rattle.change_outcome.proofs.ActionNames.{written_free}
 use Rattle.change_outcome.specs.ChangeOutcome.{bytes_under, is_other_file, new_records}
-use Rattle.change_outcome.specs.MembersAfter.{MemberFound, contents_found}
+use Rattle.change_outcome.specs.MembersAfter.{MemberFound, found_package_contents}
 use Rattle.db_core.specs.Members.{Listing, Member, member_listings}
 use Rattle.file_guard.specs.AsListed.{has_target, link_bytes, link_to}
 use Rattle.base_core.proofs.Sorting.{Each}
@@ -32,7 +32,7 @@ use Rattle.own_core.proofs.Listings.{IsPlaced, each_placed}
 use Rattle.package_test.specs.Tested.{tested_name}
 use Rattle.package_test.specs.declared.package.TestedPackage.{TestedPackage}
 use Rattle.pkg_core.specs.Contents.{Contents, bytes_of_file}
-use Rattle.stage_files.specs.Sources.{StandForEach, StandsForBytes}
+use Rattle.stage_files.specs.Sources.{EachDenotes, DenotesBytes}
 use Rattle.stage_files.specs.declared.writes.Source.{Source}
 use Rattle.stage_files.specs.declared.writes.Source.TheVariants.{Bytes, File, Link}
 use Rattle.stage_files.specs.declared.writes.StagedWrite.{StagedWrite}
@@ -115,11 +115,11 @@ given_bytes own (Some x) true bytes is copied = let same : x ≡ bytes = cc in s
 given_bytes own (Some x) false bytes is copied = absurd (cc)
 
 record_stands : (files : Files) (name own wanted : List ℕ) (b : Bool) (opt : Option (Bor (List ℕ))) (write : StagedWrite) → option_copied opt ≡ bytes_if b own → own ≡ wanted → IsRecordOf name opt write
-    → (write_name write ≡ name) × StandsForBytes files write.source wanted
+    → (write_name write ≡ name) × DenotesBytes files write.source wanted
 record_stands files name own wanted b None write copied same is = absurd is
 record_stands files name own wanted b (Some bytes) write copied same is = (is.named, by write.source is.source)
   where
-    by : (s : Source) → HasBytes bytes.now s → StandsForBytes files s wanted
+    by : (s : Source) → HasBytes bytes.now s → DenotesBytes files s wanted
     by (Bytes x) has = sym same ∙ (sym (given_bytes own (Some bytes) b bytes refl copied) ∙ sym has)
     by (Link target) has = absurd has
     by (File f) has = absurd has
@@ -129,10 +129,10 @@ abbrev pub FilesAreRead : List TreeState → List MemberFound → (ℕ → Optio
 FilesAreRead history found packages = (place : ℕ) (pkg : TestedPackage) → packages place ≡ Some pkg → IsFileOfMember history found place pkg
 
 module _ (v : TreeState) (earlier : List TreeState) (found : List MemberFound) (members : List Member) (packages : ℕ → Option TestedPackage) (read : FilesAreRead (v ∷ earlier) found packages) where
-  file_stands : (w : FileWrite) (bytes : List ℕ) (s : Source) → bytes ≡ write_bytes members (contents_found found) w → IsSourceOfWrite members packages w s → StandsForBytes (files_of v) s bytes
+  file_stands : (w : FileWrite) (bytes : List ℕ) (s : Source) → bytes ≡ write_bytes members (found_package_contents found) w → IsSourceOfWrite members packages w s → DenotesBytes (files_of v) s bytes
   file_stands w bytes (Bytes own) is source = absurd source
   file_stands w bytes (Link target) is source =
-      is ∙ (ap (λ (b : Bool). if b then link_bytes (entry_of_write members w) else bytes_of_file w.folder w.file (contents_found found w.member)) source.0
+      is ∙ (ap (λ (b : Bool). if b then link_bytes (entry_of_write members w) else bytes_of_file w.folder w.file (found_package_contents found w.member)) source.0
       ∙ ap link_to (sym source.1))
   file_stands w bytes (File f) is source =
       let of = source.1 in
@@ -140,10 +140,10 @@ module _ (v : TreeState) (earlier : List TreeState) (found : List MemberFound) (
       record {
         name = tested_name f.package.now;
         pkg = file.file;
-        there = sym file.stands;
+        there = sym file.located;
         tested = file.tested;
-        is = is ∙ (ap (λ (b : Bool). if b then link_bytes (entry_of_write members w) else bytes_of_file w.folder w.file (contents_found found w.member)) source.0
-            ∙ ((λ i. bytes_of_file (sym of.folder i) (sym of.file i) (contents_found found w.member))
+        is = is ∙ (ap (λ (b : Bool). if b then link_bytes (entry_of_write members w) else bytes_of_file w.folder w.file (found_package_contents found w.member)) source.0
+            ∙ ((λ i. bytes_of_file (sym of.folder i) (sym of.file i) (found_package_contents found w.member))
             ∙ ap (bytes_of_file f.folder f.file) file.contents));
       }
 
@@ -168,24 +168,24 @@ module _ (inputs : Inputs) (change : FileChange) (found : List MemberFound) (own
     (v : TreeState) (earlier : List TreeState) (read : FilesAreRead (v ∷ earlier) found packages)
     (files : Files) (root : IsRootOfFiles files inputs.root) where
   abbrev left : Files
-  left = changed_files change (listing_bytes (contents_found found)) (new_records inputs own.database.items) files
+  left = changed_files change (listing_bytes (found_package_contents found)) (new_records inputs own.database.items) files
 
-  one_stands : (w : StagedWrite) → IsWriteBy change.members packages (file_writes_of change files) rw w → StandsForBytes (files_of v) w.source (bytes_under left (write_name w))
+  one_stands : (w : StagedWrite) → IsWriteBy change.members packages (file_writes_of change files) rw w → DenotesBytes (files_of v) w.source (bytes_under left (write_name w))
   one_stands w (inl f) =
       file_stands v earlier found change.members packages read f.file (bytes_under left (write_name w)) w.source
-      (ap (bytes_under left) f.named ∙ file_bytes inputs change (contents_found found) own.database.items files root free f.file f.planned_file) f.source
+      (ap (bytes_under left) f.named ∙ file_bytes inputs change (found_package_contents found) own.database.items files root free f.file f.planned_file) f.source
   one_stands w (inr (inl r)) =
-      let (named, stands) = record_stands (files_of v) rw.database_name.now own.database.items own.database.items (is_other_file inputs.root.database.file own.database.items) rw.database w which.database refl r in
-      subst (StandsForBytes (files_of v) w.source)
-      (sym (ap (bytes_under left) (named ∙ (which.database_name ∙ is_own.database_name)) ∙ database_bytes inputs change (contents_found found) own.database.items files root free)) stands
+      let (named, located) = record_stands (files_of v) rw.database_name.now own.database.items own.database.items (is_other_file inputs.root.database.file own.database.items) rw.database w which.database refl r in
+      subst (DenotesBytes (files_of v) w.source)
+      (sym (ap (bytes_under left) (named ∙ (which.database_name ∙ is_own.database_name)) ∙ database_bytes inputs change (found_package_contents found) own.database.items files root free)) located
   one_stands w (inr (inr r)) =
-      let (named, stands) = record_stands (files_of v) rw.world_name.now own.world own.world (not (bytes_eq inputs.root.world_text own.world)) rw.world w which.world refl r in
-      subst (StandsForBytes (files_of v) w.source)
-      (is_own.world ∙ sym (ap (bytes_under left) (named ∙ (which.world_name ∙ is_own.world_name)) ∙ world_bytes inputs change (contents_found found) own.database.items files root free)) stands
+      let (named, located) = record_stands (files_of v) rw.world_name.now own.world own.world (not (bytes_eq inputs.root.world_text own.world)) rw.world w which.world refl r in
+      subst (DenotesBytes (files_of v) w.source)
+      (is_own.world ∙ sym (ap (bytes_under left) (named ∙ (which.world_name ∙ is_own.world_name)) ∙ world_bytes inputs change (found_package_contents found) own.database.items files root free)) located
 
-  pub all_stand : (writes : List StagedWrite) → All (IsWriteBy change.members packages (file_writes_of change files) rw) writes → StandForEach (files_of v) writes (map (bytes_under left) (map write_name writes))
+  pub all_stand : (writes : List StagedWrite) → All (IsWriteBy change.members packages (file_writes_of change files) rw) writes → EachDenotes (files_of v) writes (map (bytes_under left) (map write_name writes))
   all_stand writes each = record {
     same = mapped_long write_name (bytes_under left) writes;
-    each = λ i w bytes at is. subst (StandsForBytes (files_of v) w.source) (sym (mapped_at write_name (bytes_under left) writes i w bytes at is))
+    each = λ i w bytes at is. subst (DenotesBytes (files_of v) w.source) (sym (mapped_at write_name (bytes_under left) writes i w bytes at is))
         (one_stands w (all_at (IsWriteBy change.members packages (file_writes_of change files) rw) writes i w each at));
   }

@@ -8,8 +8,8 @@ use Rattle.arrivals.specs.declared.arrivals.MemberRead.{MemberRead}
 use Rattle.arrivals.specs.declared.arrivals.MemberRead.TheVariants.{Comes, Stays}
 use Rattle.base_core.specs.Tree.{TreeState}
 use Rattle.base_core.specs.declared.cause.Cause.{Cause}
-use Rattle.change_outcome.specs.MembersAfter.{MemberFound, coming_found, members_found}
-use Rattle.change_outcome.specs.PackageFiles.{ComingPackage}
+use Rattle.change_outcome.specs.MembersAfter.{MemberFound, added_member_found, found_members}
+use Rattle.change_outcome.specs.PackageFiles.{AddedPackage}
 use Rattle.db_core.specs.Members.{Member}
 use Rattle.package_test.specs.Tested.{IsTestedOf}
 use Rattle.package_test.specs.declared.package.TestedPackage.{TestedPackage}
@@ -22,24 +22,24 @@ contains_at [] i x at = absurd (cc (at))
 contains_at (y ∷ ys) zero x at = (0, omega arith, same_Some y x at)
 contains_at (y ∷ ys) (suc i) x at = let (k, less, here) = contains_at ys i x at in (suc k, omega (arith, less), here)
 
-found_at : (found : List MemberFound) (place : ℕ) (m : Member) → slice_get (members_found found) place ≡ Some m → (one : MemberFound) × (slice_get found place ≡ Some one) × (one.member ≡ m)
+found_at : (found : List MemberFound) (place : ℕ) (m : Member) → slice_get (found_members found) place ≡ Some m → (one : MemberFound) × (slice_get found place ≡ Some one) × (one.member ≡ m)
 found_at [] place m at = absurd (cc (at))
 found_at (x ∷ xs) zero m at = (x, refl, same_Some x.member m at)
 found_at (x ∷ xs) (suc place) m at = found_at xs place m at
 
 -- ---- it is that of the package that was read for it
 
-record IsReadAs (history : List TreeState) (pkg : TestedPackage) (one : MemberFound) : Type 0 where
-  coming : ComingPackage
+record ReadsOldOrReplaced (history : List TreeState) (pkg : TestedPackage) (one : MemberFound) : Type 0 where
+  coming : AddedPackage
   read : IsPackageRead history pkg coming
-  is : one ≡ coming_found coming
+  is : one ≡ added_member_found coming
 
 comes_here : (r : MemberRead) (pkg : TestedPackage) → package_in r ≡ Some pkg → r ≡ Comes pkg
 comes_here (Stays place) pkg is = absurd (cc (is))
 comes_here (Comes p) pkg is = let same : p ≡ pkg = cc in ap (λ z. Comes z) same
 
 read_as : (history : List TreeState) (before : List Plain) (reads : List MemberRead) (found : List MemberFound) → AreMembersRead history before reads found → (place : ℕ) (pkg : TestedPackage) (one : MemberFound) → option_and_then package_in (slice_get reads place) ≡ Some pkg → slice_get found place ≡ Some one
-    → IsReadAs history pkg one
+    → ReadsOldOrReplaced history pkg one
 read_as history before [] found are place pkg one here at = absurd (cc (here))
 read_as history before (r ∷ reads) [] are place pkg one here at = absurd are
 read_as history before (r ∷ reads) (x ∷ found) are zero pkg one here at =
@@ -58,7 +58,7 @@ pub record IsFoundSpoiled (found : List MemberFound) (m : Member) (cause : Cause
   pub file : List ℕ
   pub spoiled : IsSpoiledFile tested file cause
 
-pub found_spoiled : (history : List TreeState) (before : List Plain) (reads : List MemberRead) (found : List MemberFound) (place : ℕ) (m : Member) (pkg : TestedPackage) (cause : Cause) → AreMembersRead history before reads found → slice_get (members_found found) place ≡ Some m
+pub found_spoiled : (history : List TreeState) (before : List Plain) (reads : List MemberRead) (found : List MemberFound) (place : ℕ) (m : Member) (pkg : TestedPackage) (cause : Cause) → AreMembersRead history before reads found → slice_get (found_members found) place ≡ Some m
     → option_and_then package_in (slice_get reads place) ≡ Some pkg → ((name tested : List ℕ) → IsTestedOf name tested pkg → (file : List ℕ) × IsSpoiledFile tested file cause) → IsFoundSpoiled found m cause
 found_spoiled history before reads found place m pkg cause are at here spoils =
     let (one, there, is) = found_at found place m at in
@@ -69,7 +69,7 @@ found_spoiled history before reads found place m pkg cause are at here spoils =
       among = contains_at found place one there;
       is = is;
       tested = r.read.file;
-      read = ap (λ (x : MemberFound). x.file) r.is ∙ ap (λ (x : ComingPackage). Some x.file) r.read.is;
+      read = ap (λ (x : MemberFound). x.file) r.is ∙ ap (λ (x : AddedPackage). Some x.file) r.read.is;
       file = file;
       spoiled = spoiled;
     }

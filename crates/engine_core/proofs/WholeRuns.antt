@@ -5,7 +5,7 @@ use Rattle.std.proofs.lemmas.Bool.Decides.{nat_tests}
 use Rattle.base_core.specs.Calls.{IfObservable}
 use Rattle.base_core.specs.Faults.{Counts}
 use Rattle.base_core.specs.Files.{Files}
-use Rattle.base_core.specs.Tree.{IsWhole, TreeState, files_of}
+use Rattle.base_core.specs.Tree.{IsWellFormed, TreeState, files_of}
 use Rattle.change_inputs.specs.Answers.{AgreesUnlessDisk, IsFailure}
 use Rattle.change_inputs.specs.Chains.{and_then}
 use Rattle.change_inputs.specs.Inputs.{Inputs, first_index_read, inputs_of}
@@ -13,7 +13,7 @@ use Rattle.change_inputs.specs.Seen.{inputs_seen}
 use Rattle.change_inputs.specs.declared.loaded.Loaded.{Loaded}
 use Rattle.change_inputs.specs.declared.root.Refused.{Refused}
 use Rattle.change_inputs.specs.declared.root.Refused.TheVariants.{Disk, Memory, Refusal as IsRefused}
-use Rattle.change_outcome.specs.ChangeOutcome.{ChangeDone, ChangeWishes, IsClashFoundOver, change_members, change_or_refusal, change_with_members}
+use Rattle.change_outcome.specs.ChangeOutcome.{ChangeDone, ChangeWishes, IsClashFoundAmong, change_members, change_or_refusal, change_with_members}
 use Rattle.change_outcome.specs.MembersAfter.{MemberFound, members_after}
 use Rattle.command_core.specs.Command.{CommandLine}
 use Rattle.dep_core.specs.Repositories.{Repository}
@@ -25,12 +25,12 @@ use Rattle.candidate_core.specs.Rank.{SealedPool}
 use Rattle.report_core.specs.declared.refusal.Refusal.{Refusal}
 use Rattle.change_outcome.specs.Premises.{IsRootOfFiles}
 use Rattle.engine_core.specs.Finishing.{IsRootRead}
-use Rattle.engine_core.specs.ChangeRun.{ComesTo, IsChangeRun}
-use Rattle.engine_core.specs.Changed.{IsClashOfSelected, IsClashOfSelectedOver, IsClashUnlessSimulatedOver, Selected, change_of_selected, change_of_command, packages_found, selected_by, selected_for, selected_of_inputs, simulated_change}
+use Rattle.engine_core.specs.ChangeRun.{CarriesOut, IsChangeRun}
+use Rattle.engine_core.specs.Changed.{IsClashOfSelected, IsClashOfSelectedAmong, IsClashUnlessSimulatedAmong, Selected, change_of_selected, change_of_command, found_packages, selected_by, selected_for, selected_of_inputs, simulated_change}
 use Rattle.engine_core.specs.Choice.{IsChoiceFrom}
 use Rattle.engine_core.specs.Runs.{IsSelectedRun}
 use Rattle.engine_core.specs.Selecting.{pool_by, pool_for}
-use Rattle.engine_core.specs.Wishes.{unknown_place, unless_place, wishes_of}
+use Rattle.engine_core.specs.Wishes.{unknown_operand_place, unless_unknown_operand, wishes_of}
 use Rattle.engine_core.proofs.Early.{HaveClash, IsOnlyRead, comes_to_failure, comes_to_refusal, files_seen}
 use Rattle.engine_core.proofs.SelectedRuns.{HaveChoice, IsRunBy}
 
@@ -53,9 +53,9 @@ splice_first count first behind n name less =
     let is : nat_lt n count ≡ true = grind (arith, nat_tests) in
     sym (ap (λ (b : Bool). if b then first n name else behind n name) is)
 
-splice_behind : (count : ℕ) (first behind : Reads) (n : ℕ) (name : List ℕ) → count ≤ n → splice count first behind n name ≡ behind n name
+splice_after : (count : ℕ) (first behind : Reads) (n : ℕ) (name : List ℕ) → count ≤ n → splice count first behind n name ≡ behind n name
 unfolding splice
-splice_behind count first behind n name less =
+splice_after count first behind n name less =
     let is : nat_lt n count ≡ false = grind (arith, nat_tests) in
     ap (λ (b : Bool). if b then first n name else behind n name) is
 
@@ -70,34 +70,34 @@ splice_observed count first behind (v ∷ earlier) f b = λ n name. by (nat_lt n
 
 -- ---- a run behind calls that only read
 
-pub comes_behind_reads : (packages : Result (List MemberFound) Refusal) (wanted : Result ChangeDone Refusal) (old mid now : List TreeState) (before between after : Counts) (result : Result (List ℕ) Refused)
-    → IsOnlyRead old mid before between → ComesTo packages wanted mid now between after result → ComesTo packages wanted old now before after result
-comes_behind_reads packages wanted old mid now before between after result quiet comes = record {
+pub comes_after_reads : (packages : Result (List MemberFound) Refusal) (wanted : Result ChangeDone Refusal) (old mid now : List TreeState) (before between after : Counts) (result : Result (List ℕ) Refused)
+    → IsOnlyRead old mid before between → CarriesOut packages wanted mid now between after result → CarriesOut packages wanted old now before after result
+comes_after_reads packages wanted old mid now before between after result quiet comes = record {
   told = same.told;
   run = same.run;
   proper = both _ _ _ old quiet.proper same.proper;
 }
   where
-    same : ComesTo packages wanted old now between after result
-    same = subst (λ (h : List TreeState). ComesTo packages wanted h now between after result) quiet.same comes
+    same : CarriesOut packages wanted old now between after result
+    same = subst (λ (h : List TreeState). CarriesOut packages wanted h now between after result) quiet.same comes
 
     both : (A B C : TreeState → Type 0) (h : List TreeState) → IfObservable h (λ v. between.misuses ≡ before.misuses)
         → IfObservable h (λ v. A v → B v → C v → after.misuses ≡ between.misuses) → IfObservable h (λ v. A v → B v → C v → after.misuses ≡ before.misuses)
     both A B C [] q r = tt
     both A B C (v ∷ earlier) q r = λ a b c. r a b c ∙ q
 
-pub run_behind_reads : (command : CommandLine) (selected : Result Selected Refusal) (old mid now : List TreeState) (before between after : Counts) (result : Result (List ℕ) Refused)
+pub run_after_reads : (command : CommandLine) (selected : Result Selected Refusal) (old mid now : List TreeState) (before between after : Counts) (result : Result (List ℕ) Refused)
     → IsOnlyRead old mid before between → IsSelectedRun command selected mid now between after result → IsSelectedRun command selected old now before after result
-run_behind_reads command selected old mid now before between after result quiet run = record {
+run_after_reads command selected old mid now before between after result quiet run = record {
   read = run.read;
   observed = subst (λ (h : List TreeState). AreObserved h run.read) quiet.same run.observed;
   files = run.files;
   there = subst (λ (h : List TreeState). IfObservable h (λ v. run.files ≡ files_of v)) quiet.same run.there;
-  standing = run.standing;
-  stand = subst (λ (h : List TreeState). IfObservable h (λ v. run.standing ≡ files_of v)) quiet.same run.stand;
+  present_files = run.present_files;
+  stand = subst (λ (h : List TreeState). IfObservable h (λ v. run.present_files ≡ files_of v)) quiet.same run.stand;
   clash = run.clash;
   is_clash = run.is_clash;
-  comes = comes_behind_reads _ _ old mid now before between after result quiet run.comes;
+  comes = comes_after_reads _ _ old mid now before between after result quiet run.comes;
 }
 
 -- ---- the same by other reads behind those of the root
@@ -121,17 +121,17 @@ module _ (have : HaveOwnReads) (command : CommandLine) (inputs : Inputs) (read o
       by true = refl
       by false = same_of_inputs s.inputs is
 
-  clash_same : (s : Selected) (files standing : Files) (clash : Option NamePair) → s.inputs ≡ inputs → IsClashUnlessSimulatedOver command.flags.simulate (wishes_of command) other files standing s clash → IsClashUnlessSimulatedOver command.flags.simulate (wishes_of command) read files standing s clash
-  clash_same s files standing clash is = by command.flags.simulate
+  clash_same : (s : Selected) (files present_files : Files) (clash : Option NamePair) → s.inputs ≡ inputs → IsClashUnlessSimulatedAmong command.flags.simulate (wishes_of command) other files present_files s clash → IsClashUnlessSimulatedAmong command.flags.simulate (wishes_of command) read files present_files s clash
+  clash_same s files present_files clash is = by command.flags.simulate
     where
       of_inputs : (i : Inputs) → i ≡ inputs → change_members i s.replacement (wishes_of command) other ≡ change_members i s.replacement (wishes_of command) read
       of_inputs i e = subst (λ (j : Inputs). change_members j s.replacement (wishes_of command) other ≡ change_members j s.replacement (wishes_of command) read) (sym e) (sym (members_same s.replacement (wishes_of command)))
 
-      by : (b : Bool) → IsClashUnlessSimulatedOver b (wishes_of command) other files standing s clash → IsClashUnlessSimulatedOver b (wishes_of command) read files standing s clash
+      by : (b : Bool) → IsClashUnlessSimulatedAmong b (wishes_of command) other files present_files s clash → IsClashUnlessSimulatedAmong b (wishes_of command) read files present_files s clash
       by true clash_is = clash_is
-      by false clash_is = subst (λ (found : Result (List MemberFound) Refusal). IsClashFoundOver s.inputs (wishes_of command) files standing found clash) (of_inputs s.inputs is) clash_is
+      by false clash_is = subst (λ (found : Result (List MemberFound) Refusal). IsClashFoundAmong s.inputs (wishes_of command) files present_files found clash) (of_inputs s.inputs is) clash_is
 
-  packages_same : (s : Selected) → s.inputs ≡ inputs → packages_found command read (Ok s) ≡ packages_found command other (Ok s)
+  packages_same : (s : Selected) → s.inputs ≡ inputs → found_packages command read (Ok s) ≡ found_packages command other (Ok s)
   packages_same s is = subst (λ (i : Inputs). change_members i s.replacement (wishes_of command) read ≡ change_members i s.replacement (wishes_of command) other) (sym is) (members_same s.replacement (wishes_of command))
 
 -- what is selected has these inputs
@@ -146,12 +146,12 @@ selected_has command chosen inputs = by_pool (pool_by command inputs)
     by_choice pool None = tt
     by_choice pool (Some trace) = refl
 
-    by_place : (pool : SealedPool) (place : Option ℕ) → HasInputs inputs (unless_place place (selected_by command inputs pool chosen))
+    by_place : (pool : SealedPool) (place : Option ℕ) → HasInputs inputs (unless_unknown_operand place (selected_by command inputs pool chosen))
     by_place pool None = by_choice pool chosen
     by_place pool (Some place) = tt
 
-    by_pool : (p : Result SealedPool Refusal) → HasInputs inputs (and_then p (λ pool. unless_place (unknown_place command.applet inputs command.operands) (selected_by command inputs pool chosen)))
-    by_pool (Ok pool) = by_place pool (unknown_place command.applet inputs command.operands)
+    by_pool : (p : Result SealedPool Refusal) → HasInputs inputs (and_then p (λ pool. unless_unknown_operand (unknown_operand_place command.applet inputs command.operands) (selected_by command inputs pool chosen)))
+    by_pool (Ok pool) = by_place pool (unknown_operand_place command.applet inputs command.operands)
     by_pool (Err refusal) = tt
 
 module _ (have : HaveOwnReads) (command : CommandLine) (inputs : Inputs) (old now : List TreeState) (before after : Counts) (result : Result (List ℕ) Refused)
@@ -169,7 +169,7 @@ module _ (have : HaveOwnReads) (command : CommandLine) (inputs : Inputs) (old no
 
   same : (n : ℕ) (name : List ℕ) → first_index_read + length inputs.root.repositories ≤ n → read n name ≡ run.read n name
   unfolding read count
-  same n name more = splice_behind count first run.read n name more
+  same n name more = splice_after count first run.read n name more
 
   inputs_is : inputs_of command read ≡ Ok inputs
   unfolding read count
@@ -187,16 +187,16 @@ module _ (have : HaveOwnReads) (command : CommandLine) (inputs : Inputs) (old no
   unfolding change_of_command selected
   changed_is = sym (ap (λ (s : Result Selected Refusal). and_then s (change_of_selected command read run.files run.clash)) selected_is ∙ by_selected selected (selected_has command chosen inputs))
 
-  packages_by : (s : Result Selected Refusal) → HasInputs inputs s → packages_found command run.read s ≡ packages_found command read s
+  packages_by : (s : Result Selected Refusal) → HasInputs inputs s → found_packages command run.read s ≡ found_packages command read s
   packages_by (Ok s) has = sym (packages_same have command inputs read run.read same s has)
   packages_by (Err refusal) has = refl
 
-  packages_are : packages_found command run.read selected ≡ packages_found command read (selected_for command read chosen)
+  packages_are : found_packages command run.read selected ≡ found_packages command read (selected_for command read chosen)
   unfolding selected
-  packages_are = packages_by selected (selected_has command chosen inputs) ∙ ap (packages_found command read) (sym selected_is)
+  packages_are = packages_by selected (selected_has command chosen inputs) ∙ ap (found_packages command read) (sym selected_is)
 
-  clash_by : (s : Result Selected Refusal) → HasInputs inputs s → IsClashOfSelectedOver command run.read run.files run.standing s run.clash → IsClashOfSelectedOver command read run.files run.standing s run.clash
-  clash_by (Ok s) has clash = clash_same have command inputs read run.read same s run.files run.standing run.clash has clash
+  clash_by : (s : Result Selected Refusal) → HasInputs inputs s → IsClashOfSelectedAmong command run.read run.files run.present_files s run.clash → IsClashOfSelectedAmong command read run.files run.present_files s run.clash
+  clash_by (Ok s) has clash = clash_same have command inputs read run.read same s run.files run.present_files run.clash has clash
   clash_by (Err refusal) has clash = clash
 
   pub whole_run : IsChangeRun command old now before after result
@@ -208,24 +208,24 @@ module _ (have : HaveOwnReads) (command : CommandLine) (inputs : Inputs) (old no
     choice = subst (λ (r : Result Inputs Refusal). IsChoiceFrom (and_then r (pool_by command)) chosen) (sym inputs_is) choice;
     files = run.files;
     there = run.there;
-    standing = run.standing;
+    present_files = run.present_files;
     stand = run.stand;
     clash = run.clash;
-    is_clash = subst (λ (s : Result Selected Refusal). IsClashOfSelectedOver command read run.files run.standing s run.clash) (sym selected_is)
+    is_clash = subst (λ (s : Result Selected Refusal). IsClashOfSelectedAmong command read run.files run.present_files s run.clash) (sym selected_is)
         (clash_by selected (selected_has command chosen inputs) run.is_clash);
-    comes = subst (λ (p : Result (List MemberFound) Refusal). ComesTo p (change_of_command command read run.files chosen run.clash) old now before after result) packages_are
-        (subst (λ (w : Result ChangeDone Refusal). ComesTo (packages_found command run.read selected) w old now before after result) changed_is run.comes);
+    comes = subst (λ (p : Result (List MemberFound) Refusal). CarriesOut p (change_of_command command read run.files chosen run.clash) old now before after result) packages_are
+        (subst (λ (w : Result ChangeDone Refusal). CarriesOut (found_packages command run.read selected) w old now before after result) changed_is run.comes);
   }
 
 pub joined : HaveOwnReads → (command : CommandLine) (loaded : Loaded) (old mid now : List TreeState) (before between after : Counts) (result : Result (List ℕ) Refused) → IsOnlyRead old mid before between
     → Explains old (λ read. inputs_of command read ≡ Ok (inputs_seen loaded)) → IsRunBy command (inputs_seen loaded) mid now between after result → IsChangeRun command old now before after result
 joined have command loaded old mid now before between after result quiet explained run =
     whole_run have command (inputs_seen loaded) old now before after result explained.read explained.observed explained.is run.0 run.1
-    (run_behind_reads command _ old mid now before between after result quiet run.2)
+    (run_after_reads command _ old mid now before between after result quiet run.2)
 
 -- ---- a root that is not read
 
-module _ (choose : HaveChoice) (have : HaveClash) (command : CommandLine) (old now : List TreeState) (before after : Counts) (whole : All IsWhole old) (quiet : IsOnlyRead old now before after) where
+module _ (choose : HaveChoice) (have : HaveClash) (command : CommandLine) (old now : List TreeState) (before after : Counts) (whole : All IsWellFormed old) (quiet : IsOnlyRead old now before after) where
   unread_failure : (fault : Refused) → IsFailure fault → (read : Reads) → AreObserved old read → IsChangeRun command old now before after (Err fault)
   unread_failure fault is read observed =
       let (chosen, choice) = choose (pool_for command read) in
@@ -237,7 +237,7 @@ module _ (choose : HaveChoice) (have : HaveClash) (command : CommandLine) (old n
         choice = choice;
         files = seen.files;
         there = seen.there;
-        standing = seen.files;
+        present_files = seen.files;
         stand = seen.there;
         clash = seen.clash;
         is_clash = seen.is_clash;
@@ -256,7 +256,7 @@ module _ (choose : HaveChoice) (have : HaveClash) (command : CommandLine) (old n
         choice = subst (λ (r : Result Inputs Refusal). IsChoiceFrom (and_then r (pool_by command)) None) (sym is) refl;
         files = seen.files;
         there = seen.there;
-        standing = seen.files;
+        present_files = seen.files;
         stand = seen.there;
         clash = seen.clash;
         is_clash = subst (λ (s : Result Selected Refusal). IsClashOfSelected command read seen.files s seen.clash) (sym selected) seen.is_clash;

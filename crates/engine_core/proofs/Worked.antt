@@ -18,7 +18,7 @@ use Rattle.report_core.specs.Reports.{Change, Reinstall, Upgrade as Upgrading}
 use Rattle.version_core.specs.Order.{is_version, tokens, version_cmp}
 use Rattle.version_core.specs.Token.{component_lexeme, next_lexeme, number_lexeme}
 use Rattle.engine_core.specs.Selecting.{replacement_of_choice}
-use Rattle.engine_core.specs.Wishes.{names_to_reinstall, names_to_upgrade, unknown_place}
+use Rattle.engine_core.specs.Wishes.{names_to_reinstall, names_to_upgrade, unknown_operand_place}
 
 abbrev word : ℕ → List ℕ → Operand
 word place text = record { place = place; text = text }
@@ -45,19 +45,19 @@ inputs =
 
 -- ---- the operand that is refused
 
-del_knows_world : unknown_place Del inputs b_a_c ≡ Some 4
+del_knows_world : unknown_operand_place Del inputs b_a_c ≡ Some 4
 del_knows_world = refl
 
-upgrade_asks_for_what_is_installed : unknown_place Upgrade inputs b_a_c ≡ Some 3
+upgrade_asks_for_what_is_installed : unknown_operand_place Upgrade inputs b_a_c ≡ Some 3
 upgrade_asks_for_what_is_installed = refl
 
-fix_asks_for_what_is_installed : unknown_place Fix inputs b_a_c ≡ Some 3
+fix_asks_for_what_is_installed : unknown_operand_place Fix inputs b_a_c ≡ Some 3
 fix_asks_for_what_is_installed = refl
 
-fix_of_what_is_installed : unknown_place Fix inputs just_b ≡ None
+fix_of_what_is_installed : unknown_operand_place Fix inputs just_b ≡ None
 fix_of_what_is_installed = refl
 
-add_asks_for_nothing : unknown_place Add inputs b_a_c ≡ None
+add_asks_for_nothing : unknown_operand_place Add inputs b_a_c ≡ None
 add_asks_for_nothing = refl
 
 -- ---- what is upgraded: b 1 is installed, and a repository has b 2

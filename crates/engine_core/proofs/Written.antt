@@ -6,7 +6,7 @@ use Rattle.std.proofs.lemmas.List.{length-map}
 use Rattle.change_files.specs.PlanLists.{FileWrite, names_in_order}
 use Rattle.change_outcome.specs.ChangeOutcome.{name_if_needed}
 use Rattle.db_core.specs.Members.{Member}
-use Rattle.journal_intent.specs.FreeNames.{AreOnce}
+use Rattle.journal_intent.specs.FreeNames.{HaveNoRepeats}
 use Rattle.base_core.specs.ByteOrder.{bytes_cmp}
 use Rattle.base_core.specs.Sorted.{sorted_by}
 use Rattle.base_core.proofs.Sorting.{Each}
@@ -14,7 +14,7 @@ use Rattle.own_core.specs.Planned.{written_names}
 use Rattle.own_core.specs.WritesSeen.{writes_in}
 use Rattle.own_core.specs.declared.planning.FilePlan.{FilePlan}
 use Rattle.stage_files.specs.declared.writes.StagedWrite.{StagedWrite}
-use Rattle.engine_core.specs.Writing.{IsFileWrite, IsRecordOf, IsSourceOfWrite, IsWriteBy, Packages, record_names, record_writes, write_name}
+use Rattle.engine_core.specs.Writing.{IsFileWrite, IsRecordOf, IsSourceOfWrite, IsWriteBy, Packages, database_and_world_names, record_writes, write_name}
 use Rattle.engine_core.specs.declared.writes.RecordWrites.{RecordWrites}
 use Rattle.engine_core.proofs.Elements.{all_each, contains_at, each_all, each_both, each_weaker, mapped_at}
 use Rattle.engine_core.proofs.Lists.{map_both, map_more, take_next}
@@ -79,7 +79,7 @@ module _ (members : List Member) (packages : Packages) (plan : FilePlan) (r : Re
       × (map write_name files ≡ written_names plan)
       × All (IsFileWrite members packages (writes_in plan.writes)) files
 
-  gathered_names : (items : List StagedWrite) → Gathered items → map write_name items ≡ written_names plan ++ record_names r
+  gathered_names : (items : List StagedWrite) → Gathered items → map write_name items ≡ written_names plan ++ database_and_world_names r
   gathered_names items (files, is, names, all) =
       let one = record_writes r.database_name r.database in
       let two = record_writes r.world_name r.world in
@@ -91,10 +91,10 @@ module _ (members : List Member) (packages : Packages) (plan : FilePlan) (r : Re
       ∙ ap (λ l. written_names plan ++ (l ++ map write_name two)) (record_named r.database_name r.database)
       ∙ ap (λ l. written_names plan ++ (name_if_needed (is_some r.database) r.database_name.now ++ l)) (record_named r.world_name r.world)
 
-  pub names_gathered : (items sorted : List StagedWrite) → Gathered items → AreOnce (written_names plan ++ record_names r) → sorted ≡ sorted_by (on write_name bytes_cmp) items
-      → map write_name sorted ≡ names_in_order (written_names plan ++ record_names r)
+  pub names_gathered : (items sorted : List StagedWrite) → Gathered items → HaveNoRepeats (written_names plan ++ database_and_world_names r) → sorted ≡ sorted_by (on write_name bytes_cmp) items
+      → map write_name sorted ≡ names_in_order (written_names plan ++ database_and_world_names r)
   names_gathered items sorted gathered once is =
-      ap (map write_name) is ∙ names_sorted write_name items ∙ ap (sorted_by bytes_cmp) (gathered_names items gathered) ∙ once_ordered (written_names plan ++ record_names r) once
+      ap (map write_name) is ∙ names_sorted write_name items ∙ ap (sorted_by bytes_cmp) (gathered_names items gathered) ∙ once_ordered (written_names plan ++ database_and_world_names r) once
 
   pub each_gathered : (items sorted : List StagedWrite) → Gathered items → sorted ≡ sorted_by (on write_name bytes_cmp) items
       → All (IsWriteBy members packages (writes_in plan.writes) r) sorted

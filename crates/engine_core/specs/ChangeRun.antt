@@ -17,15 +17,15 @@ use Rattle.command_core.specs.Command.{CommandLine}
 use Rattle.db_core.specs.Members.{member_name}
 use Rattle.file_owners.specs.Replaces.{version_text}
 use Rattle.journal_core.specs.Recovery.{intent_name}
-use Rattle.journal_core.specs.Staged.{HasRoomToStage, IsEmptyStage}
+use Rattle.journal_core.specs.Staged.{AreStagingPathsFree, IsEmptyStage}
 use Rattle.make_info.specs.Reads.{Reads}
 use Rattle.package_files.specs.Runs.{AreObserved}
 use Rattle.path_clashes.specs.Clash.{NamePair}
 use Rattle.report_core.specs.declared.refusal.Refusal.{Refusal}
 use Rattle.report_core.specs.declared.refusal.Refusal.TheVariants.{PackageBad}
 use Rattle.stage_files.specs.Spoiled.{IsSpoiledFile}
-use Rattle.stage_run.specs.StageRun.{IsStageRun, IsStageRunDone}
-use Rattle.engine_core.specs.Changed.{IsClashForOver, change_of_command, packages_found, selected_for}
+use Rattle.stage_run.specs.StageRun.{IsStageRun, IsStageRunComplete}
+use Rattle.engine_core.specs.Changed.{IsClashForAmong, change_of_command, found_packages, selected_for}
 use Rattle.engine_core.specs.Choice.{IsChoiceFrom}
 use Rattle.engine_core.specs.Selecting.{pool_for}
 
@@ -36,8 +36,8 @@ abbrev pub report_as_is : List ℕ → List ℕ
 report_as_is report = report
 
 -- the report of a change, or its refusal
-abbrev pub report_in : Result ChangeDone Refusal → Result (List ℕ) Refusal
-report_in wanted = and_then wanted (λ done. Ok done.report)
+abbrev pub report_of_result : Result ChangeDone Refusal → Result (List ℕ) Refusal
+report_of_result wanted = and_then wanted (λ done. Ok done.report)
 
 -- a change is not refused, and writes or removes something
 abbrev pub DoesCommit : Result ChangeDone Refusal → Type 0
@@ -62,7 +62,7 @@ pub record HasSpoiledPackage (packages : Result (List MemberFound) Refusal) (ref
 -- The file of an added package is not what was tested, when its contents are read once more. The report
 -- on it is that on some file with other contents. This does not happen on an observable tree without an
 -- intent and staged files.
-pub record IsFoundChanged (packages : Result (List MemberFound) Refusal)
+pub record IsChangedSinceTested (packages : Result (List MemberFound) Refusal)
     (wanted : Result ChangeDone Refusal) (history : List TreeState)
     (result : Result (List ℕ) Refused) : Type 0 where
   pub unseen : IfObservable history (λ v. v.names intent_name ≡ None → IsEmptyStage (files_of v)
@@ -81,15 +81,15 @@ pub record IsCommit (wanted : Result ChangeDone Refusal) (v : TreeState)
   pub is : wanted ≡ Ok done
   pub commits : done.commits ≡ true
   pub run : IsStageRun done.files v old now
-  pub ok : OnOk result (IsStageRunDone done.files v now)
+  pub ok : OnOk result (IsStageRunComplete done.files v now)
   pub err : IfErr result (λ refused. refused ≡ Disk)
 
 -- the tree is unchanged, which ends a change only if it commits nothing; or the change is carried
 -- through
-abbrev pub IsNoneOrCommit :
+abbrev pub IsUnchangedOrCommit :
     Result ChangeDone Refusal → TreeState → List TreeState → List TreeState
     → Result (List ℕ) Refused → Type 0
-IsNoneOrCommit wanted v old now result =
+IsUnchangedOrCommit wanted v old now result =
     ((now ≡ old) × OnOk result (DoesCommit wanted → ⊥)) ⊎ IsCommit wanted v old now result
 
 -- ---- both
@@ -99,15 +99,15 @@ IsNoneOrCommit wanted v old now result =
 -- memory ran out. If there is neither an intent nor a staged file at its start, the tree is unchanged,
 -- or the change is carried through, or the tree fails on the way. No call is a misuse if the paths are
 -- free for the stage of a change that commits.
-pub record ComesTo (packages : Result (List MemberFound) Refusal)
+pub record CarriesOut (packages : Result (List MemberFound) Refusal)
     (wanted : Result ChangeDone Refusal) (old now : List TreeState) (before after : Counts)
     (result : Result (List ℕ) Refused) : Type 0 where
-  pub told : AgreesUnlessDisk report_as_is result (report_in wanted)
-      ⊎ IsFoundChanged packages wanted old result
+  pub told : AgreesUnlessDisk report_as_is result (report_of_result wanted)
+      ⊎ IsChangedSinceTested packages wanted old result
   pub run : IfObservable old (λ v. v.names intent_name ≡ None → IsEmptyStage (files_of v)
-      → IsNoneOrCommit wanted v old now result)
+      → IsUnchangedOrCommit wanted v old now result)
   pub proper : IfObservable old (λ v. v.names intent_name ≡ None → IsEmptyStage (files_of v)
-      → (DoesCommit wanted → HasRoomToStage (files_of v)) → after.misuses ≡ before.misuses)
+      → (DoesCommit wanted → AreStagingPathsFree (files_of v)) → after.misuses ≡ before.misuses)
 
 -- A run of a command's change: by what reads find, by some files, by what is chosen, and by the first
 -- clash of names among some present files. On an observable tree both are the files that it has at the
@@ -120,9 +120,9 @@ pub record IsChangeRun (command : CommandLine) (old now : List TreeState) (befor
   pub choice : IsChoiceFrom (pool_for command read) chosen
   pub files : Files
   pub there : IfObservable old (λ v. files ≡ files_of v)
-  pub standing : Files
-  pub stand : IfObservable old (λ v. standing ≡ files_of v)
+  pub present_files : Files
+  pub stand : IfObservable old (λ v. present_files ≡ files_of v)
   pub clash : Option NamePair
-  pub is_clash : IsClashForOver command read files standing chosen clash
-  pub comes : ComesTo (packages_found command read (selected_for command read chosen))
+  pub is_clash : IsClashForAmong command read files present_files chosen clash
+  pub comes : CarriesOut (found_packages command read (selected_for command read chosen))
       (change_of_command command read files chosen clash) old now before after result

@@ -5,7 +5,7 @@ use Rattle.std.specs.Prelude.{◌≡◌, ℕ, Bool, true, false, if◌then◌els
 use Rattle.base_core.specs.Files.{Files}
 use Rattle.change_inputs.specs.Chains.{and_then}
 use Rattle.change_inputs.specs.Inputs.{Inputs, inputs_of}
-use Rattle.change_outcome.specs.ChangeOutcome.{ChangeDone, ChangeWishes, IsClashOfChangeOver, change_members, change_or_refusal}
+use Rattle.change_outcome.specs.ChangeOutcome.{ChangeDone, ChangeWishes, IsClashOfChangeAmong, change_members, change_or_refusal}
 use Rattle.change_outcome.specs.MembersAfter.{MemberFound}
 use Rattle.command_core.specs.Command.{CommandLine}
 use Rattle.make_info.specs.Reads.{Reads}
@@ -16,7 +16,7 @@ use Rattle.candidate_core.specs.Rank.{SealedPool}
 use Rattle.report_core.specs.declared.refusal.Refusal.{Refusal}
 use Rattle.report_core.specs.declared.refusal.Refusal.TheVariants.{Unsatisfied}
 use Rattle.engine_core.specs.Selecting.{pool_by, replacement_of_choice}
-use Rattle.engine_core.specs.Wishes.{names_to_reinstall, unknown_place, unless_place, wishes_of}
+use Rattle.engine_core.specs.Wishes.{names_to_reinstall, unknown_operand_place, unless_unknown_operand, wishes_of}
 
 -- ---- the selection
 
@@ -43,7 +43,7 @@ abbrev pub selected_of_inputs :
     CommandLine → Option (List ℕ) → Inputs → Result Selected Refusal
 selected_of_inputs command chosen inputs =
     and_then (pool_by command inputs) (λ pool.
-    unless_place (unknown_place command.applet inputs command.operands)
+    unless_unknown_operand (unknown_operand_place command.applet inputs command.operands)
     (selected_by command inputs pool chosen))
 
 -- what a command selects by what reads find and by the chosen candidates, or its first refusal
@@ -52,9 +52,9 @@ selected_for command read chosen =
     and_then (inputs_of command read) (selected_of_inputs command chosen)
 
 -- the packages after what is selected, as reads find them, or the first refusal
-abbrev pub packages_found :
+abbrev pub found_packages :
     CommandLine → Reads → Result Selected Refusal → Result (List MemberFound) Refusal
-packages_found command read selected =
+found_packages command read selected =
     and_then selected (λ s. change_members s.inputs s.replacement (wishes_of command) read)
 
 -- ---- the result
@@ -62,7 +62,7 @@ packages_found command read selected =
 -- the result of a change with `--simulate`: the report alone; nothing is written
 abbrev pub simulated_change : Replacement → ChangeWishes → Files → ChangeDone
 simulated_change r wishes files =
-    record { report = simulated_report r wishes.to_go; files = files; commits = false }
+    record { report = simulated_report r wishes.to_remove; files = files; commits = false }
 
 -- the result of a change whose candidates are selected, by the first clash of names, if there is one
 abbrev pub change_of_selected :
@@ -80,40 +80,41 @@ change_of_command command read files chosen clash =
 -- ---- the first clash
 
 -- what a change is given as its first clash of names; a simulated one does not test for it
-abbrev pub IsClashUnlessSimulatedOver :
+abbrev pub IsClashUnlessSimulatedAmong :
     Bool → ChangeWishes → Reads → Files → Files → Selected → Option NamePair → Type 0
-IsClashUnlessSimulatedOver true wishes read files standing s clash = clash ≡ None
-IsClashUnlessSimulatedOver false wishes read files standing s clash =
-    IsClashOfChangeOver s.inputs s.replacement wishes read files standing clash
+IsClashUnlessSimulatedAmong true wishes read files present_files s clash = clash ≡ None
+IsClashUnlessSimulatedAmong false wishes read files present_files s clash =
+    IsClashOfChangeAmong s.inputs s.replacement wishes read files present_files clash
 
 -- what a command is given as its first clash of names; one that is refused earlier does not test for it
-abbrev pub IsClashOfSelectedOver :
+abbrev pub IsClashOfSelectedAmong :
     CommandLine → Reads → Files → Files → Result Selected Refusal → Option NamePair → Type 0
-IsClashOfSelectedOver command read files standing (Ok s) clash =
-    IsClashUnlessSimulatedOver command.flags.simulate (wishes_of command) read files standing s clash
-IsClashOfSelectedOver command read files standing (Err refusal) clash = clash ≡ None
+IsClashOfSelectedAmong command read files present_files (Ok s) clash =
+    IsClashUnlessSimulatedAmong command.flags.simulate (wishes_of command) read files present_files s
+    clash
+IsClashOfSelectedAmong command read files present_files (Err refusal) clash = clash ≡ None
 
 -- The first clash of the names after a change; none if the command is refused before that test. By
--- `files` configuration is kept or a file is written beside it, and names clash among the `standing`
--- ones.
-abbrev pub IsClashForOver :
+-- `files` configuration is kept or a file is written beside it, and names clash among the
+-- `present_files` ones.
+abbrev pub IsClashForAmong :
     CommandLine → Reads → Files → Files → Option (List ℕ) → Option NamePair → Type 0
-IsClashForOver command read files standing chosen clash =
-    IsClashOfSelectedOver command read files standing (selected_for command read chosen) clash
+IsClashForAmong command read files present_files chosen clash =
+    IsClashOfSelectedAmong command read files present_files (selected_for command read chosen) clash
 
--- *IsClashUnlessSimulatedOver* if both are the same files, as on an observable tree
+-- *IsClashUnlessSimulatedAmong* if both are the same files, as on an observable tree
 abbrev pub IsClashUnlessSimulated :
     Bool → ChangeWishes → Reads → Files → Selected → Option NamePair → Type 0
 IsClashUnlessSimulated simulate wishes read files s clash =
-    IsClashUnlessSimulatedOver simulate wishes read files files s clash
+    IsClashUnlessSimulatedAmong simulate wishes read files files s clash
 
--- *IsClashOfSelectedOver* if both are the same files
+-- *IsClashOfSelectedAmong* if both are the same files
 abbrev pub IsClashOfSelected :
     CommandLine → Reads → Files → Result Selected Refusal → Option NamePair → Type 0
 IsClashOfSelected command read files selected clash =
-    IsClashOfSelectedOver command read files files selected clash
+    IsClashOfSelectedAmong command read files files selected clash
 
--- *IsClashForOver* if both are the same files
+-- *IsClashForAmong* if both are the same files
 abbrev pub IsClashFor :
     CommandLine → Reads → Files → Option (List ℕ) → Option NamePair → Type 0
-IsClashFor command read files chosen clash = IsClashForOver command read files files chosen clash
+IsClashFor command read files chosen clash = IsClashForAmong command read files files chosen clash

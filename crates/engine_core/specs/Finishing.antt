@@ -14,7 +14,7 @@ use Rattle.path_clashes.specs.Clash.{HasNoClash}
 use Rattle.change_inputs.specs.Inputs.{Inputs}
 use Rattle.change_outcome.specs.Premises.{IsRootOfFiles}
 use Rattle.change_outcome.specs.ChangeOutcome.{ChangeWishes, file_change, is_other_file}
-use Rattle.change_outcome.specs.MembersAfter.{MemberFound, members_found}
+use Rattle.change_outcome.specs.MembersAfter.{MemberFound, found_members}
 use Rattle.db_core.specs.Members.{Member}
 use Rattle.db_core.specs.Seen.{members_of, packages_of}
 use Rattle.dep_core.specs.World.{world_text}
@@ -39,16 +39,16 @@ IsRootRead history inputs = IfObservable history (λ v. IsRootOfFiles (files_of 
 -- ---- the packages
 
 -- what was read of the root, as it is known once the packages have arrived
-abbrev pub inputs_arrived : Arrived → Inputs
-inputs_arrived a = inputs_of_selection a.selection.now
+abbrev pub arrived_inputs : Arrived → Inputs
+arrived_inputs a = inputs_of_selection a.selection.now
 
 -- which packages replace which, as it is known once they have arrived
-abbrev pub replacement_arrived : Arrived → Replacement
-replacement_arrived a = replacement_seen a.selection.now
+abbrev pub arrived_replacement : Arrived → Replacement
+arrived_replacement a = replacement_seen a.selection.now
 
 -- the packages after the change, including the added ones
-abbrev pub members_arrived : Arrived → List Member
-members_arrived a = members_of a.members.now
+abbrev pub arrived_members : Arrived → List Member
+arrived_members a = members_of a.members.now
 
 -- the added packages were read, and with the kept ones they are those that are found
 pub record AreArrivals (history : List TreeState) (s : Selection) (names : PlacedNames)
@@ -62,7 +62,7 @@ pub record AreArrivals (history : List TreeState) (s : Selection) (names : Place
 -- the packages after a change have arrived: they were read, and one database can list their members
 pub record IsArrived (history : List TreeState) (a : Arrived) (found : List MemberFound) : Type 0 where
   pub read : AreArrivals history a.selection.now a.names.now a.arrivals.now found
-  pub members : members_arrived a ≡ members_found found
+  pub members : arrived_members a ≡ found_members found
 
 -- ---- the plan
 
@@ -71,14 +71,14 @@ pub record IsPlanned (history : List TreeState) (wishes : ChangeWishes) (p : Pla
     (found : List MemberFound) (files : Files) : Type 0 where
   pub arrived : IsArrived history p.arrived.now found
   pub told : IfObservable history (λ v. files ≡ files_of v)
-  pub lists : ArePlanLists (file_change (inputs_arrived p.arrived.now) wishes found) files p.plan.now
+  pub lists : ArePlanLists (file_change (arrived_inputs p.arrived.now) wishes found) files p.plan.now
   pub names : HasOwnNames p.plan.now
-  pub sources : HasSources (members_arrived p.arrived.now) p.plan.now
-  pub owners : IsPlanFor (members_arrived p.arrived.now) p.plan.now
+  pub sources : HasSources (arrived_members p.arrived.now) p.plan.now
+  pub owners : IsPlanFor (arrived_members p.arrived.now) p.plan.now
   pub no_clash : IfObservable history (λ v.
-      HasNoClash (name_change (file_change (inputs_arrived p.arrived.now) wishes found) files) files)
+      HasNoClash (name_change (file_change (arrived_inputs p.arrived.now) wishes found) files) files)
   pub unreserved : All (λ l. is_reserved l.path ≡ false)
-      (old_listings (file_change (inputs_arrived p.arrived.now) wishes found))
+      (old_listings (file_change (arrived_inputs p.arrived.now) wishes found))
 
 -- ---- the database and world
 

@@ -9,7 +9,7 @@ use Rattle.change_files.specs.FileChange.{FileChange}
 use Rattle.change_inputs.specs.declared.root.Refused.{Refused}
 use Rattle.change_inputs.specs.declared.root.Refused.TheVariants as Commands
 use Rattle.change_outcome.specs.ChangeOutcome.{ChangeWishes}
-use Rattle.db_core.specs.Members.{staying_member, member_listings}
+use Rattle.db_core.specs.Members.{member_of_kept, member_listings}
 use Rattle.db_core.specs.Seen.{members_of, packages_of}
 use Rattle.own_core.specs.Planned.{HasOwnNames, HasSources, IsPlanFor, IsPlanOf, IsRefusalFor, IsRefusalOf, MayBeRefusalOf, change_by}
 use Rattle.own_core.specs.declared.fault.PlanFault.{PlanFault}
@@ -42,7 +42,7 @@ pub record IsPlanFrom (history : List TreeState) (wishes : ChangeWishes) (a : Ar
   pub owners : IsPlanFor (members_of a.members.now) plan
   -- no path that the old database lists is reserved
   pub unreserved : All (λ l. is_reserved l.path ≡ false)
-      (member_listings (map staying_member (packages_of a.selection.now.db)))
+      (member_listings (map member_of_kept (packages_of a.selection.now.db)))
 
 -- a change has no plan, for this reason
 pub record HasNoPlan (history : List TreeState) (wishes : ChangeWishes) (a : Arrived)

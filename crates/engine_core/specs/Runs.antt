@@ -2,7 +2,7 @@
 -- of `src/changing.rt` and `src/making.rt`; the contract of the whole run is *IsChangeRun*.
 use Rattle.std.specs.Prelude.{◌≡◌, ℕ, List, Option, Result, OnOk, IfErr, IsErrOf}
 use Rattle.base_core.specs.Calls.{IfObservable}
-use Rattle.base_core.specs.Faults.{Counts, GoesOn, HasCause, IsNoFault}
+use Rattle.base_core.specs.Faults.{Counts, CountsOnlyRise, HasCause, IsNoFault}
 use Rattle.base_core.specs.Files.{Files}
 use Rattle.base_core.specs.Tree.{TreeState, files_of}
 use Rattle.change_inputs.specs.Chains.{and_then}
@@ -13,8 +13,8 @@ use Rattle.make_info.specs.Reads.{Reads}
 use Rattle.package_files.specs.Runs.{AreObserved}
 use Rattle.path_clashes.specs.Clash.{NamePair}
 use Rattle.report_core.specs.declared.refusal.Refusal.{Refusal}
-use Rattle.engine_core.specs.ChangeRun.{ComesTo}
-use Rattle.engine_core.specs.Changed.{IsClashOfSelectedOver, Selected, change_of_selected, packages_found}
+use Rattle.engine_core.specs.ChangeRun.{CarriesOut}
+use Rattle.engine_core.specs.Changed.{IsClashOfSelectedAmong, Selected, change_of_selected, found_packages}
 
 -- a run by what is selected, or by the refusal instead
 pub record IsSelectedRun (command : CommandLine) (selected : Result Selected Refusal)
@@ -24,18 +24,18 @@ pub record IsSelectedRun (command : CommandLine) (selected : Result Selected Ref
   pub observed : AreObserved old read
   pub files : Files
   pub there : IfObservable old (λ v. files ≡ files_of v)
-  pub standing : Files
-  pub stand : IfObservable old (λ v. standing ≡ files_of v)
+  pub present_files : Files
+  pub stand : IfObservable old (λ v. present_files ≡ files_of v)
   pub clash : Option NamePair
-  pub is_clash : IsClashOfSelectedOver command read files standing selected clash
-  pub comes : ComesTo (packages_found command read selected)
+  pub is_clash : IsClashOfSelectedAmong command read files present_files selected clash
+  pub comes : CarriesOut (found_packages command read selected)
       (and_then selected (change_of_selected command read files clash))
       old now before after result
 
 -- the effect of a call on the counts of a tree that it may write
 pub record IsRunCounted {A : Type 0} (before after : Counts) (result : Result A Refused) : Type 0 where
   -- no count falls
-  pub goes_on : GoesOn before after
+  pub goes_on : CountsOnlyRise before after
   -- the tree is reported as failed only if that has its cause
   pub disk : IsErrOf result Disk → HasCause before after
   -- an answer that is no I/O error of the tree raised neither the count of faults nor that of calls

@@ -15,9 +15,9 @@ use Rattle.report_core.specs.declared.refusal.Refusal.{Refusal}
 use Rattle.report_core.specs.declared.refusal.Refusal.TheVariants.{NotInstalled}
 
 -- the names to be removed, whether they are or not: those that `del` takes out of world
-abbrev pub names_to_go : Applet → List Operand → List (List ℕ)
-names_to_go Del operands = operand_texts operands
-names_to_go applet operands = []
+abbrev pub names_to_remove : Applet → List Operand → List (List ℕ)
+names_to_remove Del operands = operand_texts operands
+names_to_remove applet operands = []
 
 -- the names that `upgrade` upgrades: those of its operands, or all if it has none
 abbrev pub names_to_upgrade : Applet → List Operand → UpgradedNames
@@ -40,7 +40,7 @@ abbrev pub wishes_of : CommandLine → ChangeWishes
 wishes_of command = record {
   purge = command.flags.purge;
   no_scripts = command.flags.no_scripts;
-  to_go = names_to_go command.applet command.operands;
+  to_remove = names_to_remove command.applet command.operands;
 }
 
 -- whether a package of the name is installed before the change
@@ -59,13 +59,13 @@ first_unknown is_known (o ∷ operands) =
 
 -- the word that is refused as not installed: for `del` a name that is neither in world nor installed,
 -- for `upgrade` and `fix` one that is not installed
-abbrev pub unknown_place : Applet → Inputs → List Operand → Option ℕ
-unknown_place Del inputs operands = first_unknown (is_known_name inputs) operands
-unknown_place Upgrade inputs operands = first_unknown (is_installed_name inputs) operands
-unknown_place Fix inputs operands = first_unknown (is_installed_name inputs) operands
-unknown_place applet inputs operands = None
+abbrev pub unknown_operand_place : Applet → Inputs → List Operand → Option ℕ
+unknown_operand_place Del inputs operands = first_unknown (is_known_name inputs) operands
+unknown_operand_place Upgrade inputs operands = first_unknown (is_installed_name inputs) operands
+unknown_operand_place Fix inputs operands = first_unknown (is_installed_name inputs) operands
+unknown_operand_place applet inputs operands = None
 
 -- the next result, unless an operand that names no known package refuses the command
-abbrev pub unless_place : {A : Type 0} → Option ℕ → Result A Refusal → Result A Refusal
-unless_place None next = next
-unless_place (Some place) next = Err (NotInstalled place)
+abbrev pub unless_unknown_operand : {A : Type 0} → Option ℕ → Result A Refusal → Result A Refusal
+unless_unknown_operand None next = next
+unless_unknown_operand (Some place) next = Err (NotInstalled place)

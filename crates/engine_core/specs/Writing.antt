@@ -7,7 +7,7 @@ use Rattle.arrivals.specs.declared.arrivals.Arrivals.{Arrivals}
 use Rattle.adb_view.specs.Plain.{Plain}
 use Rattle.change_files.specs.PlanLists.{FileWrite}
 use Rattle.change_outcome.specs.ChangeOutcome.{name_if_needed}
-use Rattle.db_core.specs.Members.{Member, is_coming}
+use Rattle.db_core.specs.Members.{Member, is_added}
 use Rattle.file_guard.specs.AsListed.{file_target, has_target}
 use Rattle.own_core.specs.ClaimEntries.{folders_if_any, listed_file_at}
 use Rattle.package_test.specs.declared.package.TestedPackage.{TestedPackage}
@@ -80,8 +80,8 @@ record_writes name None = []
 record_writes name (Some bytes) = record { name = name; source = Bytes bytes } ∷ []
 
 -- the names of the database and of world, if they are written
-abbrev pub record_names : RecordWrites → List (List ℕ)
-record_names r =
+abbrev pub database_and_world_names : RecordWrites → List (List ℕ)
+database_and_world_names r =
     name_if_needed (is_some r.database) r.database_name.now
     ++ name_if_needed (is_some r.world) r.world_name.now
 
@@ -104,4 +104,4 @@ package_at arrivals place = option_and_then package_in (slice_get (arrivals_seen
 -- the package of each added member was read
 abbrev pub HasPackages : List Member → Arrivals → Type 0
 HasPackages members arrivals = (place : ℕ) (m : Member) → slice_get members place ≡ Some m
-    → is_coming m ≡ true → is_some (package_at arrivals place) ≡ true
+    → is_added m ≡ true → is_some (package_at arrivals place) ≡ true

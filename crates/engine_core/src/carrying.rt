@@ -3,14 +3,14 @@
 ghost use Rattle.base_core.specs.Files.{Files};
 ghost use Rattle.change_inputs.specs.Chains.{and_then};
 ghost use Rattle.change_outcome.specs.ChangeOutcome.{file_change, touched_paths, unless_too_large};
-ghost use Rattle.change_outcome.specs.MembersAfter.{MemberFound, members_found};
+ghost use Rattle.change_outcome.specs.MembersAfter.{MemberFound, found_members};
 ghost use Rattle.change_outcome.specs.Triggers.{unless_trigger};
 ghost use Rattle.engine_core.specs.Carrying.{HasPlan, ready_change};
-ghost use Rattle.engine_core.specs.ChangeRun.{ComesTo};
-ghost use Rattle.engine_core.specs.Finishing.{AreRecordsOf, IsPlanned, inputs_arrived, replacement_arrived};
+ghost use Rattle.engine_core.specs.ChangeRun.{CarriesOut};
+ghost use Rattle.engine_core.specs.Finishing.{AreRecordsOf, IsPlanned, arrived_inputs, arrived_replacement};
 ghost use Rattle.engine_core.specs.Runs.{IsRunCounted};
 ghost use Rattle.engine_core.specs.Wishes.{wishes_of};
-ghost use Rattle.stage_run.specs.Asked.{IsAskedRun};
+ghost use Rattle.stage_run.specs.Asked.{TargetsAreAccepted};
 ghost use Rattle.std.specs.Prelude.{◌≡◌, List, Ok};
 
 use crate::finishing::{
@@ -26,7 +26,7 @@ use change_inputs::Refused;
 use command_core::Command;
 use piece_reader::Piece;
 use stage_files::{StageFault, carry_out};
-use stage_run::asked_runs_begin_with_reads;
+use stage_run::runs_with_accepted_targets_begin_with_reads;
 use std::alloc::Global;
 
 /// Carries a change through whose triggers are tested. All memory is allocated first. If there is
@@ -41,22 +41,22 @@ fn carry_change<T: Tree>(
     // The files of the change are planned, over the tree as it is now.
     requires plan { HasPlan (T.history tree.old) (wishes_of command.now) planned.now }
     // These records are those of what was read.
-    requires records { AreRecordsOf (inputs_arrived planned.now.arrived.now) records.now }
+    requires records { AreRecordsOf (arrived_inputs planned.now.arrived.now) records.now }
     // The run ends in the change with these records, or in the refusal that its intent is too
     // large.
     ensures comes { (found : List MemberFound) (files : Files)
         → IsPlanned (T.history tree.old) (wishes_of command.now) planned.now found files
-        → ComesTo (Ok found) (ready_change (inputs_arrived planned.now.arrived.now)
-        (replacement_arrived planned.now.arrived.now) (wishes_of command.now) found files
+        → CarriesOut (Ok found) (ready_change (arrived_inputs planned.now.arrived.now)
+        (arrived_replacement planned.now.arrived.now) (wishes_of command.now) found files
         records.now.database.items) (T.history tree.old) (T.history tree.new) (T.counts tree.old)
         (T.counts tree.new) result }
     // How the tree's counts explain the answer.
     ensures counts { IsRunCounted (T.counts tree.old) (T.counts tree.new) result }
-    ensures promised { IsAskedRun T.accepts (T.history tree.old) (T.history tree.new) }
+    ensures promised { TargetsAreAccepted T.accepts (T.history tree.old) (T.history tree.new) }
 {
     // Laws that the proof needs; they have no effect at run time.
     a_package_that_was_read_is_that_of_its_file();
-    asked_runs_begin_with_reads::<T>();
+    runs_with_accepted_targets_begin_with_reads::<T>();
     let Planned { arrived, plan } = *planned;
     let loaded = arrived.selection.loaded;
     let record_writes = record_writes_of(loaded, records);
@@ -105,17 +105,17 @@ pub(crate) fn finish_change<T: Tree>(
     // The run ends in the change, unless a trigger is due or a limit of the writer is exceeded.
     ensures comes { (found : List MemberFound) (files : Files)
         → IsPlanned (T.history tree.old) (wishes_of command.now) planned.now found files
-        → ComesTo (Ok found) (and_then (unless_trigger (wishes_of command.now).no_scripts
-        (touched_paths (file_change (inputs_arrived planned.now.arrived.now)
-        (wishes_of command.now) found) files) (members_found found))
-        (λ allowed. unless_too_large (inputs_arrived planned.now.arrived.now)
-        (replacement_arrived planned.now.arrived.now) (wishes_of command.now) found files))
+        → CarriesOut (Ok found) (and_then (unless_trigger (wishes_of command.now).no_scripts
+        (touched_paths (file_change (arrived_inputs planned.now.arrived.now)
+        (wishes_of command.now) found) files) (found_members found))
+        (λ allowed. unless_too_large (arrived_inputs planned.now.arrived.now)
+        (arrived_replacement planned.now.arrived.now) (wishes_of command.now) found files))
         (T.history tree.old) (T.history tree.new) (T.counts tree.old) (T.counts tree.new) result }
     ensures counts { IsRunCounted (T.counts tree.old) (T.counts tree.new) result }
-    ensures promised { IsAskedRun T.accepts (T.history tree.old) (T.history tree.new) }
+    ensures promised { TargetsAreAccepted T.accepts (T.history tree.old) (T.history tree.new) }
 {
     // A law that the proof needs; it has no effect at run time.
-    asked_runs_begin_with_reads::<T>();
+    runs_with_accepted_targets_begin_with_reads::<T>();
     let no_scripts = command.flags().no_scripts;
     test_triggers(alloc, no_scripts, planned.arrived.members, planned.plan)?;
     let records = new_records(alloc, planned)?;

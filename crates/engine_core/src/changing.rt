@@ -5,21 +5,21 @@
 ghost use Rattle.engine_core.specs.ChangeRun.{IsChangeRun};
 ghost use Rattle.engine_core.specs.Runs.{IsRunCounted};
 ghost use Rattle.engine_core.specs.SelectionSeen.{HasItsDatabase, replacement_seen};
-ghost use Rattle.engine_core.specs.Wishes.{names_to_go};
-ghost use Rattle.stage_run.specs.Asked.{IsAskedRun};
+ghost use Rattle.engine_core.specs.Wishes.{names_to_remove};
+ghost use Rattle.stage_run.specs.Asked.{TargetsAreAccepted};
 ghost use Rattle.std.specs.Prelude.{◌≡◌, IfOk};
 ghost use Rattle.package_changes.specs.Report.{simulated_report};
 
 use crate::choosing::{Selection, a_choice_exists, choose};
 use crate::making::make_change;
-use crate::wishes::{names_of_upgrade, names_to_go};
-use arrivals::packages_after_a_change_rest_on_later_reads;
-use base_core::{Text, Tree, counts_of_calls_in_a_row_join};
-use change_inputs::{Loaded, Refused, inputs_rest_on_their_own_reads};
-use change_outcome::{a_change_has_a_first_clash_or_none, what_is_read_of_a_root_stands_there};
+use crate::wishes::{names_of_upgrade, names_to_remove};
+use arrivals::packages_after_a_change_depend_on_their_reads;
+use base_core::{Text, Tree, counts_of_consecutive_calls_compose};
+use change_inputs::{Loaded, Refused, inputs_depend_on_their_own_reads};
+use change_outcome::{a_change_has_a_first_clash_or_none, what_is_read_of_a_root_is_in_the_tree};
 use command_core::Command;
 use package_changes::{Changes, simulated_report};
-use stage_run::asked_runs_begin_with_reads;
+use stage_run::runs_with_accepted_targets_begin_with_reads;
 use std::alloc::{AllocError, Global};
 
 /// Changes what is installed, as `add`, `del`, `upgrade` or `fix` asks for, and reports it; with
@@ -41,16 +41,16 @@ pub fn change<T: Tree>(alloc: Global, command: &Command, tree: &mut T) -> Result
     // other answer hides none.
     ensures counts { IsRunCounted (T.counts tree.old) (T.counts tree.new) result }
     // At each moment the tree accepts each name to which a recovery gives other bytes than it had.
-    ensures promised { IsAskedRun T.accepts (T.history tree.old) (T.history tree.new) }
+    ensures promised { TargetsAreAccepted T.accepts (T.history tree.old) (T.history tree.new) }
 {
     // Laws that the proof needs; they have no effect at run time.
     a_choice_exists();
     a_change_has_a_first_clash_or_none();
-    asked_runs_begin_with_reads::<T>();
-    counts_of_calls_in_a_row_join();
-    inputs_rest_on_their_own_reads();
-    packages_after_a_change_rest_on_later_reads();
-    what_is_read_of_a_root_stands_there();
+    runs_with_accepted_targets_begin_with_reads::<T>();
+    counts_of_consecutive_calls_compose();
+    inputs_depend_on_their_own_reads();
+    packages_after_a_change_depend_on_their_reads();
+    what_is_read_of_a_root_is_in_the_tree();
     let loaded = Loaded::read(alloc, command, tree)?;
     let upgraded = names_of_upgrade(alloc, command)?;
     let selection = choose(alloc, command, &upgraded, &loaded)?;
@@ -65,9 +65,9 @@ pub fn change<T: Tree>(alloc: Global, command: &Command, tree: &mut T) -> Result
 fn simulate(alloc: Global, command: &Command, selection: &Selection<'_>) -> Result<Text, AllocError>
     requires { HasItsDatabase selection.now }
     ensures { IfOk result (λ report. report ≡ simulated_report (replacement_seen selection.now)
-        (names_to_go command.now.applet command.now.operands)) }
+        (names_to_remove command.now.applet command.now.operands)) }
 {
-    let to_go = names_to_go(alloc, command)?;
+    let to_remove = names_to_remove(alloc, command)?;
     let Selection {
         db,
         pool,
@@ -76,6 +76,6 @@ fn simulate(alloc: Global, command: &Command, selection: &Selection<'_>) -> Resu
         ..
     } = selection;
     let changes = Changes::of(alloc, db, pool, trace, again)?;
-    let report = simulated_report(alloc, db, pool, trace, &changes, &to_go)?;
+    let report = simulated_report(alloc, db, pool, trace, &changes, &to_remove)?;
     Text::of(alloc, report.bytes())
 }

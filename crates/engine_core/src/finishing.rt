@@ -10,14 +10,14 @@ ghost use Rattle.change_outcome.specs.MembersAfter.{MemberFound};
 ghost use Rattle.db_core.specs.Seen.{members_of};
 ghost use Rattle.db_write.specs.NewDatabase.{database_of};
 ghost use Rattle.engine_core.specs.Carrying.{IsPackageBad, IsRefusedPackage};
-ghost use Rattle.engine_core.specs.Finishing.{AreRecordWrites, AreRecordsOf, IsPlanned, bytes_if, inputs_arrived, members_arrived, replacement_arrived};
+ghost use Rattle.engine_core.specs.Finishing.{AreRecordWrites, AreRecordsOf, IsPlanned, bytes_if, arrived_inputs, arrived_members, arrived_replacement};
 ghost use Rattle.engine_core.specs.Wishes.{wishes_of};
 ghost use Rattle.std.specs.Option.{option_copied};
 ghost use Rattle.std.specs.Prelude.{◌≡◌, ◌<◌, List, not, length, IfOk};
 
 use crate::planning::Planned;
 use crate::records::{is_other_file, new_database};
-use crate::wishes::names_to_go;
+use crate::wishes::names_to_remove;
 use crate::writes::RecordWrites;
 use base_core::{Cause, Name, Names, Text};
 use change_inputs::{Loaded, Refused};
@@ -52,8 +52,8 @@ pub(crate) fn new_records(
     planned: &Planned<'_, '_, '_, '_>,
 ) -> Result<NewRecords, Refused>
     ensures told { Agrees (λ records. records.database.items) result (unless_large
-        (database_of (members_arrived planned.now.arrived.now) planned.now.plan.now.owned)) }
-    ensures records { IfOk result (AreRecordsOf (inputs_arrived planned.now.arrived.now)) }
+        (database_of (arrived_members planned.now.arrived.now) planned.now.plan.now.owned)) }
+    ensures records { IfOk result (AreRecordsOf (arrived_inputs planned.now.arrived.now)) }
 {
     let arrived = planned.arrived;
     let database = new_database(alloc, arrived.members, planned.plan.owned())?;
@@ -102,15 +102,15 @@ pub(crate) fn report_of(
 ) -> Result<Text, AllocError>
     ensures { IfOk result (λ report. (history : List TreeState) (found : List MemberFound)
         (files : Files) → IsPlanned history (wishes_of command.now) planned.now found files
-        → report ≡ change_report (replacement_arrived planned.now.arrived.now)
-        (wishes_of command.now) (file_change (inputs_arrived planned.now.arrived.now)
+        → report ≡ change_report (arrived_replacement planned.now.arrived.now)
+        (wishes_of command.now) (file_change (arrived_inputs planned.now.arrived.now)
         (wishes_of command.now) found) files) }
 {
     // A law that the proof needs; it has no effect at run time.
     places_lead_to_packages_and_candidates();
     let arrived = planned.arrived;
     let selection = arrived.selection;
-    let to_go = names_to_go(alloc, command)?;
+    let to_remove = names_to_remove(alloc, command)?;
     let changes = Changes::of_names(alloc, arrived.names)?;
     let report = change_report(
         alloc,
@@ -119,7 +119,7 @@ pub(crate) fn report_of(
             pool: &selection.pool,
             trace: &selection.trace,
             changes: &changes,
-            to_go: &to_go,
+            to_remove: &to_remove,
             members: arrived.members,
             plan: planned.plan,
         },

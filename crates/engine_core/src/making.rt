@@ -5,19 +5,19 @@ ghost use Rattle.engine_core.specs.Finishing.{IsRootRead};
 ghost use Rattle.engine_core.specs.Runs.{IsRunCounted, IsSelectedRun};
 ghost use Rattle.engine_core.specs.Selecting.{pool_by};
 ghost use Rattle.engine_core.specs.SelectionSeen.{HasItsDatabase, inputs_of_selection, selection_seen};
-ghost use Rattle.stage_run.specs.Asked.{IsAskedRun};
+ghost use Rattle.stage_run.specs.Asked.{TargetsAreAccepted};
 ghost use Rattle.std.specs.Prelude.{◌≡◌, false, Ok};
 
 use crate::carrying::finish_change;
 use crate::choosing::Selection;
 use crate::planning::{Arrived, Planned, plan_files};
 use arrivals::{members_of_change, packages_that_were_read_are_those_found, read_arrivals};
-use base_core::{Text, Tree, counts_of_calls_in_a_row_join};
+use base_core::{Text, Tree, counts_of_consecutive_calls_compose};
 use change_inputs::Refused;
 use change_outcome::a_change_has_a_first_clash_or_none;
 use command_core::Command;
 use package_changes::PlacedNames;
-use stage_run::asked_runs_begin_with_reads;
+use stage_run::runs_with_accepted_targets_begin_with_reads;
 use std::alloc::Global;
 
 /// Makes the change of a selection: reads the added packages, plans the files of the change, and
@@ -43,13 +43,13 @@ pub(crate) fn make_change<T: Tree>(
     ensures run { IsSelectedRun command.now (Ok (selection_seen selection.now))
         (T.history tree.old) (T.history tree.new) (T.counts tree.old) (T.counts tree.new) result }
     ensures counts { IsRunCounted (T.counts tree.old) (T.counts tree.new) result }
-    ensures promised { IsAskedRun T.accepts (T.history tree.old) (T.history tree.new) }
+    ensures promised { TargetsAreAccepted T.accepts (T.history tree.old) (T.history tree.new) }
 {
     // Laws that the proof needs; they have no effect at run time.
     a_change_has_a_first_clash_or_none();
-    asked_runs_begin_with_reads::<T>();
+    runs_with_accepted_targets_begin_with_reads::<T>();
     packages_that_were_read_are_those_found();
-    counts_of_calls_in_a_row_join();
+    counts_of_consecutive_calls_compose();
     let Selection {
         db,
         pool,

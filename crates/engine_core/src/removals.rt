@@ -2,7 +2,7 @@
 //! for the text database in "A root of version 2".
 ghost use Rattle.change_files.specs.PlanLists.{names_in_order};
 ghost use Rattle.change_outcome.specs.ChangeOutcome.{name_if_needed};
-ghost use Rattle.journal_intent.specs.FreeNames.{AreOnce};
+ghost use Rattle.journal_intent.specs.FreeNames.{HaveNoRepeats};
 ghost use Rattle.base_core.specs.ByteOrder.{bytes_cmp};
 ghost use Rattle.base_core.specs.Sorted.{sorted_by};
 ghost use Rattle.root_names.specs.RootNames.{text_database_name};
@@ -19,7 +19,7 @@ pub(crate) fn removals_of(
     planned: &Names,
     takes_text_over: bool,
 ) -> Result<Names, AllocError>
-    requires { AreOnce (planned.now ++ name_if_needed takes_text_over text_database_name) }
+    requires { HaveNoRepeats (planned.now ++ name_if_needed takes_text_over text_database_name) }
     ensures { IfOk result (λ names. names
         ≡ names_in_order (planned.now ++ name_if_needed takes_text_over text_database_name)) }
 {

@@ -8,7 +8,7 @@ ghost use Rattle.db_core.specs.Seen.{members_of};
 ghost use Rattle.engine_core.specs.Writing.{entry_of_write};
 ghost use Rattle.file_guard.specs.AsListed.{file_target};
 ghost use Rattle.own_core.specs.ClaimEntries.{HasFileAt, listed_file_at};
-ghost use Rattle.own_core.specs.Planned.{IsOfComingFile};
+ghost use Rattle.own_core.specs.Planned.{IsOfAddedFile};
 ghost use Rattle.own_core.specs.WritesSeen.{write_seen};
 ghost use Rattle.std.specs.Prelude.{◌≡◌, ◌<◌, ◌≤◌, ◌-◌};
 
@@ -19,7 +19,7 @@ use own_core::Write;
 /// The target of the file that a write is of, after a number of two bytes; empty if the file is no
 /// link.
 pub(crate) fn target_of<'c>(members: &Members<'c>, write: &Write) -> &'c [u8]
-    requires { IsOfComingFile (members_of members.now) (write_seen write.now) }
+    requires { IsOfAddedFile (members_of members.now) (write_seen write.now) }
     ensures { result.now ≡ file_target (entry_of_write (members_of members.now)
         (write_seen write.now)) }
 {

@@ -4,7 +4,7 @@ ghost use Rattle.change_inputs.specs.Seen.{inputs_seen};
 ghost use Rattle.db_core.specs.Seen.{packages_of};
 ghost use Rattle.dep_core.specs.World.{has_name};
 ghost use Rattle.change_inputs.specs.World.{operand_texts};
-ghost use Rattle.engine_core.specs.Wishes.{first_unknown, is_known_name, names_of_upgrade, names_to_go, names_to_reinstall, names_to_upgrade, unknown_place};
+ghost use Rattle.engine_core.specs.Wishes.{first_unknown, is_known_name, names_of_upgrade, names_to_remove, names_to_reinstall, names_to_upgrade, unknown_operand_place};
 ghost use Rattle.package_changes.specs.Report.{was_installed};
 ghost use Rattle.candidate_core.specs.Rank.{all_names, listed_names};
 ghost use Rattle.candidate_core.specs.Values.{names_upgraded_by};
@@ -24,9 +24,9 @@ use std::cmp::Ordering;
 /// # Errors
 ///
 /// Out of memory, also if there are more than a list of words holds.
-pub(crate) fn names_to_go(alloc: Global, command: &Command) -> Result<Words, AllocError>
+pub(crate) fn names_to_remove(alloc: Global, command: &Command) -> Result<Words, AllocError>
     ensures { IfOk result
-        (λ names. names ≡ names_to_go command.now.applet command.now.operands) }
+        (λ names. names ≡ names_to_remove command.now.applet command.now.operands) }
 {
     match command.applet() {
         Applet::Del => operand_texts(alloc, command.operands()),
@@ -93,7 +93,7 @@ fn all_or_listed(names: &Words) -> Upgrade<'_>
 pub(crate) fn unknown_operand(command: &Command, loaded: &Loaded, db: &Db<'_>) -> Option<u32>
     requires { packages_of db.now ≡ (inputs_seen loaded.now).root.database.packages }
     ensures { result
-        ≡ unknown_place command.now.applet (inputs_seen loaded.now) command.now.operands }
+        ≡ unknown_operand_place command.now.applet (inputs_seen loaded.now) command.now.operands }
 {
     match command.applet() {
         Applet::Del => first_unknown(command.operands(), loaded, db),

@@ -2,11 +2,11 @@
 //! "`add` and `del`", what is written.
 ghost use Rattle.change_files.specs.PlanLists.{names_in_order};
 ghost use Rattle.db_core.specs.Seen.{members_of};
-ghost use Rattle.engine_core.specs.Writing.{HasPackages, IsFileWrite, IsSourceOfWrite, IsWriteBy, package_at, record_names, record_writes, write_name};
-ghost use Rattle.journal_intent.specs.FreeNames.{AreOnce};
+ghost use Rattle.engine_core.specs.Writing.{HasPackages, IsFileWrite, IsSourceOfWrite, IsWriteBy, package_at, database_and_world_names, record_writes, write_name};
+ghost use Rattle.journal_intent.specs.FreeNames.{HaveNoRepeats};
 ghost use Rattle.base_core.specs.ByteOrder.{bytes_cmp};
 ghost use Rattle.base_core.specs.Sorted.{sorted_by};
-ghost use Rattle.own_core.specs.Planned.{HasSources, IsOfComingFile, written_names};
+ghost use Rattle.own_core.specs.Planned.{HasSources, IsOfAddedFile, written_names};
 ghost use Rattle.own_core.specs.WritesSeen.{write_seen, writes_in};
 ghost use Rattle.stage_files.specs.declared.writes.StagedWrite.{StagedWrite as StagedWriteValue};
 ghost use Rattle.std.specs.Ordering.{on};
@@ -36,7 +36,7 @@ pub(crate) struct RecordWrites<'c> {
 /// The source of a planned write: the text of a link, or the file of the package that was read for
 /// its member.
 fn source_of<'c>(members: &Members<'c>, arrivals: &'c Arrivals, write: &Write) -> Source<'c>
-    requires file { IsOfComingFile (members_of members.now) (write_seen write.now) }
+    requires file { IsOfAddedFile (members_of members.now) (write_seen write.now) }
     requires packages { HasPackages (members_of members.now) arrivals.now }
     ensures { IsSourceOfWrite (members_of members.now) (package_at arrivals.now)
         (write_seen write.now) result }
@@ -123,10 +123,10 @@ pub(crate) fn writes_of<'c>(
     // Each added package was read.
     requires packages { HasPackages (members_of members.now) arrivals.now }
     // No name is written twice.
-    requires once { AreOnce (written_names plan.now ++ record_names records.now) }
+    requires once { HaveNoRepeats (written_names plan.now ++ database_and_world_names records.now) }
     // The names are those of the plan and of the records, in byte order.
     ensures names { IfOk result (λ writes. map write_name writes.items
-        ≡ names_in_order (written_names plan.entry.now ++ record_names records.now)) }
+        ≡ names_in_order (written_names plan.entry.now ++ database_and_world_names records.now)) }
     // Each write has the bytes that its name is to have.
     ensures each { IfOk result (λ writes. All (IsWriteBy (members_of members.now)
         (package_at arrivals.entry.now) (writes_in plan.entry.now.writes) records.now)

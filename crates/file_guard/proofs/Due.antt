@@ -120,13 +120,13 @@ second_differs bytes first second n is same_first differs further same =
     first_is : first ≡ take n bytes ++ drop (length (take n bytes)) first
     first_is = front_and_rest (length (take n bytes)) first (take n bytes) (drop (length (take n bytes)) first) ((bytes_eq-Decides (take (length (take n bytes)) first) (take n bytes)).0 same_first) refl
 
-    nothing_behind : (front left : List ℕ) → length left ≡ 0 → front ++ left ≡ front
-    nothing_behind front [] e = append-nil front
-    nothing_behind front (x ∷ left) e = absurd (omega arith)
+    nothing_after : (front left : List ℕ) → length left ≡ 0 → front ++ left ≡ front
+    nothing_after front [] e = append-nil front
+    nothing_after front (x ∷ left) e = absurd (omega arith)
 
     behind_first : length (drop (length (take n bytes)) first) ≡ 0 → bytes_eq (take (length (drop n bytes)) second) (drop n bytes) ≡ true
     behind_first none =
-        let all : first ≡ take n bytes = first_is ∙ nothing_behind (take n bytes) (drop (length (take n bytes)) first) none in
+        let all : first ≡ take n bytes = first_is ∙ nothing_after (take n bytes) (drop (length (take n bytes)) first) none in
         let split : take n bytes ++ (drop n bytes ++ further) ≡ take n bytes ++ second =
         sym (append_assoc (take n bytes) (drop n bytes) further)
         ∙ (ap (λ (xs : List ℕ). xs ++ further) (take-append-drop n bytes)

@@ -8,7 +8,7 @@ use Rattle.base_core.specs.Faults.{Counts, HasCause, IsNoFault}
 use Rattle.base_core.specs.Read.{OnlyReads}
 use Rattle.base_core.specs.Tree.{TreeState, CanRead, files_of}
 use Rattle.base_core.specs.declared.tree.Disk.{Disk}
-use Rattle.file_guard.specs.Listed.{is_as_told}
+use Rattle.file_guard.specs.Listed.{is_as_described}
 use Rattle.file_guard.specs.Watching.{Watches}
 use Rattle.file_guard.specs.declared.compare.ListedFile.{ListedFile}
 use Rattle.file_guard.specs.declared.watch.Watch.{Watch}
@@ -20,8 +20,8 @@ use Rattle.file_guard.specs.declared.watch.Watch.{Watch}
 pub record HasRead (history : List TreeState) (name : List ℕ) (for_new for_old : Watch) (new old : Option ListedFile) (at : ℕ) : Type 0 where
   pub bytes : List ℕ
   pub front : IfObservable history (λ v. IfSome (files_of v name) (λ file. bytes ≡ take at file))
-  pub due_new : Watches for_new (is_as_told new) bytes
-  pub due_old : Watches for_old (is_as_told old) bytes
+  pub due_new : Watches for_new (is_as_described new) bytes
+  pub due_old : Watches for_old (is_as_described old) bytes
 
 -- what is known of the file under a name as soon as it is known of each file, where the tree tells
 -- it
@@ -36,7 +36,7 @@ nothing_read : (history : List TreeState) (name : List ℕ) → IfObservable his
 nothing_read [] name = tt
 nothing_read (v ∷ earlier) name = of_file _ (files_of v name) (λ file is. refl)
 
-pub before_first : (history : List TreeState) (name : List ℕ) (for_new for_old : Watch) (new old : Option ListedFile) → Watches for_new (is_as_told new) [] → Watches for_old (is_as_told old) []
+pub before_first : (history : List TreeState) (name : List ℕ) (for_new for_old : Watch) (new old : Option ListedFile) → Watches for_new (is_as_described new) [] → Watches for_old (is_as_described old) []
     → HasRead history name for_new for_old new old 0
 before_first history name for_new for_old new old is_new is_old =
     record { bytes = []; front = nothing_read history name; due_new = is_new; due_old = is_old }
@@ -63,8 +63,8 @@ pub further : (history later : List TreeState) (name : List ℕ) (for_new for_ol
 further history later name for_new for_old new_after old_after new old at n piece same takes_new takes_old read has = record {
   bytes = has.bytes ++ piece;
   front = further_front history later name at n has.bytes piece same read has.front;
-  due_new = takes_new (is_as_told new) has.bytes has.due_new;
-  due_old = takes_old (is_as_told old) has.bytes has.due_old;
+  due_new = takes_new (is_as_described new) has.bytes has.due_new;
+  due_old = takes_old (is_as_described old) has.bytes has.due_old;
 }
 
 -- all bytes of the file

@@ -14,16 +14,16 @@ pub record IsOfEntry (listed : ListedFile) (entry : Plain) : Type 0 where
   pub target : listed.target.now ≡ file_target entry
 
 -- whether bytes are as a `ListedFile` describes; without one, none are
-abbrev pub is_as_told : Option ListedFile → List ℕ → Bool
-is_as_told None bytes = false
-is_as_told (Some listed) bytes =
+abbrev pub is_as_described : Option ListedFile → List ℕ → Bool
+is_as_described None bytes = false
+is_as_described (Some listed) bytes =
     is_as_listed_by listed.size listed.hash.now listed.target.now bytes
 
 -- how bytes compare with what is listed after a change and before it; a side that lists nothing
 -- agrees with no bytes
 abbrev pub comparison_by : Option ListedFile → Option ListedFile → List ℕ → Comparison
 comparison_by new old bytes =
-    record { as_new = is_as_told new bytes; as_old = is_as_told old bytes }
+    record { as_new = is_as_described new bytes; as_old = is_as_described old bytes }
 
 -- how the file under the name compares, if there is one
 abbrev pub comparison_of : Option ListedFile → Option ListedFile → Option (List ℕ) → Option Comparison

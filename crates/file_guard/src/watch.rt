@@ -2,7 +2,7 @@
 //! rules are in `docs/commands.md`, "What a change does with files", what counts as changed.
 
 ghost use Rattle.std.specs.Prelude.{◌≡◌, ℕ, Bool, List, [], ◌++◌, Some};
-ghost use Rattle.file_guard.specs.Listed.{is_as_told};
+ghost use Rattle.file_guard.specs.Listed.{is_as_described};
 ghost use Rattle.file_guard.specs.Watching.{Watches};
 
 use crate::compare::ListedFile;
@@ -26,7 +26,7 @@ impl<'a> Watch<'a> {
     /// The watch of an entry, before the first byte of the file; without an entry, nothing is as
     /// listed.
     pub fn new(listed: Option<ListedFile<'a>>) -> Watch<'a>
-        ensures { Watches result (is_as_told listed.entry) [] }
+        ensures { Watches result (is_as_described listed.entry) [] }
     {
         match listed {
             Some(listed) => watch_listed(listed),
@@ -65,7 +65,7 @@ impl<'a> Watch<'a> {
 /// The watch of a file with this entry: its link's bytes, its digest, or no bytes are expected; by
 /// a size alone nothing is as listed.
 fn watch_listed<'a>(listed: ListedFile<'a>) -> Watch<'a>
-    ensures { Watches result (is_as_told (Some listed.entry)) [] }
+    ensures { Watches result (is_as_described (Some listed.entry)) [] }
 {
     if !listed.target.is_empty() {
         return Watch::Exactly(LINK_MARK, target_text(listed.target));

@@ -5,7 +5,7 @@ use Rattle.std.proofs.lemmas.Option.{slice_get-map}
 use Rattle.adb_view.specs.Plain.{Plain}
 use Rattle.adb_fields.specs.Repeated.{list_of}
 use Rattle.adb_view.specs.Values.{entries_in, entry_in}
-use Rattle.db_core.specs.Members.{Member, listings_by, listings_in_folders, staying_member}
+use Rattle.db_core.specs.Members.{Member, listings_by, listings_in_folders, member_of_kept}
 use Rattle.path_claims.specs.Claims.{PathClaim}
 use Rattle.file_owners.specs.Gathered.{with_listings}
 
@@ -13,15 +13,15 @@ member_or : Member → Option Member → Member
 member_or d None = d
 member_or d (Some m) = m
 
-is_staying : (packages : List Plain) (i : ℕ) (pkg : Plain) (m : Member) → slice_get packages i ≡ Some pkg → slice_get (map staying_member packages) i ≡ Some m → staying_member pkg ≡ m
+is_staying : (packages : List Plain) (i : ℕ) (pkg : Plain) (m : Member) → slice_get packages i ≡ Some pkg → slice_get (map member_of_kept packages) i ≡ Some m → member_of_kept pkg ≡ m
 unfolding member_or
-is_staying packages i pkg m at g = ap (member_or m) (sym (ap (option_map staying_member) at) ∙ (sym (slice_get-map staying_member packages i) ∙ g))
+is_staying packages i pkg m at g = ap (member_or m) (sym (ap (option_map member_of_kept) at) ∙ (sym (slice_get-map member_of_kept packages i) ∙ g))
 
 pub if_added : {A E : Type 0} (r : Result A E) (old new : List PathClaim) (packages : List Plain) (i : ℕ) (pkg folders : Plain)
     → slice_get packages i ≡ Some pkg → folders ≡ entry_in pkg 1
     → IfOk r (λ _. (m : Member) → new ≡ with_listings old (listings_in_folders m i 1 (list_of (entries_in folders))))
-    → IfOk r (λ _. (m : Member) → slice_get (map staying_member packages) i ≡ Some m → new ≡ with_listings old (listings_by i m))
+    → IfOk r (λ _. (m : Member) → slice_get (map member_of_kept packages) i ≡ Some m → new ≡ with_listings old (listings_by i m))
 if_added (Err e) old new packages i pkg folders at paths h = h
 if_added (Ok x) old new packages i pkg folders at paths h = λ m g.
-    let is : staying_member pkg ≡ m = is_staying packages i pkg m at g in
+    let is : member_of_kept pkg ≡ m = is_staying packages i pkg m at g in
     h m ∙ (λ j. with_listings old (listings_in_folders m i 1 (list_of (entries_in ((paths ∙ ap (λ (k : Member). entry_in k.pkg 1) is) j)))))

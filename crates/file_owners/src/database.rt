@@ -3,7 +3,7 @@
 //! `docs/commands.md`, "Files that several packages list", that a kept package claims those files.
 
 ghost use Rattle.std.specs.Prelude.{◌≡◌, ◌<◌, [], Some, IfOk, length, map, slice_get};
-ghost use Rattle.db_core.specs.Members.{Member, listings_by, member_listings, staying_member};
+ghost use Rattle.db_core.specs.Members.{Member, listings_by, member_listings, member_of_kept};
 ghost use Rattle.db_core.specs.Seen.{packages_of};
 ghost use Rattle.base_core.specs.Sorted.{sorted_by};
 ghost use Rattle.path_claims.specs.Claims.{claim_cmp};
@@ -27,7 +27,7 @@ use std::marker::PhantomData;
 /// Out of memory.
 pub fn claims_in_database<'a>(alloc: Global, db: &Db<'a>) -> Result<Vec<Claim<'a>>, AllocError>
     ensures { IfOk result (λ claims. map claim_seen claims.items
-        ≡ sorted_by claim_cmp (claims_in (map staying_member (packages_of db.now)))) }
+        ≡ sorted_by claim_cmp (claims_in (map member_of_kept (packages_of db.now)))) }
 {
     let mut sorted = listed_files(alloc, db)?;
     sort_claims(&mut sorted)?;
@@ -37,7 +37,7 @@ pub fn claims_in_database<'a>(alloc: Global, db: &Db<'a>) -> Result<Vec<Claim<'a
 /// The files of a database as claims, in the order of packages, folders and files.
 fn listed_files<'a>(alloc: Global, db: &Db<'a>) -> Result<Vec<Claim<'a>>, AllocError>
     ensures { IfOk result (λ claims. map claim_seen claims.items
-        ≡ with_listings [] (member_listings (map staying_member (packages_of db.now)))) }
+        ≡ with_listings [] (member_listings (map member_of_kept (packages_of db.now)))) }
 {
     let mut claims = Vec::new(alloc);
     for i in 0..db.len() {
@@ -57,7 +57,7 @@ fn add_package<'a>(
 ) -> Result<(), AllocError>
     requires { i < length (packages_of db.now) }
     ensures { IfOk result (λ _. (m : Member)
-        → slice_get (map staying_member (packages_of db.now)) i ≡ Some m
+        → slice_get (map member_of_kept (packages_of db.now)) i ≡ Some m
         → map claim_seen claims.new.items
         ≡ with_listings (map claim_seen claims.old.items) (listings_by i m)) }
 {

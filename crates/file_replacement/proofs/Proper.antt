@@ -4,13 +4,13 @@ use Rattle.std.specs.Str.{bytes_eq}
 use Rattle.journal_intent.proofs.AtName.{drop_name-at, drop_name-off, off_name}
 use Rattle.journal_core.proofs.History.{History, observable_at}
 use Rattle.file_replacement.proofs.Suffix.{scratch_apart}
-use Rattle.base_core.specs.Files.{put_name, drop_name, IsFolderLike}
+use Rattle.base_core.specs.Files.{put_name, drop_name, HasNoFileAsFolder}
 use Rattle.base_core.specs.Tree.{File, TreeState, bytes_at, files_of, remove_at, after_remove, CanCreate, CanRename}
-use Rattle.base_core.specs.Calls.{IfObservable, HasNow}
-use Rattle.journal_core.specs.Replacing.{scratch_of, HasRoom}
-use Rattle.journal_core.specs.Filling.{HasOneMore, HasPlace, HasBothPlaces}
+use Rattle.base_core.specs.Calls.{IfObservable, HoldsNow}
+use Rattle.journal_core.specs.Replacing.{scratch_of, IsOutputPathFree}
+use Rattle.journal_core.specs.Filling.{HasOneMoreName, CanAddName, CanAddBothNames}
 
-fewer : {A B : Type 0} (m : List ℕ → Option A) (n : List ℕ → Option B) → ((q : List ℕ) → IsSome (n q) → IsSome (m q)) → IsFolderLike m → IsFolderLike n
+fewer : {A B : Type 0} (m : List ℕ → Option A) (n : List ℕ → Option B) → ((q : List ℕ) → IsSome (n q) → IsSome (m q)) → HasNoFileAsFolder m → HasNoFileAsFolder n
 fewer m n less folders p q folder has_p has_q = folders p q folder (less p has_p) (less q has_q)
 
 -- ---- a new file is made
@@ -31,7 +31,7 @@ some_put : (b : Bool) (m n : ℕ) (o p : Option ℕ) → (b ≡ false → o ≡ 
 some_put true m n o p same some = refl
 some_put false m n o p same some = subst IsSome (same refl) some
 
-pub can_create : (name : List ℕ) (start v : TreeState) → HasPlace name start → IsFree name start v → CanCreate name v
+pub can_create : (name : List ℕ) (start v : TreeState) → CanAddName name start → IsFree name start v → CanCreate name v
 can_create name start v folders free = record {
   absent = free.absent;
   folders = fewer (put_name start.names name 0) (put_name v.names name v.made) (λ q. some_put (bytes_eq q name) v.made 0 (v.names q) (start.names q) (λ off. free.others q (off_name q name off))) folders;
@@ -39,14 +39,14 @@ can_create name start v folders free = record {
 
 -- ---- and moved
 
-room_fill : (scratch name : List ℕ) (v : TreeState) → HasBothPlaces scratch name v → HasPlace scratch v
+room_fill : (scratch name : List ℕ) (v : TreeState) → CanAddBothNames scratch name v → CanAddName scratch v
 room_fill scratch name v room = fewer (put_name (put_name v.names scratch 0) name 0) (put_name v.names scratch 0) (λ q. into (bytes_eq q name) (put_name v.names scratch 0 q)) room.folders
   where
     into : (b : Bool) (o : Option ℕ) → IsSome o → IsSome (cond b (Some 0) o)
     into true o some = refl
     into false o some = some
 
-room_rename : (scratch name : List ℕ) (start v : TreeState) → HasBothPlaces scratch name start → HasOneMore scratch start v → CanRename scratch name v
+room_rename : (scratch name : List ℕ) (start v : TreeState) → CanAddBothNames scratch name start → HasOneMoreName scratch start v → CanRename scratch name v
 room_rename scratch name start v room more = record {
   present = more.there;
   apart = room.apart;
@@ -59,17 +59,17 @@ room_rename scratch name start v room more = record {
     into false true o p same some = refl
     into false false o p same some = subst IsSome (same refl) some
 
-module _ (scratch name : List ℕ) (v : TreeState) (old : History) (rest : History) (is : old ≡ v ∷ rest) (room : HasBothPlaces scratch name v) (a b : ℕ) where
-  pub fill_proper : IfObservable old (λ w. HasPlace scratch w → b ≡ a) → b ≡ a
-  fill_proper proper = observable_at old v rest is (λ w. HasPlace scratch w → b ≡ a) proper (room_fill scratch name v room)
+module _ (scratch name : List ℕ) (v : TreeState) (old : History) (rest : History) (is : old ≡ v ∷ rest) (room : CanAddBothNames scratch name v) (a b : ℕ) where
+  pub fill_proper : IfObservable old (λ w. CanAddName scratch w → b ≡ a) → b ≡ a
+  fill_proper proper = observable_at old v rest is (λ w. CanAddName scratch w → b ≡ a) proper (room_fill scratch name v room)
 
   module _ (mid : History) (c : ℕ) where
-    moved_proper : (m : History) → HasNow m (HasOneMore scratch v) → IfObservable m (λ w. CanRename scratch name w → c ≡ b) → c ≡ b
+    moved_proper : (m : History) → HoldsNow m (HasOneMoreName scratch v) → IfObservable m (λ w. CanRename scratch name w → c ≡ b) → c ≡ b
     moved_proper [] more second = absurd more
     moved_proper (w ∷ h) more second = second (room_rename scratch name v w room more)
 
-    pub settle_proper : IfObservable old (λ w. HasPlace scratch w → b ≡ a) → IfObservable old (λ w. HasNow mid (HasOneMore scratch w)) → IfObservable mid (λ w. CanRename scratch name w → c ≡ b) → c ≡ a
-    settle_proper first more second = moved_proper mid (observable_at old v rest is (λ w. HasNow mid (HasOneMore scratch w)) more) second ∙ fill_proper first
+    pub settle_proper : IfObservable old (λ w. CanAddName scratch w → b ≡ a) → IfObservable old (λ w. HoldsNow mid (HasOneMoreName scratch w)) → IfObservable mid (λ w. CanRename scratch name w → c ≡ b) → c ≡ a
+    settle_proper first more second = moved_proper mid (observable_at old v rest is (λ w. HoldsNow mid (HasOneMoreName scratch w)) more) second ∙ fill_proper first
 
 -- ---- room among the files as read
 
@@ -82,12 +82,12 @@ as_read : (files : ℕ → File) (n : Option ℕ) → IsSome n → IsSome (bytes
 as_read files None some = absurd (cc (some))
 as_read files (Some n) some = refl
 
-pub both_places : (scratch name : List ℕ) → scratch ≡ scratch_of name → (v : TreeState) → HasRoom name (files_of v) → HasBothPlaces scratch name v
+pub both_places : (scratch name : List ℕ) → scratch ≡ scratch_of name → (v : TreeState) → IsOutputPathFree name (files_of v) → CanAddBothNames scratch name v
 both_places scratch name scratch_is v room = record {
   apart = λ is. scratch_apart name (sym scratch_is ∙ is);
-  folders = subst (λ s. IsFolderLike (put_name (put_name v.names s 0) name 0)) (sym scratch_is) (fewer (put_name (put_name (files_of v) (scratch_of name) []) name []) (put_name (put_name v.names (scratch_of name) 0) name 0)
+  folders = subst (λ s. HasNoFileAsFolder (put_name (put_name v.names s 0) name 0)) (sym scratch_is) (fewer (put_name (put_name (files_of v) (scratch_of name) []) name []) (put_name (put_name v.names (scratch_of name) 0) name 0)
       (λ q. put_both (bytes_eq q name) (bytes_eq q (scratch_of name)) 0 0 [] (v.names q) (files_of v q) (as_read v.files (v.names q))) room.folders);
 }
 
-pub room_proper : (scratch name : List ℕ) → scratch ≡ scratch_of name → (v : TreeState) (old rest : History) → old ≡ v ∷ rest → HasRoom name (files_of v) → (a b : ℕ) → IfObservable old (λ w. HasBothPlaces scratch name w → b ≡ a) → b ≡ a
-room_proper scratch name scratch_is v old rest is room a b proper = observable_at old v rest is (λ w. HasBothPlaces scratch name w → b ≡ a) proper (both_places scratch name scratch_is v room)
+pub room_proper : (scratch name : List ℕ) → scratch ≡ scratch_of name → (v : TreeState) (old rest : History) → old ≡ v ∷ rest → IsOutputPathFree name (files_of v) → (a b : ℕ) → IfObservable old (λ w. CanAddBothNames scratch name w → b ≡ a) → b ≡ a
+room_proper scratch name scratch_is v old rest is room a b proper = observable_at old v rest is (λ w. CanAddBothNames scratch name w → b ≡ a) proper (both_places scratch name scratch_is v room)

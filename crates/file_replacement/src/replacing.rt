@@ -2,23 +2,21 @@
 //! The rules are in `docs/crash-safety.md`, "A whole file replaced", its four steps and what
 //! follows from them.
 ghost use Rattle.std.specs.Prelude.{◌≡◌, ◌⊎◌, ◌≢◌, ◌≤◌, [], ◌∷◌, ℕ, Bool, List, Some, length, IfOk, OnOk, OnErr, IsErrOf};
-ghost use Rattle.base_core.specs.Calls.{HasNow, IfObservable};
-ghost use Rattle.base_core.specs.Crash.{Since, IsOrderly};
-ghost use Rattle.base_core.specs.Faults.{GoesOn, HasCause, IsNoFault};
+ghost use Rattle.base_core.specs.Calls.{HoldsNow, IfObservable};
+ghost use Rattle.base_core.specs.Crash.{Since};
+ghost use Rattle.base_core.specs.Undone.{IsDurable};
+ghost use Rattle.base_core.specs.Faults.{CountsOnlyRise, HasCause, IsNoFault};
 ghost use Rattle.base_core.specs.Tree.{TreeState, CanRename, files_of};
 ghost use Rattle.file_replacement.specs.Lengths.{longest_replaced};
-ghost use Rattle.journal_core.specs.Filling.{IsUntouched, IsFilling, IsMoving, IsLasting, HasOneMore, HasPlace, HasBothPlaces, synced_file};
-ghost use Rattle.journal_core.specs.Kept.{IsSyncedAt, KeepsMapsBut};
-ghost use Rattle.journal_core.specs.Reading.{IsReadAs};
-ghost use Rattle.journal_core.specs.Recovery.{RestsOn, IsSettled, intent_name};
-ghost use Rattle.journal_core.specs.Replacing.{HidesScratch, HasRoom, IsReplacing, replaced_files, scratch_of};
+ghost use Rattle.journal_core.specs.Filling.{HasChangedOnly, HasNewFileAt, IsReadyToMove, IsDurablyMoved, HasOneMoreName, CanAddName, CanAddBothNames, synced_file};
+ghost use Rattle.journal_core.specs.Kept.{IsSyncedAt, KeepsMapsExcept};
+ghost use Rattle.journal_core.specs.Reading.{ReadsOldOrReplaced};
+ghost use Rattle.journal_core.specs.Recovery.{StateDependsOn, EachCrashLeaves, intent_name};
+ghost use Rattle.journal_core.specs.Replacing.{IgnoresScratch, IsOutputPathFree, IsMomentOfReplacing, replaced_files, scratch_of};
 
-use base_core::{
-    Disk, Name, Tree, TreeFault, a_crash_may_leave_the_files_as_read,
-    counts_of_calls_in_a_row_join, order_outlasts_a_crash,
-};
+use base_core::{Disk, Name, Tree, TreeFault, counts_of_consecutive_calls_compose};
 use journal_core::calls::{append, create, remove, rename, sync_all_names, sync_file};
-use journal_core::{Journal, check_target};
+use journal_core::check_target;
 use std::alloc::{AllocError, Global};
 
 /// Writes one whole file: after a crash at any moment its name has the old file or the new one, and
@@ -41,41 +39,41 @@ pub fn replace<T: Tree>(
     requires length { length name.now ≤ longest_replaced }
     requires apart { name.now ≢ intent_name }
 
-    // At each moment the tree is orderly, and a crash leaves a state from before or that of the new
+    // At each moment the tree is durable, and a crash leaves a state from before or that of the new
     // files. The ignored names include the scratch name.
     ensures moments { IfObservable (T.history tree.old) (λ v. (ignored : List ℕ → Bool)
-        → IsOrderly (RestsOn ignored) v → HidesScratch ignored name.now
-        → Since (IsReplacing ignored (replaced_files name.now bytes.now (files_of v)) v)
+        → IsDurable (StateDependsOn ignored) v → IgnoresScratch ignored name.now
+        → Since (IsMomentOfReplacing ignored (replaced_files name.now bytes.now (files_of v)) v)
         (T.history tree.old) (T.history tree.new)) }
 
-    // Whatever it returns, the tree is orderly.
-    ensures orderly { IfObservable (T.history tree.old) (λ v. (ignored : List ℕ → Bool)
-        → IsOrderly (RestsOn ignored) v → HidesScratch ignored name.now
-        → HasNow (T.history tree.new) (IsOrderly (RestsOn ignored))) }
+    // Whatever it returns, the tree is durable.
+    ensures is_durable { IfObservable (T.history tree.old) (λ v. (ignored : List ℕ → Bool)
+        → IsDurable (StateDependsOn ignored) v → IgnoresScratch ignored name.now
+        → HoldsNow (T.history tree.new) (IsDurable (StateDependsOn ignored))) }
 
     // Once it has returned Ok, each crash leaves the state of the new files.
     ensures settled { IfObservable (T.history tree.old) (λ v. (ignored : List ℕ → Bool)
-        → IsOrderly (RestsOn ignored) v → HidesScratch ignored name.now
-        → OnOk result (HasNow (T.history tree.new)
-        (IsSettled ignored (replaced_files name.now bytes.now (files_of v))))) }
+        → IsDurable (StateDependsOn ignored) v → IgnoresScratch ignored name.now
+        → OnOk result (HoldsNow (T.history tree.new)
+        (EachCrashLeaves ignored (replaced_files name.now bytes.now (files_of v))))) }
 
     // At each moment the files as read are the old ones, apart from the scratch name, or the new
     // ones: the latter once it has returned Ok.
     ensures reads { IfObservable (T.history tree.old) (λ v.
-        Since (IsReadAs name.now bytes.now (files_of v)) (T.history tree.old)
+        Since (ReadsOldOrReplaced name.now bytes.now (files_of v)) (T.history tree.old)
         (T.history tree.new)) }
     ensures ok { IfObservable (T.history tree.old)
-        (λ v. OnOk result (HasNow (T.history tree.new) (λ w.
+        (λ v. OnOk result (HoldsNow (T.history tree.new) (λ w.
         files_of w ≡ replaced_files name.now bytes.now (files_of v)))) }
 
     // At each moment a crash leaves every other name as it might have left it before.
     ensures others { IfObservable (T.history tree.old) (λ v.
-        Since (KeepsMapsBut (name.now ∷ scratch_of name.now ∷ []) v) (T.history tree.old)
+        Since (KeepsMapsExcept (name.now ∷ scratch_of name.now ∷ []) v) (T.history tree.old)
         (T.history tree.new)) }
 
     // Once it has returned Ok, no crash undoes a change of names, and the new file is synced.
     ensures synced { IfObservable (T.history tree.old)
-        (λ v. OnOk result (HasNow (T.history tree.new) (IsSyncedAt name.now))) }
+        (λ v. OnOk result (HoldsNow (T.history tree.new) (IsSyncedAt name.now))) }
 
     // The name is asked for first: either nothing has happened, or the tree accepts that a file is
     // renamed to it from the scratch name. Ok is returned only if it does.
@@ -88,13 +86,13 @@ pub fn replace<T: Tree>(
 
     // No count of faults falls; a fault of the tree is returned only if that count rose, and Ok
     // only if it did not.
-    ensures goes_on { GoesOn (T.counts tree.old) (T.counts tree.new) }
+    ensures goes_on { CountsOnlyRise (T.counts tree.old) (T.counts tree.new) }
     ensures disk { IsErrOf result TreeFault.Disk
         → HasCause (T.counts tree.old) (T.counts tree.new) }
     ensures kept { OnOk result (IsNoFault (T.counts tree.old) (T.counts tree.new)) }
 
     // If the paths are free, no call is a misuse.
-    ensures proper { IfObservable (T.history tree.old) (λ v. HasRoom name.now (files_of v)
+    ensures proper { IfObservable (T.history tree.old) (λ v. IsOutputPathFree name.now (files_of v)
         → (T.counts tree.new).misuses ≡ (T.counts tree.old).misuses) }
 {
     let scratch = scratch_name(alloc, name)?;
@@ -122,12 +120,13 @@ fn write_beside<T: Tree>(
 ) -> Result<(), Disk>
     requires { name.now ≢ intent_name }
     ensures moments { IfObservable (T.history tree.old) (λ v.
-        Since (IsMoving scratch.now name.now bytes.now v) (T.history tree.old)
+        Since (IsReadyToMove scratch.now name.now bytes.now v) (T.history tree.old)
         (T.history tree.new)) }
     ensures lasting { IfObservable (T.history tree.old) (λ v.
-        OnOk result (HasNow (T.history tree.new) (IsLasting scratch.now name.now bytes.now v))) }
+        OnOk result (HoldsNow (T.history tree.new) (IsDurablyMoved scratch.now name.now bytes.now
+        v))) }
     ensures others { IfObservable (T.history tree.old) (λ v.
-        Since (KeepsMapsBut (name.now ∷ scratch.now ∷ []) v) (T.history tree.old)
+        Since (KeepsMapsExcept (name.now ∷ scratch.now ∷ []) v) (T.history tree.old)
         (T.history tree.new)) }
 
     // The name is asked for first: either nothing has happened, or the tree accepts it.
@@ -137,16 +136,16 @@ fn write_beside<T: Tree>(
 
     // No count of faults falls; a fault of the tree is returned only if that count rose, and Ok
     // only if it did not.
-    ensures goes_on { GoesOn (T.counts tree.old) (T.counts tree.new) }
+    ensures goes_on { CountsOnlyRise (T.counts tree.old) (T.counts tree.new) }
     ensures cause { OnErr result (HasCause (T.counts tree.old) (T.counts tree.new)) }
     ensures kept { OnOk result (IsNoFault (T.counts tree.old) (T.counts tree.new)) }
 
     // If each of the names may have a file, no call is a misuse.
-    ensures proper { IfObservable (T.history tree.old) (λ v. HasBothPlaces scratch.now name.now v
+    ensures proper { IfObservable (T.history tree.old) (λ v. CanAddBothNames scratch.now name.now v
         → (T.counts tree.new).misuses ≡ (T.counts tree.old).misuses) }
 {
     // A law that the proof needs; it computes nothing.
-    counts_of_calls_in_a_row_join();
+    counts_of_consecutive_calls_compose();
     check_target(tree, name, Some(scratch))?;
     make_and_move(tree, scratch, name, bytes)
 }
@@ -161,22 +160,23 @@ fn make_and_move<T: Tree>(
 ) -> Result<(), Disk>
     requires { name.now ≢ intent_name }
     ensures moments { IfObservable (T.history tree.old) (λ v.
-        Since (IsMoving scratch.now name.now bytes.now v) (T.history tree.old)
+        Since (IsReadyToMove scratch.now name.now bytes.now v) (T.history tree.old)
         (T.history tree.new)) }
     ensures lasting { IfObservable (T.history tree.old) (λ v.
-        OnOk result (HasNow (T.history tree.new) (IsLasting scratch.now name.now bytes.now v))) }
+        OnOk result (HoldsNow (T.history tree.new) (IsDurablyMoved scratch.now name.now bytes.now
+        v))) }
     ensures others { IfObservable (T.history tree.old) (λ v.
-        Since (KeepsMapsBut (name.now ∷ scratch.now ∷ []) v) (T.history tree.old)
+        Since (KeepsMapsExcept (name.now ∷ scratch.now ∷ []) v) (T.history tree.old)
         (T.history tree.new)) }
 
     // No count of faults falls; a fault of the tree is returned only if that count rose, and Ok
     // only if it did not.
-    ensures goes_on { GoesOn (T.counts tree.old) (T.counts tree.new) }
+    ensures goes_on { CountsOnlyRise (T.counts tree.old) (T.counts tree.new) }
     ensures cause { OnErr result (HasCause (T.counts tree.old) (T.counts tree.new)) }
     ensures kept { OnOk result (IsNoFault (T.counts tree.old) (T.counts tree.new)) }
 
     // If each of the names may have a file, no call is a misuse.
-    ensures proper { IfObservable (T.history tree.old) (λ v. HasBothPlaces scratch.now name.now v
+    ensures proper { IfObservable (T.history tree.old) (λ v. CanAddBothNames scratch.now name.now v
         → (T.counts tree.new).misuses ≡ (T.counts tree.old).misuses) }
 {
     fill(tree, scratch, bytes)?;
@@ -187,51 +187,51 @@ fn make_and_move<T: Tree>(
 /// there, and syncs it: only a synced file may be moved to its name.
 fn fill<T: Tree>(tree: &mut T, name: &Name, bytes: &[u8]) -> Result<(), Disk>
     ensures moments { IfObservable (T.history tree.old) (λ v.
-        Since (IsUntouched name.now v) (T.history tree.old) (T.history tree.new)) }
+        Since (HasChangedOnly name.now v) (T.history tree.old) (T.history tree.new)) }
     ensures filled { IfObservable (T.history tree.old)
         (λ v. OnOk result (IfObservable (T.history tree.new)
-        (IsFilling name.now (synced_file bytes.now) v))) }
+        (HasNewFileAt name.now (synced_file bytes.now) v))) }
 
     // No count of faults falls; a fault of the tree is returned only if that count rose, and Ok
     // only if it did not.
-    ensures goes_on { GoesOn (T.counts tree.old) (T.counts tree.new) }
+    ensures goes_on { CountsOnlyRise (T.counts tree.old) (T.counts tree.new) }
     ensures cause { OnErr result (HasCause (T.counts tree.old) (T.counts tree.new)) }
     ensures kept { OnOk result (IsNoFault (T.counts tree.old) (T.counts tree.new)) }
 
     // If the name may have a file, no call is a misuse.
-    ensures proper { IfObservable (T.history tree.old) (λ v. HasPlace name.now v
+    ensures proper { IfObservable (T.history tree.old) (λ v. CanAddName name.now v
         → (T.counts tree.new).misuses ≡ (T.counts tree.old).misuses) }
     ensures names { IfObservable (T.history tree.old) (λ v.
-        OnOk result (HasNow (T.history tree.new) (HasOneMore name.now v))) }
+        OnOk result (HoldsNow (T.history tree.new) (HasOneMoreName name.now v))) }
     ensures others { IfObservable (T.history tree.old) (λ v.
-        Since (KeepsMapsBut (name.now ∷ []) v) (T.history tree.old) (T.history tree.new)) }
+        Since (KeepsMapsExcept (name.now ∷ []) v) (T.history tree.old) (T.history tree.new)) }
 {
-    // Laws that the proof needs; they compute nothing.
-    a_crash_may_leave_the_files_as_read();
-    order_outlasts_a_crash::<Journal>();
     remove(tree, name)?;
     create(tree, name)?;
     append(tree, name, bytes)?;
     sync_file(tree, name)
 }
 
-/// Moves a synced file to its name, and makes the names durable: without this a crash could still
-/// restore the old file after an Ok.
+/// Moves a synced file to its name, and makes the names durable before and after. Without the first
+/// a crash could keep the move and undo an older change of a name: a state that is neither an old
+/// one nor the new one. Without the second it could restore the old file after an Ok.
 fn settle<T: Tree>(tree: &mut T, from: &Name, to: &Name) -> Result<(), Disk>
     requires { to.now ≢ intent_name }
     ensures moments { IfObservable (T.history tree.old) (λ v. (bytes : List ℕ) (start : TreeState)
-        → IsFilling from.now (synced_file bytes) start v
-        → Since (IsMoving from.now to.now bytes start) (T.history tree.old) (T.history tree.new)) }
+        → HasNewFileAt from.now (synced_file bytes) start v
+        → Since (IsReadyToMove from.now to.now bytes start) (T.history tree.old) (T.history
+        tree.new)) }
     ensures settled { IfObservable (T.history tree.old) (λ v. (bytes : List ℕ) (start : TreeState)
-        → IsFilling from.now (synced_file bytes) start v
-        → OnOk result (IfObservable (T.history tree.new) (IsLasting from.now to.now bytes start))) }
+        → HasNewFileAt from.now (synced_file bytes) start v
+        → OnOk result (IfObservable (T.history tree.new) (IsDurablyMoved from.now to.now bytes
+        start))) }
     ensures others { IfObservable (T.history tree.old) (λ v.
-        Since (KeepsMapsBut (to.now ∷ from.now ∷ []) v) (T.history tree.old)
+        Since (KeepsMapsExcept (to.now ∷ from.now ∷ []) v) (T.history tree.old)
         (T.history tree.new)) }
 
     // No count of faults falls; a fault of the tree is returned only if that count rose, and Ok
     // only if it did not.
-    ensures goes_on { GoesOn (T.counts tree.old) (T.counts tree.new) }
+    ensures goes_on { CountsOnlyRise (T.counts tree.old) (T.counts tree.new) }
     ensures cause { OnErr result (HasCause (T.counts tree.old) (T.counts tree.new)) }
     ensures kept { OnOk result (IsNoFault (T.counts tree.old) (T.counts tree.new)) }
 
@@ -239,9 +239,7 @@ fn settle<T: Tree>(tree: &mut T, from: &Name, to: &Name) -> Result<(), Disk>
     ensures proper { IfObservable (T.history tree.old) (λ v. CanRename from.now to.now v
         → (T.counts tree.new).misuses ≡ (T.counts tree.old).misuses) }
 {
-    // Laws that the proof needs; they compute nothing.
-    a_crash_may_leave_the_files_as_read();
-    order_outlasts_a_crash::<Journal>();
+    sync_all_names(tree)?;
     rename(tree, from, to)?;
     sync_all_names(tree)
 }

@@ -15,7 +15,7 @@ use Rattle.gen_core.specs.Reads.{Read, block_taken, end_read, entry_block_read, 
 use Rattle.gen_core.specs.declared.generate.GenFault.{GenFault}
 use Rattle.gen_core.proofs.TextLines.{strip_prefix-append}
 use Rattle.gen_core.proofs.Blocks.{FirstLine, Inner, Split, first_line, inner_block, no_block}
-use Rattle.gen_core.proofs.Reading.{Answers, GoesOn, Reading, bad_at, later_values, place_ends, taken}
+use Rattle.gen_core.proofs.Reading.{Answers, CountsOnlyRise, Reading, bad_at, later_values, place_ends, taken}
 
 -- ---- the lines of a block
 
@@ -137,7 +137,7 @@ entry_read_left f depth line entry d c new p v same whole =
     let r = split_block ls in
     let left = (block_at (depth + 1) p.others).1 in
     let place : CursorState = cursor_by left (new.number + length (entry ∷ r.0)) 0 in
-    let goes : GoesOn (line ∷ ls, rest) (r.1, rest) (1 + length r.0) c place = record {
+    let goes : CountsOnlyRise (line ∷ ls, rest) (r.1, rest) (1 + length r.0) c place = record {
       lines = refl;
       number = omega (arith, same);
       count = omega (arith, split_count ls);
@@ -320,7 +320,7 @@ line_left s h depth value word d c some e later ok = go (line_read s word) refl 
     next : after_line c.lines c ≡ cursor_by f.others (c.number + 1) 0
     next = ap (λ (ls : List Line). after_line ls c) f.lines
 
-    goes : GoesOn (first.0 ∷ t.0, t.1) t 1 c (cursor_by f.others (c.number + 1) 0)
+    goes : CountsOnlyRise (first.0 ∷ t.0, t.1) t 1 c (cursor_by f.others (c.number + 1) 0)
     goes = record { lines = refl; number = refl; count = omega arith; levels = no_levels t.0 }
 
     here : (v : Plain) → line_read s word ≡ Ok v → NamedLeft s value depth d c (draft_with v d, cursor_by f.others (c.number + 1) 0)
@@ -420,7 +420,7 @@ below_left s h depth value d c some e later ok = go (block_read s r.0) refl (bel
     place : CursorState
     place = cursor_by left (c.number + 1 + length r.0) (levels_after r.0 0)
 
-    goes : GoesOn (b.line ∷ t.0, t.1) (r.1, t.1) (1 + length r.0) c place
+    goes : CountsOnlyRise (b.line ∷ t.0, t.1) (r.1, t.1) (1 + length r.0) c place
     goes = record {
       lines = refl;
       number = omega arith;

@@ -10,7 +10,7 @@ use Rattle.adb_dump.specs.Dump.{is_printable, escape_of, begins_with_byte, is_ba
 use Rattle.adb_dump.proofs.Booleans.{and_true, not_true, chosen}
 use Rattle.adb_dump.proofs.LineBack.{AreBytes}
 use Rattle.gen_core.specs.Reads.{IsFormOf}
-use Rattle.gen_core.specs.Quoted.{FirstByte, hex_digit_value, byte_of_digits, hex_byte_at, unless_shorter, escaped_at, unescaped_at}
+use Rattle.gen_core.specs.Quoted.{FirstByte, hex_digit_value, byte_of_digits, hex_byte_at, if_only_hex, escaped_at, unescaped_at}
 
 -- ---- a test of each number below another
 
@@ -115,7 +115,7 @@ escape_back c more lt = go (eqb c 10) refl
 
     plain : eqb c 10 ≡ false → eqb c 92 ≡ false → eqb c 34 ≡ false → (b : Bool) → is_printable c ≡ b → unescaped_at (cond b (c ∷ []) (codes "\\x" ++ encode_lower (c ∷ [])) ++ more) ≡ Some (c, more)
     plain d e f true p = rw (e, f, p) refl
-    plain d e f false p = ap unless_shorter (pair_back c more lt) ∙ rw (d, p) refl
+    plain d e f false p = ap if_only_hex (pair_back c more lt) ∙ rw (d, p) refl
 
     quote : eqb c 10 ≡ false → eqb c 92 ≡ false → (b : Bool) → eqb c 34 ≡ b → unescaped_at (cond b (92 ∷ 34 ∷ []) (cond (is_printable c) (c ∷ []) (codes "\\x" ++ encode_lower (c ∷ []))) ++ more) ≡ Some (c, more)
     quote d e true f = let is : c ≡ 34 = eqb-true _ _ f in rw is refl
@@ -133,7 +133,7 @@ escape_back c more lt = go (eqb c 10) refl
 abbrev IsFirst : List ℕ → FirstByte → Type 0
 IsFirst cs b = (escape_of b.0 ++ b.1 ≡ cs) × (b.0 < 256)
 
-shorter_some : (o : Option FirstByte) (b : FirstByte) → unless_shorter o ≡ Some b → (o ≡ Some b) × (eqb b.0 10 ≡ false) × (is_printable b.0 ≡ false)
+shorter_some : (o : Option FirstByte) (b : FirstByte) → if_only_hex o ≡ Some b → (o ≡ Some b) × (eqb b.0 10 ≡ false) × (is_printable b.0 ≡ false)
 shorter_some None b e = absurd cc
 shorter_some (Some a) b e =
     elim (chosen (eqb a.0 10 || is_printable a.0) _ _ _ e) [
@@ -149,7 +149,7 @@ shorter_some (Some a) b e =
     neither true b e = absurd cc
     neither false b e = (refl, e)
 
-hex_first : (cs : List ℕ) (b : FirstByte) → unless_shorter (hex_byte_at cs) ≡ Some b → IsFirst (92 ∷ 120 ∷ cs) b
+hex_first : (cs : List ℕ) (b : FirstByte) → if_only_hex (hex_byte_at cs) ≡ Some b → IsFirst (92 ∷ 120 ∷ cs) b
 hex_first cs b e =
     let (some, line, printable) = shorter_some (hex_byte_at cs) b e in
     let is = pair_some cs b some in

@@ -101,13 +101,13 @@ entries_stop f depth d c e = no_values (λ ls. entries_read f (length ls) ls) de
 -- ---- values that come after a value
 
 -- the place after a value, from which the block goes on
-pub record GoesOn (block later : Split) (n : ℕ) (c new : CursorState) : Type 0 where
+pub record CountsOnlyRise (block later : Split) (n : ℕ) (c new : CursorState) : Type 0 where
   pub lines : later.1 ≡ block.1
   pub number : new.number ≡ c.number + n
   pub count : n + length later.0 ≡ length block.0
   pub levels : levels_after later.0 new.levels ≡ levels_after block.0 c.levels
 
-pub later_values : (block later : Split) (n : ℕ) (d : DraftState) (c new : CursorState) → GoesOn block later n c new → (v : Plain) (r : LinesRead Plains) → values_taken (after_lines n (more v) r) block d c ≡ values_taken r later (draft_with v d) new
+pub later_values : (block later : Split) (n : ℕ) (d : DraftState) (c new : CursorState) → CountsOnlyRise block later n c new → (v : Plain) (r : LinesRead Plains) → values_taken (after_lines n (more v) r) block d c ≡ values_taken r later (draft_with v d) new
 later_values block later n d c new g v (Ok vs) =
     let count : c.number + length block.0 ≡ new.number + length later.0 = omega (arith, g.number, g.count) in
     ap (λ (x : CursorState). taken (draft_with_all vs (draft_with v d)) x)

@@ -20,8 +20,8 @@ pub record CursorState : Type 0 where
 abbrev pub cursor_by : List Line → ℕ → ℕ → CursorState
 cursor_by lines number levels = record { lines = lines; number = number; levels = levels }
 
--- the lines from the one that is read on, of which the first so many levels were read, to the last
--- that has its line end
+-- the lines still to be read: the current one, with the levels of its margin that were read put back,
+-- and all lines after it that have their line ends
 abbrev pub lines_from : ℕ → Option Line → List ℕ → List Line
 lines_from levels None rest = []
 lines_from levels (Some l) rest = (margin levels ++ l) ∷ (text_lines rest).0
@@ -57,8 +57,8 @@ abbrev pub after_line : List Line → CursorState → CursorState
 after_line [] c = c
 after_line (l ∷ ls) c = cursor_by ls (c.number + 1) 0
 
--- the place at which the line that is read is such an entry, so many levels deep: its dash is in the
--- last of these levels
+-- the place after the dash of an entry: the line counts as `entry` with a margin of this many levels, in
+-- the last of which the dash is
 abbrev pub at_entry : ℕ → Line → List Line → CursorState → CursorState
 at_entry levels entry [] c = c
 at_entry levels entry (l ∷ ls) c = cursor_by ((margin levels ++ entry) ∷ ls) c.number levels

@@ -27,10 +27,10 @@ hex_byte_at [] = None
 hex_byte_at (h ∷ []) = None
 hex_byte_at (h ∷ l ∷ cs) = byte_of_digits (hex_digit_value h) (hex_digit_value l) cs
 
--- a byte that has no other form between quotes than two digits
-abbrev pub unless_shorter : Option FirstByte → Option FirstByte
-unless_shorter None = None
-unless_shorter (Some b) = if b.0 == 0x0a || is_printable b.0 then None else Some b
+-- this byte, if between quotes it can only be written as two digits; none for one with a shorter form
+abbrev pub if_only_hex : Option FirstByte → Option FirstByte
+if_only_hex None = None
+if_only_hex (Some b) = if b.0 == 0x0a || is_printable b.0 then None else Some b
 
 -- the byte of the escape whose backslash came before
 abbrev pub escaped_at : List ℕ → Option FirstByte
@@ -39,7 +39,7 @@ escaped_at (d ∷ cs) =
     if d == 0x6e then Some (0x0a, cs)
     else if d == 0x5c then Some (0x5c, cs)
     else if d == 0x22 then Some (0x22, cs)
-    else if d == 0x78 then unless_shorter (hex_byte_at cs)
+    else if d == 0x78 then if_only_hex (hex_byte_at cs)
     else None
 
 -- the byte that comes first between quotes: a printable one as it is, or an escape

@@ -7,7 +7,7 @@ ghost use Rattle.std.specs.Fmt.{decimal};
 ghost use Rattle.hex.specs.Hex.{encode_lower};
 ghost use Rattle.adb_dump.specs.Dump.{begins_with_byte, is_printable, text_form};
 ghost use Rattle.gen_core.specs.Reads.{IsFormOf};
-ghost use Rattle.gen_core.specs.Quoted.{escaped_at, hex_byte_at, hex_digit_value, unescaped_at, unless_shorter};
+ghost use Rattle.gen_core.specs.Quoted.{escaped_at, hex_byte_at, hex_digit_value, unescaped_at, if_only_hex};
 
 use adb_dump::is_bare;
 use itoa::Buffer;
@@ -153,15 +153,15 @@ fn escaped(text: &[u8]) -> Option<(u8, &[u8])>
         Some((b'n', further)) => Some((b'\n', further)),
         Some((b'\\', further)) => Some((b'\\', further)),
         Some((b'"', further)) => Some((b'"', further)),
-        Some((b'x', further)) => unless_shorter(hex_byte(further)),
+        Some((b'x', further)) => if_only_hex(hex_byte(further)),
         _ => None,
     }
 }
 
 /// A byte that has no other form between quotes than two digits.
-fn unless_shorter(first: Option<(u8, &[u8])>) -> Option<(u8, &[u8])>
+fn if_only_hex(first: Option<(u8, &[u8])>) -> Option<(u8, &[u8])>
     ensures { option_map (λ first. (first.0, first.1.now)) result
-        ≡ unless_shorter (option_map (λ first. (first.0, first.1.now)) first.entry) }
+        ≡ if_only_hex (option_map (λ first. (first.0, first.1.now)) first.entry) }
 {
     let (byte, further) = first?;
     if byte == b'\n' {

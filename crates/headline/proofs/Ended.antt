@@ -8,7 +8,7 @@ use Rattle.command_core.specs.declared.command.Applet.{Applet}
 use Rattle.journal_core.specs.Recovery.{intent_name}
 use Rattle.journal_core.specs.Staged.{unstaged_files}
 use Rattle.outcome.specs.ChangeEnd.{IsRunEnd, TakesFirstSelection}
-use Rattle.outcome.specs.Commands.{IsOutcomeOver}
+use Rattle.outcome.specs.Commands.{IsOutcomeOn}
 use Rattle.outcome.specs.Effect.{Changes, does_recover, effect_of}
 use Rattle.outcome.specs.Outcome.{Outcome, just_refusal}
 use Rattle.outcome.specs.Recovers.{must_recover}
@@ -36,17 +36,17 @@ takes_first command files o (inr (inr (inr takes))) none = takes
 
 module _ (recovers : (applet : Applet) → does_recover (effect_of applet) ≡ must_recover applet)
     (bad : (words : List (List ℕ)) (command : CommandLine) (files : Files) (o : Outcome) (cause : Cause) → command_of words ≡ Ok command → IsTrue (must_recover command.applet)
-    → fault_of_intent (files intent_name) ≡ Some cause → IsOutcome words files o → o ≡ just_refusal files (IntentBad cause))
+    → fault_of_intent (files intent_name) ≡ Some cause → IsOutcome (command_of words) files o → o ≡ just_refusal files (IntentBad cause))
     (works : (words : List (List ℕ)) (command : CommandLine) (files : Files) (o : Outcome) → command_of words ≡ Ok command → IsTrue (must_recover command.applet)
-    → fault_of_intent (files intent_name) ≡ None → IsOutcome words files o → IsOutcomeOver command (unstaged_files files) o)
-    (selected : (command : CommandLine) (files : Files) (o : Outcome) → effect_of command.applet ≡ Changes → IsOutcomeOver command files o → o.refusal ≡ None → command.flags.simulate ≡ false → HasFirstSelection command files)
-    (ends : (words : List (List ℕ)) (command : CommandLine) (files : Files) (o : Outcome) → command_of words ≡ Ok command → effect_of command.applet ≡ Changes → IsOutcome words files o → IsRunEnd command files o)
+    → fault_of_intent (files intent_name) ≡ None → IsOutcome (command_of words) files o → IsOutcomeOn command (unstaged_files files) o)
+    (selected : (command : CommandLine) (files : Files) (o : Outcome) → effect_of command.applet ≡ Changes → IsOutcomeOn command files o → o.refusal ≡ None → command.flags.simulate ≡ false → HasFirstSelection command files)
+    (ends : (words : List (List ℕ)) (command : CommandLine) (files : Files) (o : Outcome) → command_of words ≡ Ok command → effect_of command.applet ≡ Changes → IsOutcome (command_of words) files o → IsRunEnd command files o)
     (faults : (words : List (List ℕ)) (command : CommandLine) (files : Files) (o : Outcome) (refusal : Refusal) → command_of words ≡ Ok command → effect_of command.applet ≡ Changes
-    → IsOutcome words files o → o.refusal ≡ Some refusal → IsFaultOfRun command files refusal) where
+    → IsOutcome (command_of words) files o → o.refusal ≡ Some refusal → IsFaultOfRun command files refusal) where
   must : (applet : Applet) → effect_of applet ≡ Changes → IsTrue (must_recover applet)
   must applet changes = sym (recovers applet) ∙ ap does_recover changes
 
-  packages : (words : List (List ℕ)) (command : CommandLine) (files : Files) (o : Outcome) → command_of words ≡ Ok command → effect_of command.applet ≡ Changes → IsOutcome words files o → o.refusal ≡ None
+  packages : (words : List (List ℕ)) (command : CommandLine) (files : Files) (o : Outcome) → command_of words ≡ Ok command → effect_of command.applet ≡ Changes → IsOutcome (command_of words) files o → o.refusal ≡ None
       → command.flags.simulate ≡ false → HasFirstSelection command (unstaged_files files)
   packages words command files o named changes one none made = by (fault_of_intent (files intent_name)) refl
     where
@@ -54,7 +54,7 @@ module _ (recovers : (applet : Applet) → does_recover (effect_of applet) ≡ m
       by None is = selected command (unstaged_files files) o changes (works words command files o named (must command.applet changes) is one) none made
       by (Some cause) is = absurd (refuses_none files (IntentBad cause) o none (bad words command files o cause named (must command.applet changes) is one))
 
-  pub ended : (words : List (List ℕ)) (command : CommandLine) (files : Files) (o : Outcome) → command_of words ≡ Ok command → effect_of command.applet ≡ Changes → IsOutcome words files o → EndsAsStated command files o
+  pub ended : (words : List (List ℕ)) (command : CommandLine) (files : Files) (o : Outcome) → command_of words ≡ Ok command → effect_of command.applet ≡ Changes → IsOutcome (command_of words) files o → EndsAsStated command files o
   ended words command files o named changes one =
       let end = ends words command files o named changes one in
       record {

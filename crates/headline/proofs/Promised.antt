@@ -1,20 +1,20 @@
 -- What a run recovers to, at each of its moments.
 use Rattle.std.proofs.Common.{◌≡◌, ◌⊎◌, inl, inr, ℕ, true, false, List, [], ◌∷◌, Ok, refl, subst, ◌∙◌}
-use Rattle.apk_front.specs.Moments.{AnswersOutcome, HidesScratchOf, IsAtRest, Settles}
-use Rattle.base_core.specs.Calls.{HasNow, IfObservable}
-use Rattle.base_core.specs.Crash.{IsImage, IsOrderly}
+use Rattle.apk_front.specs.Moments.{AnswersOutcome, IgnoresScratchOf, IsDurableState, MakesDurable}
+use Rattle.base_core.specs.Calls.{HoldsNow, IfObservable}
+use Rattle.base_core.specs.Undone.{IsDurable, IsCrashImage}
 use Rattle.base_core.specs.Files.{Files}
 use Rattle.base_core.specs.Tree.{TreeState, files_of}
 use Rattle.command_core.specs.Command.{CommandLine}
-use Rattle.journal_core.specs.Recovery.{IsSettled, RestsOn, intent_name}
+use Rattle.journal_core.specs.Recovery.{EachCrashLeaves, StateDependsOn, intent_name}
 use Rattle.journal_core.proofs.More.{states_same}
 use Rattle.outcome.specs.Effect.{Changes, does_recover, effect_by, effect_of, output}
 use Rattle.outcome.specs.Outcome.{Outcome}
 use Rattle.outcome.specs.Words.{IsOutcome}
 use Rattle.words_core.specs.Grammar.{command_of}
-use Rattle.run_lists.specs.Events.{Event, HasNoPendingRun, HasSeen, HasSeenIdly, HasSeenToOneState, IsIdleRun, IsOutcomeFrom, IsRunFrom, IsStopOf, Run, ignored_behind, ignored_in, with_all_touched, with_scratch}
-use Rattle.run_lists.specs.Recovered.{HasSeenNoBadIntent, HasStateBefore, HasStateBeforeOrOutcome, HasStateOf, IsRecoveredBy, LeavesNoBadIntent}
-use Rattle.run_lists.specs.Safety.{HasOldOrOutcome, IsAtomicBehindAll, IsSafe, IsSafeBehindAll, LeavesOutcome}
+use Rattle.run_lists.specs.Events.{Event, HasNoPendingRun, Reaches, ReachesWithoutCommit, ReachesOneState, IsRunWithoutCommit, IsOutcomeFrom, IsRunFrom, IsStopOf, Run, ignored_after, ignored_in, with_all_touched, with_scratch}
+use Rattle.run_lists.specs.Recovered.{ReachesWithoutBadIntent, HasStateBefore, HasStateBeforeOrOutcome, HasStateOf, IsRecoveredBy, LeavesNoBadIntent}
+use Rattle.run_lists.specs.Safety.{HasOldOrOutcome, IsAtomicAfterAnyEvents, IsSafe, IsSafeAfterAnyEvents, LeavesOutcome}
 use Rattle.run_lists.proofs.AtMoments.{History}
 use Rattle.run_lists.proofs.Facts.{AreMore, Ignored}
 use Rattle.run_lists.proofs.Moments.{last_moment}
@@ -22,20 +22,20 @@ use Rattle.run_lists.proofs.Names.{all_touched_more, scratch_more}
 use Rattle.run_lists.proofs.OneRun.{idle_moment}
 use Rattle.run_lists.proofs.Recoverable.{before_more, before_or_outcome_more, left_state, recovered_as, seen_plainly, state_on}
 use Rattle.run_lists.proofs.Torn.{torn_image, torn_self}
-use Rattle.headline.specs.Sentence.{EndsAsStated, HasGoodPast, IsAsPromised, IsAsPromisedBehindAll, RootRecoversTo}
+use Rattle.headline.specs.Sentence.{EndsAsStated, HasGoodPast, IsAsPromised, IsAsPromisedAfterAnyEvents, RootRecoversTo}
 
 -- ---- from one moment on
 
 abbrev IsLeftAt : Ignored → TreeState → Type 0
-IsLeftAt names m = (w : TreeState) (later : List Event) (next : Run) → HasSeenIdly m later w → IsRunFrom w next → does_recover (effect_by (command_of next.words)) ≡ true
-    → (image : Files) × IsImage m image × IsRecoveredBy (HasStateOf (with_all_touched later names) image) w next
+IsLeftAt names m = (w : TreeState) (later : List Event) (next : Run) → ReachesWithoutCommit m later w → IsRunFrom w next → does_recover (effect_by (command_of next.words)) ≡ true
+    → (image : Files) × IsCrashImage m image × IsRecoveredBy (HasStateOf (with_all_touched later names) image) w next
 
 -- a property of files that rests on their state alone, apart from some names
 record RestsOnState (HasState : Ignored → Files → Type 0) : Type 0 where
   same : (names : Ignored) (a b : Files) → HasStateOf names b a → HasState names b → HasState names a
   more : (few many : Ignored) → AreMore few many → (files : Files) → HasState few files → HasState many files
 
-recovers_to : (names : Ignored) (m : TreeState) → IsLeftAt names m → (HasState : Ignored → Files → Type 0) → RestsOnState HasState → ((image : Files) → IsImage m image → HasState names image) → RootRecoversTo HasState names m
+recovers_to : (names : Ignored) (m : TreeState) → IsLeftAt names m → (HasState : Ignored → Files → Type 0) → RestsOnState HasState → ((image : Files) → IsCrashImage m image → HasState names image) → RootRecoversTo HasState names m
 recovers_to names m left HasState rests crash = record {
   crash = crash;
   next = λ later w next seen is_run recovers.
@@ -65,69 +65,69 @@ old_rests v run = record { same = same; more = more }
     more few many up files (inl old) = inl (states_same few many up files (files_of v) old)
     more few many up files (inr (o, one, commits, new)) = inr (o, one, commits, states_same few many up files o.files new)
 
-now_last : (h : History) (A B : TreeState → Type 0) → ((w : TreeState) → HasNow h (λ u. u ≡ w) → A w → B w) → HasNow h A → HasNow h B
+now_last : (h : History) (A B : TreeState → Type 0) → ((w : TreeState) → HoldsNow h (λ u. u ≡ w) → A w → B w) → HoldsNow h A → HoldsNow h B
 now_last [] A B f a = a
 now_last (w ∷ rest) A B f a = f w refl a
 
 -- ---- after a list
 
-module _ (begins : (ignored : Ignored) (first v : TreeState) (events : List Event) (words : List (List ℕ)) → ignored intent_name ≡ false → IsOrderly (RestsOn ignored) first → HasSeen first events v
-    → IsOrderly (RestsOn (with_scratch (output words) (ignored_behind ignored events))) v × HidesScratchOf (output words) (with_scratch (output words) (ignored_behind ignored events)))
-    (safe : (v : TreeState) (run : Run) → IsRunFrom v run → IsSafeBehindAll v run)
-    (one_state : (ignored : Ignored) (first v : TreeState) (events : List Event) → ignored intent_name ≡ false → IsAtRest ignored (files_of first) first → HasSeenToOneState first events v → IsAtRest (ignored_behind ignored events) (files_of v) v)
-    (unbroken : (first v : TreeState) (events : List Event) → HasSeen first events v → HasNoPendingRun events → HasSeenToOneState first events v)
-    (left : (ignored : Ignored) (first v m w : TreeState) (events later : List Event) (run next : Run) → ignored intent_name ≡ false → IsOrderly (RestsOn ignored) first → LeavesNoBadIntent first
-    → HasSeenNoBadIntent first events v → IsRunFrom v run → IsStopOf run m → HasSeenIdly m later w → IsRunFrom w next → does_recover (effect_by (command_of next.words)) ≡ true
-    → (image : Files) × IsImage m image × IsRecoveredBy (HasStateOf (with_all_touched later (ignored_in run (ignored_behind ignored events))) image) w next)
-    (two : (ignored : Ignored) (v : TreeState) (run : Run) (files : Files) → IsSettled ignored (files_of v) v → HasStateBeforeOrOutcome ignored v run files → HasOldOrOutcome ignored v run files)
-    (more_settled : (few many : Ignored) (files : Files) (v : TreeState) → AreMore few many → IsSettled few files v → IsSettled many files v)
-    (unique : (words : List (List ℕ)) (files : Files) (a b : Outcome) → IsOutcome words files a → IsOutcome words files b → a ≡ b)
-    (ended : (words : List (List ℕ)) (command : CommandLine) (files : Files) (o : Outcome) → command_of words ≡ Ok command → effect_of command.applet ≡ Changes → IsOutcome words files o → EndsAsStated command files o)
+module _ (begins : (ignored : Ignored) (first v : TreeState) (events : List Event) (words : List (List ℕ)) → ignored intent_name ≡ false → IsDurable (StateDependsOn ignored) first → Reaches first events v
+    → IsDurable (StateDependsOn (with_scratch (output words) (ignored_after ignored events))) v × IgnoresScratchOf (output words) (with_scratch (output words) (ignored_after ignored events)))
+    (safe : (v : TreeState) (run : Run) → IsRunFrom v run → IsSafeAfterAnyEvents v run)
+    (one_state : (ignored : Ignored) (first v : TreeState) (events : List Event) → ignored intent_name ≡ false → IsDurableState ignored (files_of first) first → ReachesOneState first events v → IsDurableState (ignored_after ignored events) (files_of v) v)
+    (unbroken : (first v : TreeState) (events : List Event) → Reaches first events v → HasNoPendingRun events → ReachesOneState first events v)
+    (left : (ignored : Ignored) (first v m w : TreeState) (events later : List Event) (run next : Run) → ignored intent_name ≡ false → IsDurable (StateDependsOn ignored) first → LeavesNoBadIntent first
+    → ReachesWithoutBadIntent first events v → IsRunFrom v run → IsStopOf run m → ReachesWithoutCommit m later w → IsRunFrom w next → does_recover (effect_by (command_of next.words)) ≡ true
+    → (image : Files) × IsCrashImage m image × IsRecoveredBy (HasStateOf (with_all_touched later (ignored_in run (ignored_after ignored events))) image) w next)
+    (two : (ignored : Ignored) (v : TreeState) (run : Run) (files : Files) → EachCrashLeaves ignored (files_of v) v → HasStateBeforeOrOutcome ignored v run files → HasOldOrOutcome ignored v run files)
+    (more_settled : (few many : Ignored) (files : Files) (v : TreeState) → AreMore few many → EachCrashLeaves few files v → EachCrashLeaves many files v)
+    (unique : (words : List (List ℕ)) (files : Files) (a b : Outcome) → IsOutcome (command_of words) files a → IsOutcome (command_of words) files b → a ≡ b)
+    (ended : (words : List (List ℕ)) (command : CommandLine) (files : Files) (o : Outcome) → command_of words ≡ Ok command → effect_of command.applet ≡ Changes → IsOutcome (command_of words) files o → EndsAsStated command files o)
     (v : TreeState) (run : Run) (is_run : IsRunFrom v run) (ignored : Ignored) (first : TreeState) (events : List Event) (past : HasGoodPast ignored first events v) where
   abbrev Names : Ignored
-  Names = ignored_in run (ignored_behind ignored events)
+  Names = ignored_in run (ignored_after ignored events)
 
-  seen : HasSeen first events v
+  seen : Reaches first events v
   seen = seen_plainly first v events past.seen
 
-  here : IsSafe (ignored_behind ignored events) v run
+  here : IsSafe (ignored_after ignored events) v run
   here = safe v run is_run ignored first events past.counts past.durable seen
 
-  durable : IsOrderly (RestsOn Names) v
+  durable : IsDurable (StateDependsOn Names) v
   durable = (begins ignored first v events run.words past.counts past.durable seen).0
 
   left_at : (m : TreeState) → IsStopOf run m → IsLeftAt Names m
   left_at m stop w later next idly is_next recovers = left ignored first v m w events later run next past.counts past.durable past.good past.seen is_run stop idly is_next recovers
 
-  either : (m : TreeState) → IsStopOf run m → (image : Files) → IsImage m image → HasStateBeforeOrOutcome Names v run image
+  either : (m : TreeState) → IsStopOf run m → (image : Files) → IsCrashImage m image → HasStateBeforeOrOutcome Names v run image
   either m (at, moment, torn) image is = left_state Names v run at (here.moments at moment) image (torn_image at m torn image is)
 
   moments : (m : TreeState) → IsStopOf run m → RootRecoversTo (λ names. HasStateBeforeOrOutcome names v run) Names m
   moments m stop = recovers_to Names m (left_at m stop) (λ names. HasStateBeforeOrOutcome names v run) (either_rests v run) (either m stop)
 
-  one : IsSettled Names (files_of v) v → (m : TreeState) → IsStopOf run m → RootRecoversTo (λ names. HasOldOrOutcome names v run) Names m
+  one : EachCrashLeaves Names (files_of v) v → (m : TreeState) → IsStopOf run m → RootRecoversTo (λ names. HasOldOrOutcome names v run) Names m
   one settled m stop = recovers_to Names m (left_at m stop) (λ names. HasOldOrOutcome names v run) (old_rests v run) (λ image is. two Names v run image settled (either m stop image is))
 
-  kept : IsIdleRun v run → (m : TreeState) → IsStopOf run m → RootRecoversTo (λ names. HasStateBefore names v) Names m
+  kept : IsRunWithoutCommit v run → (m : TreeState) → IsStopOf run m → RootRecoversTo (λ names. HasStateBefore names v) Names m
   kept idle m (at, moment, torn) =
       recovers_to Names m (left_at m (at, moment, torn)) (λ names. HasStateBefore names v) (before_rests v)
       (λ image is. (idle_moment Names v run is_run durable idle at moment).quiet image (torn_image at m torn image is))
 
-  ends_settled : (o : Outcome) → IsOutcomeFrom v run o → Settles (effect_by (command_of run.words)) Names v o → (w : TreeState) → LeavesOutcome (ignored_behind ignored events) v run w → IsSettled Names o.files w
+  ends_settled : (o : Outcome) → IsOutcomeFrom v run o → MakesDurable (effect_by (command_of run.words)) Names v o → (w : TreeState) → LeavesOutcome (ignored_after ignored events) v run w → EachCrashLeaves Names o.files w
   ends_settled o is settles w leaves =
-      subst (λ (p : Outcome). (Settles (effect_by (command_of run.words)) Names v p → IsSettled Names p.files w)) (unique run.words (files_of v) leaves.outcome o leaves.is_outcome is) leaves.settled settles
+      subst (λ (p : Outcome). (MakesDurable (effect_by (command_of run.words)) Names v p → EachCrashLeaves Names p.files w)) (unique run.words (files_of v) leaves.outcome o leaves.is_outcome is) leaves.settled settles
 
-  answered : AnswersOutcome run.answer → (o : Outcome) → IsOutcomeFrom v run o → Settles (effect_by (command_of run.words)) Names v o → HasNow run.now (RootRecoversTo (λ names. HasStateOf names o.files) Names)
+  answered : AnswersOutcome run.answer → (o : Outcome) → IsOutcomeFrom v run o → MakesDurable (effect_by (command_of run.words)) Names v o → HoldsNow run.now (RootRecoversTo (λ names. HasStateOf names o.files) Names)
   answered answers o is settles =
-      now_last run.now (LeavesOutcome (ignored_behind ignored events) v run) (RootRecoversTo (λ names. HasStateOf names o.files) Names)
+      now_last run.now (LeavesOutcome (ignored_after ignored events) v run) (RootRecoversTo (λ names. HasStateOf names o.files) Names)
       (λ w ends leaves. recovers_to Names w (left_at w (w, last_moment run v w is_run ends, torn_self w)) (λ names. HasStateOf names o.files) (state_rests o.files) (ends_settled o is settles w leaves))
       (here.answered answers)
 
-  to_one : HasSeenToOneState first events v ⊎ HasNoPendingRun events → HasSeenToOneState first events v
+  to_one : ReachesOneState first events v ⊎ HasNoPendingRun events → ReachesOneState first events v
   to_one (inl to) = to
   to_one (inr none) = unbroken first v events seen none
 
-  pub promised : IsAsPromised Names v run × (IsAtRest ignored (files_of first) first → HasSeenToOneState first events v ⊎ HasNoPendingRun events → IsSettled Names (files_of v) v)
+  pub promised : IsAsPromised Names v run × (IsDurableState ignored (files_of first) first → ReachesOneState first events v ⊎ HasNoPendingRun events → EachCrashLeaves Names (files_of v) v)
   promised = (
     record {
       moments = moments;
@@ -137,16 +137,16 @@ module _ (begins : (ignored : Ignored) (first v : TreeState) (events : List Even
       answer = is_run.stated;
       change = λ command o named changes is. ended run.words command (files_of v) o named changes is;
     },
-    λ rest to. more_settled (ignored_behind ignored events) Names (files_of v) v (scratch_more (output run.words) (ignored_behind ignored events))
+    λ rest to. more_settled (ignored_after ignored events) Names (files_of v) v (scratch_more (output run.words) (ignored_after ignored events))
         (one_state ignored first v events past.counts rest (to_one to)).settled,
   )
 
 -- ---- of a call
 
-pub of_call : ((v : TreeState) (run : Run) → IsRunFrom v run → IsAsPromisedBehindAll v run) → (run : Run) → IfObservable run.old (λ v. IsRunFrom v run × IsSafeBehindAll v run × IsAtomicBehindAll v run)
-    → IfObservable run.old (λ v. IsRunFrom v run × IsAsPromisedBehindAll v run)
+pub of_call : ((v : TreeState) (run : Run) → IsRunFrom v run → IsAsPromisedAfterAnyEvents v run) → (run : Run) → IfObservable run.old (λ v. IsRunFrom v run × IsSafeAfterAnyEvents v run × IsAtomicAfterAnyEvents v run)
+    → IfObservable run.old (λ v. IsRunFrom v run × IsAsPromisedAfterAnyEvents v run)
 of_call holds run = by run.old
   where
-    by : (h : History) → IfObservable h (λ v. IsRunFrom v run × IsSafeBehindAll v run × IsAtomicBehindAll v run) → IfObservable h (λ v. IsRunFrom v run × IsAsPromisedBehindAll v run)
+    by : (h : History) → IfObservable h (λ v. IsRunFrom v run × IsSafeAfterAnyEvents v run × IsAtomicAfterAnyEvents v run) → IfObservable h (λ v. IsRunFrom v run × IsAsPromisedAfterAnyEvents v run)
     by [] is = is
     by (v ∷ rest) (is_run, all_safe, all_atomic) = (is_run, holds v run is_run)

@@ -2,15 +2,15 @@
 -- defined in `run_lists` (runs, and what a root has seen), `apk_front` (answers), `journal_core`
 -- (states), `outcome` (what a command comes to) and `refusal_laws` (what a refusal says).
 use Rattle.std.specs.Prelude.{◌≡◌, ◌⊎◌, ℕ, Bool, true, false, List, Some, None, Ok}
-use Rattle.apk_front.specs.Answers.{IsAnswerTo, LeavesFiles}
-use Rattle.apk_front.specs.Moments.{AnswersOutcome, IsAtRest, Settles}
-use Rattle.base_core.specs.Calls.{HasNow}
-use Rattle.base_core.specs.Crash.{IsImage, IsOrderly}
+use Rattle.apk_front.specs.Answers.{IsAnswerOf, LeavesFiles}
+use Rattle.apk_front.specs.Moments.{AnswersOutcome, IsDurableState, MakesDurable}
+use Rattle.base_core.specs.Calls.{HoldsNow}
+use Rattle.base_core.specs.Undone.{IsDurable, IsCrashImage}
 use Rattle.base_core.specs.Faults.{HasCause}
 use Rattle.base_core.specs.Files.{Files}
 use Rattle.base_core.specs.Tree.{TreeState, files_of}
 use Rattle.command_core.specs.Command.{CommandLine}
-use Rattle.journal_core.specs.Recovery.{IsSettled, RestsOn, intent_name}
+use Rattle.journal_core.specs.Recovery.{EachCrashLeaves, StateDependsOn, intent_name}
 use Rattle.journal_core.specs.Staged.{unstaged_files}
 use Rattle.outcome.specs.ChangeEnd.{IsRunEnd, TakesFirstSelection}
 use Rattle.outcome.specs.Effect.{Changes, does_recover, effect_by, effect_of}
@@ -18,8 +18,8 @@ use Rattle.outcome.specs.Outcome.{Outcome}
 use Rattle.refusal_laws.specs.RunFaults.{IsFaultOfRun}
 use Rattle.refusal_laws.specs.RunMade.{HasFirstSelection}
 use Rattle.report_core.specs.declared.refusal.Refusal.{Refusal}
-use Rattle.run_lists.specs.Events.{Event, HasNoPendingRun, HasSeenIdly, HasSeenToOneState, IsIdleRun, IsOutcomeFrom, IsRunFrom, IsStopOf, Run, ignored_behind, ignored_in, with_all_touched}
-use Rattle.run_lists.specs.Recovered.{HasSeenNoBadIntent, HasStateBefore, HasStateBeforeOrOutcome, HasStateOf, IsRecoveredBy, LeavesNoBadIntent}
+use Rattle.run_lists.specs.Events.{Event, HasNoPendingRun, ReachesWithoutCommit, ReachesOneState, IsRunWithoutCommit, IsOutcomeFrom, IsRunFrom, IsStopOf, Run, ignored_after, ignored_in, with_all_touched}
+use Rattle.run_lists.specs.Recovered.{ReachesWithoutBadIntent, HasStateBefore, HasStateBeforeOrOutcome, HasStateOf, IsRecoveredBy, LeavesNoBadIntent}
 use Rattle.run_lists.specs.Safety.{HasOldOrOutcome}
 use Rattle.words_core.specs.Grammar.{command_of}
 
@@ -28,17 +28,17 @@ use Rattle.words_core.specs.Grammar.{command_of}
 pub record HasGoodPast (ignored : List ℕ → Bool) (first : TreeState) (events : List Event)
     (v : TreeState) : Type 0 where
   pub counts : ignored intent_name ≡ false
-  pub durable : IsOrderly (RestsOn ignored) first
+  pub durable : IsDurable (StateDependsOn ignored) first
   pub good : LeavesNoBadIntent first
-  pub seen : HasSeenNoBadIntent first events v
+  pub seen : ReachesWithoutBadIntent first events v
 
 -- From a moment on a root recovers to such files, apart from the ignored names. Each crash then leaves
 -- such files. The next run that recovers works on such files, after any crashes, any touches by others,
 -- and any runs, ended or stopped, that commit nothing; what others touched is then ignored too.
 pub record RootRecoversTo (HasState : (List ℕ → Bool) → Files → Type 0) (ignored : List ℕ → Bool)
     (m : TreeState) : Type 0 where
-  pub crash : (image : Files) → IsImage m image → HasState ignored image
-  pub next : (later : List Event) (w : TreeState) (next : Run) → HasSeenIdly m later w
+  pub crash : (image : Files) → IsCrashImage m image → HasState ignored image
+  pub next : (later : List Event) (w : TreeState) (next : Run) → ReachesWithoutCommit m later w
       → IsRunFrom w next → does_recover (effect_by (command_of next.words)) ≡ true
       → IsRecoveredBy (HasState (with_all_touched later ignored)) w next
 
@@ -54,24 +54,26 @@ pub record EndsAsStated (command : CommandLine) (files : Files) (o : Outcome) : 
 
 -- what is promised of a run that begins in the state v, apart from the ignored names
 pub record IsAsPromised (ignored : List ℕ → Bool) (v : TreeState) (run : Run) : Type 0 where
-  -- ended, or stopped at any moment, also inside a call, it recovers to a state from before it, or to
-  -- that of its outcome, which commits
+  -- if the run ended, or was stopped at any moment, also inside a call, the root recovers to a state
+  -- from before the run, or to that of its outcome, which commits
   pub moments : (m : TreeState) → IsStopOf run m
       → RootRecoversTo (λ names. HasStateBeforeOrOutcome names v run) ignored m
-  -- the state from before is one, if each crash left the state of the files as read
-  pub one : IsSettled ignored (files_of v) v → (m : TreeState) → IsStopOf run m
+  -- the state from before is that of the files as read, if each crash before the run left that one
+  pub one : EachCrashLeaves ignored (files_of v) v → (m : TreeState) → IsStopOf run m
       → RootRecoversTo (λ names. HasOldOrOutcome names v run) ignored m
-  -- to its outcome's state, once that is answered (Ok, a refusal, or a fault of an output stream), if
-  -- it settles: it commits, or each crash left the state as read before, or an intent was found
+  -- once the outcome is answered (Ok, a refusal, or a fault of an output stream), the root recovers to
+  -- its state, if it makes that durable: it commits, or each crash left the state as read before, or an
+  -- intent was found
   pub answered : AnswersOutcome run.answer → (o : Outcome) → IsOutcomeFrom v run o
-      → Settles (effect_by (command_of run.words)) ignored v o
-      → HasNow run.now (RootRecoversTo (λ names. HasStateOf names o.files) ignored)
-  -- to a state from before it, if it is refused, is out of memory, or commits nothing
-  pub left : IsIdleRun v run → (m : TreeState) → IsStopOf run m
+      → MakesDurable (effect_by (command_of run.words)) ignored v o
+      → HoldsNow run.now (RootRecoversTo (λ names. HasStateOf names o.files) ignored)
+  -- the root recovers to a state from before the run, if it is refused, is out of memory, or commits
+  -- nothing
+  pub left : IsRunWithoutCommit v run → (m : TreeState) → IsStopOf run m
       → RootRecoversTo (λ names. HasStateBefore names v) ignored m
-  -- the answer, the printed bytes and the files left are the outcome's; or it reports a fault of the
-  -- tree or of an output stream, with its cause, or that it is out of memory
-  pub answer : IsAnswerTo run.words (files_of v) (LeavesFiles run.now)
+  -- the answer, the printed bytes and the files left are the outcome's; or the run reports a fault of
+  -- the tree or of an output stream, with its cause, or that it is out of memory
+  pub answer : IsAnswerOf (IsOutcomeFrom v run) (LeavesFiles run.now)
       (HasCause run.before run.after) run.answer run.out run.err
   -- a run that changes the installed packages ends in one of the stated ways
   pub change : (command : CommandLine) (o : Outcome) → command_of run.words ≡ Ok command
@@ -80,12 +82,12 @@ pub record IsAsPromised (ignored : List ℕ → Bool) (v : TreeState) (run : Run
 
 -- The sentence: whatever list a root has seen, the run is as promised. If a root had one state at
 -- first, it has one when the run begins, unless a run that might commit was stopped or the tree failed.
--- Even then it has one again after a crash, or after an event that *HasSeenToOneState* names.
-abbrev pub IsAsPromisedBehindAll : TreeState → Run → Type 0
-IsAsPromisedBehindAll v run =
+-- Even then it has one again after a crash, or after an event that *ReachesOneState* names.
+abbrev pub IsAsPromisedAfterAnyEvents : TreeState → Run → Type 0
+IsAsPromisedAfterAnyEvents v run =
     (ignored : List ℕ → Bool) (first : TreeState) (events : List Event)
     → HasGoodPast ignored first events v
-    → IsAsPromised (ignored_in run (ignored_behind ignored events)) v run
-    × (IsAtRest ignored (files_of first) first
-    → HasSeenToOneState first events v ⊎ HasNoPendingRun events
-    → IsSettled (ignored_in run (ignored_behind ignored events)) (files_of v) v)
+    → IsAsPromised (ignored_in run (ignored_after ignored events)) v run
+    × (IsDurableState ignored (files_of first) first
+    → ReachesOneState first events v ⊎ HasNoPendingRun events
+    → EachCrashLeaves (ignored_in run (ignored_after ignored events)) (files_of v) v)

@@ -1,7 +1,7 @@
 //! The sentence, of every run and every list of what a root has seen before it. The rules that it
 //! states are in `docs/crash-safety.md`, "Recovery", and in `docs/commands.md`, "`add` and `del`".
 ghost use Rattle.base_core.specs.Tree.{TreeState};
-ghost use Rattle.headline.specs.Sentence.{IsAsPromisedBehindAll};
+ghost use Rattle.headline.specs.Sentence.{IsAsPromisedAfterAnyEvents};
 ghost use Rattle.run_lists.specs.Events.{IsRunFrom, Run};
 
 use journal_core::more_names_may_be_ignored;
@@ -11,16 +11,16 @@ use outcome::{
 use refusal_laws::{
     a_refused_run_has_its_fault, the_packages_after_a_run_are_those_of_the_first_selection,
 };
-use run_lists::{a_stopped_run_is_recovered, whatever_a_root_has_seen_a_run_is_safe};
+use run_lists::{a_run_is_safe_after_any_events, a_stopped_run_is_recovered};
 
 /// The sentence holds of every run: whatever runs, stops, crashes and changes by others a root has
 /// seen, the run recovers to a state from before it or to that of its outcome. It recovers to the
 /// latter once the outcome is answered. What a change is refused for is so; else it carries out the
 /// first preferred selection.
 pub fn the_sentence_holds()
-    ensures { (v : TreeState) (run : Run) → IsRunFrom v run → IsAsPromisedBehindAll v run }
+    ensures { (v : TreeState) (run : Run) → IsRunFrom v run → IsAsPromisedAfterAnyEvents v run }
 {
-    whatever_a_root_has_seen_a_run_is_safe();
+    a_run_is_safe_after_any_events();
     a_stopped_run_is_recovered();
     more_names_may_be_ignored();
     an_outcome_is_unique();

@@ -36,8 +36,8 @@ impl Folders {
     }
 
     /// Whether everything on the way to a path is a folder.
-    pub fn have_way<R: Files>(&mut self, rt: &R, path: &[u8]) -> Result<bool, HostFault> {
-        if self.knows_way(path)? {
+    pub fn ensure_folders<R: Files>(&mut self, rt: &R, path: &[u8]) -> Result<bool, HostFault> {
+        if self.knows_folders(path)? {
             return Ok(true);
         }
         for (i, byte) in path.iter().enumerate() {
@@ -50,12 +50,12 @@ impl Folders {
 
     /// The deepest existing folder on the way to a path, as a prefix of the path; the root is the
     /// empty one. The search ends at anything on the way that is no folder.
-    pub fn deepest_on_way<'p, R: Files>(
+    pub fn deepest_known_folder<'p, R: Files>(
         &mut self,
         rt: &R,
         path: &'p [u8],
     ) -> Result<&'p [u8], HostFault> {
-        if self.knows_way(path)? {
+        if self.knows_folders(path)? {
             return Ok(parent_of(path));
         }
         let mut folder: &'p [u8] = &[];
@@ -72,7 +72,7 @@ impl Folders {
 
     /// What a path leads to: nothing if something on the way is no folder.
     pub fn find<R: Host>(&mut self, rt: &R, path: &[u8]) -> Result<Found, HostFault> {
-        if !self.have_way(rt, path)? {
+        if !self.ensure_folders(rt, path)? {
             return Ok(Found::Nothing);
         }
         let alloc = self.alloc;
@@ -93,8 +93,8 @@ impl Folders {
     }
 
     /// Makes the folders on the way to a path that are absent. A file on the way is a fault.
-    fn make_way<R: Files>(&mut self, rt: &R, path: &[u8]) -> Result<(), HostFault> {
-        if self.knows_way(path)? {
+    fn make_missing_folders<R: Files>(&mut self, rt: &R, path: &[u8]) -> Result<(), HostFault> {
+        if self.knows_folders(path)? {
             return Ok(());
         }
         for (i, byte) in path.iter().enumerate() {
@@ -121,7 +121,7 @@ impl Folders {
     /// Makes the path of a file free: creates the folders on the way to it, and removes an empty
     /// folder at it. Returns what was found at the path.
     pub fn make_room<R: Host>(&mut self, rt: &R, path: &[u8]) -> Result<Found, HostFault> {
-        self.make_way(rt, path)?;
+        self.make_missing_folders(rt, path)?;
         let found = look_at(rt, self.alloc, path)?;
         if found.is_folder() {
             self.clear(rt, path)?;
@@ -167,7 +167,7 @@ impl Folders {
     }
 
     /// Whether the folder of a path is known, which is then the last one.
-    fn knows_way(&mut self, path: &[u8]) -> Result<bool, HostFault> {
+    fn knows_folders(&mut self, path: &[u8]) -> Result<bool, HostFault> {
         let folder = parent_of(path);
         if self.last.is(folder) {
             return Ok(true);

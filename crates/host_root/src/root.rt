@@ -17,7 +17,7 @@ use std::fs::{File, OpenOptions};
 const INTENT: &[u8] = b"lib/apk/intent";
 
 /// How the name ends under which a new file is laid beside one that the user changed
-/// (`docs/commands.md`, "Configuration").
+/// (`docs/commands.md`, "What a change does with files").
 const ASIDE_ENDING: &[u8] = b".apk-new";
 
 /// The root. From its first call on it holds a lock on the folder, so that it is the only run of
@@ -48,7 +48,7 @@ pub struct Root<'a, R: Host> {
     // writing it: so no later sync is trusted.
     has_lost: bool,
     // The target of a rename that is not written through yet.
-    unsynced_target: Option<Vec<u8>>,
+    maybe_renamed_name: Option<Vec<u8>>,
 }
 
 impl<'a, R: Host> Root<'a, R> {
@@ -66,14 +66,14 @@ impl<'a, R: Host> Root<'a, R> {
             targets: Targets::new(alloc),
             recovers: false,
             has_lost: false,
-            unsynced_target: None,
+            maybe_renamed_name: None,
         }
     }
 
     /// The name that may have its new file although the run failed: it was renamed, and that was
     /// not written through.
-    pub fn unsynced_target(&self) -> Option<&[u8]> {
-        match &self.unsynced_target {
+    pub fn maybe_renamed_name(&self) -> Option<&[u8]> {
+        match &self.maybe_renamed_name {
             Some(name) => Some(name),
             None => None,
         }
@@ -239,7 +239,7 @@ impl<'a, R: Host> Root<'a, R> {
         self.folders.note(parent_of(to))?;
         let target = Vec::from_slice(self.alloc, to)?;
         rename_path(self.rt, from, to)?;
-        self.unsynced_target = Some(target);
+        self.maybe_renamed_name = Some(target);
         Ok(())
     }
 
@@ -302,7 +302,7 @@ impl<'a, R: Host> Root<'a, R> {
         let written = self.folders.write_through(self.rt);
         self.has_lost = written.is_err();
         if written.is_ok() {
-            self.unsynced_target = None;
+            self.maybe_renamed_name = None;
         }
         written
     }

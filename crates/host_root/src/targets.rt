@@ -45,13 +45,13 @@ impl Targets {
         if is_reserved(path) {
             return Err(HostFault::own(Reason::Reserved));
         }
-        let folder = folders.deepest_on_way(rt, path)?;
+        let folder = folders.deepest_known_folder(rt, path)?;
         let absent = path.strip_prefix(folder).unwrap_or(path);
         check_parts(rt, self.alloc, folder, absent)?;
         if folder == parent_of(path) {
             check_place(rt, self.alloc, path)?;
         }
-        let source = folders.deepest_on_way(rt, source)?;
+        let source = folders.deepest_known_folder(rt, source)?;
         self.check_folder(rt, folder, source)
     }
 
@@ -131,7 +131,7 @@ pub fn check_remove<R: Host>(
     folders: &mut Folders,
     path: &[u8],
 ) -> Result<(), HostFault> {
-    if !folders.have_way(rt, path)? {
+    if !folders.ensure_folders(rt, path)? {
         return Ok(());
     }
     match look_at(rt, alloc, path)? {

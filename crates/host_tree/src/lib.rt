@@ -54,8 +54,8 @@ impl<'a, R: Host> HostTree<'a, R> {
 
     /// The name that may have its new file although the run failed: it was renamed, and that was
     /// not synced.
-    pub fn unsynced_target(&self) -> Option<&[u8]> {
-        self.root.unsynced_target()
+    pub fn maybe_renamed_name(&self) -> Option<&[u8]> {
+        self.root.maybe_renamed_name()
     }
 
     /// Whether a change is committed and not done yet: the next command completes it.
@@ -110,7 +110,7 @@ impl<'a, R: Host> HostTree<'a, R> {
 
 impl<'a, R: Host> Tree for HostTree<'a, R> {
     ghost use Rattle.std.proofs.lemmas.List.Elements.{All-nil};
-    ghost use Rattle.base_core.specs.Tree.{IsWhole};
+    ghost use Rattle.base_core.specs.Tree.{IsWellFormed};
 
     // The history is not observable: no contract sees the host's files.
     ghost history = { λ tree. [] };
@@ -119,7 +119,7 @@ impl<'a, R: Host> Tree for HostTree<'a, R> {
     ghost counts = { λ tree. host_counts tree.faults };
 
     // Each state of the history is whole, as there is none.
-    ghost whole = { λ tree. All-nil IsWhole };
+    ghost whole = { λ tree. All-nil IsWellFormed };
 
     // Nobody else knows what the host answered.
     ghost accepts = { λ source name. Unit {0} };

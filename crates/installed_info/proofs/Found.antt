@@ -23,10 +23,10 @@ by_test p front xs x true found e = behind front xs x
 by_test p front xs x false found e = e
 
 -- behind others
-found_behind : {X : Type 0} (p : X → Bool) (xs front : List X) → option_and_then (slice_get (front ++ xs)) (position_from p (length front) xs) ≡ find p xs
-found_behind p [] front = refl
-found_behind p (x ∷ xs) front =
-    by_test p front xs x (p x) (find p xs) (one_further p front xs x (find p xs) (found_behind p xs (front ++ x ∷ [])))
+found_after : {X : Type 0} (p : X → Bool) (xs front : List X) → option_and_then (slice_get (front ++ xs)) (position_from p (length front) xs) ≡ find p xs
+found_after p [] front = refl
+found_after p (x ∷ xs) front =
+    by_test p front xs x (p x) (find p xs) (one_further p front xs x (find p xs) (found_after p xs (front ++ x ∷ [])))
 
 pub found_at : {X : Type 0} (p : X → Bool) (xs : List X) → option_and_then (slice_get xs) (position_from p 0 xs) ≡ find p xs
-found_at p xs = found_behind p xs []
+found_at p xs = found_after p xs []

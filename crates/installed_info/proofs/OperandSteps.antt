@@ -26,20 +26,20 @@ module _ (form : Form) (packages : List Plain) (operands : List Operand) (i : �
   passed t is found =
       refusal_here t is ∙ ap (λ b. if b then info_refusal form packages (drop (i + 1) operands) else Some (NotInstalled o.place)) found
 
-first_of_three : (late : Option Refusal) (t : Bool) (refusal : Refusal) (rest : Option Refusal)
-    → option_or (option_or late (if t then None else Some refusal)) rest ≡ option_or late (if t then rest else Some refusal)
+first_of_three : (following_refusal : Option Refusal) (t : Bool) (refusal : Refusal) (rest : Option Refusal)
+    → option_or (option_or following_refusal (if t then None else Some refusal)) rest ≡ option_or following_refusal (if t then rest else Some refusal)
 first_of_three (Some r) t refusal rest = refl
 first_of_three None true refusal rest = refl
 first_of_three None false refusal rest = refl
 
 -- one more operand may be refused behind those before
-pub refused_behind : (late next : Option Refusal) (t : Bool) (refusal : Refusal) (before after all : Option Refusal)
-    → next ≡ option_or late (if t then None else Some refusal) → before ≡ (if t then after else Some refusal)
-    → option_or late before ≡ all → option_or next after ≡ all
-refused_behind late next t refusal before after all is here inv =
-    ap (λ r. option_or r after) is ∙ (first_of_three late t refusal after ∙ (ap (option_or late) (sym here) ∙ inv))
+pub refused_after : (following_refusal next : Option Refusal) (t : Bool) (refusal : Refusal) (before after all : Option Refusal)
+    → next ≡ option_or following_refusal (if t then None else Some refusal) → before ≡ (if t then after else Some refusal)
+    → option_or following_refusal before ≡ all → option_or next after ≡ all
+refused_after following_refusal next t refusal before after all is here inv =
+    ap (λ r. option_or r after) is ∙ (first_of_three following_refusal t refusal after ∙ (ap (option_or following_refusal) (sym here) ∙ inv))
 
-pub nothing_more : (late : Option Refusal) → option_or late None ≡ late
+pub nothing_more : (following_refusal : Option Refusal) → option_or following_refusal None ≡ following_refusal
 nothing_more None = refl
 nothing_more (Some r) = refl
 

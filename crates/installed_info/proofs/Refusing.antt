@@ -10,7 +10,7 @@ use Rattle.installed_info.specs.Form.{form_of}
 use Rattle.installed_info.specs.Info.{form_info, info_of, info_refusal, info_unless, operands_info}
 use Rattle.installed_info.specs.Packages.{package_asked}
 use Rattle.installed_info.specs.Refusals.{IsOfAnOperand}
-use Rattle.installed_info.specs.declared.telling.InfoDone.{InfoDone}
+use Rattle.installed_info.specs.declared.telling.ReportAndRefusal.{ReportAndRefusal}
 use Rattle.installed_info.specs.declared.telling.Form.{Form}
 use Rattle.installed_info.specs.declared.telling.Form.TheVariants.{Contents, Depends, Description, Installed, Owner}
 
@@ -31,7 +31,7 @@ unless_err : (refused : Option Refusal) (report : List ℕ) (refusal : Refusal) 
 unless_err None report refusal e = absurd cc
 unless_err (Some r) report refusal e = cc
 
-unless_ok : (refused : Option Refusal) (report : List ℕ) (done : InfoDone) → info_unless refused report ≡ Ok done → done.late ≡ None
+unless_ok : (refused : Option Refusal) (report : List ℕ) (done : ReportAndRefusal) → info_unless refused report ≡ Ok done → done.following_refusal ≡ None
 unless_ok None report done e = cc
 unless_ok (Some r) report done e = absurd cc
 
@@ -54,21 +54,21 @@ info_refused c packages refusal e = form_refused (form_of c.flags) packages c.op
 
 -- ---- behind a report
 
-never : (form : Form) (packages : List Plain) (operands : List Operand) (done : InfoDone) (refusal : Refusal)
-    → info_unless (info_refusal form packages operands) (operands_info form packages operands) ≡ Ok done → done.late ≡ Some refusal → ⊥
-never form packages operands done refusal e late =
+never : (form : Form) (packages : List Plain) (operands : List Operand) (done : ReportAndRefusal) (refusal : Refusal)
+    → info_unless (info_refusal form packages operands) (operands_info form packages operands) ≡ Ok done → done.following_refusal ≡ Some refusal → ⊥
+never form packages operands done refusal e following_refusal =
     let gone = unless_ok (info_refusal form packages operands) (operands_info form packages operands) done e in
     (absurd cc)
 
-form_late : (form : Form) (packages : List Plain) (operands : List Operand) (done : InfoDone) (refusal : Refusal) → form_info form packages operands ≡ Ok done → done.late ≡ Some refusal → (form ≡ Installed) × IsOfAnOperand operands refusal
-form_late Installed packages operands done refusal e late =
-    let same : info_refusal Installed packages operands ≡ done.late = cc in
-    (refl, refused_is Installed packages operands refusal (same ∙ late))
-form_late Description packages [] done refusal e late = let gone : done.late ≡ None = cc in absurd cc
-form_late Description packages (o ∷ operands) done refusal e late = absurd (never Description packages (o ∷ operands) done refusal e late)
-form_late Contents packages operands done refusal e late = absurd (never Contents packages operands done refusal e late)
-form_late Depends packages operands done refusal e late = absurd (never Depends packages operands done refusal e late)
-form_late Owner packages operands done refusal e late = absurd (never Owner packages operands done refusal e late)
+form_late : (form : Form) (packages : List Plain) (operands : List Operand) (done : ReportAndRefusal) (refusal : Refusal) → form_info form packages operands ≡ Ok done → done.following_refusal ≡ Some refusal → (form ≡ Installed) × IsOfAnOperand operands refusal
+form_late Installed packages operands done refusal e following_refusal =
+    let same : info_refusal Installed packages operands ≡ done.following_refusal = cc in
+    (refl, refused_is Installed packages operands refusal (same ∙ following_refusal))
+form_late Description packages [] done refusal e following_refusal = let gone : done.following_refusal ≡ None = cc in absurd cc
+form_late Description packages (o ∷ operands) done refusal e following_refusal = absurd (never Description packages (o ∷ operands) done refusal e following_refusal)
+form_late Contents packages operands done refusal e following_refusal = absurd (never Contents packages operands done refusal e following_refusal)
+form_late Depends packages operands done refusal e following_refusal = absurd (never Depends packages operands done refusal e following_refusal)
+form_late Owner packages operands done refusal e following_refusal = absurd (never Owner packages operands done refusal e following_refusal)
 
 abbrev form_by : Bool → Bool → Bool → Bool → Form
 form_by owner installed contents depends =
@@ -81,8 +81,8 @@ is_installed false false true depends e = absurd cc
 is_installed false false false true e = absurd cc
 is_installed false false false false e = absurd cc
 
-pub info_late : (c : CommandLine) (packages : List Plain) (done : InfoDone) (refusal : Refusal) → info_of c packages ≡ Ok done → done.late ≡ Some refusal → (c.flags.installed ≡ true) × IsOfAnOperand c.operands refusal
+pub info_late : (c : CommandLine) (packages : List Plain) (done : ReportAndRefusal) (refusal : Refusal) → info_of c packages ≡ Ok done → done.following_refusal ≡ Some refusal → (c.flags.installed ≡ true) × IsOfAnOperand c.operands refusal
 unfolding info_of
-info_late c packages done refusal e late =
-    let is = form_late (form_of c.flags) packages c.operands done refusal e late in
+info_late c packages done refusal e following_refusal =
+    let is = form_late (form_of c.flags) packages c.operands done refusal e following_refusal in
     (is_installed c.flags.who_owns c.flags.installed c.flags.contents c.flags.depends is.0, is.1)

@@ -4,7 +4,7 @@ use Rattle.std.specs.Prelude.{codes}
 use Rattle.adb_view.specs.Plain.{Plain, arr, blob, more, none, null, obj}
 use Rattle.command_core.specs.declared.operands.Operand.{Operand}
 use Rattle.report_core.specs.declared.refusal.Refusal.TheVariants.{NotInstalled}
-use Rattle.installed_info.specs.Info.{form_info, info_done}
+use Rattle.installed_info.specs.Info.{form_info, report_and_refusal}
 use Rattle.installed_info.specs.declared.telling.Form.TheVariants.{Contents, Depends, Description, Installed, Owner}
 
 abbrev operand : ℕ → List ℕ → Operand
@@ -27,32 +27,32 @@ packages = hello ∷ (base ∷ [])
 abbrev hello_none : List Operand
 hello_none = operand 3 (codes "hello") ∷ (operand 4 (codes "none") ∷ [])
 
-names_in_byte_order : form_info Description packages [] ≡ Ok (info_done (codes "base\nhello\n") None)
+names_in_byte_order : form_info Description packages [] ≡ Ok (report_and_refusal (codes "base\nhello\n") None)
 names_in_byte_order = refl
 
 descriptions_in_the_order_given :
     form_info Description packages (operand 2 (codes "hello") ∷ (operand 3 (codes "base") ∷ []))
-    ≡ Ok (info_done (codes "hello-1.0-r0 description:\na greeting\n\nbase-1 description:\n\n\n") None)
+    ≡ Ok (report_and_refusal (codes "hello-1.0-r0 description:\na greeting\n\nbase-1 description:\n\n\n") None)
 descriptions_in_the_order_given = refl
 
-paths_of_hello : form_info Contents packages (operand 3 (codes "hello") ∷ []) ≡ Ok (info_done (codes "hello-1.0-r0 contains:\nusr/bin/hello\n\n") None)
+paths_of_hello : form_info Contents packages (operand 3 (codes "hello") ∷ []) ≡ Ok (report_and_refusal (codes "hello-1.0-r0 contains:\nusr/bin/hello\n\n") None)
 paths_of_hello = refl
 
-base_depends_on_nothing : form_info Depends packages (operand 3 (codes "base") ∷ []) ≡ Ok (info_done (codes "base-1 depends on:\n\n") None)
+base_depends_on_nothing : form_info Depends packages (operand 3 (codes "base") ∷ []) ≡ Ok (report_and_refusal (codes "base-1 depends on:\n\n") None)
 base_depends_on_nothing = refl
 
-owner_of_a_path : form_info Owner packages (operand 3 (codes "/usr/bin/hello") ∷ []) ≡ Ok (info_done (codes "/usr/bin/hello is owned by hello-1.0-r0\n") None)
+owner_of_a_path : form_info Owner packages (operand 3 (codes "/usr/bin/hello") ∷ []) ≡ Ok (report_and_refusal (codes "/usr/bin/hello is owned by hello-1.0-r0\n") None)
 owner_of_a_path = refl
 
 a_folder_has_no_owner : form_info Owner packages (operand 3 (codes "usr/bin") ∷ []) ≡ Err (NotInstalled 3)
 a_folder_has_no_owner = refl
 
-only_installed_is_refused_late : form_info Installed packages hello_none ≡ Ok (info_done (codes "hello\n") (Some (NotInstalled 4)))
+only_installed_is_refused_late : form_info Installed packages hello_none ≡ Ok (report_and_refusal (codes "hello\n") (Some (NotInstalled 4)))
 only_installed_is_refused_late = refl
 
 others_are_refused_before : form_info Contents packages hello_none ≡ Err (NotInstalled 4)
 others_are_refused_before = refl
 
 a_name_is_told_as_often_as_it_is_given :
-    form_info Installed packages (operand 3 (codes "base") ∷ (operand 4 (codes "base") ∷ [])) ≡ Ok (info_done (codes "base\nbase\n") None)
+    form_info Installed packages (operand 3 (codes "base") ∷ (operand 4 (codes "base") ∷ [])) ≡ Ok (report_and_refusal (codes "base\nbase\n") None)
 a_name_is_told_as_often_as_it_is_given = refl

@@ -20,7 +20,7 @@ use Rattle.report_core.specs.declared.refusal.Refusal.{Refusal}
 use Rattle.report_core.specs.declared.refusal.Refusal.TheVariants.{NotInstalled}
 use Rattle.installed_info.specs.Form.{form_of}
 use Rattle.installed_info.specs.Packages.{package_asked}
-use Rattle.installed_info.specs.declared.telling.InfoDone.{InfoDone}
+use Rattle.installed_info.specs.declared.telling.ReportAndRefusal.{ReportAndRefusal}
 use Rattle.installed_info.specs.declared.telling.Form.{Form}
 use Rattle.installed_info.specs.declared.telling.Form.TheVariants.{Contents, Depends, Description, Installed, Owner}
 
@@ -81,24 +81,28 @@ names_info packages = report_lines (sorted_by bytes_cmp (map package_name packag
 -- ---- the result
 
 -- the result: a report, followed by a refusal, if there is one
-abbrev pub info_done : List ℕ → Option Refusal → InfoDone
-info_done report late = record { report = report; late = late }
+abbrev pub report_and_refusal : List ℕ → Option Refusal → ReportAndRefusal
+report_and_refusal report following_refusal = record {
+  report = report;
+  following_refusal =
+      following_refusal;
+}
 
 -- the result: the report, unless there is a refusal, which takes its place
-abbrev pub info_unless : Option Refusal → List ℕ → Result InfoDone Refusal
-info_unless None report = Ok (info_done report None)
+abbrev pub info_unless : Option Refusal → List ℕ → Result ReportAndRefusal Refusal
+info_unless None report = Ok (report_and_refusal report None)
 info_unless (Some refusal) report = Err refusal
 
 -- the result of a form for packages and operands; `-e` reports the installed packages, followed by a
 -- refusal
-abbrev pub form_info : Form → List Plain → List Operand → Result InfoDone Refusal
+abbrev pub form_info : Form → List Plain → List Operand → Result ReportAndRefusal Refusal
 form_info Installed packages operands =
-    Ok (info_done (operands_info Installed packages operands)
+    Ok (report_and_refusal (operands_info Installed packages operands)
     (info_refusal Installed packages operands))
-form_info Description packages [] = Ok (info_done (names_info packages) None)
+form_info Description packages [] = Ok (report_and_refusal (names_info packages) None)
 form_info form packages operands =
     info_unless (info_refusal form packages operands) (operands_info form packages operands)
 
 -- the result of a command for some packages, or why it is refused
-unfoldable pub info_of : CommandLine → List Plain → Result InfoDone Refusal
+unfoldable pub info_of : CommandLine → List Plain → Result ReportAndRefusal Refusal
 info_of command packages = form_info (form_of command.flags) packages command.operands

@@ -1,4 +1,4 @@
--- The refusals of `info`. It serves the law `info_refuses_an_operand`; the rule is in
+-- The refusals of `info`. It serves the law `info_refuses_only_for_an_operand`; the rule is in
 -- `docs/commands.md`, "`info`", what is refused.
 use Rattle.std.specs.Prelude.{◌≡◌, List}
 use Rattle.adb_fields.specs.FirstPair.{IsIn}

@@ -13,6 +13,6 @@ mod paths;
 mod telling;
 
 pub use telling::{
-    InfoDone, info_refuses_an_operand, owners_are_those_that_list_a_path,
+    ReportAndRefusal, info_refuses_only_for_an_operand, owners_are_those_that_list_a_path,
     packages_have_the_names_that_ask_for_them, tell,
 };

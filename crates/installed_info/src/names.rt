@@ -3,14 +3,14 @@
 ghost use Rattle.adb_fields.specs.Repeated.{package_name};
 ghost use Rattle.adb_view.specs.Plain.{Plain};
 ghost use Rattle.db_core.specs.Seen.{packages_of};
-ghost use Rattle.installed_info.specs.Info.{info_done, names_info};
+ghost use Rattle.installed_info.specs.Info.{report_and_refusal, names_info};
 ghost use Rattle.base_core.specs.ByteOrder.{bytes_cmp};
 ghost use Rattle.base_core.specs.Sorted.{sorted_by};
 ghost use Rattle.report_core.specs.Reports.{report_lines};
 ghost use Rattle.std.specs.Prelude.{◌≡◌, ◌<◌, ◌++◌, None, Some, length, map, slice_get, IfOk, OnOk};
 
 use crate::package::push_line;
-use crate::telling::InfoDone;
+use crate::telling::ReportAndRefusal;
 use adb_schema::PackageView;
 use base_core::Text;
 use db_core::Db;
@@ -18,16 +18,17 @@ use std::alloc::{AllocError, Global};
 use std::marker::PhantomData;
 
 /// The report of `info` without operands: a line for each package, in byte order of their names.
-pub(crate) fn tell_names(alloc: Global, db: &Db<'_>) -> Result<InfoDone, AllocError>
-    ensures { IfOk result (λ done. done ≡ info_done (names_info (packages_of db.now)) None) }
+pub(crate) fn report_names(alloc: Global, db: &Db<'_>) -> Result<ReportAndRefusal, AllocError>
+    ensures { IfOk result (λ done. done ≡ report_and_refusal (names_info (packages_of db.now))
+        None) }
 {
     let mut names = names_of(alloc, db)?;
     sort_names(&mut names)?;
     let mut report = Vec::new(alloc);
     push_lines(&mut report, &names)?;
-    Ok(InfoDone {
+    Ok(ReportAndRefusal {
         report: Text::from_vec(report),
-        late: None,
+        following_refusal: None,
     })
 }
 

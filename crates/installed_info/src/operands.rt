@@ -2,7 +2,7 @@
 //! `docs/commands.md`, "`info`".
 
 ghost use Rattle.db_core.specs.Seen.{packages_of};
-ghost use Rattle.installed_info.specs.Info.{info_done, info_refusal, info_unless, operands_info, package_info};
+ghost use Rattle.installed_info.specs.Info.{report_and_refusal, info_refusal, info_unless, operands_info, package_info};
 ghost use Rattle.installed_info.specs.Packages.{package_asked, package_named, path_owner};
 ghost use Rattle.report_core.specs.declared.refusal.Refusal.TheVariants.{NotInstalled};
 ghost use Rattle.std.specs.Option.{option_map_or, option_or, option_and_then};
@@ -11,7 +11,7 @@ ghost use Rattle.db_core.specs.Packages.{is_package_named, lists_path};
 ghost use Rattle.dep_core.specs.LeadingSlash.{without_slash};
 
 use crate::package::push_package;
-use crate::telling::{Form, InfoDone};
+use crate::telling::{Form, ReportAndRefusal};
 use base_core::{Name, Text};
 use command_core::Operands;
 use db_core::Db;
@@ -22,12 +22,12 @@ use std::marker::PhantomData;
 
 /// The report of a form other than `-e` on each operand. If the package of one is not installed,
 /// the result is only its refusal.
-pub(crate) fn tell_operands(
+pub(crate) fn report_operands(
     alloc: Global,
     form: Form,
     operands: &Operands,
     db: &Db<'_>,
-) -> Result<Result<InfoDone, Refusal>, AllocError>
+) -> Result<Result<ReportAndRefusal, Refusal>, AllocError>
     ensures { IfOk result (λ told. told ≡ info_unless
         (info_refusal form (packages_of db.now) operands.now)
         (operands_info form (packages_of db.now) operands.now)) }
@@ -41,43 +41,44 @@ pub(crate) fn tell_operands(
             }));
         }
     }
-    Ok(Ok(InfoDone {
+    Ok(Ok(ReportAndRefusal {
         report: Text::from_vec(report),
-        late: None,
+        following_refusal: None,
     }))
 }
 
 /// The report of `-e` on the operands whose packages are installed, followed by the refusal of the
 /// first of the others.
-pub(crate) fn tell_installed(
+pub(crate) fn report_installed(
     alloc: Global,
     form: Form,
     operands: &Operands,
     db: &Db<'_>,
-) -> Result<InfoDone, AllocError>
-    ensures { IfOk result (λ done. done ≡ info_done
+) -> Result<ReportAndRefusal, AllocError>
+    ensures { IfOk result (λ done. done ≡ report_and_refusal
         (operands_info form (packages_of db.now) operands.now)
         (info_refusal form (packages_of db.now) operands.now)) }
 {
     let mut report = Vec::new(alloc);
-    let mut late = None;
+    let mut following_refusal = None;
     for i in 0..operands.len() {
         let operand = operands.get(i);
         let is_told = push_operand(alloc, &mut report, form, db, operand.text.as_bytes())?;
-        late = refusal_after(late, is_told, operand.place);
+        following_refusal = refusal_after(following_refusal, is_told, operand.place);
     }
-    Ok(InfoDone {
+    Ok(ReportAndRefusal {
         report: Text::from_vec(report),
-        late,
+        following_refusal,
     })
 }
 
 // The refusal so far, or that of an operand without a report.
-fn refusal_after(late: Option<Refusal>, is_told: bool, place: u32) -> Option<Refusal>
-    ensures { result ≡ option_or late (if is_told then None else Some (NotInstalled place)) }
+fn refusal_after(following_refusal: Option<Refusal>, is_told: bool, place: u32) -> Option<Refusal>
+    ensures { result ≡ option_or following_refusal (if is_told then None else Some (NotInstalled
+        place)) }
 {
-    if is_told || late.is_some() {
-        return late;
+    if is_told || following_refusal.is_some() {
+        return following_refusal;
     }
     Some(Refusal::NotInstalled { place })
 }

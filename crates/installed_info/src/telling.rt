@@ -6,7 +6,7 @@ ghost use Rattle.installed_info.specs.Info.{form_info, info_of};
 ghost use Rattle.std.specs.Prelude.{◌≡◌, IfOk, ℕ, List, true, Some, Ok, Err};
 ghost use Rattle.installed_info.specs.Form.{form_of};
 ghost use Rattle.adb_fields.specs.FirstPair.{IsIn};
-ghost use Rattle.adb_fields.specs.Once.{NamesStandOnce};
+ghost use Rattle.adb_fields.specs.Once.{HasNoRepeatedName};
 ghost use Rattle.adb_fields.specs.Repeated.{entries_at, package_name, paths_in};
 ghost use Rattle.adb_view.specs.FieldIndexes.{IDB_PACKAGES};
 ghost use Rattle.adb_view.specs.declared.tables.Which.TheVariants.{Idb};
@@ -14,11 +14,11 @@ ghost use Rattle.adb_view.specs.Plain.{Plain};
 ghost use Rattle.command_core.specs.Command.{CommandLine};
 ghost use Rattle.installed_info.specs.Packages.{package_named, path_owner};
 ghost use Rattle.installed_info.specs.Refusals.{IsOfAnOperand};
-ghost use Rattle.installed_info.specs.declared.telling.InfoDone.{InfoDone};
+ghost use Rattle.installed_info.specs.declared.telling.ReportAndRefusal.{ReportAndRefusal};
 ghost use Rattle.report_core.specs.declared.refusal.Refusal.{Refusal};
 
-use crate::names::tell_names;
-use crate::operands::{tell_installed, tell_operands};
+use crate::names::report_names;
+use crate::operands::{report_installed, report_operands};
 use base_core::Text;
 use command_core::{Command, Flags, Operands};
 use db_core::Db;
@@ -40,31 +40,31 @@ pub fn tell(
     alloc: Global,
     command: &Command,
     db: &Db<'_>,
-) -> Result<Result<InfoDone, Refusal>, AllocError>
+) -> Result<Result<ReportAndRefusal, Refusal>, AllocError>
     ensures { IfOk result (λ told. told ≡ info_of command.now (packages_of db.now)) }
 {
-    tell_form(alloc, Form::of(command.flags()), command.operands(), db)
+    report_form(alloc, Form::of(command.flags()), command.operands(), db)
 }
 
 // The report of one form of `info`, on a database and operands.
-fn tell_form(
+fn report_form(
     alloc: Global,
     form: Form,
     operands: &Operands,
     db: &Db<'_>,
-) -> Result<Result<InfoDone, Refusal>, AllocError>
+) -> Result<Result<ReportAndRefusal, Refusal>, AllocError>
     ensures { IfOk result (λ told. told ≡ form_info form (packages_of db.now) operands.now) }
 {
     match form {
         Form::Installed => {
-            let done = tell_installed(alloc, form, operands, db)?;
+            let done = report_installed(alloc, form, operands, db)?;
             Ok(Ok(done))
         }
         Form::Description if operands.is_empty() => {
-            let done = tell_names(alloc, db)?;
+            let done = report_names(alloc, db)?;
             Ok(Ok(done))
         }
-        _ => tell_operands(alloc, form, operands, db),
+        _ => report_operands(alloc, form, operands, db),
     }
 }
 
@@ -106,22 +106,22 @@ impl Form {
 
 /// What `info` prints, and the refusal that follows it, if there is one.
 #[derive(Drop)]
-pub struct InfoDone {
+pub struct ReportAndRefusal {
     /// What is printed on standard output.
     pub report: Text,
     /// A refusal that follows the report. Only `info -e` has one.
-    pub late: Option<Refusal>,
+    pub following_refusal: Option<Refusal>,
 }
 
 /// The only refusal is that an operand's package is not installed, and only `info -e` has one after
 /// its report.
-pub fn info_refuses_an_operand()
+pub fn info_refuses_only_for_an_operand()
     // A refusal in place of the report.
     ensures refused { (c : CommandLine) (packages : List Plain) (refusal : Refusal)
         → info_of c packages ≡ Err refusal → IsOfAnOperand c.operands refusal }
     // A refusal after the report.
-    ensures late { (c : CommandLine) (packages : List Plain) (done : InfoDone)
-        (refusal : Refusal) → info_of c packages ≡ Ok done → done.late ≡ Some refusal
+    ensures following_refusal { (c : CommandLine) (packages : List Plain) (done : ReportAndRefusal)
+        (refusal : Refusal) → info_of c packages ≡ Ok done → done.following_refusal ≡ Some refusal
         → (c.flags.installed ≡ true) × IsOfAnOperand c.operands refusal }
 {}
 
@@ -133,7 +133,7 @@ pub fn owners_are_those_that_list_a_path()
         → path_owner packages path ≡ Some pkg
         → IsIn pkg packages × IsIn path (paths_in pkg) }
     // Of the packages of a database.
-    ensures lister { (database pkg : Plain) (path : List ℕ) → NamesStandOnce Idb database
+    ensures lister { (database pkg : Plain) (path : List ℕ) → HasNoRepeatedName Idb database
         → IsIn pkg (entries_at IDB_PACKAGES database) → IsIn path (paths_in pkg)
         → path_owner (entries_at IDB_PACKAGES database) path ≡ Some pkg }
 {}
@@ -146,7 +146,7 @@ pub fn packages_have_the_names_that_ask_for_them()
         → package_named packages name ≡ Some pkg
         → IsIn pkg packages × (package_name pkg ≡ name) }
     // Of the packages of a database.
-    ensures named { (database pkg : Plain) → NamesStandOnce Idb database
+    ensures named { (database pkg : Plain) → HasNoRepeatedName Idb database
         → IsIn pkg (entries_at IDB_PACKAGES database)
         → package_named (entries_at IDB_PACKAGES database) (package_name pkg) ≡ Some pkg }
 {}

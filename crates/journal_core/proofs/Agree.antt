@@ -3,7 +3,7 @@ use Rattle.std.proofs.Common.{◌≡◌, inl, inr, ℕ, ◌+◌, ◌≤◌, ◌<
 use Rattle.std.specs.List.{list_any}
 use Rattle.std.specs.Str.{bytes_eq}
 use Rattle.base_core.specs.Files.{Files}
-use Rattle.journal_core.specs.Recovery.{intent_name, stage_name, Intent, intent_at, intent_of, without_names, move_if, after_moves, recovered_files_by, recovered_files, is_hidden, state_of, IsPlaceOf, RestsOn}
+use Rattle.journal_core.specs.Recovery.{intent_name, stage_name, Intent, intent_at, intent_of, without_names, move_if, after_moves, recovered_files_by, recovered_files, is_hidden, state_of, IsStagedNameOf, StateDependsOn}
 
 -- two trees of files agree at these names
 abbrev pub Agree : (List ℕ → Type 0) → Files → Files → Type 0
@@ -26,7 +26,7 @@ module _ (S : List ℕ → Type 0) where
   agree-unstaged (name ∷ names) k F G at h =
       agree-unstaged names (k + 1) _ _ (λ j from below. at j (omega arith) (omega arith)) (agree-move_if (stage_name k) name F G (at k (omega arith) (omega arith)) h)
 
-  agree-recovered_by : (intent : Option Intent) (F G : Files) → ((q : List ℕ) → IsPlaceOf intent q → S q) → Agree S F G → Agree S (recovered_files_by intent F) (recovered_files_by intent G)
+  agree-recovered_by : (intent : Option Intent) (F G : Files) → ((q : List ℕ) → IsStagedNameOf intent q → S q) → Agree S F G → Agree S (recovered_files_by intent F) (recovered_files_by intent G)
   agree-recovered_by None F G at h q s = h q s
   agree-recovered_by (Some intent) F G at h q s =
       ap (cond (bytes_eq q intent_name) None)
@@ -36,9 +36,9 @@ same_shown : (ignored : List ℕ → Bool) (q : List ℕ) (a b : Option (List �
 same_shown ignored q a b true is same = ap (λ r. cond r None a) is ∙ sym (ap (λ r. cond r None b) is)
 same_shown ignored q a b false is same = ap (cond (is_hidden ignored q) None) (same is)
 
-pub state_agree : (ignored : List ℕ → Bool) (F G : Files) → Agree (RestsOn ignored F) F G → state_of ignored F ≡ state_of ignored G
+pub state_agree : (ignored : List ℕ → Bool) (F G : Files) → Agree (StateDependsOn ignored F) F G → state_of ignored F ≡ state_of ignored G
 state_agree ignored F G h =
     let same_intent : intent_of F ≡ intent_of G = ap intent_at (h intent_name (inl refl)) in
-    let same_recovered : (q : List ℕ) → RestsOn ignored F q → recovered_files F q ≡ recovered_files G q = λ q s.
-    agree-recovered_by (RestsOn ignored F) (intent_of F) F G (λ r place. inr (inr place)) h q s ∙ ap (λ o. recovered_files_by o G q) same_intent in
+    let same_recovered : (q : List ℕ) → StateDependsOn ignored F q → recovered_files F q ≡ recovered_files G q = λ q s.
+    agree-recovered_by (StateDependsOn ignored F) (intent_of F) F G (λ r place. inr (inr place)) h q s ∙ ap (λ o. recovered_files_by o G q) same_intent in
     λ i q. same_shown ignored q (recovered_files F q) (recovered_files G q) (is_hidden ignored q) refl (λ shown. same_recovered q (inr (inl shown))) i

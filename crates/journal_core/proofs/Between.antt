@@ -1,17 +1,20 @@
 -- What a stage has made of the tree, over one call.
-use Rattle.std.proofs.Common.{◌≡◌, ◌≢◌, ◌⊎◌, inl, inr, ⊎_elim, ℕ, ◌+◌, ◌≤◌, ◌<◌, ◌^◌, Bool, true, false, List, [], ◌∷◌, ◌++◌, length, None, Some, IsSome, refl, sym, ap, subst, ◌∙◌, arith}
+use Rattle.std.proofs.Common.{◌≡◌, ◌≢◌, ◌⊎◌, inl, inr, ⊎_elim, ℕ, suc, ◌+◌, ◌≤◌, ◌<◌, ◌^◌, Bool, true, false, List, [], ◌∷◌, ◌++◌, length, Option, None, Some, IsSome, refl, sym, ap, subst, ◌∙◌, arith}
 use Rattle.std.proofs.Math.Nat.{eq-or-lt_of_le}
 use Rattle.std.specs.Str.{bytes_eq}
 use Rattle.base_core.specs.Files.{Files, NameMap, put_name}
-use Rattle.base_core.specs.Tree.{TreeState, File, IsWhole, bytes_at, files_of, change_at, after_create, after_append, after_sync, HasName}
-use Rattle.base_core.specs.Crash.{IsOrderly}
-use Rattle.journal_core.specs.Recovery.{RestsOn, intent_name, stage_name}
-use Rattle.journal_core.specs.Quiet.{IsStill}
-use Rattle.journal_core.specs.Staged.{Staging, IsStaged, with_staged}
+use Rattle.base_core.specs.Tree.{TreeState, File, IsWellFormed, bytes_at, files_of, change_at, after_create, after_append, after_sync, after_sync_names, HasName}
+use Rattle.base_core.specs.Undone.{IsDurable}
+use Rattle.journal_core.specs.Recovery.{StateDependsOn, intent_name, stage_name}
+use Rattle.journal_core.specs.Quiet.{StateIsUnchanged}
+use Rattle.journal_core.specs.Kept.{IsInNoMap}
+use Rattle.journal_core.specs.Staged.{Staging, HasNoOtherIntent, IsStaged, with_staged}
+use Rattle.base_core.proofs.Undone.{read_may_be_left}
+use Rattle.journal_core.proofs.Changes.{gone_created, gone_synced}
 use Rattle.journal_intent.proofs.AtName.{name_cases, off_name, put_name-at, put_name-off}
 use Rattle.journal_intent.proofs.StageNames.{stage_names_apart, stage_name_no_intent}
 use Rattle.journal_core.proofs.Steps.{set_file-at, file_at-set_file, made_later, create_others}
-use Rattle.journal_core.proofs.Waiting.{IsOff, off_none, still_created, alone_created, still_changed, alone_changed, others_changed, read_changed}
+use Rattle.journal_core.proofs.Waiting.{off_gone, still_created, alone_created, still_changed, alone_changed, others_changed, read_changed}
 use Rattle.journal_core.proofs.Images.{CrashLaws}
 
 pub staged_off : (contents : List (List ℕ)) (k : ℕ) (F : Files) (q : List ℕ) → ((j : ℕ) → k ≤ j → q ≢ stage_name j) → with_staged k contents F q ≡ F q
@@ -32,17 +35,45 @@ few_next staged count most same below few = omega (arith, same, below, few)
 pub no_intent_read : (stage : Staging) (contents : List (List ℕ)) (base : Files) (v : TreeState) → IsStaged stage contents None base v → files_of v intent_name ≡ None
 no_intent_read stage contents base v staged = ap (λ (F : Files). F intent_name) staged.reads ∙ staged_off contents 1 base intent_name (λ j le e. stage_name_no_intent j (sym e)) ∙ staged.absent
 
-pub off_waiting : (stage : Staging) (contents : List (List ℕ)) (base : Files) (v : TreeState) (k : ℕ) → IsStaged stage contents None base v → IsOff (files_of v) (stage_name k)
-off_waiting stage contents base v k staged = off_none (files_of v) (stage_name k) refl (stage_name_no_intent k) (no_intent_read stage contents base v staged)
+-- once a file is staged, no crash restores an intent
+pub gone_once : (stage : Staging) (contents : List (List ℕ)) (base : Files) (v : TreeState) (k : ℕ) → IsStaged stage contents None base v → stage.staged ≡ suc k → IsInNoMap intent_name v
+gone_once stage [] base v k staged some = absurd (let none = staged.count in omega (arith, none, some))
+gone_once stage (bytes ∷ contents) base v k staged some = staged.gone
+
+other_more : (contents : List (List ℕ)) (bytes : List ℕ) (v : TreeState) → IsInNoMap intent_name v → HasNoOtherIntent (contents ++ bytes ∷ []) None v
+other_more [] bytes v gone = gone
+other_more (c ∷ contents) bytes v gone = gone
+
+unread : (files : ℕ → File) (o : Option ℕ) → bytes_at files o ≡ None → o ≡ None
+unread files None is = refl
+unread files (Some n) is = absurd (cc)
+
+-- the names are synced
+pub gone_once_synced : (stage : Staging) (contents : List (List ℕ)) (base : Files) (v : TreeState) → IsStaged stage contents None base v → IsInNoMap intent_name (after_sync_names v)
+gone_once_synced stage contents base v staged = gone_synced intent_name v (unread v.files (v.names intent_name) (no_intent_read stage contents base v staged))
+
+pub staged_synced : (stage : Staging) (contents : List (List ℕ)) (base : Files) (v : TreeState) → IsStaged stage contents None base v → IsStaged stage contents None base (after_sync_names v)
+staged_synced stage contents base v staged = record {
+  count = staged.count;
+  absent = staged.absent;
+  reads = staged.reads;
+  synced = staged.synced;
+  alone = tt;
+  gone = by contents (gone_once_synced stage contents base v staged);
+}
+  where
+    by : (cs : List (List ℕ)) → IsInNoMap intent_name (after_sync_names v) → HasNoOtherIntent cs None (after_sync_names v)
+    by [] away = tt
+    by (c ∷ cs) away = away
 
 -- ---- a file is begun
 
-module _ (laws : CrashLaws) (stage : Staging) (contents : List (List ℕ)) (base : Files) (v : TreeState) (few : 1 + length contents < 2 ^ 64) (staged : IsStaged stage contents None base v) (whole : IsWhole v) where
+module _ (laws : CrashLaws) (stage : Staging) (contents : List (List ℕ)) (base : Files) (v : TreeState) (few : 1 + length contents < 2 ^ 64) (staged : IsStaged stage contents None base v) (gone : IsInNoMap intent_name v) (whole : IsWellFormed v) where
   abbrev next : List ℕ
   next = stage_name (1 + length contents)
 
-  still_begun_at : (ignored : List ℕ → Bool) → IsOrderly (RestsOn ignored) v → IsStill ignored v (after_create next v)
-  still_begun_at ignored = still_created laws ignored next v (off_waiting stage contents base v (1 + length contents) staged) whole
+  still_begun_at : (ignored : List ℕ → Bool) → IsDurable (StateDependsOn ignored) v → StateIsUnchanged ignored v (after_create next v)
+  still_begun_at ignored = still_created laws ignored next v (off_gone v (stage_name (1 + length contents)) refl (stage_name_no_intent (1 + length contents)) gone) whole
 
   created_reads : (q : List ℕ) → files_of (after_create next v) q ≡ put_name (files_of v) next [] q
   created_reads q = at (name_cases q next)
@@ -61,13 +92,14 @@ module _ (laws : CrashLaws) (stage : Staging) (contents : List (List ℕ)) (base
     reads = λ i q. (created_reads q ∙ ap (λ (F : Files). put_name F next [] q) staged.reads) i;
     synced = λ k n from below there.
         let at : v.names (stage_name k) ≡ Some n = sym (put_name-off v.names next v.made (stage_name k) (λ e. absurd (omega (arith, below, stage_names_apart k (1 + length contents) (omega (arith, below, few)) few e)))) ∙ there in
-        ap (λ (f : File). f.synced) (kept_file n (λ e. made_later v whole v.names (inl refl) (stage_name k) (at ∙ ap Some e))) ∙ staged.synced k n from below at;
-    alone = alone_created next v (off_waiting stage contents base v (1 + length contents) staged) whole;
+        ap (λ (f : File). f.synced) (kept_file n (λ e. made_later v whole v.names (read_may_be_left v) (stage_name k) (at ∙ ap Some e))) ∙ staged.synced k n from below at;
+    alone = alone_created next v (off_gone v (stage_name (1 + length contents)) refl (stage_name_no_intent (1 + length contents)) gone) whole;
+    gone = gone_created intent_name next v (λ e. stage_name_no_intent (1 + length contents) (sym e)) gone;
   }
 
   module _ (name : List ℕ) (is : name ≡ next) where
-    pub still_begun : (ignored : List ℕ → Bool) → IsOrderly (RestsOn ignored) v → IsStill ignored v (after_create name v)
-    still_begun ignored orderly = subst (λ (n : List ℕ). IsStill ignored v (after_create n v)) (sym is) (still_begun_at ignored orderly)
+    pub still_begun : (ignored : List ℕ → Bool) → IsDurable (StateDependsOn ignored) v → StateIsUnchanged ignored v (after_create name v)
+    still_begun ignored is_durable = subst (λ (n : List ℕ). StateIsUnchanged ignored v (after_create n v)) (sym is) (still_begun_at ignored is_durable)
 
     pub staged_begun : (now : Staging) → now.staged ≡ stage.staged → IsStaged now contents (Some []) base (after_create name v)
     staged_begun now same = subst (λ (n : List ℕ). IsStaged now contents (Some []) base (after_create n v)) (sym is) (staged_begun_at now same)
@@ -90,7 +122,7 @@ module _ (laws : CrashLaws) (stage : Staging) (contents : List (List ℕ)) (so_f
     abbrev w : TreeState
     w = change_at change v (v.names place)
 
-    pub still_grown_at : (ignored : List ℕ → Bool) → IsOrderly (RestsOn ignored) v → IsStill ignored v w
+    pub still_grown_at : (ignored : List ℕ → Bool) → IsDurable (StateDependsOn ignored) v → StateIsUnchanged ignored v w
     still_grown_at ignored = still_changed laws place refl (stage_name_no_intent (1 + length contents)) change v staged.alone ignored
 
     grown_others : (q : List ℕ) → q ≢ place → files_of w q ≡ files_of v q
@@ -113,7 +145,7 @@ module _ (laws : CrashLaws) (stage : Staging) (contents : List (List ℕ)) (so_f
 
       other_number : (k n : ℕ) → k < 1 + length contents → v.names (stage_name k) ≡ Some n → n ≢ staged.alone.number
       other_number k n below there e =
-          let here = staged.alone.alone v.names (inl refl) (stage_name k) (there ∙ ap Some e) in
+          let here = staged.alone.alone v.names (read_may_be_left v) (stage_name k) (there ∙ ap Some e) in
           let equal = stage_names_apart k (1 + length contents) (omega (arith, below, few)) few here in
           absurd (omega (arith, below, equal))
 
@@ -124,6 +156,9 @@ module _ (laws : CrashLaws) (stage : Staging) (contents : List (List ℕ)) (so_f
 
       same_names : w.names ≡ v.names
       same_names = ap (λ (u : TreeState). u.names) w_at
+
+      still_gone : IsInNoMap intent_name w
+      still_gone = subst (IsInNoMap intent_name) (sym w_at) staged.gone
 
       synced_before : (k n : ℕ) → 1 ≤ k → k < 1 + length contents → w.names (stage_name k) ≡ Some n → (w.files n).synced ≡ true
       synced_before k n from below there =
@@ -137,6 +172,7 @@ module _ (laws : CrashLaws) (stage : Staging) (contents : List (List ℕ)) (so_f
         reads = λ i q. grown_reads q i;
         synced = synced_before;
         alone = alone_changed laws place refl (stage_name_no_intent (1 + length contents)) change v staged.alone;
+        gone = still_gone;
       }
 
       count_more : (cs : List (List ℕ)) → length (cs ++ bytes ∷ []) ≡ length cs + 1
@@ -156,6 +192,7 @@ module _ (laws : CrashLaws) (stage : Staging) (contents : List (List ℕ)) (so_f
         reads = λ i q. (grown_reads q ∙ ap (λ (F : Files). F q) (sym (staged_more contents 1 bytes base))) i;
         synced = λ k n from below there. by_place k n from (less k below) there;
         alone = tt;
+        gone = other_more contents bytes w still_gone;
       }
         where
           less : (k : ℕ) → k < 1 + length (contents ++ bytes ∷ []) → (k < 1 + length contents) ⊎ (k ≡ 1 + length contents)
@@ -167,8 +204,8 @@ module _ (laws : CrashLaws) (stage : Staging) (contents : List (List ℕ)) (so_f
 
   module _ (name : List ℕ) (is : name ≡ place) where
     -- more bytes, also where that failed
-    pub still_grown : (change : File → File) (ignored : List ℕ → Bool) → IsOrderly (RestsOn ignored) v → IsStill ignored v (change_at change v (v.names name))
-    still_grown change ignored orderly = subst (λ (n : List ℕ). IsStill ignored v (change_at change v (v.names n))) (sym is) (still_grown_at change ignored orderly)
+    pub still_grown : (change : File → File) (ignored : List ℕ → Bool) → IsDurable (StateDependsOn ignored) v → StateIsUnchanged ignored v (change_at change v (v.names name))
+    still_grown change ignored is_durable = subst (λ (n : List ℕ). StateIsUnchanged ignored v (change_at change v (v.names n))) (sym is) (still_grown_at change ignored is_durable)
 
     pub others_grown : (change : File → File) (q : List ℕ) → q ≢ name → files_of (change_at change v (v.names name)) q ≡ files_of v q
     others_grown change q ne = subst (λ (n : List ℕ). files_of (change_at change v (v.names n)) q ≡ files_of v q) (sym is) (grown_others change q (λ e. ne (e ∙ sym is)))

@@ -9,12 +9,13 @@ use Rattle.std.specs.Cmp.{IsEquivalence}
 use Rattle.base_core.specs.Files.{Files, IsFolderOf}
 use Rattle.base_core.specs.Listed.{AreNamesBelow, IsListOf, IsNameBelow}
 use Rattle.base_core.specs.Tree.{TreeState, File, bytes_at, files_of}
-use Rattle.base_core.specs.Calls.{IfObservable, HasNow}
-use Rattle.base_core.specs.Crash.{IsOrderly, Since}
+use Rattle.base_core.specs.Calls.{IfObservable, HoldsNow}
+use Rattle.base_core.specs.Crash.{Since}
+use Rattle.base_core.specs.Undone.{IsDurable}
 use Rattle.journal_core.specs.Kept.{RecoversTo}
-use Rattle.journal_core.specs.Recovering.{AllStaged, IsEmptied, IsReplayed, IsWithout, unless_staged}
-use Rattle.journal_core.specs.Recovery.{Intent, IsSettled, RestsOn, intent_name, intent_at, intent_of, is_staged, recovered_files, recovered_files_by, after_actions, stage_folder, state_of}
-use Rattle.journal_core.specs.Quiet.{IsStill}
+use Rattle.journal_core.specs.Recovering.{AllStaged, HasEmptiedStage, IsReplayed, HasRemovedNames, without_staged_names}
+use Rattle.journal_core.specs.Recovery.{Intent, EachCrashLeaves, StateDependsOn, intent_name, intent_at, intent_of, is_staged, recovered_files, recovered_files_by, after_actions, stage_folder, state_of}
+use Rattle.journal_core.specs.Quiet.{StateIsUnchanged}
 use Rattle.journal_core.specs.Staged.{IsEmptyStage, unstaged_files}
 use Rattle.journal_core.proofs.Acts.{state_same, still_on}
 use Rattle.journal_core.proofs.Below.{begins, is_below}
@@ -49,7 +50,7 @@ any_of : (q : List ℕ) (names : List (List ℕ)) → Contains names q → list_
 any_of q names has = list_any-from_Contains alike q names has
 
 module _ (names : List (List ℕ)) (folder : List ℕ) (folder_is : folder ≡ stage_folder) (v : TreeState) (listed : IsListOf folder v names) where
-  listed_cond : (q : List ℕ) → cond (list_any (bytes_eq q) names) None (v.names q) ≡ unless_staged v.names q
+  listed_cond : (q : List ℕ) → cond (list_any (bytes_eq q) names) None (v.names q) ≡ without_staged_names v.names q
   listed_cond q = by (list_any (bytes_eq q) names) refl (is_staged q) refl (v.names q) refl
     where
       by : (a : Bool) → list_any (bytes_eq q) names ≡ a → (b : Bool) → is_staged q ≡ b → (o : Option ℕ) → v.names q ≡ o → cond a None o ≡ cond b None o
@@ -63,7 +64,7 @@ module _ (names : List (List ℕ)) (folder : List ℕ) (folder_is : folder ≡ s
           absurd (true_false (sym (any_of q names has) ∙ x))
       by false x false y o z = refl
 
-  pub emptied : (w : TreeState) → IsWithout names v w → IsEmptied v w
+  pub emptied : (w : TreeState) → HasRemovedNames names v w → HasEmptiedStage v w
   emptied w without_names = record { map = λ q. without_names.map q ∙ listed_cond q; files = without_names.files }
 
 pub none_listed : (names : List (List ℕ)) (folder : List ℕ) → folder ≡ stage_folder → (v : TreeState) → IsListOf folder v names → IsEmptyStage v.names → names ≡ []
@@ -78,9 +79,9 @@ module _ (names : List (List ℕ)) (folder : List ℕ) (folder_is : folder ≡ s
   back : (B : TreeState → Type 0) → IfObservable mid B → IfObservable old B
   back B told = subst (λ (l : History). IfObservable l B) same told
 
-  pub empty_moments : AreNamesBelow folder names → IfObservable mid (λ v. (ignored : List ℕ → Bool) → IsOrderly (RestsOn ignored) v → v.names intent_name ≡ None → AllStaged names → Since (IsStill ignored v) mid new)
-      → IfObservable old (λ v. (ignored : List ℕ → Bool) → IsOrderly (RestsOn ignored) v → v.names intent_name ≡ None → Since (IsStill ignored v) old new)
-  empty_moments below told = observable_map old _ _ (back _ told) (λ v t ignored orderly none. subst (λ (l : History). Since (IsStill ignored v) l new) same (t ignored orderly none (all_staged folder names folder_is below)))
+  pub empty_moments : AreNamesBelow folder names → IfObservable mid (λ v. (ignored : List ℕ → Bool) → IsDurable (StateDependsOn ignored) v → v.names intent_name ≡ None → AllStaged names → Since (StateIsUnchanged ignored v) mid new)
+      → IfObservable old (λ v. (ignored : List ℕ → Bool) → IsDurable (StateDependsOn ignored) v → v.names intent_name ≡ None → Since (StateIsUnchanged ignored v) old new)
+  empty_moments below told = observable_map old _ _ (back _ told) (λ v t ignored is_durable none. subst (λ (l : History). Since (StateIsUnchanged ignored v) l new) same (t ignored is_durable none (all_staged folder names folder_is below)))
 
   pub empty_shown : AreNamesBelow folder names → IfObservable mid (λ v. AllStaged names → Since (KeepsShown v) mid new) → IfObservable old (λ v. Since (KeepsShown v) old new)
   empty_shown below told = observable_map old _ _ (back _ told) (λ v t. subst (λ (l : History). Since (KeepsShown v) l new) same (t (all_staged folder names folder_is below)))
@@ -89,8 +90,8 @@ module _ (names : List (List ℕ)) (folder : List ℕ) (folder_is : folder ≡ s
   both_told [] A B C f a b = tt
   both_told (v ∷ h) A B C f a b = f v a b
 
-  pub empty_emptied : IfObservable old (λ v. IsListOf folder v names) → IfObservable mid (λ v. HasNow new (IsWithout names v)) → IfObservable old (λ v. HasNow new (IsEmptied v))
-  empty_emptied listed told = both_told old _ _ _ (λ v l t. now_map new (IsWithout names v) (IsEmptied v) t (λ w. emptied names folder folder_is v l w)) listed (back _ told)
+  pub empty_emptied : IfObservable old (λ v. IsListOf folder v names) → IfObservable mid (λ v. HoldsNow new (HasRemovedNames names v)) → IfObservable old (λ v. HoldsNow new (HasEmptiedStage v))
+  empty_emptied listed told = both_told old _ _ _ (λ v l t. now_map new (HasRemovedNames names v) (HasEmptiedStage v) t (λ w. emptied names folder folder_is v l w)) listed (back _ told)
 
   pub empty_idle : IfObservable old (λ v. IsListOf folder v names) → (names ≡ [] → new ≡ mid) → IfObservable old (λ v. IsEmptyStage v.names → new ≡ old)
   empty_idle listed told = observable_map old _ _ listed (λ v l none. told (none_listed names folder folder_is v l none) ∙ same)
@@ -108,7 +109,7 @@ read_emptied : (F G : ℕ → File) (same : F ≡ G) (b : Bool) (m n : Option �
 read_emptied F G same true m n is = ap (bytes_at F) is
 read_emptied F G same false m n is = ap (bytes_at F) is ∙ ap (λ (f : ℕ → File). bytes_at f n) same
 
-pub cleaned_of : (v u w : TreeState) → IsReplayed v u → IsEmptied u w → (files_of w ≡ unstaged_files (files_of v)) × (w.names intent_name ≡ None)
+pub cleaned_of : (v u w : TreeState) → IsReplayed v u → HasEmptiedStage u w → (files_of w ≡ unstaged_files (files_of v)) × (w.names intent_name ≡ None)
 cleaned_of v u w replayed emptied = (
   λ i q. (read_emptied w.files u.files emptied.files (is_staged q) (w.names q) (u.names q) (emptied.map q) ∙ ap (λ (F : Files). cond (is_staged q) None (F q)) replayed.reads) i,
   emptied.map intent_name ∙ replayed.absent,
@@ -116,48 +117,48 @@ cleaned_of v u w replayed emptied = (
 
 module _ (old mid new : History) where
   abbrev Empties : Type 0
-  Empties = IfObservable mid (λ u. (ignored : List ℕ → Bool) → IsOrderly (RestsOn ignored) u → u.names intent_name ≡ None → Since (IsStill ignored u) mid new)
+  Empties = IfObservable mid (λ u. (ignored : List ℕ → Bool) → IsDurable (StateDependsOn ignored) u → u.names intent_name ≡ None → Since (StateIsUnchanged ignored u) mid new)
 
   abbrev Replays : Type 0
-  Replays = IfObservable old (λ v. (ignored : List ℕ → Bool) → IsOrderly (RestsOn ignored) v → Since (IsStill ignored v) old mid)
+  Replays = IfObservable old (λ v. (ignored : List ℕ → Bool) → IsDurable (StateDependsOn ignored) v → Since (StateIsUnchanged ignored v) old mid)
 
-  pub all_moments : Replays → IfObservable old (λ v. HasNow mid (IsReplayed v)) → Empties → IfObservable old (λ v. (ignored : List ℕ → Bool) → IsOrderly (RestsOn ignored) v → Since (IsStill ignored v) old new)
-  all_moments replays replayed empties = on_observable old _ (λ v rest is ignored orderly.
-      let first = observable_at old v rest is (λ u. (Y : List ℕ → Bool) → IsOrderly (RestsOn Y) u → Since (IsStill Y u) old mid) replays ignored orderly in
-      let here = now_both mid (IsStill ignored v) (IsReplayed v) (now_since (IsStill ignored v) old mid v rest is (still_self ignored v orderly) first) (observable_at old v rest is (λ u. HasNow mid (IsReplayed u)) replayed) in
-      since_on (IsStill ignored v) old mid new first
-      (by_now mid (λ u. IsStill ignored v u × IsReplayed v u) (Since (IsStill ignored v) mid new) here
-      (observable_map mid _ (λ u. IsStill ignored v u × IsReplayed v u → Since (IsStill ignored v) mid new) empties (λ u t q. since_weaker (IsStill ignored u) (IsStill ignored v) mid new (λ w. still_on ignored v u w q.0) (t ignored q.0.orderly q.1.absent)))))
+  pub all_moments : Replays → IfObservable old (λ v. HoldsNow mid (IsReplayed v)) → Empties → IfObservable old (λ v. (ignored : List ℕ → Bool) → IsDurable (StateDependsOn ignored) v → Since (StateIsUnchanged ignored v) old new)
+  all_moments replays replayed empties = on_observable old _ (λ v rest is ignored is_durable.
+      let first = observable_at old v rest is (λ u. (Y : List ℕ → Bool) → IsDurable (StateDependsOn Y) u → Since (StateIsUnchanged Y u) old mid) replays ignored is_durable in
+      let here = now_both mid (StateIsUnchanged ignored v) (IsReplayed v) (now_since (StateIsUnchanged ignored v) old mid v rest is (still_self ignored v is_durable) first) (observable_at old v rest is (λ u. HoldsNow mid (IsReplayed u)) replayed) in
+      since_on (StateIsUnchanged ignored v) old mid new first
+      (by_now mid (λ u. StateIsUnchanged ignored v u × IsReplayed v u) (Since (StateIsUnchanged ignored v) mid new) here
+      (observable_map mid _ (λ u. StateIsUnchanged ignored v u × IsReplayed v u → Since (StateIsUnchanged ignored v) mid new) empties (λ u t q. since_weaker (StateIsUnchanged ignored u) (StateIsUnchanged ignored v) mid new (λ w. still_on ignored v u w q.0) (t ignored q.0.is_durable q.1.absent)))))
 
-  pub all_files : IfObservable old (λ v. HasNow mid (IsReplayed v)) → IfObservable mid (λ u. HasNow new (IsEmptied u)) → IfObservable old (λ v. HasNow new (λ w. (files_of w ≡ unstaged_files (files_of v)) × (w.names intent_name ≡ None)))
+  pub all_files : IfObservable old (λ v. HoldsNow mid (IsReplayed v)) → IfObservable mid (λ u. HoldsNow new (HasEmptiedStage u)) → IfObservable old (λ v. HoldsNow new (λ w. (files_of w ≡ unstaged_files (files_of v)) × (w.names intent_name ≡ None)))
   all_files replayed emptied = observable_map old _ _ replayed (λ v here.
-      by_now mid (IsReplayed v) (HasNow new (λ w. (files_of w ≡ unstaged_files (files_of v)) × (w.names intent_name ≡ None))) here
-      (observable_map mid _ (λ u. IsReplayed v u → HasNow new (λ w. (files_of w ≡ unstaged_files (files_of v)) × (w.names intent_name ≡ None))) emptied (λ u now replay. now_map new (IsEmptied u) (λ w. (files_of w ≡ unstaged_files (files_of v)) × (w.names intent_name ≡ None)) now (λ w e. cleaned_of v u w replay e))))
+      by_now mid (IsReplayed v) (HoldsNow new (λ w. (files_of w ≡ unstaged_files (files_of v)) × (w.names intent_name ≡ None))) here
+      (observable_map mid _ (λ u. IsReplayed v u → HoldsNow new (λ w. (files_of w ≡ unstaged_files (files_of v)) × (w.names intent_name ≡ None))) emptied (λ u now replay. now_map new (HasEmptiedStage u) (λ w. (files_of w ≡ unstaged_files (files_of v)) × (w.names intent_name ≡ None)) now (λ w e. cleaned_of v u w replay e))))
 
-  pub all_settled : Replays → IfObservable old (λ v. HasNow mid (IsReplayed v)) → IfObservable old (λ v. (ignored : List ℕ → Bool) → IsOrderly (RestsOn ignored) v → IsSome (intent_of (files_of v)) → HasNow mid (IsSettled ignored (recovered_files (files_of v)))) → Empties
-      → IfObservable old (λ v. (ignored : List ℕ → Bool) → IsOrderly (RestsOn ignored) v → IsSome (intent_of (files_of v)) → HasNow new (IsSettled ignored (files_of v)))
-  all_settled replays replayed settled empties = on_observable old _ (λ v rest is ignored orderly some.
-      let first = observable_at old v rest is (λ u. (Y : List ℕ → Bool) → IsOrderly (RestsOn Y) u → Since (IsStill Y u) old mid) replays ignored orderly in
-      let still = now_both mid (IsStill ignored v) (IsReplayed v) (now_since (IsStill ignored v) old mid v rest is (still_self ignored v orderly) first) (observable_at old v rest is (λ u. HasNow mid (IsReplayed u)) replayed) in
-      let here = now_both mid (IsSettled ignored (recovered_files (files_of v))) (λ u. IsStill ignored v u × IsReplayed v u) (observable_at old v rest is (λ u. (Y : List ℕ → Bool) → IsOrderly (RestsOn Y) u → IsSome (intent_of (files_of u)) → HasNow mid (IsSettled Y (recovered_files (files_of u)))) settled ignored orderly some) still in
+  pub all_settled : Replays → IfObservable old (λ v. HoldsNow mid (IsReplayed v)) → IfObservable old (λ v. (ignored : List ℕ → Bool) → IsDurable (StateDependsOn ignored) v → IsSome (intent_of (files_of v)) → HoldsNow mid (EachCrashLeaves ignored (recovered_files (files_of v)))) → Empties
+      → IfObservable old (λ v. (ignored : List ℕ → Bool) → IsDurable (StateDependsOn ignored) v → IsSome (intent_of (files_of v)) → HoldsNow new (EachCrashLeaves ignored (files_of v)))
+  all_settled replays replayed settled empties = on_observable old _ (λ v rest is ignored is_durable some.
+      let first = observable_at old v rest is (λ u. (Y : List ℕ → Bool) → IsDurable (StateDependsOn Y) u → Since (StateIsUnchanged Y u) old mid) replays ignored is_durable in
+      let is_unchanged = now_both mid (StateIsUnchanged ignored v) (IsReplayed v) (now_since (StateIsUnchanged ignored v) old mid v rest is (still_self ignored v is_durable) first) (observable_at old v rest is (λ u. HoldsNow mid (IsReplayed u)) replayed) in
+      let here = now_both mid (EachCrashLeaves ignored (recovered_files (files_of v))) (λ u. StateIsUnchanged ignored v u × IsReplayed v u) (observable_at old v rest is (λ u. (Y : List ℕ → Bool) → IsDurable (StateDependsOn Y) u → IsSome (intent_of (files_of u)) → HoldsNow mid (EachCrashLeaves Y (recovered_files (files_of u)))) settled ignored is_durable some) is_unchanged in
       settled_at mid refl ignored v empties here)
     where
-      settled_at : (m : History) → m ≡ mid → (ignored : List ℕ → Bool) (v : TreeState) → IfObservable m (λ u. (Y : List ℕ → Bool) → IsOrderly (RestsOn Y) u → u.names intent_name ≡ None → Since (IsStill Y u) mid new)
-          → HasNow m (λ u. IsSettled ignored (recovered_files (files_of v)) u × (IsStill ignored v u × IsReplayed v u)) → HasNow new (IsSettled ignored (files_of v))
+      settled_at : (m : History) → m ≡ mid → (ignored : List ℕ → Bool) (v : TreeState) → IfObservable m (λ u. (Y : List ℕ → Bool) → IsDurable (StateDependsOn Y) u → u.names intent_name ≡ None → Since (StateIsUnchanged Y u) mid new)
+          → HoldsNow m (λ u. EachCrashLeaves ignored (recovered_files (files_of v)) u × (StateIsUnchanged ignored v u × IsReplayed v u)) → HoldsNow new (EachCrashLeaves ignored (files_of v))
       settled_at [] is ignored v told here = absurd here
       settled_at (u ∷ m) is ignored v told here =
-          let since = told ignored here.1.0.orderly here.1.1.absent in
-          now_map new (IsStill ignored u) (IsSettled ignored (files_of v)) (now_since (IsStill ignored u) mid new u m (sym is) (still_self ignored u here.1.0.orderly) since)
-          (λ w still image at. settled_quiet ignored (recovered_files (files_of v)) u w here.0 still.quiet image at ∙ state_recovered ignored (files_of v))
+          let since = told ignored here.1.0.is_durable here.1.1.absent in
+          now_map new (StateIsUnchanged ignored u) (EachCrashLeaves ignored (files_of v)) (now_since (StateIsUnchanged ignored u) mid new u m (sym is) (still_self ignored u here.1.0.is_durable) since)
+          (λ w is_unchanged image at. settled_quiet ignored (recovered_files (files_of v)) u w here.0 is_unchanged.quiet image at ∙ state_recovered ignored (files_of v))
 
   pub all_idle : IfObservable old (λ v. v.names intent_name ≡ None → mid ≡ old) → IfObservable mid (λ u. IsEmptyStage u.names → new ≡ mid) → IfObservable old (λ v. v.names intent_name ≡ None → IsEmptyStage v.names → new ≡ old)
   all_idle first then = on_observable old _ (λ v rest is none empty.
       let same = observable_at old v rest is (λ u. u.names intent_name ≡ None → mid ≡ old) first none in
       observable_at mid v rest (same ∙ is) (λ u. IsEmptyStage u.names → new ≡ mid) then empty ∙ same)
 
-  pub all_proper : (a b c : ℕ) (P : TreeState → Type 0) → IfObservable old (λ v. P v → b ≡ a) → IfObservable old (λ v. HasNow mid (IsReplayed v)) → IfObservable mid (λ u. c ≡ b) → IfObservable old (λ v. P v → c ≡ a)
+  pub all_proper : (a b c : ℕ) (P : TreeState → Type 0) → IfObservable old (λ v. P v → b ≡ a) → IfObservable old (λ v. HoldsNow mid (IsReplayed v)) → IfObservable mid (λ u. c ≡ b) → IfObservable old (λ v. P v → c ≡ a)
   all_proper a b c P first replayed then = on_observable old _ (λ v rest is room.
-      by_now mid (IsReplayed v) (c ≡ b) (observable_at old v rest is (λ u. HasNow mid (IsReplayed u)) replayed) (observable_map mid _ (λ u. IsReplayed v u → c ≡ b) then (λ u t q. t))
+      by_now mid (IsReplayed v) (c ≡ b) (observable_at old v rest is (λ u. HoldsNow mid (IsReplayed u)) replayed) (observable_map mid _ (λ u. IsReplayed v u → c ≡ b) then (λ u t q. t))
       ∙ observable_at old v rest is (λ u. P u → b ≡ a) first room)
 
 pub empty_shown_none : (old new : History) → new ≡ old → IfObservable old (λ v. Since (KeepsShown v) old new)
@@ -191,15 +192,15 @@ module _ (old mid new : History) where
   pub replay_reads : IfObservable old (λ v. Since (RecoversTo (recovered_files (files_of v))) old mid) → IfObservable old (λ v. Since (Unstaged v) old mid)
   replay_reads told = observable_map old _ _ told (λ v t. since_weaker (RecoversTo (recovered_files (files_of v))) (Unstaged v) old mid (λ w. same_unstaged (files_of w) (files_of v)) t)
 
-  pub all_reads : IfObservable old (λ v. Since (RecoversTo (recovered_files (files_of v))) old mid) → IfObservable old (λ v. HasNow mid (IsReplayed v)) → IfObservable mid (λ u. Since (KeepsShown u) mid new) → IfObservable old (λ v. Since (Unstaged v) old new)
+  pub all_reads : IfObservable old (λ v. Since (RecoversTo (recovered_files (files_of v))) old mid) → IfObservable old (λ v. HoldsNow mid (IsReplayed v)) → IfObservable mid (λ u. Since (KeepsShown u) mid new) → IfObservable old (λ v. Since (Unstaged v) old new)
   all_reads told replayed empties = on_observable old _ (λ v rest is.
       since_on (Unstaged v) old mid new (observable_at old v rest is (λ u. Since (Unstaged u) old mid) (replay_reads told))
-      (by_now mid (IsReplayed v) (Since (Unstaged v) mid new) (observable_at old v rest is (λ u. HasNow mid (IsReplayed u)) replayed)
+      (by_now mid (IsReplayed v) (Since (Unstaged v) mid new) (observable_at old v rest is (λ u. HoldsNow mid (IsReplayed u)) replayed)
       (observable_map mid _ (λ u. IsReplayed v u → Since (Unstaged v) mid new) empties (λ u t r. since_weaker (KeepsShown u) (Unstaged v) mid new
       (λ w k. shown_unstaged u w r.absent k ∙ same_unstaged (files_of u) (files_of v) (none_recovered u r.absent ∙ r.reads)) t))))
 
-pub empty_none : (old new : History) → new ≡ old → IfObservable old (λ v. (ignored : List ℕ → Bool) → IsOrderly (RestsOn ignored) v → v.names intent_name ≡ None → Since (IsStill ignored v) old new)
-empty_none old new same = on_observable old _ (λ v rest is ignored orderly none. no_more (IsStill ignored v) old old new (none_since (IsStill ignored v) old) same)
+pub empty_none : (old new : History) → new ≡ old → IfObservable old (λ v. (ignored : List ℕ → Bool) → IsDurable (StateDependsOn ignored) v → v.names intent_name ≡ None → Since (StateIsUnchanged ignored v) old new)
+empty_none old new same = on_observable old _ (λ v rest is ignored is_durable none. no_more (StateIsUnchanged ignored v) old old new (none_since (StateIsUnchanged ignored v) old) same)
 
 pub empty_idle_none : (old new : History) → new ≡ old → IfObservable old (λ v. IsEmptyStage v.names → new ≡ old)
 empty_idle_none old new same = on_observable old _ (λ v rest is none. same)

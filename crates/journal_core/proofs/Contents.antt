@@ -8,7 +8,7 @@ use Rattle.journal_core.specs.Staged.{with_staged}
 use Rattle.journal_core.proofs.Replayed.{move_if-off, place_not_among}
 use Rattle.journal_intent.proofs.AtName.{name_cases, off_name, put_name-at, put_name-off}
 use Rattle.journal_intent.proofs.StageNames.{stage_names_apart, stage_name_staged}
-use Rattle.journal_intent.specs.FreeNames.{AreFreeNames, AreOnce, HasFreeNames, IsFreeName, IsNoneOf, IsOneOf}
+use Rattle.journal_intent.specs.FreeNames.{AreFreeNames, HaveNoRepeats, HasFreeNames, IsFreeName, IsNoneOf, IsOneOf}
 use Rattle.journal_intent.specs.IntentValue.{intent_of_lists}
 
 true_false : true ≡ false → ⊥
@@ -80,7 +80,7 @@ waits_at (c ∷ cs) k (suc i) F bytes few at =
     ap (λ n. with_staged (k + 1) cs (put_name F (stage_name k) c) (stage_name n)) (omega arith)
     ∙ waits_at cs (k + 1) i (put_name F (stage_name k) c) bytes (omega (arith, few)) at
 
-pub moved_at : (names : List (List ℕ)) (k i : ℕ) (F : Files) (name bytes : List ℕ) → AreFreeNames names → AreOnce names → k + length names < 2 ^ 64 → slice_get names i ≡ Some name → F (stage_name (k + i)) ≡ Some bytes → after_moves k names F name ≡ Some bytes
+pub moved_at : (names : List (List ℕ)) (k i : ℕ) (F : Files) (name bytes : List ℕ) → AreFreeNames names → HaveNoRepeats names → k + length names < 2 ^ 64 → slice_get names i ≡ Some name → F (stage_name (k + i)) ≡ Some bytes → after_moves k names F name ≡ Some bytes
 moved_at [] k i F name bytes free once few at waits = absurd (cc (at))
 moved_at (n ∷ ns) k zero F name bytes free once few at waits =
     let same : n ≡ name = cc in

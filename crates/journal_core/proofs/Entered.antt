@@ -3,18 +3,21 @@ use Rattle.std.proofs.Common.{◌≡◌, ◌≢◌, ◌⊎◌, ◌||◌, inl, in
 use Rattle.std.specs.List.{list_any}
 use Rattle.std.specs.Str.{bytes_eq}
 use Rattle.base_core.specs.Files.{Files, NameMap, put_name, drop_name, move_name}
-use Rattle.base_core.specs.Tree.{TreeState, File, IsMapOf, bytes_at, files_by, files_of, with_names, after_rename, move_at, after_sync_names, same_state, Anywhere, CanRename}
-use Rattle.base_core.specs.Calls.{HasNow, Moves}
-use Rattle.base_core.specs.Crash.{IsImage, IsOrderly, Since}
-use Rattle.journal_core.specs.Entering.{IsEntered, IsEntering, IsReady}
+use Rattle.base_core.specs.Tree.{TreeState, File, bytes_at, files_by, files_of, with_names, after_rename, move_at, after_sync_names, same_state, IsAlwaysAllowed, CanRename}
+use Rattle.base_core.specs.Calls.{HoldsNow, ChangesHistory}
+use Rattle.base_core.specs.Crash.{Since}
+use Rattle.base_core.specs.Undone.{IsDurable, IsCrashImage, IsCrashMap}
+use Rattle.journal_core.specs.Committing.{HasCommittedIntent, IsCommitting, IsReadyToCommit}
 use Rattle.journal_core.specs.Acting.{acting_stage}
-use Rattle.journal_core.specs.Recovery.{Intent, IsPlaceOf, RestsOn, after_actions, intent_name, intent_at, intent_of, is_staged, read_intent, recovered_files, recovered_files_by, stage_name, state_of, after_moves, without_names}
+use Rattle.journal_core.specs.Recovery.{Intent, IsStagedNameOf, StateDependsOn, after_actions, intent_name, intent_at, intent_of, is_staged, read_intent, recovered_files, recovered_files_by, stage_name, state_of, after_moves, without_names}
 use Rattle.journal_core.specs.Kept.{RecoversTo}
-use Rattle.journal_core.specs.Quiet.{IsStill}
-use Rattle.journal_core.specs.Staged.{IsActing, Publishes}
+use Rattle.journal_core.specs.Quiet.{StateIsUnchanged}
+use Rattle.journal_core.specs.Staged.{IsActing, IsCommittedFor}
 use Rattle.journal_core.proofs.Agree.{agree-without, agree-unstaged}
 use Rattle.journal_intent.proofs.AtName.{name_cases, off_name, put_name-at, put_name-off, drop_name-at, drop_name-off}
-use Rattle.journal_core.proofs.Acts.{files-moved, state_same, still_on, sync_acting, sync_still}
+use Rattle.base_core.proofs.Undone.{read_may_be_left}
+use Rattle.journal_core.proofs.Acts.{IsReadActing, acting_once_synced, files-moved, state_same, still_on, sync_still}
+use Rattle.journal_core.proofs.Changes.{one_change, synced_left}
 use Rattle.journal_core.proofs.Chain.{Runs, run_begun, run_failed, run_called, run_done, step_now, step_called}
 use Rattle.journal_core.proofs.History.{History}
 use Rattle.journal_core.proofs.Images.{CrashLaws, old_or_new_by_maps, old_or_new_from_quiet, settled_by_maps}
@@ -70,7 +73,7 @@ staged_shown : (a c : Bool) → a ≡ true → (a || c) ≡ false → ⊥
 staged_shown true c t f = cc (f, f)
 staged_shown false c t f = cc (t, t)
 
-module _ (intent : Intent) (base : Files) (made : ℕ) (v : TreeState) (ready : IsReady intent base made v) where
+module _ (intent : Intent) (base : Files) (made : ℕ) (v : TreeState) (ready : IsReadyToCommit intent base made v) where
   abbrev pub entered_map : NameMap
   entered_map = move_name v.names (stage_name 0) intent_name ready.number
 
@@ -85,16 +88,16 @@ module _ (intent : Intent) (base : Files) (made : ℕ) (v : TreeState) (ready : 
       ∙ ap (cond (bytes_eq q intent_name) (Some ready.bytes)) (by (name_cases q (stage_name 0)))) i
     where
       by : (q ≡ stage_name 0) ⊎ (bytes_eq q (stage_name 0) ≡ false) → drop_name (files_of v) (stage_name 0) q ≡ base q
-      by (inl is) = drop_name-at (files_of v) (stage_name 0) q is ∙ sym (ap base is ∙ ready.none_waits)
+      by (inl is) = drop_name-at (files_of v) (stage_name 0) q is ∙ sym (ap base is ∙ ready.no_staged_intent)
       by (inr off) = drop_name-off (files_of v) (stage_name 0) q (off_name q (stage_name 0) off) ∙ ready.reads q (off_name q (stage_name 0) off)
 
-  stands : intent_of (files_by v entered_map) ≡ Some intent
-  stands = ap intent_of files ∙ has base intent ready.bytes ready.spells proper none
+  located : intent_of (files_by v entered_map) ≡ Some intent
+  located = ap intent_of files ∙ has base intent ready.bytes ready.spells proper none
 
   -- all actions are left
-  acting_at : IsActing (acting_stage intent 0) (after_actions intent base) (with_names v entered_map)
+  acting_at : IsReadActing (acting_stage intent 0) (after_actions intent base) (with_names v entered_map)
   acting_at = record {
-    stands = stands;
+    located = located;
     reads = ap recovered_files files ∙ recovered_published base intent ready.bytes ready.spells proper none;
     done = record { removed = λ i name below is. absurd (omega (arith, below)); moved = λ k from until. absurd (omega (arith, from, until)) };
   }
@@ -102,7 +105,7 @@ module _ (intent : Intent) (base : Files) (made : ℕ) (v : TreeState) (ready : 
   entered_at : (n : ℕ) × (entered_map intent_name ≡ Some n) × (made ≤ n)
   entered_at = (ready.number, put_name-at (drop_name v.names (stage_name 0)) intent_name ready.number intent_name refl, ready.later)
 
-  module _ (ignored : List ℕ → Bool) (orderly : IsOrderly (RestsOn ignored) v) where
+  module _ (ignored : List ℕ → Bool) (one : v.older ≡ []) (is_durable : IsDurable (StateDependsOn ignored) v) where
     state_new : state_of ignored (files_by v entered_map) ≡ state_of ignored (after_actions intent base)
     state_new = ap (state_of ignored) files ∙ state_published base intent ready.bytes ready.spells proper none ignored
 
@@ -117,7 +120,7 @@ module _ (intent : Intent) (base : Files) (made : ℕ) (v : TreeState) (ready : 
         let e : ready.number ≡ n = some_same ready.number n (sym (put_name-at (drop_name v.names (stage_name 0)) intent_name ready.number q at) ∙ is) in
         subst (λ k. (v.files k).synced ≡ true) e synced_number
 
-    place_synced : (q : List ℕ) (n : ℕ) → IsPlaceOf (Some intent) q → entered_map q ≡ Some n → (v.files n).synced ≡ true
+    place_synced : (q : List ℕ) (n : ℕ) → IsStagedNameOf (Some intent) q → entered_map q ≡ Some n → (v.files n).synced ≡ true
     place_synced q n (k, from, within, is) at =
         let few = ready.few in
         ready.synced k n from within (sym (ap v.names is) ∙ off_intent q n (λ e. stage_name_no_intent k (sym is ∙ e))
@@ -125,19 +128,21 @@ module _ (intent : Intent) (base : Files) (made : ℕ) (v : TreeState) (ready : 
 
     shown_synced : (q : List ℕ) (n : ℕ) → (is_staged q || ignored q) ≡ false → (bytes_eq q intent_name ≡ false) → entered_map q ≡ Some n → (v.files n).synced ≡ true
     shown_synced q n shown off is =
-        orderly.each v.names (inl refl) q n (inr (inl shown)) (off_intent q n (off_name q intent_name off) (λ e. staged_shown (is_staged q) (ignored q) (ap is_staged e) shown) is)
+        is_durable.each v.names (read_may_be_left v) q n (inr (inl shown)) (off_intent q n (off_name q intent_name off) (λ e. staged_shown (is_staged q) (ignored q) (ap is_staged e) shown) is)
 
-    synced : (q : List ℕ) (n : ℕ) → RestsOn ignored (files_by v entered_map) q → entered_map q ≡ Some n → (v.files n).synced ≡ true
+    synced : (q : List ℕ) (n : ℕ) → StateDependsOn ignored (files_by v entered_map) q → entered_map q ≡ Some n → (v.files n).synced ≡ true
     synced q n (inl at) is = at_intent q n at is
     synced q n (inr (inl shown)) is = ⊎_elim (λ at. at_intent q n at is) (λ off. shown_synced q n shown off is) (name_cases q intent_name)
-    synced q n (inr (inr place)) is = place_synced q n (subst (λ o. IsPlaceOf o q) stands place) is
+    synced q n (inr (inr place)) is = place_synced q n (subst (λ o. IsStagedNameOf o q) located place) is
 
-    orderly_at : IsOrderly (RestsOn ignored) (with_names v entered_map)
-    orderly_at = record { each = each }
+    durable_at : IsDurable (StateDependsOn ignored) (with_names v entered_map)
+    durable_at = record { each = each }
       where
-        each : (x : NameMap) → IsMapOf (with_names v entered_map) x → (q : List ℕ) (n : ℕ) → RestsOn ignored (files_by v x) q → x q ≡ Some n → (v.files n).synced ≡ true
-        each x (inl new) q n rests at = synced q n (subst (λ (y : NameMap). RestsOn ignored (files_by v y) q) new rests) (sym (ap (λ (y : NameMap). y q) new) ∙ at)
-        each x (inr old) q n rests at = orderly.each x old q n rests at
+        each : (x : NameMap) → IsCrashMap (with_names v entered_map) x → (q : List ℕ) (n : ℕ) → StateDependsOn ignored (files_by v x) q → x q ≡ Some n → (v.files n).synced ≡ true
+        each x left q n rests at = ⊎_elim
+            (λ new. synced q n (subst (λ (y : NameMap). StateDependsOn ignored (files_by v y) q) new rests) (sym (ap (λ (y : NameMap). y q) new) ∙ at))
+            (λ old. is_durable.each x (subst (IsCrashMap v) (sym old) (read_may_be_left v)) q n rests at)
+            (one_change v entered_map one x left)
 
 -- ---- the calls
 
@@ -146,22 +151,27 @@ module _ (laws : CrashLaws) (ignored : List ℕ → Bool) (intent : Intent) (bas
   G = after_actions intent base
 
   abbrev P : TreeState → Type 0
-  P = IsEntering ignored G made start
+  P = IsCommitting ignored G made start
 
   pub record Before (w : TreeState) : Type 0 where
-    ready : IsReady intent base made w
-    still : IsStill ignored start w
+    ready : IsReadyToCommit intent base made w
+    is_unchanged : StateIsUnchanged ignored start w
 
   pub before_moment : (w : TreeState) → Before w → P w
-  before_moment w b = record { orderly = b.still.orderly; old_or_new = old_or_new_from_quiet ignored start G w b.still.quiet; unpublished = λ _. b.still.quiet; made = b.still.made }
+  before_moment w b = record { is_durable = b.is_unchanged.is_durable; old_or_new = old_or_new_from_quiet ignored start G w b.is_unchanged.quiet; unpublished = λ _. b.is_unchanged.quiet; made = b.is_unchanged.made }
 
-  before_synced : (w : TreeState) → Before w → Before (after_sync_names w)
-  before_synced w b = record { ready = ready_synced; still = still_on ignored start w (after_sync_names w) b.still (sync_still ignored w b.still.orderly) }
+  -- and no crash undoes a change of names
+  pub record Once (w : TreeState) : Type 0 where
+    before : Before w
+    one : w.older ≡ []
+
+  before_synced : (w : TreeState) → Before w → Once (after_sync_names w)
+  before_synced w b = record { before = record { ready = ready_synced; is_unchanged = still_on ignored start w (after_sync_names w) b.is_unchanged (sync_still ignored w b.is_unchanged.is_durable) }; one = refl }
     where
-      ready_synced : IsReady intent base made (after_sync_names w)
+      ready_synced : IsReadyToCommit intent base made (after_sync_names w)
       ready_synced = record {
         absent = b.ready.absent;
-        none_waits = b.ready.none_waits;
+        no_staged_intent = b.ready.no_staged_intent;
         reads = b.ready.reads;
         bytes = b.ready.bytes;
         spells = b.ready.spells;
@@ -175,53 +185,51 @@ module _ (laws : CrashLaws) (ignored : List ℕ → Bool) (intent : Intent) (bas
       }
 
   pub record Behind (w : TreeState) : Type 0 where
-    orderly : IsOrderly (RestsOn ignored) w
+    is_durable : IsDurable (StateDependsOn ignored) w
     moment : P w
     state : state_of ignored (files_of w) ≡ state_of ignored G
-    publishes : Publishes ignored G made w
+    publishes : IsCommittedFor ignored G made w
 
-  behind_at : (v : TreeState) (b : Before v) → Behind (with_names v (entered_map intent base made v b.ready))
-  behind_at v b =
-      let orderly = orderly_at intent base made v b.ready ignored b.still.orderly in
-      let new_state = state_new intent base made v b.ready ignored b.still.orderly in
+  behind_at : (v : TreeState) (b : Before v) → v.older ≡ [] → Behind (with_names v (entered_map intent base made v b.ready))
+  behind_at v b one =
+      let is_durable = durable_at intent base made v b.ready ignored one b.is_unchanged.is_durable in
+      let new_state = state_new intent base made v b.ready ignored one b.is_unchanged.is_durable in
       let (n, at, later) = entered_at intent base made v b.ready in
-      let publishes : Publishes ignored G made (with_names v (entered_map intent base made v b.ready)) = (n, at, later, new_state) in
+      let publishes : IsCommittedFor ignored G made (with_names v (entered_map intent base made v b.ready)) = (n, at, later, new_state) in
       record {
-        orderly = orderly;
+        is_durable = is_durable;
         moment = record {
-          orderly = orderly;
-          old_or_new = old_or_new_by_maps laws ignored start G (with_names v (entered_map intent base made v b.ready)) orderly (states new_state);
+          is_durable = is_durable;
+          old_or_new = old_or_new_by_maps laws ignored start G (with_names v (entered_map intent base made v b.ready)) is_durable (states new_state);
           unpublished = λ unled. absurd (unled publishes);
-          made = b.still.made;
+          made = b.is_unchanged.made;
         };
         state = new_state;
         publishes = publishes;
       }
     where
-      states : state_of ignored (files_by v (entered_map intent base made v b.ready)) ≡ state_of ignored G → (x : NameMap) → IsMapOf (with_names v (entered_map intent base made v b.ready)) x
-          → ((was : Files) × IsImage start was × (state_of ignored (files_by v x) ≡ state_of ignored was)) ⊎ (state_of ignored (files_by v x) ≡ state_of ignored G)
-      states is x (inl new) = inr (ap (λ (y : NameMap). state_of ignored (files_by v y)) new ∙ is)
-      states is x (inr old) = inl (b.still.quiet (files_by v x) (laws.left v x old))
+      states : state_of ignored (files_by v (entered_map intent base made v b.ready)) ≡ state_of ignored G → (x : NameMap) → IsCrashMap (with_names v (entered_map intent base made v b.ready)) x
+          → ((was : Files) × IsCrashImage start was × (state_of ignored (files_by v x) ≡ state_of ignored was)) ⊎ (state_of ignored (files_by v x) ≡ state_of ignored G)
+      states is x left = ⊎_elim
+          (λ new. inr (ap (λ (y : NameMap). state_of ignored (files_by v y)) new ∙ is))
+          (λ old. inl (b.is_unchanged.quiet (files_by v x) (laws.left v x (subst (IsCrashMap v) (sym old) (read_may_be_left v)))))
+          (one_change v (entered_map intent base made v b.ready) one x left)
 
-  behind_renamed_at : (v : TreeState) → Before v → Behind (after_rename (stage_name 0) intent_name v)
-  behind_renamed_at v b = subst (λ o. Behind (move_at (stage_name 0) intent_name v o)) (sym b.ready.there) (behind_at v b)
+  after_renamed_at : (v : TreeState) → Once v → Behind (after_rename (stage_name 0) intent_name v)
+  after_renamed_at v b = subst (λ o. Behind (move_at (stage_name 0) intent_name v o)) (sym b.before.ready.there) (behind_at v b.before b.one)
 
-  behind_renamed : (place name : List ℕ) → place ≡ stage_name 0 → name ≡ intent_name → (v : TreeState) → Before v → Behind (after_rename place name v)
-  behind_renamed place name place_is name_is v b =
-      subst (λ (p : List ℕ). Behind (after_rename p name v)) (sym place_is) (subst (λ (n : List ℕ). Behind (after_rename (stage_name 0) n v)) (sym name_is) (behind_renamed_at v b))
+  after_renamed : (place name : List ℕ) → place ≡ stage_name 0 → name ≡ intent_name → (v : TreeState) → Once v → Behind (after_rename place name v)
+  after_renamed place name place_is name_is v b =
+      subst (λ (p : List ℕ). Behind (after_rename p name v)) (sym place_is) (subst (λ (n : List ℕ). Behind (after_rename (stage_name 0) n v)) (sym name_is) (after_renamed_at v b))
 
-  only_map : (v : TreeState) (m : NameMap) → IsMapOf (after_sync_names v) m → IsMapOf v m
-  only_map v m (inl is) = inl is
-  only_map v m (inr none) = absurd none
-
-  behind_synced : (w : TreeState) → Behind w → Behind (after_sync_names w)
-  behind_synced w b =
-      let orderly : IsOrderly (RestsOn ignored) (after_sync_names w) = record { each = λ m among q n rests is. b.orderly.each m (only_map w m among) q n rests is } in
+  after_synced : (w : TreeState) → Behind w → Behind (after_sync_names w)
+  after_synced w b =
+      let is_durable : IsDurable (StateDependsOn ignored) (after_sync_names w) = record { each = λ m among q n rests is. b.is_durable.each m (synced_left w m among) q n rests is } in
       record {
-        orderly = orderly;
+        is_durable = is_durable;
         moment = record {
-          orderly = orderly;
-          old_or_new = λ image (m, among, by). b.moment.old_or_new image (m, only_map w m among, by);
+          is_durable = is_durable;
+          old_or_new = λ image (m, among, by). b.moment.old_or_new image (m, synced_left w m among, by);
           unpublished = λ unled. absurd (unled b.publishes);
           made = b.moment.made;
         };
@@ -229,44 +237,43 @@ module _ (laws : CrashLaws) (ignored : List ℕ → Bool) (intent : Intent) (bas
         publishes = b.publishes;
       }
 
-  entered : (w : TreeState) → Behind w → IsEntered ignored G made (after_sync_names w)
-  entered w b = record { settled = settled_by_maps laws ignored G (after_sync_names w) (behind_synced w b).orderly only; publishes = b.publishes }
+  entered : (w : TreeState) → Behind w → HasCommittedIntent ignored G made (after_sync_names w)
+  entered w b = record { settled = settled_by_maps laws ignored G (after_sync_names w) (after_synced w b).is_durable only; publishes = b.publishes }
     where
-      only : (m : NameMap) → IsMapOf (after_sync_names w) m → state_of ignored (files_by w m) ≡ state_of ignored G
-      only m (inl is) = ap (λ (y : NameMap). state_of ignored (files_by w y)) is ∙ b.state
-      only m (inr none) = absurd none
+      only : (m : NameMap) → IsCrashMap (after_sync_names w) m → state_of ignored (files_by w m) ≡ state_of ignored G
+      only m is = ap (λ (y : NameMap). state_of ignored (files_by w y)) is ∙ b.state
 
-  module _ (old rest : History) (is : old ≡ start ∷ rest) (orderly : IsOrderly (RestsOn ignored) start) (ready : IsReady intent base made start) where
+  module _ (old rest : History) (is : old ≡ start ∷ rest) (is_durable : IsDurable (StateDependsOn ignored) start) (ready : IsReadyToCommit intent base made start) where
     pub begun : Runs P Before old old
-    begun = run_begun P Before old start rest is (record { ready = ready; still = still_self ignored start orderly })
+    begun = run_begun P Before old start rest is (record { ready = ready; is_unchanged = still_self ignored start is_durable })
 
     module _ {T E : Type 0} (h new : History) where
-      pub first_failed : (e : E) → Moves {T = T} Anywhere after_sync_names same_state old new (Err e) → Since P old new
+      pub first_failed : (e : E) → ChangesHistory {T = T} IsAlwaysAllowed after_sync_names same_state old new (Err e) → Since P old new
       first_failed e moves = run_failed P Before old old new e begun moves (λ v may b. before_moment v b)
 
-      pub first_done : (x : T) → Moves {E = E} Anywhere after_sync_names same_state old new (Ok x) → Runs P Before old new
-      first_done x moves = run_done P Before Before old old new x begun moves before_moment before_synced
+      pub first_done : (x : T) → ChangesHistory {E = E} IsAlwaysAllowed after_sync_names same_state old new (Ok x) → Runs P Once old new
+      first_done x moves = run_done P Before Once old old new x begun moves (λ v b. before_moment v b.before) before_synced
 
     module _ {T E : Type 0} (place name : List ℕ) (place_is : place ≡ stage_name 0) (name_is : name ≡ intent_name) (h new : History) where
-      pub rename_failed : (e : E) → Runs P Before old h → Moves {T = T} (CanRename place name) (after_rename place name) (after_rename place name) h new (Err e) → Since P old new
-      rename_failed e runs moves = run_failed P Before old h new e runs moves (λ v may b. (behind_renamed place name place_is name_is v b).moment)
+      pub rename_failed : (e : E) → Runs P Once old h → ChangesHistory {T = T} (CanRename place name) (after_rename place name) (after_rename place name) h new (Err e) → Since P old new
+      rename_failed e runs moves = run_failed P Once old h new e runs moves (λ v may b. (after_renamed place name place_is name_is v b).moment)
 
-      pub rename_done : (x : T) → Runs P Before old h → Moves {E = E} (CanRename place name) (after_rename place name) (after_rename place name) h new (Ok x) → Runs P Behind old new
-      rename_done x runs moves = run_done P Before Behind old h new x runs moves (λ v b. b.moment) (behind_renamed place name place_is name_is)
+      pub rename_done : (x : T) → Runs P Once old h → ChangesHistory {E = E} (CanRename place name) (after_rename place name) (after_rename place name) h new (Ok x) → Runs P Behind old new
+      rename_done x runs moves = run_done P Once Behind old h new x runs moves (λ v b. b.moment) (after_renamed place name place_is name_is)
 
     module _ {T E : Type 0} (h new : History) where
-      pub last_called : (r : Result T E) → Runs P Behind old h → Moves Anywhere after_sync_names same_state h new r → Since P old new
-      last_called r runs moves = run_called P Behind old h new r runs moves (λ v b. (behind_synced v b).moment) (λ v may b. b.moment)
+      pub last_called : (r : Result T E) → Runs P Behind old h → ChangesHistory IsAlwaysAllowed after_sync_names same_state h new r → Since P old new
+      last_called r runs moves = run_called P Behind old h new r runs moves (λ v b. (after_synced v b).moment) (λ v may b. b.moment)
 
-      pub last_entered : (r : Result T E) → Runs P Behind old h → Moves Anywhere after_sync_names same_state h new r → OnOk r (HasNow new (IsEntered ignored G made))
-      last_entered r runs moves = step_called Behind (IsEntered ignored G made) new r h runs.now moves entered
+      pub last_entered : (r : Result T E) → Runs P Behind old h → ChangesHistory IsAlwaysAllowed after_sync_names same_state h new r → OnOk r (HoldsNow new (HasCommittedIntent ignored G made))
+      last_entered r runs moves = step_called Behind (HasCommittedIntent ignored G made) new r h runs.now moves entered
 
 -- what is read behind them
-module _ (intent : Intent) (base : Files) (made : ℕ) (start : TreeState) (ready : IsReady intent base made start) where
-  ready_synced : (v : TreeState) → IsReady intent base made v → IsReady intent base made (after_sync_names v)
+module _ (intent : Intent) (base : Files) (made : ℕ) (start : TreeState) (ready : IsReadyToCommit intent base made start) where
+  ready_synced : (v : TreeState) → IsReadyToCommit intent base made v → IsReadyToCommit intent base made (after_sync_names v)
   ready_synced v b = record {
     absent = b.absent;
-    none_waits = b.none_waits;
+    no_staged_intent = b.no_staged_intent;
     reads = b.reads;
     bytes = b.bytes;
     spells = b.spells;
@@ -280,46 +287,46 @@ module _ (intent : Intent) (base : Files) (made : ℕ) (start : TreeState) (read
   }
 
   abbrev After : TreeState → Type 0
-  After = IsActing (acting_stage intent 0) (after_actions intent base)
+  After = IsReadActing (acting_stage intent 0) (after_actions intent base)
 
-  acting_renamed : (place name : List ℕ) → place ≡ stage_name 0 → name ≡ intent_name → (v : TreeState) → IsReady intent base made v → After (after_rename place name v)
+  acting_renamed : (place name : List ℕ) → place ≡ stage_name 0 → name ≡ intent_name → (v : TreeState) → IsReadyToCommit intent base made v → After (after_rename place name v)
   acting_renamed place name place_is name_is v b =
       subst (λ (p : List ℕ). After (after_rename p name v)) (sym place_is) (subst (λ (n : List ℕ). After (after_rename (stage_name 0) n v)) (sym name_is)
       (subst (λ o. After (move_at (stage_name 0) intent_name v o)) (sym b.there) (acting_at intent base made v b)))
 
   pub last_acting : {T E : Type 0} (place name : List ℕ) → place ≡ stage_name 0 → name ≡ intent_name → (old rest h k new : History) → old ≡ start ∷ rest → (x y : T) (r : Result T E)
-      → Moves {E = E} Anywhere after_sync_names same_state old h (Ok x) → Moves {E = E} (CanRename place name) (after_rename place name) (after_rename place name) h k (Ok y) → Moves Anywhere after_sync_names same_state k new r
-      → OnOk r (HasNow new After)
+      → ChangesHistory {E = E} IsAlwaysAllowed after_sync_names same_state old h (Ok x) → ChangesHistory {E = E} (CanRename place name) (after_rename place name) (after_rename place name) h k (Ok y) → ChangesHistory IsAlwaysAllowed after_sync_names same_state k new r
+      → OnOk r (HoldsNow new (IsActing (acting_stage intent 0) (after_actions intent base)))
   last_acting place name place_is name_is old rest h k new is x y r first second last =
-      let a = step_now (IsReady intent base made) (IsReady intent base made) h x old (now_is old start rest (IsReady intent base made) is ready) first ready_synced in
-      let b = step_now (IsReady intent base made) After k y h a second (acting_renamed place name place_is name_is) in
-      step_called After After new r k b last (λ v q. sync_acting (acting_stage intent 0) (after_actions intent base) v q)
+      let a = step_now (IsReadyToCommit intent base made) (IsReadyToCommit intent base made) h x old (now_is old start rest (IsReadyToCommit intent base made) is ready) first ready_synced in
+      let b = step_now (IsReadyToCommit intent base made) After k y h a second (acting_renamed place name place_is name_is) in
+      step_called After (IsActing (acting_stage intent 0) (after_actions intent base)) new r k b last (acting_once_synced (acting_stage intent 0) (after_actions intent base))
 
   -- ---- at each moment at which the intent is read
 
   abbrev R : TreeState → Type 0
   R w = IsSome (w.names intent_name) → RecoversTo (after_actions intent base) w
 
-  unread_moment : (v : TreeState) → IsReady intent base made v → R v
+  unread_moment : (v : TreeState) → IsReadyToCommit intent base made v → R v
   unread_moment v b some = absurd (some_none (v.names intent_name) b.absent some)
 
   module _ (old rest : History) (is : old ≡ start ∷ rest) where
-    read_begun : Runs R (IsReady intent base made) old old
-    read_begun = run_begun R (IsReady intent base made) old start rest is ready
+    read_begun : Runs R (IsReadyToCommit intent base made) old old
+    read_begun = run_begun R (IsReadyToCommit intent base made) old start rest is ready
 
     module _ {T E : Type 0} (h new : History) where
-      pub read_sync_failed : (e : E) → Moves {T = T} Anywhere after_sync_names same_state old new (Err e) → Since R old new
-      read_sync_failed e moves = run_failed R (IsReady intent base made) old old new e read_begun moves (λ v may b. unread_moment v b)
+      pub read_sync_failed : (e : E) → ChangesHistory {T = T} IsAlwaysAllowed after_sync_names same_state old new (Err e) → Since R old new
+      read_sync_failed e moves = run_failed R (IsReadyToCommit intent base made) old old new e read_begun moves (λ v may b. unread_moment v b)
 
-      pub read_synced : (x : T) → Moves {E = E} Anywhere after_sync_names same_state old new (Ok x) → Runs R (IsReady intent base made) old new
-      read_synced x moves = run_done R (IsReady intent base made) (IsReady intent base made) old old new x read_begun moves unread_moment ready_synced
+      pub read_synced : (x : T) → ChangesHistory {E = E} IsAlwaysAllowed after_sync_names same_state old new (Ok x) → Runs R (IsReadyToCommit intent base made) old new
+      read_synced x moves = run_done R (IsReadyToCommit intent base made) (IsReadyToCommit intent base made) old old new x read_begun moves unread_moment ready_synced
 
-      pub read_last : (r : Result T E) → Runs R After old h → Moves Anywhere after_sync_names same_state h new r → Since R old new
+      pub read_last : (r : Result T E) → Runs R After old h → ChangesHistory IsAlwaysAllowed after_sync_names same_state h new r → Since R old new
       read_last r runs moves = run_called R After old h new r runs moves (λ v a some. a.reads) (λ v may a some. a.reads)
 
     module _ {T E : Type 0} (place name : List ℕ) (place_is : place ≡ stage_name 0) (name_is : name ≡ intent_name) (h new : History) where
-      pub read_rename_failed : (e : E) → Runs R (IsReady intent base made) old h → Moves {T = T} (CanRename place name) (after_rename place name) (after_rename place name) h new (Err e) → Since R old new
-      read_rename_failed e runs moves = run_failed R (IsReady intent base made) old h new e runs moves (λ v may b some. (acting_renamed place name place_is name_is v b).reads)
+      pub read_rename_failed : (e : E) → Runs R (IsReadyToCommit intent base made) old h → ChangesHistory {T = T} (CanRename place name) (after_rename place name) (after_rename place name) h new (Err e) → Since R old new
+      read_rename_failed e runs moves = run_failed R (IsReadyToCommit intent base made) old h new e runs moves (λ v may b some. (acting_renamed place name place_is name_is v b).reads)
 
-      pub read_renamed : (x : T) → Runs R (IsReady intent base made) old h → Moves {E = E} (CanRename place name) (after_rename place name) (after_rename place name) h new (Ok x) → Runs R After old new
-      read_renamed x runs moves = run_done R (IsReady intent base made) After old h new x runs moves (λ v a some. a.reads) (acting_renamed place name place_is name_is)
+      pub read_renamed : (x : T) → Runs R (IsReadyToCommit intent base made) old h → ChangesHistory {E = E} (CanRename place name) (after_rename place name) (after_rename place name) h new (Ok x) → Runs R After old new
+      read_renamed x runs moves = run_done R (IsReadyToCommit intent base made) After old h new x runs moves (λ v a some. a.reads) (acting_renamed place name place_is name_is)

@@ -1,12 +1,13 @@
 -- The end of a stage, call by call.
-use Rattle.std.proofs.Common.{◌≡◌, ℕ, Bool, List, ◌∷◌, None, Result, Ok, Err, OnOk, sym, ap, subst, ◌∙◌}
+use Rattle.std.proofs.Common.{◌≡◌, ℕ, Bool, List, [], ◌∷◌, refl, None, Result, Ok, Err, OnOk, sym, ap, subst, ◌∙◌}
 use Rattle.base_core.specs.Files.{Files}
-use Rattle.base_core.specs.Tree.{TreeState, bytes_at, files_of, after_remove, after_sync_names, same_state, Anywhere}
-use Rattle.base_core.specs.Calls.{HasNow, Moves}
-use Rattle.base_core.specs.Crash.{IsOrderly, Since}
-use Rattle.journal_core.specs.Recovery.{IsSettled, RestsOn, intent_at, intent_name, recovered_files_by}
+use Rattle.base_core.specs.Tree.{TreeState, bytes_at, files_of, after_remove, after_sync_names, same_state, IsAlwaysAllowed}
+use Rattle.base_core.specs.Calls.{HoldsNow, ChangesHistory}
+use Rattle.base_core.specs.Crash.{Since}
+use Rattle.base_core.specs.Undone.{IsDurable}
+use Rattle.journal_core.specs.Recovery.{EachCrashLeaves, StateDependsOn, intent_at, intent_name, recovered_files_by}
 use Rattle.journal_core.specs.Kept.{RecoversTo}
-use Rattle.journal_core.specs.Quiet.{IsStill}
+use Rattle.journal_core.specs.Quiet.{StateIsUnchanged}
 use Rattle.journal_core.specs.Staged.{Staging, IsActing, action_count}
 use Rattle.journal_core.proofs.History.{History}
 use Rattle.journal_core.proofs.OneCall.{now_is}
@@ -15,54 +16,59 @@ use Rattle.journal_core.proofs.Waiting.{still_self}
 use Rattle.journal_core.proofs.Acts.{IsGone, drop_gone, drop_still, still_on, sync_acting, sync_settled, sync_still}
 use Rattle.journal_core.proofs.Images.{CrashLaws}
 
-module _ (laws : CrashLaws) (stage : Staging) (all : stage.acted ≡ action_count stage.intent) (name : List ℕ) (name_is : name ≡ intent_name) (ignored : List ℕ → Bool) (files : Files) (start : TreeState) (old rest : History) (is : old ≡ start ∷ rest) (orderly : IsOrderly (RestsOn ignored) start) (acting : IsActing stage files start) where
+module _ (laws : CrashLaws) (stage : Staging) (all : stage.acted ≡ action_count stage.intent) (name : List ℕ) (name_is : name ≡ intent_name) (ignored : List ℕ → Bool) (files : Files) (start : TreeState) (old rest : History) (is : old ≡ start ∷ rest) (is_durable : IsDurable (StateDependsOn ignored) start) (acting : IsActing stage files start) where
   abbrev P : TreeState → Type 0
-  P = IsStill ignored start
+  P = StateIsUnchanged ignored start
 
   pub record Acting (v : TreeState) : Type 0 where
-    still : P v
+    is_unchanged : P v
     acts : IsActing stage files v
 
+  -- and no crash undoes a change of names
+  pub record Once (v : TreeState) : Type 0 where
+    goes : Acting v
+    one : v.older ≡ []
+
   pub record Gone (v : TreeState) : Type 0 where
-    still : P v
+    is_unchanged : P v
     gone : IsGone files v
 
-  synced : (v : TreeState) → Acting v → Acting (after_sync_names v)
-  synced v q = record { still = still_on ignored start v (after_sync_names v) q.still (sync_still ignored v q.still.orderly); acts = sync_acting stage files v q.acts }
+  synced : (v : TreeState) → Acting v → Once (after_sync_names v)
+  synced v q = record { goes = record { is_unchanged = still_on ignored start v (after_sync_names v) q.is_unchanged (sync_still ignored v q.is_unchanged.is_durable); acts = sync_acting stage files v q.acts }; one = refl }
 
-  dropped : (v : TreeState) → Acting v → Gone (after_remove name v)
+  dropped : (v : TreeState) → Once v → Gone (after_remove name v)
   dropped v q = subst (λ (n : List ℕ). Gone (after_remove n v)) (sym name_is) (record {
-    still = still_on ignored start v (after_remove intent_name v) q.still (drop_still laws stage files v q.acts all ignored q.still.orderly);
-    gone = drop_gone laws stage files v q.acts all;
+    is_unchanged = still_on ignored start v (after_remove intent_name v) q.goes.is_unchanged (drop_still laws stage files v q.goes.acts all ignored q.one q.goes.is_unchanged.is_durable);
+    gone = drop_gone laws stage files v q.goes.acts all;
   })
 
   pub begun : Runs P Acting old old
-  begun = run_begun P Acting old start rest is (record { still = still_self ignored start orderly; acts = acting })
+  begun = run_begun P Acting old start rest is (record { is_unchanged = still_self ignored start is_durable; acts = acting })
 
   module _ {T E : Type 0} (h new : History) where
-    pub sync_failed : (e : E) → Moves {T = T} Anywhere after_sync_names same_state old new (Err e) → Since P old new
-    sync_failed e moves = run_failed P Acting old old new e begun moves (λ v may q. q.still)
+    pub sync_failed : (e : E) → ChangesHistory {T = T} IsAlwaysAllowed after_sync_names same_state old new (Err e) → Since P old new
+    sync_failed e moves = run_failed P Acting old old new e begun moves (λ v may q. q.is_unchanged)
 
-    pub sync_done : (x : T) → Moves {E = E} Anywhere after_sync_names same_state old new (Ok x) → Runs P Acting old new
-    sync_done x moves = run_done P Acting Acting old old new x begun moves (λ v q. q.still) synced
+    pub sync_done : (x : T) → ChangesHistory {E = E} IsAlwaysAllowed after_sync_names same_state old new (Ok x) → Runs P Once old new
+    sync_done x moves = run_done P Acting Once old old new x begun moves (λ v q. q.goes.is_unchanged) synced
 
-    pub drop_failed : (e : E) → Runs P Acting old h → Moves {T = T} Anywhere (after_remove name) (after_remove name) h new (Err e) → Since P old new
-    drop_failed e runs moves = run_failed P Acting old h new e runs moves (λ v may q. (dropped v q).still)
+    pub drop_failed : (e : E) → Runs P Once old h → ChangesHistory {T = T} IsAlwaysAllowed (after_remove name) (after_remove name) h new (Err e) → Since P old new
+    drop_failed e runs moves = run_failed P Once old h new e runs moves (λ v may q. (dropped v q).is_unchanged)
 
-    pub drop_done : (x : T) → Runs P Acting old h → Moves {E = E} Anywhere (after_remove name) (after_remove name) h new (Ok x) → Runs P Gone old new
-    drop_done x runs moves = run_done P Acting Gone old h new x runs moves (λ v q. q.still) dropped
+    pub drop_done : (x : T) → Runs P Once old h → ChangesHistory {E = E} IsAlwaysAllowed (after_remove name) (after_remove name) h new (Ok x) → Runs P Gone old new
+    drop_done x runs moves = run_done P Once Gone old h new x runs moves (λ v q. q.is_unchanged) dropped
 
-    pub last_called : (r : Result T E) → Runs P Gone old h → Moves Anywhere after_sync_names same_state h new r → Since P old new
-    last_called r runs moves = run_called P Gone old h new r runs moves (λ v q. still_on ignored start v (after_sync_names v) q.still (sync_still ignored v q.still.orderly)) (λ v may q. q.still)
+    pub last_called : (r : Result T E) → Runs P Gone old h → ChangesHistory IsAlwaysAllowed after_sync_names same_state h new r → Since P old new
+    last_called r runs moves = run_called P Gone old h new r runs moves (λ v q. still_on ignored start v (after_sync_names v) q.is_unchanged (sync_still ignored v q.is_unchanged.is_durable)) (λ v may q. q.is_unchanged)
 
-    pub last_settled : (r : Result T E) → Runs P Gone old h → Moves Anywhere after_sync_names same_state h new r → OnOk r (HasNow new (IsSettled ignored files))
-    last_settled r runs moves = step_called Gone (IsSettled ignored files) new r h runs.now moves (λ v q. subst (λ (F : Files). IsSettled ignored F (after_sync_names v)) q.gone.reads (sync_settled laws ignored v q.still.orderly))
+    pub last_settled : (r : Result T E) → Runs P Gone old h → ChangesHistory IsAlwaysAllowed after_sync_names same_state h new r → OnOk r (HoldsNow new (EachCrashLeaves ignored files))
+    last_settled r runs moves = step_called Gone (EachCrashLeaves ignored files) new r h runs.now moves (λ v q. subst (λ (F : Files). EachCrashLeaves ignored F (after_sync_names v)) q.gone.reads (sync_settled laws ignored v q.is_unchanged.is_durable))
 
 -- what is read, whatever the order
 module _ (laws : CrashLaws) (stage : Staging) (all : stage.acted ≡ action_count stage.intent) (name : List ℕ) (name_is : name ≡ intent_name) (files : Files) (start : TreeState) (old rest : History) (is : old ≡ start ∷ rest) (acting : IsActing stage files start) where
   module _ {T E : Type 0} (h k new : History) where
-    pub last_files : (x y : T) (r : Result T E) → Moves {E = E} Anywhere after_sync_names same_state old h (Ok x) → Moves {E = E} Anywhere (after_remove name) (after_remove name) h k (Ok y) → Moves Anywhere after_sync_names same_state k new r
-        → OnOk r (HasNow new (λ w. (files_of w ≡ files) × (w.names intent_name ≡ None)))
+    pub last_files : (x y : T) (r : Result T E) → ChangesHistory {E = E} IsAlwaysAllowed after_sync_names same_state old h (Ok x) → ChangesHistory {E = E} IsAlwaysAllowed (after_remove name) (after_remove name) h k (Ok y) → ChangesHistory IsAlwaysAllowed after_sync_names same_state k new r
+        → OnOk r (HoldsNow new (λ w. (files_of w ≡ files) × (w.names intent_name ≡ None)))
     last_files x y r first second last =
         let a = step_now (IsActing stage files) (IsActing stage files) h x old (now_is old start rest (IsActing stage files) is acting) first (sync_acting stage files) in
         let b = step_now (IsActing stage files) (IsGone files) k y h a second (λ v q. subst (λ (n : List ℕ). IsGone files (after_remove n v)) (sym name_is) (drop_gone laws stage files v q all)) in
@@ -84,14 +90,14 @@ module _ (laws : CrashLaws) (stage : Staging) (all : stage.acted ≡ action_coun
   begun_acting = run_begun S A old start rest is acting
 
   module _ {T E : Type 0} (h new : History) where
-    pub stands_synced : (x : T) → Moves {E = E} Anywhere after_sync_names same_state old new (Ok x) → Runs S A old new
+    pub stands_synced : (x : T) → ChangesHistory {E = E} IsAlwaysAllowed after_sync_names same_state old new (Ok x) → Runs S A old new
     stands_synced x moves = run_done S A A old old new x begun_acting moves (λ v q. q.reads) (sync_acting stage files)
 
-    pub stands_drop_failed : (e : E) → Runs S A old h → Moves {T = T} Anywhere (after_remove name) (after_remove name) h new (Err e) → Since S old new
+    pub stands_drop_failed : (e : E) → Runs S A old h → ChangesHistory {T = T} IsAlwaysAllowed (after_remove name) (after_remove name) h new (Err e) → Since S old new
     stands_drop_failed e runs moves = run_failed S A old h new e runs moves (λ v may q. gone_stands (after_remove name v) (gone_at v q))
 
-    pub stands_dropped : (x : T) → Runs S A old h → Moves {E = E} Anywhere (after_remove name) (after_remove name) h new (Ok x) → Runs S (IsGone files) old new
+    pub stands_dropped : (x : T) → Runs S A old h → ChangesHistory {E = E} IsAlwaysAllowed (after_remove name) (after_remove name) h new (Ok x) → Runs S (IsGone files) old new
     stands_dropped x runs moves = run_done S A (IsGone files) old h new x runs moves gone_stands gone_at
 
-    pub stands_last : (r : Result T E) → Runs S (IsGone files) old h → Moves Anywhere after_sync_names same_state h new r → Since S old new
+    pub stands_last : (r : Result T E) → Runs S (IsGone files) old h → ChangesHistory IsAlwaysAllowed after_sync_names same_state h new r → Since S old new
     stands_last r runs moves = run_called S (IsGone files) old h new r runs moves (λ v q. gone_stands v q) (λ v may q. gone_stands v q)

@@ -1,15 +1,16 @@
 -- Which changes of names a crash may undo at each moment.
-use Rattle.std.proofs.Common.{◌≡◌, ◌≢◌, ◌||◌, ◌++◌, inl, inr, ℕ, Bool, true, false, cond, List, ◌∷◌, [], Option, None, Some, IsSome, Result, Ok, Err, OnOk, refl, sym, ap, subst, ◌∙◌}
+use Rattle.std.proofs.Common.{◌≡◌, ◌≢◌, ◌||◌, ◌++◌, ⊎_elim, ℕ, Bool, true, false, cond, List, ◌∷◌, [], Option, None, Some, IsSome, Result, Ok, Err, OnOk, refl, sym, ap, subst, ◌∙◌}
 use Rattle.std.specs.List.{list_any}
 use Rattle.std.specs.Str.{bytes_eq}
-use Rattle.base_core.specs.Calls.{IfObservable, HasNow, Moves}
+use Rattle.base_core.specs.Calls.{IfObservable, HoldsNow, ChangesHistory}
 use Rattle.base_core.specs.Crash.{Since}
-use Rattle.base_core.specs.Files.{NameMap, drop_name}
-use Rattle.base_core.specs.Lists.{IsIn}
-use Rattle.base_core.specs.Tree.{TreeState, File, bytes_at, after_append, after_create, after_failed_append, after_remove, after_rename, after_sync, after_sync_names, change_at, files_of, move_at, remove_at, same_state, Anywhere, CanCreate, CanRename, HasName}
-use Rattle.journal_core.specs.Kept.{IsInNoMap, NamesLastBut}
+use Rattle.base_core.specs.Files.{NameMap, drop_name, move_name}
+use Rattle.base_core.specs.Tree.{TreeState, File, bytes_at, after_append, after_create, after_failed_append, after_remove, after_rename, after_sync, after_sync_names, change_at, files_of, move_at, remove_at, same_state, IsAlwaysAllowed, CanCreate, CanRename, HasName}
+use Rattle.journal_core.specs.Kept.{IsInNoMap, NamesAreDurableExcept}
 use Rattle.journal_core.specs.Recovering.{IsReplayed}
 use Rattle.journal_core.specs.Recovery.{intent_name, stage_name}
+use Rattle.base_core.proofs.Undone.{left_only}
+use Rattle.journal_core.proofs.Changes.{gone_removed, gone_synced, one_change}
 use Rattle.journal_core.proofs.Chain.{IsAny, Runs, by_now, run_begun, run_called, run_done, run_failed}
 use Rattle.journal_core.proofs.History.{History, done_now, now_since, observable_at, observable_map, on_observable, since_on, since_weaker}
 use Rattle.journal_core.proofs.Keeping.{keep_called}
@@ -21,9 +22,6 @@ use Rattle.journal_intent.specs.FreeNames.{IsNoneOf}
 pub some_none : (o : Option ℕ) → o ≡ None → IsSome o → ⊥
 some_none None none some = cc
 some_none (Some n) none some = cc
-
-no_more_maps : (older : List NameMap) (map : NameMap) → older ≡ [] → IsIn map older → ⊥
-no_more_maps older map none among = subst (λ l. IsIn map l) none among
 
 or_left : (a b : Bool) → (a || b) ≡ false → a ≡ false
 or_left true b e = cc
@@ -41,30 +39,31 @@ off_rest q a rest none = or_right (bytes_eq q a) (list_any (bytes_eq q) rest) no
 
 -- ---- one step
 
-one_map : (these : List (List ℕ)) (v : TreeState) → v.older ≡ [] → NamesLastBut these v
-one_map these v none map (inl is) q off = ap (λ (m : NameMap). m q) is
-one_map these v none map (inr among) q off = absurd (no_more_maps v.older map none among)
+one_map : (these : List (List ℕ)) (v : TreeState) → v.older ≡ [] → NamesAreDurableExcept these v
+one_map these v none map left q off = ap (λ (m : NameMap). m q) (left_only v none map left)
 
-last_synced : (these : List (List ℕ)) (v : TreeState) → NamesLastBut these (after_sync_names v)
+last_synced : (these : List (List ℕ)) (v : TreeState) → NamesAreDurableExcept these (after_sync_names v)
 last_synced these v = one_map these (after_sync_names v) refl
 
-last_removed_at : (v : TreeState) (o : Option ℕ) → v.older ≡ [] → NamesLastBut (intent_name ∷ []) (remove_at intent_name v o)
+last_removed_at : (v : TreeState) (o : Option ℕ) → v.older ≡ [] → NamesAreDurableExcept (intent_name ∷ []) (remove_at intent_name v o)
 last_removed_at v None none map among q off = one_map (intent_name ∷ []) v none map among q off
-last_removed_at v (Some n) none map (inl is) q off = ap (λ (m : NameMap). m q) is
-last_removed_at v (Some n) none map (inr (inl is)) q off = ap (λ (m : NameMap). m q) is ∙ sym (drop_name-off v.names intent_name q (off_first q intent_name [] off))
-last_removed_at v (Some n) none map (inr (inr among)) q off = absurd (no_more_maps v.older map none among)
+last_removed_at v (Some n) none map left q off = ⊎_elim
+    (λ is. ap (λ (m : NameMap). m q) is)
+    (λ is. ap (λ (m : NameMap). m q) is ∙ sym (drop_name-off v.names intent_name q (off_first q intent_name [] off)))
+    (one_change v (drop_name v.names intent_name) none map left)
 
-abbrev pub Entering : List (List ℕ)
-Entering = intent_name ∷ stage_name 0 ∷ []
+abbrev pub Committing : List (List ℕ)
+Committing = intent_name ∷ stage_name 0 ∷ []
 
-last_moved_at : (v : TreeState) (o : Option ℕ) → v.older ≡ [] → NamesLastBut Entering (move_at (stage_name 0) intent_name v o)
-last_moved_at v None none map among q off = one_map Entering v none map among q off
-last_moved_at v (Some n) none map (inl is) q off = ap (λ (m : NameMap). m q) is
-last_moved_at v (Some n) none map (inr (inl is)) q off =
+last_moved_at : (v : TreeState) (o : Option ℕ) → v.older ≡ [] → NamesAreDurableExcept Committing (move_at (stage_name 0) intent_name v o)
+last_moved_at v None none map among q off = one_map Committing v none map among q off
+last_moved_at v (Some n) none map left q off = ⊎_elim
+    (λ is. ap (λ (m : NameMap). m q) is)
+    (λ is.
     ap (λ (m : NameMap). m q) is
     ∙ sym (put_name-off (drop_name v.names (stage_name 0)) intent_name n q (off_first q intent_name (stage_name 0 ∷ []) off)
-    ∙ drop_name-off v.names (stage_name 0) q (off_first q (stage_name 0) [] (off_rest q intent_name (stage_name 0 ∷ []) off)))
-last_moved_at v (Some n) none map (inr (inr among)) q off = absurd (no_more_maps v.older map none among)
+    ∙ drop_name-off v.names (stage_name 0) q (off_first q (stage_name 0) [] (off_rest q intent_name (stage_name 0 ∷ []) off))))
+    (one_change v (move_name v.names (stage_name 0) intent_name n) none map left)
 
 pub removed_absent : (name : List ℕ) (v : TreeState) (o : Option ℕ) → v.names name ≡ o → (remove_at name v o).names name ≡ None
 removed_absent name v None none = none
@@ -73,19 +72,6 @@ removed_absent name v (Some n) some = drop_name-at v.names name name refl
 pub moved_absent : (from to : List ℕ) (v : TreeState) (o : Option ℕ) → v.names from ≡ o → from ≢ to → (move_at from to v o).names from ≡ None
 moved_absent from to v None none apart = none
 moved_absent from to v (Some n) some apart = put_name-off (drop_name v.names from) to n from apart ∙ drop_name-at v.names from from refl
-
-synced_absent : (name : List ℕ) (v : TreeState) → v.names name ≡ None → IsInNoMap name (after_sync_names v)
-synced_absent name v none map (inl is) = ap (λ (m : NameMap). m name) is ∙ none
-synced_absent name v none map (inr among) = absurd among
-
-cond_none : (b : Bool) (o : Option ℕ) → o ≡ None → cond b None o ≡ None
-cond_none true o none = refl
-cond_none false o none = none
-
-no_map_removed : (gone name : List ℕ) (v : TreeState) (o : Option ℕ) → IsInNoMap gone v → IsInNoMap gone (remove_at name v o)
-no_map_removed gone name v None away map among = away map among
-no_map_removed gone name v (Some n) away map (inl is) = ap (λ (m : NameMap). m gone) is ∙ cond_none (bytes_eq gone name) (v.names gone) (away v.names (inl refl))
-no_map_removed gone name v (Some n) away map (inr among) = away map among
 
 changed_names : (change : File → File) (v : TreeState) (o : Option ℕ) → (change_at change v o).names ≡ v.names
 changed_names change v None = refl
@@ -98,7 +84,7 @@ any_told h = on_observable h IsAny (λ v rest is. tt)
 
 module _ (name : List ℕ) (name_is : name ≡ intent_name) (start : TreeState) (old rest : History) (is : old ≡ start ∷ rest) (some : IsSome (start.names intent_name)) where
   abbrev P : TreeState → Type 0
-  P w = w.names intent_name ≡ None → NamesLastBut (intent_name ∷ []) w
+  P w = w.names intent_name ≡ None → NamesAreDurableExcept (intent_name ∷ []) w
 
   abbrev Read : TreeState → Type 0
   Read w = IsSome (w.names intent_name)
@@ -109,42 +95,42 @@ module _ (name : List ℕ) (name_is : name ≡ intent_name) (start : TreeState) 
   read_moment : (w : TreeState) → IsSome (w.names intent_name) → P w
   read_moment w has none = absurd (some_none (w.names intent_name) none has)
 
-  removed : (w : TreeState) → w.older ≡ [] → NamesLastBut (intent_name ∷ []) (after_remove name w)
-  removed w none = subst (λ (n : List ℕ). NamesLastBut (intent_name ∷ []) (after_remove n w)) (sym name_is) (last_removed_at w (w.names intent_name) none)
+  removed : (w : TreeState) → w.older ≡ [] → NamesAreDurableExcept (intent_name ∷ []) (after_remove name w)
+  removed w none = subst (λ (n : List ℕ). NamesAreDurableExcept (intent_name ∷ []) (after_remove n w)) (sym name_is) (last_removed_at w (w.names intent_name) none)
 
   begun : Runs P Read old old
   begun = run_begun P Read old start rest is some
 
   module _ {T E : Type 0} (h new : History) where
-    pub finish_sync_failed : (e : E) → Moves {T = T} Anywhere after_sync_names same_state old new (Err e) → Since P old new
+    pub finish_sync_failed : (e : E) → ChangesHistory {T = T} IsAlwaysAllowed after_sync_names same_state old new (Err e) → Since P old new
     finish_sync_failed e moves = run_failed P Read old old new e begun moves (λ v may q. read_moment v q)
 
-    pub finish_synced : (x : T) → Moves {E = E} Anywhere after_sync_names same_state old new (Ok x) → Runs P ReadOnce old new
+    pub finish_synced : (x : T) → ChangesHistory {E = E} IsAlwaysAllowed after_sync_names same_state old new (Ok x) → Runs P ReadOnce old new
     finish_synced x moves = run_done P Read ReadOnce old old new x begun moves (λ v q. read_moment v q.0) (λ v q. (q, refl))
 
-    pub finish_remove_failed : (e : E) → Runs P ReadOnce old h → Moves {T = T} Anywhere (after_remove name) (after_remove name) h new (Err e) → Since P old new
+    pub finish_remove_failed : (e : E) → Runs P ReadOnce old h → ChangesHistory {T = T} IsAlwaysAllowed (after_remove name) (after_remove name) h new (Err e) → Since P old new
     finish_remove_failed e runs moves = run_failed P ReadOnce old h new e runs moves (λ v may q none. removed v q.1)
 
-    pub finish_removed : (x : T) → Runs P ReadOnce old h → Moves {E = E} Anywhere (after_remove name) (after_remove name) h new (Ok x) → Runs P (NamesLastBut (intent_name ∷ [])) old new
-    finish_removed x runs moves = run_done P ReadOnce (NamesLastBut (intent_name ∷ [])) old h new x runs moves (λ v q none. q) (λ v q. removed v q.1)
+    pub finish_removed : (x : T) → Runs P ReadOnce old h → ChangesHistory {E = E} IsAlwaysAllowed (after_remove name) (after_remove name) h new (Ok x) → Runs P (NamesAreDurableExcept (intent_name ∷ [])) old new
+    finish_removed x runs moves = run_done P ReadOnce (NamesAreDurableExcept (intent_name ∷ [])) old h new x runs moves (λ v q none. q) (λ v q. removed v q.1)
 
-    pub finish_last : (r : Result T E) → Runs P (NamesLastBut (intent_name ∷ [])) old h → Moves Anywhere after_sync_names same_state h new r → Since P old new
-    finish_last r runs moves = run_called P (NamesLastBut (intent_name ∷ [])) old h new r runs moves (λ v q none. last_synced (intent_name ∷ []) v) (λ v may q none. q)
+    pub finish_last : (r : Result T E) → Runs P (NamesAreDurableExcept (intent_name ∷ [])) old h → ChangesHistory IsAlwaysAllowed after_sync_names same_state h new r → Since P old new
+    finish_last r runs moves = run_called P (NamesAreDurableExcept (intent_name ∷ [])) old h new r runs moves (λ v q none. last_synced (intent_name ∷ []) v) (λ v may q none. q)
 
-module _ {A B : Type 0} (name : List ℕ) (name_is : name ≡ intent_name) (h k new : History) (x : A) (first : Moves {E = B} Anywhere (after_remove name) (after_remove name) h k (Ok x)) where
-  pub finish_gone : {T E : Type 0} (r : Result T E) → Moves Anywhere after_sync_names same_state k new r → OnOk r (IfObservable new (IsInNoMap intent_name))
+module _ {A B : Type 0} (name : List ℕ) (name_is : name ≡ intent_name) (h k new : History) (x : A) (first : ChangesHistory {E = B} IsAlwaysAllowed (after_remove name) (after_remove name) h k (Ok x)) where
+  pub finish_gone : {T E : Type 0} (r : Result T E) → ChangesHistory IsAlwaysAllowed after_sync_names same_state k new r → OnOk r (IfObservable new (IsInNoMap intent_name))
   finish_gone (Err e) last = tt
   finish_gone (Ok y) last =
       done_now (λ w. w.names intent_name ≡ None) (IsInNoMap intent_name) after_sync_names same_state k new y
       (done_now IsAny (λ w. w.names intent_name ≡ None) (after_remove name) (after_remove name) h k x (any_told h) first
       (λ v q. ap (after_remove name v).names (sym name_is) ∙ removed_absent name v (v.names name) refl))
-      last (synced_absent intent_name)
+      last (gone_synced intent_name)
 
 -- ---- the intent moves to its name
 
 module _ (place name : List ℕ) (place_is : place ≡ stage_name 0) (name_is : name ≡ intent_name) where
   abbrev Q : TreeState → Type 0
-  Q w = IsSome (w.names intent_name) → NamesLastBut Entering w
+  Q w = IsSome (w.names intent_name) → NamesAreDurableExcept Committing w
 
   abbrev Unread : TreeState → Type 0
   Unread w = w.names intent_name ≡ None
@@ -155,35 +141,35 @@ module _ (place name : List ℕ) (place_is : place ≡ stage_name 0) (name_is : 
   unread_moment : (w : TreeState) → Unread w → Q w
   unread_moment w none has = absurd (some_none (w.names intent_name) none has)
 
-  moved : (w : TreeState) → w.older ≡ [] → NamesLastBut Entering (after_rename place name w)
-  moved w none = subst (λ (p : List ℕ). NamesLastBut Entering (after_rename p name w)) (sym place_is)
-      (subst (λ (n : List ℕ). NamesLastBut Entering (after_rename (stage_name 0) n w)) (sym name_is) (last_moved_at w (w.names (stage_name 0)) none))
+  moved : (w : TreeState) → w.older ≡ [] → NamesAreDurableExcept Committing (after_rename place name w)
+  moved w none = subst (λ (p : List ℕ). NamesAreDurableExcept Committing (after_rename p name w)) (sym place_is)
+      (subst (λ (n : List ℕ). NamesAreDurableExcept Committing (after_rename (stage_name 0) n w)) (sym name_is) (last_moved_at w (w.names (stage_name 0)) none))
 
   module _ (start : TreeState) (old rest : History) (is : old ≡ start ∷ rest) (none : start.names intent_name ≡ None) where
     enter_begun : Runs Q Unread old old
     enter_begun = run_begun Q Unread old start rest is none
 
     module _ {T E : Type 0} (h new : History) where
-      pub enter_sync_failed : (e : E) → Moves {T = T} Anywhere after_sync_names same_state old new (Err e) → Since Q old new
+      pub enter_sync_failed : (e : E) → ChangesHistory {T = T} IsAlwaysAllowed after_sync_names same_state old new (Err e) → Since Q old new
       enter_sync_failed e moves = run_failed Q Unread old old new e enter_begun moves (λ v may q. unread_moment v q)
 
-      pub enter_synced : (x : T) → Moves {E = E} Anywhere after_sync_names same_state old new (Ok x) → Runs Q UnreadOnce old new
+      pub enter_synced : (x : T) → ChangesHistory {E = E} IsAlwaysAllowed after_sync_names same_state old new (Ok x) → Runs Q UnreadOnce old new
       enter_synced x moves = run_done Q Unread UnreadOnce old old new x enter_begun moves (λ v q. unread_moment v q.0) (λ v q. (q, refl))
 
-      pub enter_rename_failed : (e : E) → Runs Q UnreadOnce old h → Moves {T = T} (CanRename place name) (after_rename place name) (after_rename place name) h new (Err e) → Since Q old new
+      pub enter_rename_failed : (e : E) → Runs Q UnreadOnce old h → ChangesHistory {T = T} (CanRename place name) (after_rename place name) (after_rename place name) h new (Err e) → Since Q old new
       enter_rename_failed e runs moves = run_failed Q UnreadOnce old h new e runs moves (λ v may q has. moved v q.1)
 
-      pub enter_renamed : (x : T) → Runs Q UnreadOnce old h → Moves {E = E} (CanRename place name) (after_rename place name) (after_rename place name) h new (Ok x) → Runs Q (NamesLastBut Entering) old new
-      enter_renamed x runs moves = run_done Q UnreadOnce (NamesLastBut Entering) old h new x runs moves (λ v q has. q) (λ v q. moved v q.1)
+      pub enter_renamed : (x : T) → Runs Q UnreadOnce old h → ChangesHistory {E = E} (CanRename place name) (after_rename place name) (after_rename place name) h new (Ok x) → Runs Q (NamesAreDurableExcept Committing) old new
+      enter_renamed x runs moves = run_done Q UnreadOnce (NamesAreDurableExcept Committing) old h new x runs moves (λ v q has. q) (λ v q. moved v q.1)
 
-      pub enter_last : (r : Result T E) → Runs Q (NamesLastBut Entering) old h → Moves Anywhere after_sync_names same_state h new r → Since Q old new
-      enter_last r runs moves = run_called Q (NamesLastBut Entering) old h new r runs moves (λ v q has. last_synced Entering v) (λ v may q has. q)
+      pub enter_last : (r : Result T E) → Runs Q (NamesAreDurableExcept Committing) old h → ChangesHistory IsAlwaysAllowed after_sync_names same_state h new r → Since Q old new
+      enter_last r runs moves = run_called Q (NamesAreDurableExcept Committing) old h new r runs moves (λ v q has. last_synced Committing v) (λ v may q has. q)
 
-  module _ {A B : Type 0} (h k new : History) (x : A) (first : Moves {E = B} (CanRename place name) (after_rename place name) (after_rename place name) h k (Ok x)) where
+  module _ {A B : Type 0} (h k new : History) (x : A) (first : ChangesHistory {E = B} (CanRename place name) (after_rename place name) (after_rename place name) h k (Ok x)) where
     waits_no_more : (v : TreeState) → (after_rename place name v).names (stage_name 0) ≡ None
     waits_no_more v = ap (after_rename place name v).names (sym place_is) ∙ moved_absent place name v (v.names place) refl (λ e. stage_name_no_intent 0 (sym place_is ∙ e ∙ name_is))
 
-    pub enter_moved : {T E : Type 0} (r : Result T E) → Moves Anywhere after_sync_names same_state k new r → OnOk r (IfObservable new (λ w. w.names (stage_name 0) ≡ None))
+    pub enter_moved : {T E : Type 0} (r : Result T E) → ChangesHistory IsAlwaysAllowed after_sync_names same_state k new r → OnOk r (IfObservable new (λ w. w.names (stage_name 0) ≡ None))
     enter_moved (Err e) last = tt
     enter_moved (Ok y) last =
         done_now (λ w. w.names (stage_name 0) ≡ None) (λ w. w.names (stage_name 0) ≡ None) after_sync_names same_state k new y
@@ -203,26 +189,26 @@ module _ (place : List ℕ) (place_is : place ≡ stage_name 0) (start : TreeSta
   changed change w q = ap (λ (m : NameMap). m intent_name) (changed_names change w (w.names place)) ∙ q
 
   module _ {T E : Type 0} (h new : History) where
-    pub make_failed : (e : E) → Moves {T = T} (CanCreate place) (after_create place) (after_create place) old new (Err e) → Since N old new
+    pub make_failed : (e : E) → ChangesHistory {T = T} (CanCreate place) (after_create place) (after_create place) old new (Err e) → Since N old new
     make_failed e moves = run_failed N N old old new e (run_begun N N old start rest is none) moves (λ v may q. made v q)
 
-    pub make_done : (x : T) → Moves {E = E} (CanCreate place) (after_create place) (after_create place) old new (Ok x) → Runs N N old new
+    pub make_done : (x : T) → ChangesHistory {E = E} (CanCreate place) (after_create place) (after_create place) old new (Ok x) → Runs N N old new
     make_done x moves = run_done N N N old old new x (run_begun N N old start rest is none) moves (λ v q. q) made
 
     module _ (piece : List ℕ) where
-      pub fill_failed : (e : E) → Runs N N old h → Moves {T = T} (HasName place) (after_append place piece) (after_failed_append place) h new (Err e) → Since N old new
+      pub fill_failed : (e : E) → Runs N N old h → ChangesHistory {T = T} (HasName place) (after_append place piece) (after_failed_append place) h new (Err e) → Since N old new
       fill_failed e runs moves = run_failed N N old h new e runs moves (λ v may q. changed (λ f. record { bytes = f.bytes; synced = false }) v q)
 
-      pub fill_done : (x : T) → Runs N N old h → Moves {E = E} (HasName place) (after_append place piece) (after_failed_append place) h new (Ok x) → Runs N N old new
+      pub fill_done : (x : T) → Runs N N old h → ChangesHistory {E = E} (HasName place) (after_append place piece) (after_failed_append place) h new (Ok x) → Runs N N old new
       fill_done x runs moves = run_done N N N old h new x runs moves (λ v q. q) (changed (λ f. record { bytes = f.bytes ++ piece; synced = false }))
 
-    pub sync_done : (r : Result T E) → Runs N N old h → Moves (HasName place) (after_sync place) same_state h new r → Since N old new
+    pub sync_done : (r : Result T E) → Runs N N old h → ChangesHistory (HasName place) (after_sync place) same_state h new r → Since N old new
     sync_done r runs moves = run_called N N old h new r runs moves (changed (λ f. record { bytes = f.bytes; synced = true })) (λ v may q. q)
 
 -- both
 module _ (old mid new : History) where
   abbrev LastsRead : TreeState → Type 0
-  LastsRead w = IsSome (w.names intent_name) → NamesLastBut Entering w
+  LastsRead w = IsSome (w.names intent_name) → NamesAreDurableExcept Committing w
 
   abbrev IsUnread : TreeState → Type 0
   IsUnread w = w.names intent_name ≡ None
@@ -245,14 +231,14 @@ ok_absent (Ok x) old name told = observable_map old (CanCreate name) (λ v. v.na
 -- ---- a recovery
 
 abbrev pub Stays : History → History → Type 0
-Stays old h = IfObservable old (λ v. IsInNoMap intent_name v → HasNow h (IsInNoMap intent_name))
+Stays old h = IfObservable old (λ v. IsInNoMap intent_name v → HoldsNow h (IsInNoMap intent_name))
 
 pub stays_start : (old : History) → Stays old old
 stays_start old = on_observable old _ (λ v rest is away. now_is old v rest (IsInNoMap intent_name) is away)
 
-pub stays_done : {T E : Type 0} (old h new : History) (name : List ℕ) (x : T) → Stays old h → Moves {E = E} Anywhere (after_remove name) (after_remove name) h new (Ok x) → Stays old new
+pub stays_done : {T E : Type 0} (old h new : History) (name : List ℕ) (x : T) → Stays old h → ChangesHistory {E = E} IsAlwaysAllowed (after_remove name) (after_remove name) h new (Ok x) → Stays old new
 stays_done old h new name x stays moves = observable_map old _ _ stays (λ v s away.
-    keep_called (IsInNoMap intent_name) (IsInNoMap intent_name) new h (Ok x) (s away) moves (λ u q. no_map_removed intent_name name u (u.names name) q) (λ u q. q) (λ u q. no_map_removed intent_name name u (u.names name) q))
+    keep_called (IsInNoMap intent_name) (IsInNoMap intent_name) new h (Ok x) (s away) moves (λ u q. gone_removed intent_name name u (u.names name) q) (λ u q. q) (λ u q. gone_removed intent_name name u (u.names name) q))
 
 pub stays_back : (old mid new : History) → mid ≡ old → Stays mid new → Stays old new
 stays_back old mid new same stays = subst (λ (l : History). Stays l new) same stays
@@ -267,11 +253,11 @@ unread_name files (Some n) is = absurd (cc)
 pub none_gone : (old new : History) (name : List ℕ) → name ≡ intent_name → IfObservable old (λ v. None ≡ files_of v name) → IfObservable old (λ v. IsSome (v.names intent_name) → IfObservable new (IsInNoMap intent_name))
 none_gone old new name name_is found = observable_map old _ _ found (λ v is some. absurd (some_none (v.names intent_name) (unread_name v.files (v.names intent_name) (is ∙ ap (files_of v) name_is)) some))
 
-pub all_gone : (old mid new : History) → IfObservable old (λ v. HasNow mid (IsReplayed v)) → IfObservable old (λ v. IsSome (v.names intent_name) → IfObservable mid (IsInNoMap intent_name)) → Stays mid new
-    → IfObservable old (λ v. IsSome (v.names intent_name) → HasNow new (IsInNoMap intent_name))
+pub all_gone : (old mid new : History) → IfObservable old (λ v. HoldsNow mid (IsReplayed v)) → IfObservable old (λ v. IsSome (v.names intent_name) → IfObservable mid (IsInNoMap intent_name)) → Stays mid new
+    → IfObservable old (λ v. IsSome (v.names intent_name) → HoldsNow new (IsInNoMap intent_name))
 all_gone old mid new replayed gone stays = on_observable old _ (λ v rest is some.
-    both (IsReplayed v) mid (observable_at old v rest is (λ u. HasNow mid (IsReplayed u)) replayed) (observable_at old v rest is (λ u. IsSome (u.names intent_name) → IfObservable mid (IsInNoMap intent_name)) gone some) stays)
+    both (IsReplayed v) mid (observable_at old v rest is (λ u. HoldsNow mid (IsReplayed u)) replayed) (observable_at old v rest is (λ u. IsSome (u.names intent_name) → IfObservable mid (IsInNoMap intent_name)) gone some) stays)
   where
-    both : (R : TreeState → Type 0) (h : History) → HasNow h R → IfObservable h (IsInNoMap intent_name) → IfObservable h (λ u. IsInNoMap intent_name u → HasNow new (IsInNoMap intent_name)) → HasNow new (IsInNoMap intent_name)
+    both : (R : TreeState → Type 0) (h : History) → HoldsNow h R → IfObservable h (IsInNoMap intent_name) → IfObservable h (λ u. IsInNoMap intent_name u → HoldsNow new (IsInNoMap intent_name)) → HoldsNow new (IsInNoMap intent_name)
     both R [] now away s = absurd now
     both R (u ∷ h) now away s = s away

@@ -8,6 +8,7 @@ pub mod Beside
 pub mod Between
 pub mod Carried
 pub mod Chain
+pub mod Changes
 pub mod Cleaned
 pub mod Compose
 pub mod Container
@@ -16,6 +17,7 @@ pub mod Emptied
 pub mod Entered
 pub mod Filed
 pub mod Finishing
+pub mod First
 pub mod History
 pub mod Images
 pub mod Keeping

@@ -2,8 +2,8 @@
 use Rattle.std.proofs.Common.{◌≡◌, inl, inr, ⊎_elim, Bool, true, false, cond, ◌||◌, ℕ, List, Option, None, refl, ap}
 use Rattle.base_core.specs.Files.{Files}
 use Rattle.base_core.specs.Tree.{TreeState}
-use Rattle.journal_core.specs.Quiet.{IsQuiet}
-use Rattle.journal_core.specs.Recovery.{is_hidden, is_staged, recovered_files, state_of, IsOldOrNew, IsSettled, RestsOn}
+use Rattle.journal_core.specs.Quiet.{EachCrashLeavesOld}
+use Rattle.journal_core.specs.Recovery.{is_hidden, is_staged, recovered_files, state_of, EachCrashLeavesOldOrNew, EachCrashLeaves, StateDependsOn}
 
 module _ (few many : List ℕ → Bool) (up : (q : List ℕ) → few q ≡ true → many q ≡ true) where
   smaller : (a b c : Bool) → (b ≡ true → c ≡ true) → (a || c) ≡ false → (a || b) ≡ false
@@ -11,7 +11,7 @@ module _ (few many : List ℕ → Bool) (up : (q : List ℕ) → few q ≡ true 
   smaller false true c more is = absurd (let on = more refl in cc)
   smaller false false c more is = refl
 
-  pub rests_fewer : (files : Files) (q : List ℕ) → RestsOn many files q → RestsOn few files q
+  pub rests_fewer : (files : Files) (q : List ℕ) → StateDependsOn many files q → StateDependsOn few files q
   rests_fewer files q (inl intent) = inl intent
   rests_fewer files q (inr (inl shown)) = inr (inl (smaller (is_staged q) (few q) (many q) (up q) shown))
   rests_fewer files q (inr (inr place)) = inr (inr place)
@@ -27,12 +27,12 @@ module _ (few many : List ℕ → Bool) (up : (q : List ℕ) → few q ≡ true 
   pub states_same : (F G : Files) → state_of few F ≡ state_of few G → state_of many F ≡ state_of many G
   states_same F G same i q = shown_same (is_hidden many q) (is_hidden few q) (recovered_files F q) (recovered_files G q) (hidden_more q) (ap (λ (state : Files). state q) same) i
 
-  pub quiet_more : (start v : TreeState) → IsQuiet few start v → IsQuiet many start v
+  pub quiet_more : (start v : TreeState) → EachCrashLeavesOld few start v → EachCrashLeavesOld many start v
   quiet_more start v quiet image is = let was = quiet image is in (was.0, was.1, states_same image was.0 was.2)
 
-  pub settled_more : (files : Files) (v : TreeState) → IsSettled few files v → IsSettled many files v
+  pub settled_more : (files : Files) (v : TreeState) → EachCrashLeaves few files v → EachCrashLeaves many files v
   settled_more files v settled image is = states_same image files (settled image is)
 
-  pub old_or_new_more : (start : TreeState) (files : Files) (v : TreeState) → IsOldOrNew few start files v → IsOldOrNew many start files v
+  pub old_or_new_more : (start : TreeState) (files : Files) (v : TreeState) → EachCrashLeavesOldOrNew few start files v → EachCrashLeavesOldOrNew many start files v
   old_or_new_more start files v either image is =
       ⊎_elim (λ was. inl (was.0, was.1, states_same image was.0 was.2)) (λ now. inr (states_same image files now)) (either image is)

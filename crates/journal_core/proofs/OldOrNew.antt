@@ -1,11 +1,11 @@
 -- At each moment a name that does not wait has its old bytes or its new ones.
-use Rattle.std.proofs.Common.{◌≡◌, ◌≢◌, ◌⊎◌, inl, inr, ⊎_elim, ℕ, ◌+◌, ◌<◌, ◌^◌, Bool, true, false, cond, List, ◌∷◌, length, slice_get, Option, None, Some, Result, Ok, Err, refl, sym, ap, subst, ◌∙◌, arith}
-use Rattle.base_core.specs.Calls.{IfObservable, HasNow, Moves}
+use Rattle.std.proofs.Common.{◌≡◌, ◌≢◌, ◌⊎◌, inl, inr, ⊎_elim, ℕ, ◌+◌, ◌<◌, ◌^◌, Bool, true, false, cond, List, [], ◌∷◌, length, slice_get, Option, None, Some, Result, Ok, Err, refl, sym, ap, subst, ◌∙◌, arith}
+use Rattle.base_core.specs.Calls.{IfObservable, HoldsNow, ChangesHistory}
 use Rattle.base_core.specs.Crash.{Since}
 use Rattle.base_core.specs.Files.{Files, drop_name}
-use Rattle.base_core.specs.Tree.{TreeState, after_remove, after_rename, after_sync_names, files_of, same_state, Anywhere}
-use Rattle.journal_core.specs.Acting.{MovesIfThere, acting_stage}
-use Rattle.journal_core.specs.Kept.{HasOldOrNewBytes, IsWaitingName, KeepsFilesBut, KeepsOldOrNewBytes}
+use Rattle.base_core.specs.Tree.{TreeState, after_remove, after_rename, after_sync_names, files_of, same_state, IsAlwaysAllowed}
+use Rattle.journal_core.specs.Acting.{MovesIfPresent, acting_stage}
+use Rattle.journal_core.specs.Kept.{HasOldOrNewBytes, IsJournalName, KeepsFilesExcept, KeepsOldOrNewBytes}
 use Rattle.journal_core.specs.Recovery.{Intent, after_actions, intent_name, intent_of, is_staged, move_if, read_intent, recovered_files, recovered_files_by, stage_name, without_names}
 use Rattle.journal_core.specs.Staged.{IsActing, Staging, unstaged_files}
 use Rattle.journal_core.proofs.Acts.{among_at, moved_reads, removed_reads}
@@ -38,7 +38,7 @@ module _ (intent : Intent) (free : HasFreeNames intent) (few : length intent.rem
   either_removed : (acted : ℕ) (v : TreeState) (i : ℕ) (name : List ℕ) → slice_get intent.removals i ≡ Some name → IsActing (acting_stage intent acted) files v → P v → P (after_remove name v)
   either_removed acted v i name at acting so_far q shown = ⊎_elim
       (λ is. inr (ap (λ (F : Files). F q) (removed_reads v name) ∙ drop_name-at (files_of v) name q is
-      ∙ sym (recovered_at (files_of v) q acting.stands acting.reads (λ e. shown (inl e)) ∙ removed_absent intent (files_of v) q free (subst (λ (x : List ℕ). IsOneOf x intent.removals) (sym is) (among_at intent.removals i name at)))))
+      ∙ sym (recovered_at (files_of v) q acting.located acting.reads (λ e. shown (inl e)) ∙ removed_absent intent (files_of v) q free (subst (λ (x : List ℕ). IsOneOf x intent.removals) (sym is) (among_at intent.removals i name at)))))
       (λ off. as_before base files v (after_remove name v) q (ap (λ (F : Files). F q) (removed_reads v name) ∙ drop_name-off (files_of v) name q (off_name q name off)) (so_far q shown))
       (name_cases q name)
 
@@ -51,12 +51,12 @@ module _ (intent : Intent) (free : HasFreeNames intent) (few : length intent.rem
         (ap (λ b. cond b None (files_of v (stage_name (1 + j)))) (place_not_among intent.removals (1 + j) free.removals)
         ∙ ap (λ n. files_of v (stage_name n)) (omega arith) ∙ sym (ap (files_of v) place_is) ∙ waits)
 
-    moved_either : (q : List ℕ) → (IsWaitingName q → ⊥) → (o : Option (List ℕ)) → files_of v place ≡ o → (files_of v q ≡ base q) ⊎ (files_of v q ≡ files q)
+    moved_either : (q : List ℕ) → (IsJournalName q → ⊥) → (o : Option (List ℕ)) → files_of v place ≡ o → (files_of v q ≡ base q) ⊎ (files_of v q ≡ files q)
         → (move_if (files_of v) place name o q ≡ base q) ⊎ (move_if (files_of v) place name o q ≡ files q)
     moved_either q shown None none so_far = so_far
     moved_either q shown (Some bytes) waits so_far = ⊎_elim
         (λ is. inr (put_name-at (drop_name (files_of v) place) name bytes q is
-        ∙ sym (recovered_at (files_of v) q acting.stands acting.reads (λ e. shown (inl e)) ∙ ap (after_actions intent (files_of v)) is ∙ lands bytes waits)))
+        ∙ sym (recovered_at (files_of v) q acting.located acting.reads (λ e. shown (inl e)) ∙ ap (after_actions intent (files_of v)) is ∙ lands bytes waits)))
         (λ off.
         let same = move_if-off (files_of v) place name (Some bytes) q (λ e. shown (inr (ap is_staged (e ∙ place_is) ∙ stage_name_staged (j + 1)))) (off_name q name off) in
         ⊎_elim (λ old. inl (same ∙ old)) (λ new. inr (same ∙ new)) so_far)
@@ -68,7 +68,7 @@ module _ (intent : Intent) (free : HasFreeNames intent) (few : length intent.rem
         ⊎_elim (λ old. inl (same ∙ old)) (λ new. inr (same ∙ new)) (moved_either q shown (files_of v place) refl (so_far q shown))
 
 module _ (intent : Intent) (free : HasFreeNames intent) (few : length intent.removals + length intent.writes < 2 ^ 63) (old new : History) where
-  pub removal_bytes : {T E : Type 0} (i : ℕ) (name : List ℕ) → slice_get intent.removals i ≡ Some name → (r : Result T E) → Moves Anywhere (after_remove name) (after_remove name) old new r
+  pub removal_bytes : {T E : Type 0} (i : ℕ) (name : List ℕ) → slice_get intent.removals i ≡ Some name → (r : Result T E) → ChangesHistory IsAlwaysAllowed (after_remove name) (after_remove name) old new r
       → IfObservable old (λ v. (files : Files) → IsActing (acting_stage intent i) files v → KeepsOldOrNewBytes files v old new)
   removal_bytes i name at r moves = on_observable old _ (λ v rest is files acting base so_far.
       let next = either_removed intent free few base files i v i name at acting so_far in
@@ -81,7 +81,7 @@ module _ (intent : Intent) (free : HasFreeNames intent) (few : length intent.rem
         (λ more. one_more (HasOldOrNewBytes base files) old old new (after_rename place name v) (none_since (HasOldOrNewBytes base files) old) more (either_moved intent free few base files acted v j place name within place_is at acting so_far))
         case
 
-    pub move_bytes : {T E : Type 0} (r : Result T E) → MovesIfThere place name old new r → IfObservable old (λ v. (files : Files) → IsActing (acting_stage intent acted) files v → KeepsOldOrNewBytes files v old new)
+    pub move_bytes : {T E : Type 0} (r : Result T E) → MovesIfPresent place name old new r → IfObservable old (λ v. (files : Files) → IsActing (acting_stage intent acted) files v → KeepsOldOrNewBytes files v old new)
     move_bytes (Ok x) moves = observable_map old _ _ moves.ok (λ v told files acting. by_case v files acting (⊎_elim (λ none. inl none.1) (λ more. inr more) told))
     move_bytes (Err e) moves = observable_map old _ _ moves.err (λ v told files acting. by_case v files acting told)
 
@@ -98,13 +98,13 @@ bytes_called first now old h new acts bytes more = on_observable old _ (λ v res
     let since = observable_at old v rest is (λ u. (F : Files) → IsActing first F u → KeepsOldOrNewBytes F u old h) bytes files acting base so_far in
     since_on (HasOldOrNewBytes base files) old h new since
     (by_now h (λ u. IsActing now files u × HasOldOrNewBytes base files u) (Since (HasOldOrNewBytes base files) h new)
-    (now_both h (IsActing now files) (HasOldOrNewBytes base files) (observable_at old v rest is (λ u. (F : Files) → IsActing first F u → HasNow h (IsActing now F)) acts files acting) (now_since (HasOldOrNewBytes base files) old h v rest is so_far since))
+    (now_both h (IsActing now files) (HasOldOrNewBytes base files) (observable_at old v rest is (λ u. (F : Files) → IsActing first F u → HoldsNow h (IsActing now F)) acts files acting) (now_since (HasOldOrNewBytes base files) old h v rest is so_far since))
     (observable_map h _ (λ u. IsActing now files u × HasOldOrNewBytes base files u → Since (HasOldOrNewBytes base files) h new) more (λ u t q. t files q.0 base q.1))))
 
 -- ---- the end of a stage
 
 abbrev pub KeepsButIntent : TreeState → TreeState → Type 0
-KeepsButIntent = KeepsFilesBut (λ q. q ≡ intent_name)
+KeepsButIntent = KeepsFilesExcept (λ q. q ≡ intent_name)
 
 intent_same : (v : TreeState) → KeepsButIntent v v
 intent_same v q off = refl
@@ -115,10 +115,10 @@ intent_on a b c first then q off = then q off ∙ first q off
 intent_removed : (name : List ℕ) → name ≡ intent_name → (v : TreeState) → KeepsButIntent v (after_remove name v)
 intent_removed name is v q off = ap (λ (F : Files). F q) (removed_reads v name) ∙ drop_name-off (files_of v) name q (λ e. off (e ∙ is))
 
-pub sync_shown : {T E : Type 0} (old new : History) (r : Result T E) → Moves Anywhere after_sync_names same_state old new r → IfObservable old (λ v. Since (KeepsButIntent v) old new)
+pub sync_shown : {T E : Type 0} (old new : History) (r : Result T E) → ChangesHistory IsAlwaysAllowed after_sync_names same_state old new r → IfObservable old (λ v. Since (KeepsButIntent v) old new)
 sync_shown old new r moves = told_called KeepsButIntent old new r moves (λ v q off. refl) intent_same
 
-pub remove_shown : {T E : Type 0} (name : List ℕ) → name ≡ intent_name → (old new : History) (r : Result T E) → Moves Anywhere (after_remove name) (after_remove name) old new r → IfObservable old (λ v. Since (KeepsButIntent v) old new)
+pub remove_shown : {T E : Type 0} (name : List ℕ) → name ≡ intent_name → (old new : History) (r : Result T E) → ChangesHistory IsAlwaysAllowed (after_remove name) (after_remove name) old new r → IfObservable old (λ v. Since (KeepsButIntent v) old new)
 remove_shown name is old new r moves = told_called KeepsButIntent old new r moves (intent_removed name is) (intent_removed name is)
 
 pub shown_on : (old h new : History) → IfObservable old (λ v. Since (KeepsButIntent v) old h) → IfObservable h (λ u. Since (KeepsButIntent u) h new) → IfObservable old (λ v. Since (KeepsButIntent v) old new)
@@ -141,8 +141,8 @@ old_bytes : (files : Files) (v : TreeState) → HasOldOrNewBytes (files_of v) fi
 old_bytes files v q shown = inl refl
 
 pub found_bytes : (first : Staging) (file : List ℕ) → read_intent file ≡ Some first.intent → first.acted ≡ 0 → (old new : History) → BytesOn first old new
-    → IfObservable old (λ v. files_of v intent_name ≡ Some file → Since (HasOldOrNewBytes (files_of v) (recovered_files (files_of v))) old new)
-found_bytes first file spells none old new bytes = observable_map old _ _ bytes (λ v t there. t (recovered_files (files_of v)) (acting_found first file v there spells none) (files_of v) (old_bytes (recovered_files (files_of v)) v))
+    → IfObservable old (λ v. files_of v intent_name ≡ Some file → v.older ≡ [] → Since (HasOldOrNewBytes (files_of v) (recovered_files (files_of v))) old new)
+found_bytes first file spells none old new bytes = observable_map old _ _ bytes (λ v t there one. t (recovered_files (files_of v)) (acting_found first file v there one spells none) (files_of v) (old_bytes (recovered_files (files_of v)) v))
 
 abbrev pub RecoverBytes : History → History → Type 0
 RecoverBytes old new = IfObservable old (λ v. Since (HasOldOrNewBytes (files_of v) (recovered_files (files_of v))) old new)

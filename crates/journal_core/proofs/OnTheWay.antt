@@ -6,51 +6,51 @@ use Rattle.base_core.specs.Files.{Files}
 use Rattle.base_core.specs.Tree.{TreeState, files_of}
 use Rattle.base_core.specs.Crash.{Since}
 use Rattle.base_core.specs.Restart.{EachMoment, SinceBy}
-use Rattle.journal_core.specs.Quiet.{IsStill}
-use Rattle.journal_core.specs.Recovery.{IsSettled, intent_name}
-use Rattle.journal_core.specs.Staged.{HasPublished, IsOnTheWay, IsStaged, PublishedBy, new_stage}
+use Rattle.journal_core.specs.Quiet.{StateIsUnchanged}
+use Rattle.journal_core.specs.Recovery.{EachCrashLeaves, intent_name}
+use Rattle.journal_core.specs.Staged.{WasCommittedFor, IsOldUntilCommit, IsStaged, CommittedBy, new_stage}
 use Rattle.journal_core.proofs.Compose.{quiet_then, settled_quiet}
 use Rattle.journal_core.proofs.Images.{quiet_on}
 
 pub nothing_staged : (removals writes : List (List ℕ)) (v : TreeState) → files_of v intent_name ≡ None → IsStaged (new_stage removals writes) [] None (files_of v) v
-nothing_staged removals writes v none = record { count = refl; absent = none; reads = refl; synced = λ k n from until at. absurd (omega (arith, from, until)); alone = tt }
+nothing_staged removals writes v none = record { count = refl; absent = none; reads = refl; synced = λ k n from until at. absurd (omega (arith, from, until)); alone = tt; gone = tt }
 
 -- a file that was made later, at one of these moments
-published_among : (ignored : List ℕ → Bool) (files : Files) (a b : ℕ) (moments first : List TreeState) → a ≤ b → HasPublished ignored files b moments → HasPublished ignored files a (moments ++ first)
+published_among : (ignored : List ℕ → Bool) (files : Files) (a b : ℕ) (moments first : List TreeState) → a ≤ b → WasCommittedFor ignored files b moments → WasCommittedFor ignored files a (moments ++ first)
 published_among ignored files a b [] first less published = absurd published
 published_among ignored files a b (v ∷ moments) first less (inl (n, there, made, same)) = inl (n, there, omega (arith, less, made), same)
 published_among ignored files a b (v ∷ moments) first less (inr published) = inr (published_among ignored files a b moments first less published)
 
-pub way_before : (ignored : List ℕ → Bool) (files : Files) (start v w : TreeState) (earlier first : List TreeState) → IsStill ignored start v → IsOnTheWay ignored files v earlier w → IsOnTheWay ignored files start (earlier ++ first) w
-way_before ignored files start v w earlier first still way = record {
-  orderly = way.orderly;
-  old_or_new = quiet_then ignored start v w files still.quiet way.old_or_new;
-  unpublished = λ unled. quiet_on ignored start v w still.quiet (way.unpublished (λ published. unled (published_among ignored files start.made v.made (w ∷ earlier) first still.made published)));
-  made = (let a = still.made in let b = way.made in omega (arith, a, b));
+pub way_before : (ignored : List ℕ → Bool) (files : Files) (start v w : TreeState) (earlier first : List TreeState) → StateIsUnchanged ignored start v → IsOldUntilCommit ignored files v earlier w → IsOldUntilCommit ignored files start (earlier ++ first) w
+way_before ignored files start v w earlier first is_unchanged way = record {
+  is_durable = way.is_durable;
+  old_or_new = quiet_then ignored start v w files is_unchanged.quiet way.old_or_new;
+  unpublished = λ unled. quiet_on ignored start v w is_unchanged.quiet (way.unpublished (λ published. unled (published_among ignored files start.made v.made (w ∷ earlier) first is_unchanged.made published)));
+  made = (let a = is_unchanged.made in let b = way.made in omega (arith, a, b));
 }
 
 -- ---- behind a publishing
 
-published_more : (ignored : List ℕ → Bool) (files : Files) (made : ℕ) (more first : List TreeState) → HasPublished ignored files made first → HasPublished ignored files made (more ++ first)
+published_more : (ignored : List ℕ → Bool) (files : Files) (made : ℕ) (more first : List TreeState) → WasCommittedFor ignored files made first → WasCommittedFor ignored files made (more ++ first)
 published_more ignored files made [] first published = published
 published_more ignored files made (w ∷ more) first published = inr (published_more ignored files made more first published)
 
-module _ (ignored : List ℕ → Bool) (files : Files) (start v : TreeState) (settled : IsSettled ignored files v) (later : start.made ≤ v.made) where
-  behind : (earlier : List TreeState) (w : TreeState) → HasPublished ignored files start.made earlier → IsStill ignored v w → IsOnTheWay ignored files start earlier w
-  behind earlier w led still = record {
-    orderly = still.orderly;
-    old_or_new = λ image is. inr (settled_quiet ignored files v w settled still.quiet image is);
+module _ (ignored : List ℕ → Bool) (files : Files) (start v : TreeState) (settled : EachCrashLeaves ignored files v) (later : start.made ≤ v.made) where
+  behind : (earlier : List TreeState) (w : TreeState) → WasCommittedFor ignored files start.made earlier → StateIsUnchanged ignored v w → IsOldUntilCommit ignored files start earlier w
+  behind earlier w led is_unchanged = record {
+    is_durable = is_unchanged.is_durable;
+    old_or_new = λ image is. inr (settled_quiet ignored files v w settled is_unchanged.quiet image is);
     unpublished = λ unled. absurd (unled (inr led));
-    made = (let more = still.made in omega (arith, later, more));
+    made = (let more = is_unchanged.made in omega (arith, later, more));
   }
 
-  each_behind : (added first : List TreeState) → HasPublished ignored files start.made first → All (IsStill ignored v) added → EachMoment (IsOnTheWay ignored files start) first → EachMoment (IsOnTheWay ignored files start) (added ++ first)
+  each_behind : (added first : List TreeState) → WasCommittedFor ignored files start.made first → All (StateIsUnchanged ignored v) added → EachMoment (IsOldUntilCommit ignored files start) first → EachMoment (IsOldUntilCommit ignored files start) (added ++ first)
   each_behind [] first led all so_far = so_far
-  each_behind (w ∷ added) first led all so_far = (behind (added ++ first) w (published_more ignored files start.made added first led) (All-head (IsStill ignored v) w added all), each_behind added first led (All-tail (IsStill ignored v) w added all) so_far)
+  each_behind (w ∷ added) first led all so_far = (behind (added ++ first) w (published_more ignored files start.made added first led) (All-head (StateIsUnchanged ignored v) w added all), each_behind added first led (All-tail (StateIsUnchanged ignored v) w added all) so_far)
 
-  pub way_behind : (old mid new : List TreeState) → PublishedBy ignored files start old mid → Since (IsStill ignored v) mid new → SinceBy (IsOnTheWay ignored files start) old new
-  way_behind old mid new published still = record {
-    added = still.added ++ published.added;
-    is = still.is ∙ ap (λ (l : List TreeState). still.added ++ l) published.is ∙ sym (append_assoc still.added published.added old);
-    each = each_behind still.added published.added published.published still.each published.each;
+  pub way_after : (old mid new : List TreeState) → CommittedBy ignored files start old mid → Since (StateIsUnchanged ignored v) mid new → SinceBy (IsOldUntilCommit ignored files start) old new
+  way_after old mid new published is_unchanged = record {
+    added = is_unchanged.added ++ published.added;
+    is = is_unchanged.is ∙ ap (λ (l : List TreeState). is_unchanged.added ++ l) published.is ∙ sym (append_assoc is_unchanged.added published.added old);
+    each = each_behind is_unchanged.added published.added published.published is_unchanged.each published.each;
   }

@@ -5,17 +5,18 @@ use Rattle.std.specs.Str.{bytes_eq}
 use Rattle.std.proofs.lemmas.List.Elements.{All-head, All-tail}
 use Rattle.base_core.specs.Files.{Files, put_name, drop_name}
 use Rattle.base_core.specs.Tree.{TreeState, File, bytes_at, files_of, CanCreate, CanRename}
-use Rattle.base_core.specs.Calls.{IfObservable, HasNow}
-use Rattle.base_core.specs.Crash.{IsOrderly, Since}
+use Rattle.base_core.specs.Calls.{IfObservable, HoldsNow}
+use Rattle.base_core.specs.Crash.{Since}
+use Rattle.base_core.specs.Undone.{IsDurable}
 use Rattle.base_core.specs.Restart.{EachMoment, SinceBy}
-use Rattle.journal_core.specs.Entering.{IsEntered, IsEntering, IsReady, IsWritten}
+use Rattle.journal_core.specs.Committing.{HasCommittedIntent, IsCommitting, IsReadyToCommit, IsWritten}
 use Rattle.journal_core.specs.Filling.{synced_file}
 use Rattle.journal_core.specs.Acting.{acting_stage}
-use Rattle.journal_core.specs.Recovery.{Intent, IsSettled, RestsOn, after_actions, intent_name, read_intent, stage_name}
+use Rattle.journal_core.specs.Recovery.{Intent, EachCrashLeaves, StateDependsOn, after_actions, intent_name, read_intent, stage_name}
 use Rattle.journal_core.specs.Kept.{RecoversTo}
-use Rattle.journal_core.specs.Quiet.{IsStill}
+use Rattle.journal_core.specs.Quiet.{StateIsUnchanged}
 use Rattle.journal_intent.specs.FreeNames.{HasFreeNames}
-use Rattle.journal_core.specs.Staged.{Staging, HasPublished, HasRoomToStage, IsActing, MayBePresent, IsOnTheWay, IsStaged, PublishedBy, Publishes}
+use Rattle.journal_core.specs.Staged.{Staging, WasCommittedFor, AreStagingPathsFree, IsActing, MayBePresent, IsOldUntilCommit, IsStaged, CommittedBy, IsCommittedFor}
 use Rattle.journal_core.proofs.Again.{acting_as}
 use Rattle.journal_intent.proofs.AtName.{name_cases, off_name, put_name-off, drop_name-off}
 use Rattle.journal_core.proofs.Beside.{can_make, held_like, read_held}
@@ -37,15 +38,15 @@ each_by P (w ∷ added) all = (All-head (λ v. (earlier : List TreeState) → P 
 pub since_by : (P : List TreeState → TreeState → Type 0) (old new : History) → Since (λ w. (earlier : List TreeState) → P earlier w) old new → SinceBy P old new
 since_by P old new since = record { added = since.added; is = since.is; each = each_by P since.added since.each }
 
-pub still_on_the_way : (ignored : List ℕ → Bool) (G : Files) (v w : TreeState) → IsStill ignored v w → (earlier : List TreeState) → IsOnTheWay ignored G v earlier w
-still_on_the_way ignored G v w still earlier = record { orderly = still.orderly; old_or_new = old_or_new_from_quiet ignored v G w still.quiet; unpublished = λ _. still.quiet; made = still.made }
+pub still_on_the_way : (ignored : List ℕ → Bool) (G : Files) (v w : TreeState) → StateIsUnchanged ignored v w → (earlier : List TreeState) → IsOldUntilCommit ignored G v earlier w
+still_on_the_way ignored G v w is_unchanged earlier = record { is_durable = is_unchanged.is_durable; old_or_new = old_or_new_from_quiet ignored v G w is_unchanged.quiet; unpublished = λ _. is_unchanged.quiet; made = is_unchanged.made }
 
-entering_on_the_way : (ignored : List ℕ → Bool) (G : Files) (v u w : TreeState) → IsStill ignored v u → IsEntering ignored G v.made u w → (earlier : List TreeState) → IsOnTheWay ignored G v earlier w
-entering_on_the_way ignored G v u w still entering earlier = record {
-  orderly = entering.orderly;
-  old_or_new = quiet_then ignored v u w G still.quiet entering.old_or_new;
-  unpublished = λ unled. quiet_on ignored v u w still.quiet (entering.unpublished (λ publishes. unled (inl publishes)));
-  made = (let a = still.made in let b = entering.made in omega (arith, a, b));
+entering_on_the_way : (ignored : List ℕ → Bool) (G : Files) (v u w : TreeState) → StateIsUnchanged ignored v u → IsCommitting ignored G v.made u w → (earlier : List TreeState) → IsOldUntilCommit ignored G v earlier w
+entering_on_the_way ignored G v u w is_unchanged entering earlier = record {
+  is_durable = entering.is_durable;
+  old_or_new = quiet_then ignored v u w G is_unchanged.quiet entering.old_or_new;
+  unpublished = λ unled. quiet_on ignored v u w is_unchanged.quiet (entering.unpublished (λ publishes. unled (inl publishes)));
+  made = (let a = is_unchanged.made in let b = entering.made in omega (arith, a, b));
 }
 
 -- ---- all waits
@@ -67,10 +68,10 @@ module _ (stage : Staging) (contents : List (List ℕ)) (base : Files) (v : Tree
   none_read : files_of v intent_name ≡ None
   none_read = no_intent_read stage contents base v staged
 
-  pub ready_of : (w : TreeState) → IsWritten place (synced_file file) v w → IsReady stage.intent (files_of v) v.made w
+  pub ready_of : (w : TreeState) → IsWritten place (synced_file file) v w → IsReadyToCommit stage.intent (files_of v) v.made w
   ready_of w written = record {
     absent = written.names intent_name (λ e. stage_name_no_intent 0 (sym (e ∙ place_is))) ∙ absent_read v.files (v.names intent_name) none_read;
-    none_waits = ap (λ (n : List ℕ). bytes_at v.files (v.names n)) (sym place_is) ∙ ap (bytes_at v.files) written.absent;
+    no_staged_intent = ap (λ (n : List ℕ). bytes_at v.files (v.names n)) (sym place_is) ∙ ap (bytes_at v.files) written.absent;
     reads = λ q ne. same_read w.files v.files (w.names q) (v.names q) (written.names q (λ e. ne (e ∙ place_is))) (λ n at. written.kept q n (λ e. ne (e ∙ place_is)) at);
     bytes = file;
     spells = spells;
@@ -92,84 +93,84 @@ module _ (stage : Staging) (contents : List (List ℕ)) (base : Files) (v : Tree
     G = after_actions stage.intent (files_of v)
 
     abbrev Wrote : Type 0
-    Wrote = IfObservable old (λ u. (ignored : List ℕ → Bool) → IsOrderly (RestsOn ignored) u → files_of u intent_name ≡ None → Since (IsStill ignored u) old mid)
+    Wrote = IfObservable old (λ u. (ignored : List ℕ → Bool) → IsDurable (StateDependsOn ignored) u → files_of u intent_name ≡ None → Since (StateIsUnchanged ignored u) old mid)
 
     abbrev Written : Type 0
-    Written = IfObservable old (λ u. files_of u intent_name ≡ None → HasNow mid (IsWritten place (synced_file file) u))
+    Written = IfObservable old (λ u. files_of u intent_name ≡ None → HoldsNow mid (IsWritten place (synced_file file) u))
 
-    ready_now : Written → HasNow mid (IsReady stage.intent (files_of v) v.made)
-    ready_now written = now_map mid (IsWritten place (synced_file file) v) (IsReady stage.intent (files_of v) v.made) (observable_at old v rest is (λ u. files_of u intent_name ≡ None → HasNow mid (IsWritten place (synced_file file) u)) written none_read) ready_of
+    ready_now : Written → HoldsNow mid (IsReadyToCommit stage.intent (files_of v) v.made)
+    ready_now written = now_map mid (IsWritten place (synced_file file) v) (IsReadyToCommit stage.intent (files_of v) v.made) (observable_at old v rest is (λ u. files_of u intent_name ≡ None → HoldsNow mid (IsWritten place (synced_file file) u)) written none_read) ready_of
 
-    module _ (ignored : List ℕ → Bool) (orderly : IsOrderly (RestsOn ignored) v) (wrote : Wrote) where
-      still_since : Since (IsStill ignored v) old mid
-      still_since = observable_at old v rest is (λ u. (Y : List ℕ → Bool) → IsOrderly (RestsOn Y) u → files_of u intent_name ≡ None → Since (IsStill Y u) old mid) wrote ignored orderly none_read
+    module _ (ignored : List ℕ → Bool) (is_durable : IsDurable (StateDependsOn ignored) v) (wrote : Wrote) where
+      still_since : Since (StateIsUnchanged ignored v) old mid
+      still_since = observable_at old v rest is (λ u. (Y : List ℕ → Bool) → IsDurable (StateDependsOn Y) u → files_of u intent_name ≡ None → Since (StateIsUnchanged Y u) old mid) wrote ignored is_durable none_read
 
-      still_way : Since (λ w. (earlier : List TreeState) → IsOnTheWay ignored G v earlier w) old mid
-      still_way = since_weaker (IsStill ignored v) (λ w. (earlier : List TreeState) → IsOnTheWay ignored G v earlier w) old mid (still_on_the_way ignored G v) still_since
+      still_way : Since (λ w. (earlier : List TreeState) → IsOldUntilCommit ignored G v earlier w) old mid
+      still_way = since_weaker (StateIsUnchanged ignored v) (λ w. (earlier : List TreeState) → IsOldUntilCommit ignored G v earlier w) old mid (still_on_the_way ignored G v) still_since
 
-      pub write_moments : SinceBy (IsOnTheWay ignored G v) old mid
-      write_moments = since_by (IsOnTheWay ignored G v) old mid still_way
+      pub write_moments : SinceBy (IsOldUntilCommit ignored G v) old mid
+      write_moments = since_by (IsOldUntilCommit ignored G v) old mid still_way
 
       abbrev Waits : TreeState → Type 0
-      Waits u = IsStill ignored v u × IsReady stage.intent (files_of v) v.made u
+      Waits u = StateIsUnchanged ignored v u × IsReadyToCommit stage.intent (files_of v) v.made u
 
-      waits_now : Written → HasNow mid Waits
-      waits_now written = now_both mid (IsStill ignored v) (IsReady stage.intent (files_of v) v.made) (now_since (IsStill ignored v) old mid v rest is (still_self ignored v orderly) still_since) (ready_now written)
+      waits_now : Written → HoldsNow mid Waits
+      waits_now written = now_both mid (StateIsUnchanged ignored v) (IsReadyToCommit stage.intent (files_of v) v.made) (now_since (StateIsUnchanged ignored v) old mid v rest is (still_self ignored v is_durable) still_since) (ready_now written)
 
       abbrev Enters : Type 0
-      Enters = IfObservable mid (λ u. (Y : List ℕ → Bool) (intent : Intent) (files : Files) (made : ℕ) → IsOrderly (RestsOn Y) u → IsReady intent files made u → Since (IsEntering Y (after_actions intent files) made u) mid new)
+      Enters = IfObservable mid (λ u. (Y : List ℕ → Bool) (intent : Intent) (files : Files) (made : ℕ) → IsDurable (StateDependsOn Y) u → IsReadyToCommit intent files made u → Since (IsCommitting Y (after_actions intent files) made u) mid new)
 
-      enter_way : Written → Enters → Since (λ w. (earlier : List TreeState) → IsOnTheWay ignored G v earlier w) old new
+      enter_way : Written → Enters → Since (λ w. (earlier : List TreeState) → IsOldUntilCommit ignored G v earlier w) old new
       enter_way written enters =
-          since_on (λ w. (earlier : List TreeState) → IsOnTheWay ignored G v earlier w) old mid new still_way
-          (by_now mid Waits (Since (λ w. (earlier : List TreeState) → IsOnTheWay ignored G v earlier w) mid new) (waits_now written)
-          (observable_map mid _ (λ u. Waits u → Since (λ w. (earlier : List TreeState) → IsOnTheWay ignored G v earlier w) mid new) enters (λ u t waits.
-          since_weaker (IsEntering ignored G v.made u) (λ w. (earlier : List TreeState) → IsOnTheWay ignored G v earlier w) mid new (λ w entering. entering_on_the_way ignored G v u w waits.0 entering) (t ignored stage.intent (files_of v) v.made waits.0.orderly waits.1))))
+          since_on (λ w. (earlier : List TreeState) → IsOldUntilCommit ignored G v earlier w) old mid new still_way
+          (by_now mid Waits (Since (λ w. (earlier : List TreeState) → IsOldUntilCommit ignored G v earlier w) mid new) (waits_now written)
+          (observable_map mid _ (λ u. Waits u → Since (λ w. (earlier : List TreeState) → IsOldUntilCommit ignored G v earlier w) mid new) enters (λ u t waits.
+          since_weaker (IsCommitting ignored G v.made u) (λ w. (earlier : List TreeState) → IsOldUntilCommit ignored G v earlier w) mid new (λ w entering. entering_on_the_way ignored G v u w waits.0 entering) (t ignored stage.intent (files_of v) v.made waits.0.is_durable waits.1))))
 
-      pub enter_moments : Written → Enters → SinceBy (IsOnTheWay ignored G v) old new
-      enter_moments written enters = since_by (IsOnTheWay ignored G v) old new (enter_way written enters)
+      pub enter_moments : Written → Enters → SinceBy (IsOldUntilCommit ignored G v) old new
+      enter_moments written enters = since_by (IsOldUntilCommit ignored G v) old new (enter_way written enters)
 
       abbrev Entered : {T E : Type 0} → Result T E → Type 0
-      Entered r = IfObservable mid (λ u. (Y : List ℕ → Bool) (intent : Intent) (files : Files) (made : ℕ) → IsOrderly (RestsOn Y) u → IsReady intent files made u → OnOk r (HasNow new (IsEntered Y (after_actions intent files) made)))
+      Entered r = IfObservable mid (λ u. (Y : List ℕ → Bool) (intent : Intent) (files : Files) (made : ℕ) → IsDurable (StateDependsOn Y) u → IsReadyToCommit intent files made u → OnOk r (HoldsNow new (HasCommittedIntent Y (after_actions intent files) made)))
 
-      entered_now : {T E : Type 0} (r : Result T E) → Written → Entered r → OnOk r (HasNow new (IsEntered ignored G v.made))
+      entered_now : {T E : Type 0} (r : Result T E) → Written → Entered r → OnOk r (HoldsNow new (HasCommittedIntent ignored G v.made))
       entered_now r written entered =
-          by_now mid Waits (OnOk r (HasNow new (IsEntered ignored G v.made))) (waits_now written)
-          (observable_map mid _ (λ u. Waits u → OnOk r (HasNow new (IsEntered ignored G v.made))) entered (λ u t waits. t ignored stage.intent (files_of v) v.made waits.0.orderly waits.1))
+          by_now mid Waits (OnOk r (HoldsNow new (HasCommittedIntent ignored G v.made))) (waits_now written)
+          (observable_map mid _ (λ u. Waits u → OnOk r (HoldsNow new (HasCommittedIntent ignored G v.made))) entered (λ u t waits. t ignored stage.intent (files_of v) v.made waits.0.is_durable waits.1))
 
-      pub enter_settled : {T E : Type 0} (r : Result T E) → Written → Entered r → OnOk r (HasNow new (IsSettled ignored G))
+      pub enter_settled : {T E : Type 0} (r : Result T E) → Written → Entered r → OnOk r (HoldsNow new (EachCrashLeaves ignored G))
       enter_settled {T = T} {E = E} r written entered = by r (entered_now r written entered)
         where
-          by : (s : Result T E) → OnOk s (HasNow new (IsEntered ignored G v.made)) → OnOk s (HasNow new (IsSettled ignored G))
-          by (Ok x) now = now_map new (IsEntered ignored G v.made) (IsSettled ignored G) now (λ w e. e.settled)
+          by : (s : Result T E) → OnOk s (HoldsNow new (HasCommittedIntent ignored G v.made)) → OnOk s (HoldsNow new (EachCrashLeaves ignored G))
+          by (Ok x) now = now_map new (HasCommittedIntent ignored G v.made) (EachCrashLeaves ignored G) now (λ w e. e.settled)
           by (Err e) now = tt
 
-      unled : Publishes ignored G v.made v → ⊥
+      unled : IsCommittedFor ignored G v.made v → ⊥
       unled (n, at, from, same) = let none = absent_read v.files (v.names intent_name) none_read in absurd (cc (none, at))
 
-      led : (added : History) → HasNow (added ++ v ∷ rest) (IsEntered ignored G v.made) → HasPublished ignored G v.made added
+      led : (added : History) → HoldsNow (added ++ v ∷ rest) (HasCommittedIntent ignored G v.made) → WasCommittedFor ignored G v.made added
       led [] now = absurd (unled now.publishes)
       led (w ∷ added) now = inl now.publishes
 
-      pub enter_published : {T E : Type 0} (r : Result T E) → Written → Enters → Entered r → OnOk r (PublishedBy ignored G v old new)
+      pub enter_published : {T E : Type 0} (r : Result T E) → Written → Enters → Entered r → OnOk r (CommittedBy ignored G v old new)
       enter_published {T = T} {E = E} r written enters entered = by r (entered_now r written entered)
         where
-          by : (s : Result T E) → OnOk s (HasNow new (IsEntered ignored G v.made)) → OnOk s (PublishedBy ignored G v old new)
+          by : (s : Result T E) → OnOk s (HoldsNow new (HasCommittedIntent ignored G v.made)) → OnOk s (CommittedBy ignored G v old new)
           by (Ok x) now =
               let since = enter_moments written enters in
-              let here : HasNow (since.added ++ v ∷ rest) (IsEntered ignored G v.made) = subst (λ (l : History). HasNow l (IsEntered ignored G v.made)) (since.is ∙ ap (λ (l : History). since.added ++ l) is) now in
+              let here : HoldsNow (since.added ++ v ∷ rest) (HasCommittedIntent ignored G v.made) = subst (λ (l : History). HoldsNow l (HasCommittedIntent ignored G v.made)) (since.is ∙ ap (λ (l : History). since.added ++ l) is) now in
               record { added = since.added; is = since.is; each = since.each; published = led since.added here }
           by (Err e) now = tt
 
     -- what is read
     pub enter_acting : {T E : Type 0} (now : Staging) (r : Result T E) → now.intent ≡ stage.intent → now.acted ≡ 0 → Written
-        → IfObservable mid (λ u. (intent : Intent) (files : Files) (made : ℕ) → IsReady intent files made u → OnOk r (HasNow new (IsActing (acting_stage intent 0) (after_actions intent files))))
-        → OnOk r (HasNow new (IsActing now G))
+        → IfObservable mid (λ u. (intent : Intent) (files : Files) (made : ℕ) → IsReadyToCommit intent files made u → OnOk r (HoldsNow new (IsActing (acting_stage intent 0) (after_actions intent files))))
+        → OnOk r (HoldsNow new (IsActing now G))
     enter_acting {T = T} {E = E} now r same acted_none written acting =
-        by r (by_now mid (IsReady stage.intent (files_of v) v.made) (OnOk r (HasNow new (IsActing (acting_stage stage.intent 0) G))) (ready_now written)
-        (observable_map mid _ (λ u. IsReady stage.intent (files_of v) v.made u → OnOk r (HasNow new (IsActing (acting_stage stage.intent 0) G))) acting (λ u t ready. t stage.intent (files_of v) v.made ready)))
+        by r (by_now mid (IsReadyToCommit stage.intent (files_of v) v.made) (OnOk r (HoldsNow new (IsActing (acting_stage stage.intent 0) G))) (ready_now written)
+        (observable_map mid _ (λ u. IsReadyToCommit stage.intent (files_of v) v.made u → OnOk r (HoldsNow new (IsActing (acting_stage stage.intent 0) G))) acting (λ u t ready. t stage.intent (files_of v) v.made ready)))
       where
-        by : (s : Result T E) → OnOk s (HasNow new (IsActing (acting_stage stage.intent 0) G)) → OnOk s (HasNow new (IsActing now G))
+        by : (s : Result T E) → OnOk s (HoldsNow new (IsActing (acting_stage stage.intent 0) G)) → OnOk s (HoldsNow new (IsActing now G))
         by (Ok x) at = now_map new (IsActing (acting_stage stage.intent 0) G) (IsActing now G) at (λ w. acting_as (acting_stage stage.intent 0) now G w (sym same) (sym acted_none))
         by (Err e) at = tt
 
@@ -190,15 +191,15 @@ module _ (stage : Staging) (contents : List (List ℕ)) (base : Files) (v : Tree
         (observable_at old v rest is (λ u. Unread u → Since Unread old mid) unread (absent_read v.files (v.names intent_name) none_read))
 
     pub enter_reads : Unreads → Written
-        → IfObservable mid (λ u. (intent : Intent) (files : Files) (made : ℕ) → IsReady intent files made u → Since (λ w. IsSome (w.names intent_name) → RecoversTo (after_actions intent files) w) mid new)
+        → IfObservable mid (λ u. (intent : Intent) (files : Files) (made : ℕ) → IsReadyToCommit intent files made u → Since (λ w. IsSome (w.names intent_name) → RecoversTo (after_actions intent files) w) mid new)
         → Since R old new
     enter_reads unread written reads =
         since_on R old mid new (write_reads unread)
-        (by_now mid (IsReady stage.intent (files_of v) v.made) (Since R mid new) (ready_now written)
-        (observable_map mid _ (λ u. IsReady stage.intent (files_of v) v.made u → Since R mid new) reads (λ u t ready. t stage.intent (files_of v) v.made ready)))
+        (by_now mid (IsReadyToCommit stage.intent (files_of v) v.made) (Since R mid new) (ready_now written)
+        (observable_map mid _ (λ u. IsReadyToCommit stage.intent (files_of v) v.made u → Since R mid new) reads (λ u t ready. t stage.intent (files_of v) v.made ready)))
 
     -- ---- no misuse
-    module _ (room : HasRoomToStage base) where
+    module _ (room : AreStagingPathsFree base) where
       pub write_may : CanCreate place v
       write_may = subst (λ (n : List ℕ). CanCreate n v) (sym place_is)
           (can_make stage contents base v (let count = staged.count in omega (arith, count, all, few)) staged room 0
@@ -224,7 +225,7 @@ module _ (stage : Staging) (contents : List (List ℕ)) (base : Files) (v : Tree
 
       pub enter_proper : (from name : List ℕ) → from ≡ stage_name 0 → name ≡ intent_name → (a b : ℕ) → Written → IfObservable mid (λ u. CanRename from name u → b ≡ a) → b ≡ a
       enter_proper from name from_is name_is a b written told =
-          by_now mid (IsWritten place (synced_file file) v) (b ≡ a) (observable_at old v rest is (λ u. files_of u intent_name ≡ None → HasNow mid (IsWritten place (synced_file file) u)) written none_read)
+          by_now mid (IsWritten place (synced_file file) v) (b ≡ a) (observable_at old v rest is (λ u. files_of u intent_name ≡ None → HoldsNow mid (IsWritten place (synced_file file) u)) written none_read)
           (observable_map mid (λ u. CanRename from name u → b ≡ a) (λ u. IsWritten place (synced_file file) v u → b ≡ a) told (λ u t w. t (subst (λ (n : List ℕ). CanRename n name u) (place_is ∙ sym from_is) (enter_may name name_is u w))))
 
 pub few_writes : (removals writes : List (List ℕ)) → length removals + length writes < 2 ^ 63 → length writes < 2 ^ 63

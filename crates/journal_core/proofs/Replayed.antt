@@ -4,7 +4,7 @@ use Rattle.std.specs.List.{list_any}
 use Rattle.std.specs.Str.{bytes_eq}
 use Rattle.base_core.specs.Files.{Files, drop_name, move_name}
 use Rattle.journal_core.specs.Recovery.{Intent, intent_name, intent_at, intent_of, stage_name, without_names, move_if, after_moves, recovered_files_by, recovered_files}
-use Rattle.journal_intent.specs.FreeNames.{AreFreeNames, AreOnce, HasFreeNames, IsFreeName, IsNoneOf, IsOneOf}
+use Rattle.journal_intent.specs.FreeNames.{AreFreeNames, HaveNoRepeats, HasFreeNames, IsFreeName, IsNoneOf, IsOneOf}
 use Rattle.journal_intent.proofs.AtName.{name_cases, other_name, put_name-off, drop_name-off, drop_name-at}
 use Rattle.journal_intent.proofs.StageNames.{stage_names_apart, stage_name_no_intent}
 
@@ -12,7 +12,7 @@ use Rattle.journal_intent.proofs.StageNames.{stage_names_apart, stage_name_no_in
 pub record IsProper (intent : Intent) : Type 0 where
   pub removals : AreFreeNames intent.removals
   pub writes : AreFreeNames intent.writes
-  pub once : AreOnce intent.writes
+  pub once : HaveNoRepeats intent.writes
   pub apart : (name : List ℕ) → IsOneOf name intent.writes → IsNoneOf name intent.removals
   pub few : length intent.writes < 2 ^ 63
 

@@ -5,7 +5,7 @@ use Rattle.std.specs.Str.{bytes_eq}
 use Rattle.base_core.specs.Files.{Files, put_name, drop_name}
 use Rattle.base_core.specs.Tree.{TreeState, files_of, CanRename}
 use Rattle.journal_core.specs.Recovery.{Intent, intent_name, intent_at, intent_of, move_if, recovered_files, recovered_files_by, stage_name, after_moves, without_names}
-use Rattle.journal_core.specs.Staged.{Staging, IsActing, MayBePresent, HasRoomBeside}
+use Rattle.journal_core.specs.Staged.{Staging, IsActing, MayBePresent, AreJournalPathsFree}
 use Rattle.journal_intent.proofs.AtName.{name_cases, put_name-at, put_name-off, off_name, drop_name-off}
 use Rattle.journal_intent.proofs.StageNames.{stage_name_no_intent}
 use Rattle.journal_core.proofs.Beside.{held_like, as_read}
@@ -47,7 +47,7 @@ recovered_held F intent q has out some = ⊎_elim
 
 module _ (stage : Staging) (files : Files) (v : TreeState) (place name : List ℕ) (j k : ℕ) (acting : IsActing stage files v) (proper : IsProper stage.intent)
     (place_is : place ≡ stage_name k) (number : k ≡ j + 1) (at : slice_get stage.intent.writes j ≡ Some name) (within : j < length stage.intent.writes)
-    (behind : stage.acted ≡ length stage.intent.removals + j) (room : HasRoomBeside files) (there : IsSome (v.names place)) where
+    (behind : stage.acted ≡ length stage.intent.removals + j) (room : AreJournalPathsFree files) (there : IsSome (v.names place)) where
   open_name : IsFreeName name
   open_name = free_at stage.intent.writes j name proper.writes at
 
@@ -63,17 +63,17 @@ module _ (stage : Staging) (files : Files) (v : TreeState) (place name : List �
           let none = removal_absent stage files v acting (omega (arith, behind)) q is in
           let here = as_read v.files (v.names q) some in
           absurd (cc (none, here))
-      by false is = subst (λ (F : Files). MayBePresent F q) acting.reads (recovered_held (files_of v) stage.intent q acting.stands is (as_read v.files (v.names q) some))
+      by false is = subst (λ (F : Files). MayBePresent F q) acting.reads (recovered_held (files_of v) stage.intent q acting.located is (as_read v.files (v.names q) some))
 
   target_held : MayBePresent files name
   target_held =
       let small : k < 2 ^ 64 = (let few = proper.few in omega (arith, number, within, few)) in
       let numbered = subst (λ i. IsNumbered 1 stage.intent.writes i name) (omega (arith, number)) (numbered_at stage.intent.writes 1 j name proper.writes proper.once at) in
-      let same = recovered-moved (files_of v) stage.intent k name acting.stands proper small open_name numbered out in
+      let same = recovered-moved (files_of v) stage.intent k name acting.located proper small open_name numbered out in
       let waits : IsSome (files_of v (stage_name k)) = subst (λ (p : List ℕ). IsSome (files_of v p)) place_is (as_read v.files (v.names place) there) in
       subst (λ (F : Files). MayBePresent F name) (same ∙ acting.reads)
       (recovered_held (moved (files_of v) (stage_name k) name) stage.intent name
-      (ap intent_at (move_if-off (files_of v) (stage_name k) name (files_of v (stage_name k)) intent_name (λ e. stage_name_no_intent k (sym e)) (λ e. open_name.no_intent (sym e))) ∙ acting.stands)
+      (ap intent_at (move_if-off (files_of v) (stage_name k) name (files_of v (stage_name k)) intent_name (λ e. stage_name_no_intent k (sym e)) (λ e. open_name.no_intent (sym e))) ∙ acting.located)
       out (there_now (files_of v (stage_name k)) waits))
     where
       there_now : (o : Option (List ℕ)) → IsSome o → IsSome (move_if (files_of v) (stage_name k) name o name)

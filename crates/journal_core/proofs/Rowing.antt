@@ -1,16 +1,17 @@
 -- The actions of a stage, one after another.
 use Rattle.std.proofs.Common.{◌≡◌, ◌≤◌, ◌<◌, ◌+◌, ℕ, nat_lt, Bool, true, List, refl, sym, ap, subst, ◌∙◌, arith}
 use Rattle.std.proofs.lemmas.Bool.{ltb-true}
-use Rattle.base_core.specs.Faults.{Counts, GoesOn, IsNoFault}
+use Rattle.base_core.specs.Faults.{Counts, CountsOnlyRise, IsNoFault}
 use Rattle.base_core.specs.Files.{Files}
 use Rattle.base_core.specs.Tree.{TreeState}
-use Rattle.base_core.specs.Calls.{IfObservable, HasNow}
-use Rattle.base_core.specs.Crash.{IsOrderly, Since}
-use Rattle.journal_core.specs.Recovery.{RestsOn}
+use Rattle.base_core.specs.Calls.{IfObservable, HoldsNow}
+use Rattle.base_core.specs.Crash.{Since}
+use Rattle.base_core.specs.Undone.{IsDurable}
+use Rattle.journal_core.specs.Recovery.{StateDependsOn}
 use Rattle.journal_core.specs.Kept.{RecoversTo}
-use Rattle.journal_core.specs.Quiet.{IsStill}
-use Rattle.journal_core.specs.Staged.{Staging, HasRoomBeside, IsActing, action_count}
-use Rattle.journal_core.specs.Acting.{GoesWith}
+use Rattle.journal_core.specs.Quiet.{StateIsUnchanged}
+use Rattle.journal_core.specs.Staged.{Staging, AreJournalPathsFree, IsActing, action_count}
+use Rattle.journal_core.specs.Acting.{IsDuringActions}
 use Rattle.journal_core.proofs.Acts.{still_on}
 use Rattle.journal_core.proofs.Chain.{Runs, by_now, now_both, run_begun}
 use Rattle.journal_core.proofs.History.{History, none_since, now_map, now_since, on_observable, since_on, since_weaker, observable_at, observable_map}
@@ -18,16 +19,16 @@ use Rattle.journal_core.proofs.OneCall.{now_is}
 use Rattle.journal_core.proofs.Waiting.{still_self}
 
 abbrev pub Rowed : Staging → Staging → History → History → Type 0
-Rowed first now old h = IfObservable old (λ v. (ignored : List ℕ → Bool) (files : Files) → IsOrderly (RestsOn ignored) v → IsActing first files v → Runs (IsStill ignored v) (GoesWith ignored files now v) old h)
+Rowed first now old h = IfObservable old (λ v. (ignored : List ℕ → Bool) (files : Files) → IsDurable (StateDependsOn ignored) v → IsActing first files v → Runs (StateIsUnchanged ignored v) (IsDuringActions ignored files now v) old h)
 
 abbrev pub ActsOn : Staging → Staging → History → History → Type 0
-ActsOn first now old h = IfObservable old (λ v. (files : Files) → IsActing first files v → HasNow h (IsActing now files))
+ActsOn first now old h = IfObservable old (λ v. (files : Files) → IsActing first files v → HoldsNow h (IsActing now files))
 
 abbrev pub Proper : Staging → History → ℕ → ℕ → Type 0
-Proper first old a b = IfObservable old (λ v. (files : Files) → IsActing first files v → HasRoomBeside files → b ≡ a)
+Proper first old a b = IfObservable old (λ v. (files : Files) → IsActing first files v → AreJournalPathsFree files → b ≡ a)
 
 pub rowed_start : (s : Staging) (old : History) → Rowed s s old old
-rowed_start s old = on_observable old _ (λ v rest is ignored files orderly acting. run_begun (IsStill ignored v) (GoesWith ignored files s v) old v rest is (record { still = still_self ignored v orderly; acting = acting }))
+rowed_start s old = on_observable old _ (λ v rest is ignored files is_durable acting. run_begun (StateIsUnchanged ignored v) (IsDuringActions ignored files s v) old v rest is (record { is_unchanged = still_self ignored v is_durable; acting = acting }))
 
 pub acts_start : (s : Staging) (old : History) → ActsOn s s old old
 acts_start s old = on_observable old _ (λ v rest is files acting. now_is old v rest (IsActing s files) is acting)
@@ -37,32 +38,32 @@ proper_start s old a = on_observable old _ (λ v rest is files acting room. refl
 
 module _ (first now : Staging) (old h new : History) where
   abbrev Moments : Type 0
-  Moments = IfObservable h (λ u. (ignored : List ℕ → Bool) (files : Files) → IsOrderly (RestsOn ignored) u → IsActing now files u → Since (IsStill ignored u) h new)
+  Moments = IfObservable h (λ u. (ignored : List ℕ → Bool) (files : Files) → IsDurable (StateDependsOn ignored) u → IsActing now files u → Since (StateIsUnchanged ignored u) h new)
 
-  since_more : (ignored : List ℕ → Bool) (files : Files) (v : TreeState) → Runs (IsStill ignored v) (GoesWith ignored files now v) old h → Moments → Since (IsStill ignored v) old new
+  since_more : (ignored : List ℕ → Bool) (files : Files) (v : TreeState) → Runs (StateIsUnchanged ignored v) (IsDuringActions ignored files now v) old h → Moments → Since (StateIsUnchanged ignored v) old new
   since_more ignored files v runs moments =
-      since_on (IsStill ignored v) old h new runs.since
-      (by_now h (GoesWith ignored files now v) (Since (IsStill ignored v) h new) runs.now
-      (observable_map h _ (λ u. GoesWith ignored files now v u → Since (IsStill ignored v) h new) moments (λ u t goes. since_weaker (IsStill ignored u) (IsStill ignored v) h new (λ w. still_on ignored v u w goes.still) (t ignored files goes.still.orderly goes.acting))))
+      since_on (StateIsUnchanged ignored v) old h new runs.since
+      (by_now h (IsDuringActions ignored files now v) (Since (StateIsUnchanged ignored v) h new) runs.now
+      (observable_map h _ (λ u. IsDuringActions ignored files now v u → Since (StateIsUnchanged ignored v) h new) moments (λ u t goes. since_weaker (StateIsUnchanged ignored u) (StateIsUnchanged ignored v) h new (λ w. still_on ignored v u w goes.is_unchanged) (t ignored files goes.is_unchanged.is_durable goes.acting))))
 
-  pub rowed_called : Rowed first now old h → Moments → IfObservable old (λ v. (ignored : List ℕ → Bool) (files : Files) → IsOrderly (RestsOn ignored) v → IsActing first files v → Since (IsStill ignored v) old new)
-  rowed_called rowed moments = observable_map old _ _ rowed (λ v r ignored files orderly acting. since_more ignored files v (r ignored files orderly acting) moments)
+  pub rowed_called : Rowed first now old h → Moments → IfObservable old (λ v. (ignored : List ℕ → Bool) (files : Files) → IsDurable (StateDependsOn ignored) v → IsActing first files v → Since (StateIsUnchanged ignored v) old new)
+  rowed_called rowed moments = observable_map old _ _ rowed (λ v r ignored files is_durable acting. since_more ignored files v (r ignored files is_durable acting) moments)
 
-  module _ (next : Staging) (acting : IfObservable h (λ u. (files : Files) → IsActing now files u → HasNow new (IsActing next files))) where
+  module _ (next : Staging) (acting : IfObservable h (λ u. (files : Files) → IsActing now files u → HoldsNow new (IsActing next files))) where
     pub rowed_done : Rowed first now old h → Moments → Rowed first next old new
-    rowed_done rowed moments = on_observable old _ (λ v rest is ignored files orderly at.
-        let runs = observable_at old v rest is (λ u. (Y : List ℕ → Bool) (F : Files) → IsOrderly (RestsOn Y) u → IsActing first F u → Runs (IsStill Y u) (GoesWith Y F now u) old h) rowed ignored files orderly at in
+    rowed_done rowed moments = on_observable old _ (λ v rest is ignored files is_durable at.
+        let runs = observable_at old v rest is (λ u. (Y : List ℕ → Bool) (F : Files) → IsDurable (StateDependsOn Y) u → IsActing first F u → Runs (StateIsUnchanged Y u) (IsDuringActions Y F now u) old h) rowed ignored files is_durable at in
         let since = since_more ignored files v runs moments in
         record {
           since = since;
-          now = now_map new (λ w. IsStill ignored v w × IsActing next files w) (GoesWith ignored files next v)
-              (now_both new (IsStill ignored v) (IsActing next files) (now_since (IsStill ignored v) old new v rest is (still_self ignored v orderly) since)
-              (by_now h (GoesWith ignored files now v) (HasNow new (IsActing next files)) runs.now (observable_map h _ (λ u. GoesWith ignored files now v u → HasNow new (IsActing next files)) acting (λ u t goes. t files goes.acting))))
-              (λ w q. record { still = q.0; acting = q.1 });
+          now = now_map new (λ w. StateIsUnchanged ignored v w × IsActing next files w) (IsDuringActions ignored files next v)
+              (now_both new (StateIsUnchanged ignored v) (IsActing next files) (now_since (StateIsUnchanged ignored v) old new v rest is (still_self ignored v is_durable) since)
+              (by_now h (IsDuringActions ignored files now v) (HoldsNow new (IsActing next files)) runs.now (observable_map h _ (λ u. IsDuringActions ignored files now v u → HoldsNow new (IsActing next files)) acting (λ u t goes. t files goes.acting))))
+              (λ w q. record { is_unchanged = q.0; acting = q.1 });
         })
 
     pub acts_done : ActsOn first now old h → ActsOn first next old new
-    acts_done acts = observable_map old _ _ acts (λ v a files at. by_now h (IsActing now files) (HasNow new (IsActing next files)) (a files at) (observable_map h _ (λ u. IsActing now files u → HasNow new (IsActing next files)) acting (λ u t. t files)))
+    acts_done acts = observable_map old _ _ acts (λ v a files at. by_now h (IsActing now files) (HoldsNow new (IsActing next files)) (a files at) (observable_map h _ (λ u. IsActing now files u → HoldsNow new (IsActing next files)) acting (λ u t. t files)))
 
 -- what the files as read stand for so far
 abbrev pub ReadsOn : Staging → History → History → Type 0
@@ -74,18 +75,18 @@ reads_start s old = on_observable old _ (λ v rest is files acting. none_since (
 pub reads_called : (first now : Staging) (old h new : History) → ActsOn first now old h → ReadsOn first old h → IfObservable h (λ u. (files : Files) → IsActing now files u → Since (RecoversTo files) h new) → ReadsOn first old new
 reads_called first now old h new acts reads more = on_observable old _ (λ v rest is files at.
     since_on (RecoversTo files) old h new (observable_at old v rest is (λ u. (F : Files) → IsActing first F u → Since (RecoversTo F) old h) reads files at)
-    (by_now h (IsActing now files) (Since (RecoversTo files) h new) (observable_at old v rest is (λ u. (F : Files) → IsActing first F u → HasNow h (IsActing now F)) acts files at)
+    (by_now h (IsActing now files) (Since (RecoversTo files) h new) (observable_at old v rest is (λ u. (F : Files) → IsActing first F u → HoldsNow h (IsActing now F)) acts files at)
     (observable_map h _ (λ u. IsActing now files u → Since (RecoversTo files) h new) more (λ u t. t files))))
 
 -- the misuses so far
 module _ (first now : Staging) (old h : History) (a b c : ℕ) where
-  pub proper_done : ActsOn first now old h → Proper first old a b → IfObservable h (λ u. (files : Files) → IsActing now files u → HasRoomBeside files → c ≡ b) → Proper first old a c
+  pub proper_done : ActsOn first now old h → Proper first old a b → IfObservable h (λ u. (files : Files) → IsActing now files u → AreJournalPathsFree files → c ≡ b) → Proper first old a c
   proper_done acts so_far more = on_observable old _ (λ v rest is files at room.
-      by_now h (IsActing now files) (c ≡ b) (observable_at old v rest is (λ u. (F : Files) → IsActing first F u → HasNow h (IsActing now F)) acts files at) (observable_map h _ (λ u. IsActing now files u → c ≡ b) more (λ u t acting. t files acting room))
-      ∙ observable_at old v rest is (λ u. (F : Files) → IsActing first F u → HasRoomBeside F → b ≡ a) so_far files at room)
+      by_now h (IsActing now files) (c ≡ b) (observable_at old v rest is (λ u. (F : Files) → IsActing first F u → HoldsNow h (IsActing now F)) acts files at) (observable_map h _ (λ u. IsActing now files u → c ≡ b) more (λ u t acting. t files acting room))
+      ∙ observable_at old v rest is (λ u. (F : Files) → IsActing first F u → AreJournalPathsFree F → b ≡ a) so_far files at room)
 
-pub rowed_ends : (first now : Staging) (old h : History) → Rowed first now old h → IfObservable old (λ v. (ignored : List ℕ → Bool) (files : Files) → IsOrderly (RestsOn ignored) v → IsActing first files v → Since (IsStill ignored v) old h)
-rowed_ends first now old h rowed = observable_map old _ _ rowed (λ v r ignored files orderly acting. (r ignored files orderly acting).since)
+pub rowed_ends : (first now : Staging) (old h : History) → Rowed first now old h → IfObservable old (λ v. (ignored : List ℕ → Bool) (files : Files) → IsDurable (StateDependsOn ignored) v → IsActing first files v → Since (StateIsUnchanged ignored v) old h)
+rowed_ends first now old h rowed = observable_map old _ _ rowed (λ v r ignored files is_durable acting. (r ignored files is_durable acting).since)
 
 -- ---- counts, and how many are left
 
@@ -95,17 +96,17 @@ left_of b n m is holds = ltb-true n m (sym is ∙ holds)
 pub within_next : (old new : Staging) → old.acted < action_count old.intent → new ≡ record old { acted = old.acted + 1 } → new.acted ≤ action_count new.intent
 within_next old new less is = subst (λ (s : Staging). s.acted ≤ action_count s.intent) (sym is) (omega (arith, less))
 
-pub goes_same : (a : Counts) → GoesOn a a
-goes_same a = record { faults = omega arith; misuses = omega arith; wants = omega arith; fallible = λ x. x }
+pub goes_same : (a : Counts) → CountsOnlyRise a a
+goes_same a = record { faults = omega arith; misuses = omega arith; memory_faults = omega arith; fallible = λ x. x }
 
-pub goes_through : (a b c : Counts) → GoesOn a b → GoesOn b c → GoesOn a c
-goes_through a b c first then = record { faults = omega (arith, first.faults, then.faults); misuses = omega (arith, first.misuses, then.misuses); wants = omega (arith, first.wants, then.wants); fallible = λ x. first.fallible (then.fallible x) }
+pub goes_through : (a b c : Counts) → CountsOnlyRise a b → CountsOnlyRise b c → CountsOnlyRise a c
+goes_through a b c first then = record { faults = omega (arith, first.faults, then.faults); misuses = omega (arith, first.misuses, then.misuses); memory_faults = omega (arith, first.memory_faults, then.memory_faults); fallible = λ x. first.fallible (then.fallible x) }
 
 pub none_same : (a : Counts) → IsNoFault a a
-none_same a = record { faults = refl; wants = refl }
+none_same a = record { faults = refl; memory_faults = refl }
 
 pub none_through : (a b c : Counts) → IsNoFault a b → IsNoFault b c → IsNoFault a c
-none_through a b c first then = record { faults = then.faults ∙ first.faults; wants = then.wants ∙ first.wants }
+none_through a b c first then = record { faults = then.faults ∙ first.faults; memory_faults = then.memory_faults ∙ first.memory_faults }
 
 pub published_next : (now next : Staging) → now.published ≡ true → next ≡ record now { acted = now.acted + 1 } → next.published ≡ true
 published_next now next published is = ap (λ (s : Staging). s.published) is ∙ published

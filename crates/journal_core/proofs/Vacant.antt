@@ -4,24 +4,24 @@ use Rattle.std.proofs.lemmas.List.{length-append}
 use Rattle.base_core.specs.Files.{Files, IsFolderOf, no_names, put_name}
 use Rattle.base_core.specs.Tree.{TreeState, files_of}
 use Rattle.journal_core.specs.Recovery.{intent_name, state_of}
-use Rattle.journal_core.specs.Replacing.{HasRoom, scratch_of}
-use Rattle.journal_core.specs.Staged.{HasPublished, HasRoomToStage, MayBePresent}
+use Rattle.journal_core.specs.Replacing.{IsOutputPathFree, scratch_of}
+use Rattle.journal_core.specs.Staged.{WasCommittedFor, AreStagingPathsFree, MayBePresent}
 use Rattle.journal_intent.proofs.AtName.{name_cases, off_name, put_name-off}
-use Rattle.journal_intent.specs.FreeNames.{IsTakenName}
+use Rattle.journal_intent.specs.FreeNames.{IsUsedByJournal}
 
 pub now_published : (ignored : List ℕ → Bool) (files : Files) (made n : ℕ) (v : TreeState) (earlier : List TreeState) → v.names intent_name ≡ Some n → made ≤ n → state_of ignored (files_of v) ≡ state_of ignored files
-    → HasPublished ignored files made (v ∷ earlier)
+    → WasCommittedFor ignored files made (v ∷ earlier)
 now_published ignored files made n v earlier there late same = inl (n, there, late, same)
 
-pub none_published : (ignored : List ℕ → Bool) (files : Files) (made : ℕ) (v : TreeState) → v.names intent_name ≡ None → HasPublished ignored files made (v ∷ []) → ⊥
+pub none_published : (ignored : List ℕ → Bool) (files : Files) (made : ℕ) (v : TreeState) → v.names intent_name ≡ None → WasCommittedFor ignored files made (v ∷ []) → ⊥
 none_published ignored files made v none (inl published) = let there = published.1 in cc (none, there)
 none_published ignored files made v none (inr published) = published
 
-taken : (q : List ℕ) → MayBePresent no_names q → IsTakenName q
+taken : (q : List ℕ) → MayBePresent no_names q → IsUsedByJournal q
 taken q (inl some) = absurd (cc (some))
 taken q (inr either) = either
 
-pub room_to_stage : ((p q : List ℕ) → IsTakenName p → IsTakenName q → IsFolderOf p q → ⊥) → HasRoomToStage no_names
+pub room_to_stage : ((p q : List ℕ) → IsUsedByJournal p → IsUsedByJournal q → IsFolderOf p q → ⊥) → AreStagingPathsFree no_names
 room_to_stage apart = record {
   empty = λ q waits. refl;
   beside = record { folders = λ p q folder has_p has_q. apart p q (taken p has_p) (taken q has_q) folder };
@@ -35,9 +35,9 @@ no_longer p rest more is =
     let front = length-append p more in
     omega (arith, count, front)
 
-behind_same : (front xs ys : List ℕ) → front ++ xs ≡ front ++ ys → xs ≡ ys
-behind_same [] xs ys is = is
-behind_same (b ∷ front) xs ys is = behind_same front xs ys (ap (drop 1) is)
+after_same : (front xs ys : List ℕ) → front ++ xs ≡ front ++ ys → xs ≡ ys
+after_same [] xs ys is = is
+after_same (b ∷ front) xs ys is = after_same front xs ys (ap (drop 1) is)
 
 not_below : (p rest : List ℕ) → p ≡ p ++ 47 ∷ rest → ⊥
 not_below p rest is = let count = ap length is ∙ length-append p (47 ∷ rest) in omega (arith, count)
@@ -56,11 +56,11 @@ apart_by name p q (inl p_is) (inl q_is) (rest, is) = not_below name rest (sym q_
 apart_by name p q (inr p_is) (inr q_is) (rest, is) = not_below (scratch_of name) rest (sym q_is ∙ is ∙ ap (λ (x : List ℕ). x ++ 47 ∷ rest) p_is)
 apart_by name p q (inr p_is) (inl q_is) (rest, is) = no_longer name rest (codes ".apk-tmp") (sym q_is ∙ is ∙ ap (λ (x : List ℕ). x ++ 47 ∷ rest) p_is)
 apart_by name p q (inl p_is) (inr q_is) (rest, is) =
-    let same : codes ".apk-tmp" ≡ 47 ∷ rest = behind_same name (codes ".apk-tmp") (47 ∷ rest) (sym q_is ∙ is ∙ ap (λ (x : List ℕ). x ++ 47 ∷ rest) p_is) in
+    let same : codes ".apk-tmp" ≡ 47 ∷ rest = after_same name (codes ".apk-tmp") (47 ∷ rest) (sym q_is ∙ is ∙ ap (λ (x : List ℕ). x ++ 47 ∷ rest) p_is) in
     let first : 46 ≡ 47 = ap (λ (x : List ℕ). get_or x 0 0) same in
     omega (arith, first)
 
-pub room_for_file : (name : List ℕ) → HasRoom name no_names
+pub room_for_file : (name : List ℕ) → IsOutputPathFree name no_names
 room_for_file name = record {
   folders = λ p q folder has_p has_q. apart_by name p q (one_of_both (scratch_of name) name p has_p) (one_of_both (scratch_of name) name q has_q) folder;
 }

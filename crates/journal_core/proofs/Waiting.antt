@@ -1,30 +1,33 @@
 -- A waiting file is made and filled: no state rests on it.
 use Rattle.std.proofs.Common.{◌≡◌, ◌≢◌, inl, inr, ℕ, ◌≤◌, Bool, true, false, ◌||◌, List, None, Some, refl, sym, ap, subst, ◌∙◌, arith}
-use Rattle.base_core.specs.Files.{Files, NameMap}
-use Rattle.base_core.specs.Tree.{TreeState, File, IsMapOf, IsWhole, bytes_at, files_by, files_of, change_at, after_create}
-use Rattle.base_core.specs.Crash.{IsOrderly}
-use Rattle.journal_core.specs.Recovery.{IsPlaceOf, RestsOn, intent_name, intent_at, intent_of, is_staged, state_of}
-use Rattle.journal_core.specs.Quiet.{IsStill}
-use Rattle.journal_core.specs.Staged.{IsAlone}
+use Rattle.base_core.specs.Files.{Files, NameMap, put_name}
+use Rattle.base_core.specs.Tree.{TreeState, File, IsWellFormed, bytes_at, files_by, files_of, change_at, after_create}
+use Rattle.base_core.specs.Undone.{IsDurable, IsCrashMap, with_change}
+use Rattle.journal_core.specs.Recovery.{IsStagedNameOf, StateDependsOn, intent_name, intent_at, intent_of, is_staged, state_of}
+use Rattle.journal_core.specs.Quiet.{StateIsUnchanged}
+use Rattle.journal_core.specs.Kept.{IsInNoMap}
+use Rattle.journal_core.specs.Staged.{IsOnlyNameOfFile}
+use Rattle.base_core.proofs.Undone.{read_may_be_left}
 use Rattle.journal_core.proofs.Agree.{state_agree}
+use Rattle.journal_core.proofs.Changes.{left_off}
 use Rattle.journal_intent.proofs.AtName.{put_name-at, put_name-off}
 use Rattle.journal_core.proofs.Images.{CrashLaws, quiet_same}
-use Rattle.journal_core.proofs.Simulate.{file_at, Simulates, simulated_orderly, simulated_quiet}
+use Rattle.journal_core.proofs.Simulate.{file_at, Simulates, simulated_durable, simulated_quiet}
 use Rattle.journal_core.proofs.Steps.{set_file-at, file_at-set_file, bytes_at-set_file, made_later, create_alone, create_others}
 
-pub still_self : (ignored : List ℕ → Bool) (v : TreeState) → IsOrderly (RestsOn ignored) v → IsStill ignored v v
-still_self ignored v orderly = record { orderly = orderly; quiet = quiet_same ignored v; reads = refl; made = omega arith }
+pub still_self : (ignored : List ℕ → Bool) (v : TreeState) → IsDurable (StateDependsOn ignored) v → StateIsUnchanged ignored v v
+still_self ignored v is_durable = record { is_durable = is_durable; quiet = quiet_same ignored v; reads = refl; made = omega arith }
 
-pub still_by : CrashLaws → (ignored : List ℕ → Bool) (v w : TreeState) → IsOrderly (RestsOn ignored) v → Simulates ignored v w → state_of ignored (files_of w) ≡ state_of ignored (files_of v) → v.made ≤ w.made → IsStill ignored v w
+pub still_by : CrashLaws → (ignored : List ℕ → Bool) (v w : TreeState) → IsDurable (StateDependsOn ignored) v → Simulates ignored v w → state_of ignored (files_of w) ≡ state_of ignored (files_of v) → v.made ≤ w.made → StateIsUnchanged ignored v w
 still_by laws ignored v w was simulates reads made =
-    let orderly = simulated_orderly ignored v w was simulates in
-    record { orderly = orderly; quiet = simulated_quiet laws ignored v w orderly simulates; reads = reads; made = made }
+    let is_durable = simulated_durable ignored v w was simulates in
+    record { is_durable = is_durable; quiet = simulated_quiet laws ignored v w is_durable simulates; reads = reads; made = made }
 
 -- a waiting name, which is no place of these files' intent
 pub record IsOff (F : Files) (name : List ℕ) : Type 0 where
   pub waiting : is_staged name ≡ true
   pub no_intent : name ≢ intent_name
-  pub no_place : IsPlaceOf (intent_of F) name → ⊥
+  pub no_place : IsStagedNameOf (intent_of F) name → ⊥
 
 true_false : true ≡ false → ⊥
 true_false e = cc
@@ -33,40 +36,47 @@ shown_off : (a b : Bool) → a ≡ true → (a || b) ≡ false → ⊥
 shown_off true b t f = true_false f
 shown_off false b t f = absurd (true_false (sym t))
 
-pub off_rests : (ignored : List ℕ → Bool) (F : Files) (name : List ℕ) → IsOff F name → (q : List ℕ) → RestsOn ignored F q → q ≢ name
+pub off_rests : (ignored : List ℕ → Bool) (F : Files) (name : List ℕ) → IsOff F name → (q : List ℕ) → StateDependsOn ignored F q → q ≢ name
 off_rests ignored F name off q (inl intent) is = off.no_intent (sym is ∙ intent)
 off_rests ignored F name off q (inr (inl shown)) is = shown_off (is_staged q) (ignored q) (ap is_staged is ∙ off.waiting) shown
-off_rests ignored F name off q (inr (inr place)) is = off.no_place (subst (IsPlaceOf (intent_of F)) is place)
+off_rests ignored F name off q (inr (inr place)) is = off.no_place (subst (IsStagedNameOf (intent_of F)) is place)
 
 -- files that agree elsewhere have one state
 pub off_state : (ignored : List ℕ → Bool) (F G : Files) (name : List ℕ) → IsOff F name → ((q : List ℕ) → q ≢ name → G q ≡ F q) → state_of ignored G ≡ state_of ignored F
 off_state ignored F G name off others = sym (state_agree ignored F G (λ q rests. sym (others q (off_rests ignored F name off q rests))))
 
 pub off_same : (F G : Files) (name : List ℕ) → F intent_name ≡ G intent_name → IsOff F name → IsOff G name
-off_same F G name same off = record { waiting = off.waiting; no_intent = off.no_intent; no_place = λ place. off.no_place (subst (λ o. IsPlaceOf o name) (sym (ap intent_at same)) place) }
+off_same F G name same off = record { waiting = off.waiting; no_intent = off.no_intent; no_place = λ place. off.no_place (subst (λ o. IsStagedNameOf o name) (sym (ap intent_at same)) place) }
+
+-- a waiting name that is no place of an intent in any map that a crash may leave
+abbrev pub IsOffIn : TreeState → List ℕ → Type 0
+IsOffIn v name = (m : NameMap) → IsCrashMap v m → IsOff (files_by v m) name
 
 -- where no intent is read, each waiting name is off
 pub off_none : (F : Files) (name : List ℕ) → is_staged name ≡ true → name ≢ intent_name → F intent_name ≡ None → IsOff F name
-off_none F name waiting no_intent none = record { waiting = waiting; no_intent = no_intent; no_place = λ place. subst (λ o. IsPlaceOf o name) (ap intent_at none) place }
+off_none F name waiting no_intent none = record { waiting = waiting; no_intent = no_intent; no_place = λ place. subst (λ o. IsStagedNameOf o name) (ap intent_at none) place }
+
+-- and so it is where no crash restores one
+pub off_gone : (v : TreeState) (name : List ℕ) → is_staged name ≡ true → name ≢ intent_name → IsInNoMap intent_name v → IsOffIn v name
+off_gone v name waiting no_intent gone m left = off_none (files_by v m) name waiting no_intent (ap (bytes_at v.files) (gone m left))
 
 -- ---- it is made
 
-create_simulates : (ignored : List ℕ → Bool) (name : List ℕ) (v : TreeState) → IsOff (files_of v) name → IsWhole v → Simulates ignored v (after_create name v)
-create_simulates ignored name v off whole m (inl new) = (
-  v.names,
-  inl refl,
+create_simulates : (ignored : List ℕ → Bool) (name : List ℕ) (v : TreeState) → IsOffIn v name → IsWellFormed v → Simulates ignored v (after_create name v)
+create_simulates ignored name v off whole m (inl (kept, left, is)) = (
+  kept,
+  left,
   λ q rests.
-      sym (ap (λ (f : NameMap). file_at (after_create name v).files (f q)) new
-      ∙ ap (file_at (after_create name v).files) (put_name-off v.names name v.made q (off_rests ignored (files_of v) name off q rests))
-      ∙ file_at-set_file v.files v.made _ (v.names q) (made_later v whole v.names (inl refl) q)),
+      sym (ap (file_at (after_create name v).files) (left_off v.names (put_name v.names name v.made) kept m is q (put_name-off v.names name v.made q (off_rests ignored (files_by v kept) name (off kept left) q rests)))
+      ∙ file_at-set_file v.files v.made _ (kept q) (made_later v whole kept left q)),
 )
 create_simulates ignored name v off whole m (inr old) = (m, old, λ q rests. sym (file_at-set_file v.files v.made _ (m q) (made_later v whole m old q)))
 
-pub still_created : CrashLaws → (ignored : List ℕ → Bool) (name : List ℕ) (v : TreeState) → IsOff (files_of v) name → IsWhole v → IsOrderly (RestsOn ignored) v → IsStill ignored v (after_create name v)
-still_created laws ignored name v off whole orderly =
-    still_by laws ignored v (after_create name v) orderly (create_simulates ignored name v off whole) (off_state ignored (files_of v) (files_of (after_create name v)) name off (create_others name v whole)) (omega arith)
+pub still_created : CrashLaws → (ignored : List ℕ → Bool) (name : List ℕ) (v : TreeState) → IsOffIn v name → IsWellFormed v → IsDurable (StateDependsOn ignored) v → StateIsUnchanged ignored v (after_create name v)
+still_created laws ignored name v off whole is_durable =
+    still_by laws ignored v (after_create name v) is_durable (create_simulates ignored name v off whole) (off_state ignored (files_of v) (files_of (after_create name v)) name (off v.names (read_may_be_left v)) (create_others name v whole)) (omega arith)
 
-pub alone_created : (name : List ℕ) (v : TreeState) → IsOff (files_of v) name → IsWhole v → IsAlone name (after_create name v)
+pub alone_created : (name : List ℕ) (v : TreeState) → IsOffIn v name → IsWellFormed v → IsOnlyNameOfFile name (after_create name v)
 alone_created name v off whole = record {
   number = v.made;
   there = put_name-at v.names name v.made name refl;
@@ -74,23 +84,26 @@ alone_created name v off whole = record {
   no_place = no_place;
 }
   where
-    no_place : (m : NameMap) → IsMapOf (after_create name v) m → m name ≡ Some v.made → IsPlaceOf (intent_of (files_by (after_create name v) m)) name → ⊥
-    no_place m (inl new) is place =
-        (off_same (files_of v) (files_of (after_create name v)) name (sym (create_others name v whole intent_name (λ e. off.no_intent (sym e)))) off).no_place
-        (subst (λ (x : NameMap). IsPlaceOf (intent_of (files_by (after_create name v) x)) name) new place)
+    same_intent : (kept : NameMap) → IsCrashMap v kept → (m : NameMap) → m ≡ with_change v.names (put_name v.names name v.made) kept → m intent_name ≡ kept intent_name
+    same_intent kept left m new = left_off v.names (put_name v.names name v.made) kept m new intent_name (put_name-off v.names name v.made intent_name (λ e. (off kept left).no_intent (sym e)))
+
+    no_place : (m : NameMap) → IsCrashMap (after_create name v) m → m name ≡ Some v.made → IsStagedNameOf (intent_of (files_by (after_create name v) m)) name → ⊥
+    no_place m (inl (kept, left, new)) is place =
+        (off_same (files_by v kept) (files_by (after_create name v) m) name (sym (ap (bytes_at (after_create name v).files) (same_intent kept left m new) ∙ bytes_at-set_file v.files v.made _ (kept intent_name) (made_later v whole kept left intent_name))) (off kept left)).no_place
+        place
     no_place m (inr old) is place = absurd (made_later v whole m old name is)
 
 -- ---- it is changed
 
-module _ (laws : CrashLaws) (name : List ℕ) (waiting : is_staged name ≡ true) (no_intent : name ≢ intent_name) (change : File → File) (v : TreeState) (was : IsAlone name v) where
+module _ (laws : CrashLaws) (name : List ℕ) (waiting : is_staged name ≡ true) (no_intent : name ≢ intent_name) (change : File → File) (v : TreeState) (was : IsOnlyNameOfFile name v) where
   abbrev w : TreeState
   w = change_at change v (Some was.number)
 
-  off_in : (m : NameMap) → IsMapOf v m → m name ≡ Some was.number → IsOff (files_by v m) name
+  off_in : (m : NameMap) → IsCrashMap v m → m name ≡ Some was.number → IsOff (files_by v m) name
   off_in m among is = record { waiting = waiting; no_intent = no_intent; no_place = was.no_place m among is }
 
   -- the file is not one on which a state rests
-  off_number : (ignored : List ℕ → Bool) (m : NameMap) → IsMapOf v m → (q : List ℕ) → RestsOn ignored (files_by v m) q → m q ≢ Some was.number
+  off_number : (ignored : List ℕ → Bool) (m : NameMap) → IsCrashMap v m → (q : List ℕ) → StateDependsOn ignored (files_by v m) q → m q ≢ Some was.number
   off_number ignored m among q rests is =
       let same = was.alone m among q is in
       let here : m name ≡ Some was.number = ap m (sym same) ∙ is in
@@ -100,30 +113,30 @@ module _ (laws : CrashLaws) (name : List ℕ) (waiting : is_staged name ≡ true
   change_simulates ignored m among = (m, among, λ q rests. sym (file_at-set_file v.files was.number _ (m q) (off_number ignored m among q rests)))
 
   changed_others : (q : List ℕ) → q ≢ name → files_of w q ≡ files_of v q
-  changed_others q ne = bytes_at-set_file v.files was.number _ (v.names q) (λ is. ne (was.alone v.names (inl refl) q is))
+  changed_others q ne = bytes_at-set_file v.files was.number _ (v.names q) (λ is. ne (was.alone v.names (read_may_be_left v) q is))
 
-  still_changed_at : (ignored : List ℕ → Bool) → IsOrderly (RestsOn ignored) v → IsStill ignored v w
-  still_changed_at ignored orderly = still_by laws ignored v w orderly (change_simulates ignored) (off_state ignored (files_of v) (files_of w) name (off_in v.names (inl refl) was.there) changed_others) (omega arith)
+  still_changed_at : (ignored : List ℕ → Bool) → IsDurable (StateDependsOn ignored) v → StateIsUnchanged ignored v w
+  still_changed_at ignored is_durable = still_by laws ignored v w is_durable (change_simulates ignored) (off_state ignored (files_of v) (files_of w) name (off_in v.names (read_may_be_left v) was.there) changed_others) (omega arith)
 
-  same_intent : (m : NameMap) → IsMapOf v m → files_by w m intent_name ≡ files_by v m intent_name
+  same_intent : (m : NameMap) → IsCrashMap v m → files_by w m intent_name ≡ files_by v m intent_name
   same_intent m among = bytes_at-set_file v.files was.number _ (m intent_name) (λ is. no_intent (sym (was.alone m among intent_name is)))
 
-  alone_changed_at : IsAlone name w
+  alone_changed_at : IsOnlyNameOfFile name w
   alone_changed_at = record {
     number = was.number;
     there = was.there;
     alone = was.alone;
-    no_place = λ m among is place. was.no_place m among is (subst (λ o. IsPlaceOf o name) (ap intent_at (same_intent m among)) place);
+    no_place = λ m among is place. was.no_place m among is (subst (λ o. IsStagedNameOf o name) (ap intent_at (same_intent m among)) place);
   }
 
   pub changed_at_is : change_at change v (v.names name) ≡ w
   changed_at_is = ap (change_at change v) was.there
 
-  pub still_changed : (ignored : List ℕ → Bool) → IsOrderly (RestsOn ignored) v → IsStill ignored v (change_at change v (v.names name))
-  still_changed ignored orderly = subst (λ o. IsStill ignored v (change_at change v o)) (sym was.there) (still_changed_at ignored orderly)
+  pub still_changed : (ignored : List ℕ → Bool) → IsDurable (StateDependsOn ignored) v → StateIsUnchanged ignored v (change_at change v (v.names name))
+  still_changed ignored is_durable = subst (λ o. StateIsUnchanged ignored v (change_at change v o)) (sym was.there) (still_changed_at ignored is_durable)
 
-  pub alone_changed : IsAlone name (change_at change v (v.names name))
-  alone_changed = subst (λ o. IsAlone name (change_at change v o)) (sym was.there) alone_changed_at
+  pub alone_changed : IsOnlyNameOfFile name (change_at change v (v.names name))
+  alone_changed = subst (λ o. IsOnlyNameOfFile name (change_at change v o)) (sym was.there) alone_changed_at
 
   pub others_changed : (q : List ℕ) → q ≢ name → files_of (change_at change v (v.names name)) q ≡ files_of v q
   others_changed q ne = subst (λ o. files_of (change_at change v o) q ≡ files_of v q) (sym was.there) (changed_others q ne)

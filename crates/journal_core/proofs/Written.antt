@@ -1,13 +1,15 @@
 -- A waiting file is made, filled and synced.
 use Rattle.std.proofs.Common.{◌≡◌, ◌≢◌, inl, ℕ, Bool, true, false, List, [], ◌∷◌, ◌++◌, Option, None, Some, IsSome, Result, Ok, Err, OnOk, refl, sym, ap, subst, ◌∙◌, arith}
-use Rattle.base_core.specs.Tree.{TreeState, File, IsWhole, files_of, change_at, after_create, after_append, after_failed_append, after_sync, same_state, CanCreate, HasName}
-use Rattle.base_core.specs.Calls.{HasNow, Moves}
-use Rattle.base_core.specs.Crash.{IsOrderly, Since}
-use Rattle.journal_core.specs.Entering.{IsWritten}
+use Rattle.base_core.specs.Tree.{TreeState, File, IsWellFormed, files_by, change_at, after_create, after_append, after_failed_append, after_sync, same_state, CanCreate, HasName}
+use Rattle.base_core.specs.Calls.{HoldsNow, ChangesHistory}
+use Rattle.base_core.specs.Crash.{Since}
+use Rattle.base_core.specs.Undone.{IsDurable}
+use Rattle.journal_core.specs.Committing.{IsWritten}
 use Rattle.journal_core.specs.Filling.{synced_file}
-use Rattle.journal_core.specs.Recovery.{RestsOn, intent_name, stage_name}
-use Rattle.journal_core.specs.Quiet.{IsStill}
-use Rattle.journal_core.specs.Staged.{IsAlone}
+use Rattle.base_core.proofs.Undone.{read_may_be_left}
+use Rattle.journal_core.specs.Recovery.{IsStagedNameOf, StateDependsOn, intent_name, intent_of, is_staged, stage_name}
+use Rattle.journal_core.specs.Quiet.{StateIsUnchanged}
+use Rattle.journal_core.specs.Staged.{IsOnlyNameOfFile}
 use Rattle.journal_core.proofs.Acts.{still_on}
 use Rattle.journal_intent.proofs.AtName.{put_name-at, put_name-off}
 use Rattle.journal_core.proofs.Chain.{Runs, run_begun, run_failed, run_called, run_done, step_now, step_called}
@@ -15,61 +17,65 @@ use Rattle.journal_core.proofs.History.{History}
 use Rattle.journal_core.proofs.OneCall.{now_is}
 use Rattle.journal_intent.proofs.StageNames.{stage_name_no_intent}
 use Rattle.journal_core.proofs.Steps.{set_file-at, file_at-set_file, made_later}
-use Rattle.journal_core.proofs.Waiting.{IsOff, off_none, still_self, still_created, alone_created, still_changed, alone_changed}
+use Rattle.journal_core.proofs.First.{no_place_first}
+use Rattle.journal_core.proofs.Waiting.{IsOffIn, still_self, still_created, alone_created, still_changed, alone_changed}
 use Rattle.journal_core.proofs.Images.{CrashLaws}
 
 -- ---- no state rests on it
 
-module _ (laws : CrashLaws) (place : List ℕ) (k : ℕ) (place_is : place ≡ stage_name k) (ignored : List ℕ → Bool) (start : TreeState) (old rest : History) (is : old ≡ start ∷ rest) (whole : IsWhole start) (orderly : IsOrderly (RestsOn ignored) start) (none : files_of start intent_name ≡ None) where
+module _ (laws : CrashLaws) (place : List ℕ) (place_is : place ≡ stage_name 0) (ignored : List ℕ → Bool) (start : TreeState) (old rest : History) (is : old ≡ start ∷ rest) (whole : IsWellFormed start) (is_durable : IsDurable (StateDependsOn ignored) start) where
   abbrev P : TreeState → Type 0
-  P = IsStill ignored start
+  P = StateIsUnchanged ignored start
 
   pub record Open (v : TreeState) : Type 0 where
-    still : P v
-    off : IsOff (files_of v) place
-    entire : IsWhole v
+    is_unchanged : P v
+    off : IsOffIn v place
+    entire : IsWellFormed v
 
   pub record Made (v : TreeState) : Type 0 where
-    still : P v
-    alone : IsAlone place v
+    is_unchanged : P v
+    alone : IsOnlyNameOfFile place v
 
   no_intent : place ≢ intent_name
-  no_intent e = stage_name_no_intent k (sym place_is ∙ e)
+  no_intent e = stage_name_no_intent 0 (sym place_is ∙ e)
 
-  off : IsOff (files_of start) place
-  off = subst (λ (n : List ℕ). IsOff (files_of start) n) (sym place_is) (off_none (files_of start) (stage_name k) refl (stage_name_no_intent k) none)
+  waiting : is_staged place ≡ true
+  waiting = ap is_staged place_is
+
+  off : (v : TreeState) → IsOffIn v place
+  off v m left = record { waiting = waiting; no_intent = no_intent; no_place = λ at. no_place_first (intent_of (files_by v m)) (subst (IsStagedNameOf (intent_of (files_by v m))) place_is at) }
 
   created : (v : TreeState) → Open v → Made (after_create place v)
-  created v q = record { still = still_on ignored start v (after_create place v) q.still (still_created laws ignored place v q.off q.entire q.still.orderly); alone = alone_created place v q.off q.entire }
+  created v q = record { is_unchanged = still_on ignored start v (after_create place v) q.is_unchanged (still_created laws ignored place v q.off q.entire q.is_unchanged.is_durable); alone = alone_created place v q.off q.entire }
 
   changed : (change : File → File) (v : TreeState) → Made v → Made (change_at change v (v.names place))
   changed change v q = record {
-    still = still_on ignored start v (change_at change v (v.names place)) q.still (still_changed laws place off.waiting no_intent change v q.alone ignored q.still.orderly);
-    alone = alone_changed laws place off.waiting no_intent change v q.alone;
+    is_unchanged = still_on ignored start v (change_at change v (v.names place)) q.is_unchanged (still_changed laws place waiting no_intent change v q.alone ignored q.is_unchanged.is_durable);
+    alone = alone_changed laws place waiting no_intent change v q.alone;
   }
 
   pub begun : Runs P Open old old
-  begun = run_begun P Open old start rest is (record { still = still_self ignored start orderly; off = off; entire = whole })
+  begun = run_begun P Open old start rest is (record { is_unchanged = still_self ignored start is_durable; off = off start; entire = whole })
 
   module _ {T E : Type 0} (h new : History) where
-    pub make_failed : (e : E) → Moves {T = T} (CanCreate place) (after_create place) (after_create place) old new (Err e) → Since P old new
-    make_failed e moves = run_failed P Open old old new e begun moves (λ v may q. (created v q).still)
+    pub make_failed : (e : E) → ChangesHistory {T = T} (CanCreate place) (after_create place) (after_create place) old new (Err e) → Since P old new
+    make_failed e moves = run_failed P Open old old new e begun moves (λ v may q. (created v q).is_unchanged)
 
-    pub make_done : (x : T) → Moves {E = E} (CanCreate place) (after_create place) (after_create place) old new (Ok x) → Runs P Made old new
-    make_done x moves = run_done P Open Made old old new x begun moves (λ v q. q.still) created
+    pub make_done : (x : T) → ChangesHistory {E = E} (CanCreate place) (after_create place) (after_create place) old new (Ok x) → Runs P Made old new
+    make_done x moves = run_done P Open Made old old new x begun moves (λ v q. q.is_unchanged) created
 
-    pub extend_failed : (piece : List ℕ) (e : E) → Runs P Made old h → Moves {T = T} (HasName place) (after_append place piece) (after_failed_append place) h new (Err e) → Since P old new
-    extend_failed piece e runs moves = run_failed P Made old h new e runs moves (λ v may q. (changed (λ f. record { bytes = f.bytes; synced = false }) v q).still)
+    pub extend_failed : (piece : List ℕ) (e : E) → Runs P Made old h → ChangesHistory {T = T} (HasName place) (after_append place piece) (after_failed_append place) h new (Err e) → Since P old new
+    extend_failed piece e runs moves = run_failed P Made old h new e runs moves (λ v may q. (changed (λ f. record { bytes = f.bytes; synced = false }) v q).is_unchanged)
 
-    pub extend_done : (piece : List ℕ) (x : T) → Runs P Made old h → Moves {E = E} (HasName place) (after_append place piece) (after_failed_append place) h new (Ok x) → Runs P Made old new
-    extend_done piece x runs moves = run_done P Made Made old h new x runs moves (λ v q. q.still) (changed (λ f. record { bytes = f.bytes ++ piece; synced = false }))
+    pub extend_done : (piece : List ℕ) (x : T) → Runs P Made old h → ChangesHistory {E = E} (HasName place) (after_append place piece) (after_failed_append place) h new (Ok x) → Runs P Made old new
+    extend_done piece x runs moves = run_done P Made Made old h new x runs moves (λ v q. q.is_unchanged) (changed (λ f. record { bytes = f.bytes ++ piece; synced = false }))
 
-    pub sync_called : (r : Result T E) → Runs P Made old h → Moves (HasName place) (after_sync place) same_state h new r → Since P old new
-    sync_called r runs moves = run_called P Made old h new r runs moves (λ v q. (changed (λ f. record { bytes = f.bytes; synced = true }) v q).still) (λ v may q. q.still)
+    pub sync_called : (r : Result T E) → Runs P Made old h → ChangesHistory (HasName place) (after_sync place) same_state h new r → Since P old new
+    sync_called r runs moves = run_called P Made old h new r runs moves (λ v q. (changed (λ f. record { bytes = f.bytes; synced = true }) v q).is_unchanged) (λ v may q. q.is_unchanged)
 
 -- ---- what it holds
 
-module _ (place : List ℕ) (start : TreeState) (whole : IsWhole start) where
+module _ (place : List ℕ) (start : TreeState) (whole : IsWellFormed start) where
   written_created : start.names place ≡ None → IsWritten place (record { bytes = []; synced = false }) start (after_create place start)
   written_created absent = record {
     absent = absent;
@@ -80,7 +86,7 @@ module _ (place : List ℕ) (start : TreeState) (whole : IsWhole start) where
     names = λ q ne. put_name-off start.names place start.made q ne;
     kept = λ q n ne at.
         let here : start.names q ≡ Some n = sym (put_name-off start.names place start.made q ne) ∙ at in
-        let same : Some ((after_create place start).files n) ≡ Some (start.files n) = file_at-set_file start.files start.made _ (Some n) (λ e. made_later start whole start.names (inl refl) q (here ∙ e)) in
+        let same : Some ((after_create place start).files n) ≡ Some (start.files n) = file_at-set_file start.files start.made _ (Some n) (λ e. made_later start whole start.names (read_may_be_left start) q (here ∙ e)) in
         cc;
   }
 
@@ -105,8 +111,8 @@ module _ (place : List ℕ) (start : TreeState) (whole : IsWhole start) where
   written_on change file v was = subst (λ o. IsWritten place (change file) start (change_at change v o)) (sym was.there) (written_at change file v was)
 
   pub last_written : {T E : Type 0} (bytes : List ℕ) (old rest h k new : History) → old ≡ start ∷ rest → start.names place ≡ None → (x y : T) (r : Result T E)
-      → Moves {E = E} (CanCreate place) (after_create place) (after_create place) old h (Ok x) → Moves {E = E} (HasName place) (after_append place bytes) (after_failed_append place) h k (Ok y) → Moves (HasName place) (after_sync place) same_state k new r
-      → OnOk r (HasNow new (IsWritten place (synced_file bytes) start))
+      → ChangesHistory {E = E} (CanCreate place) (after_create place) (after_create place) old h (Ok x) → ChangesHistory {E = E} (HasName place) (after_append place bytes) (after_failed_append place) h k (Ok y) → ChangesHistory (HasName place) (after_sync place) same_state k new r
+      → OnOk r (HoldsNow new (IsWritten place (synced_file bytes) start))
   last_written bytes old rest h k new is absent x y r first second last =
       let a = step_now (λ w. w ≡ start) (IsWritten place (record { bytes = []; synced = false }) start) h x old (now_is old start rest (λ w. w ≡ start) is refl) first
       (λ v e. subst (λ (u : TreeState). IsWritten place (record { bytes = []; synced = false }) start (after_create place u)) (sym e) (written_created absent)) in

@@ -5,7 +5,7 @@ use Rattle.std.specs.Prelude.{◌≡◌, ◌⊎◌, ◌<◌, ◌+◌, ◌^◌, �
 use Rattle.base_core.specs.Calls.{IfObservable}
 use Rattle.base_core.specs.Files.{Files}
 use Rattle.base_core.specs.Tree.{TreeState, after_rename}
-use Rattle.journal_core.specs.Quiet.{IsStill}
+use Rattle.journal_core.specs.Quiet.{StateIsUnchanged}
 use Rattle.journal_core.specs.Recovery.{Intent, stage_name}
 use Rattle.journal_core.specs.Staged.{Staging, IsActing}
 
@@ -31,7 +31,7 @@ full_stage intent = record {
 
 -- how the move of a file that may be staged at a place changes the tree: a file that is there is moved
 -- to its name, and nothing happens if none is there; after a fault the file was moved or not
-pub record MovesIfThere {T E : Type 0} (place name : List ℕ) (old new : List TreeState)
+pub record MovesIfPresent {T E : Type 0} (place name : List ℕ) (old new : List TreeState)
     (result : Result T E) : Type 0 where
   pub ok : OnOk result (IfObservable old (λ v.
       ((v.names place ≡ None) × (new ≡ old)) ⊎ (new ≡ after_rename place name v ∷ old)))
@@ -45,7 +45,7 @@ pub record IsNextName (name : List ℕ) (stage : Staging) : Type 0 where
 
 -- a moment of the actions: the state is unchanged since the start, and this many of the stage's actions
 -- are done
-pub record GoesWith (ignored : List ℕ → Bool) (files : Files) (stage : Staging)
+pub record IsDuringActions (ignored : List ℕ → Bool) (files : Files) (stage : Staging)
     (start v : TreeState) : Type 0 where
-  pub still : IsStill ignored start v
+  pub is_unchanged : StateIsUnchanged ignored start v
   pub acting : IsActing stage files v

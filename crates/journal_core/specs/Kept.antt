@@ -4,15 +4,16 @@
 use Rattle.std.specs.Prelude.{◌≡◌, ◌≢◌, ◌⊎◌, ℕ, ◌+◌, true, false, List, [], length, None, Some, slice_get}
 use Rattle.base_core.specs.Crash.{Since}
 use Rattle.base_core.specs.Files.{Files, NameMap}
-use Rattle.base_core.specs.Tree.{TreeState, IsMapOf, files_of}
+use Rattle.base_core.specs.Tree.{TreeState, files_of}
+use Rattle.base_core.specs.Undone.{IsCrashMap}
 use Rattle.journal_core.specs.Recovery.{Intent, intent_name, is_staged, recovered_files, stage_name}
 use Rattle.journal_intent.specs.FreeNames.{IsNoneOf}
 
 -- ---- the files as read
 
 -- the files as read are unchanged under each name except these
-abbrev pub KeepsFilesBut : (List ℕ → Type 0) → TreeState → TreeState → Type 0
-KeepsFilesBut these start v = (q : List ℕ) → (these q → ⊥) → files_of v q ≡ files_of start q
+abbrev pub KeepsFilesExcept : (List ℕ → Type 0) → TreeState → TreeState → Type 0
+KeepsFilesExcept these start v = (q : List ℕ) → (these q → ⊥) → files_of v q ≡ files_of start q
 
 -- the names of the next action, if this many are done: the name that is removed, or the name that is
 -- written and that of its staged file
@@ -27,18 +28,18 @@ abbrev pub RecoversTo : Files → TreeState → Type 0
 RecoversTo files v = recovered_files (files_of v) ≡ files
 
 -- a name of the journal: the intent's, or one in the staging area
-abbrev pub IsWaitingName : List ℕ → Type 0
-IsWaitingName name = (name ≡ intent_name) ⊎ (is_staged name ≡ true)
+abbrev pub IsJournalName : List ℕ → Type 0
+IsJournalName name = (name ≡ intent_name) ⊎ (is_staged name ≡ true)
 
 -- the intent, and each file in the staging area, is as it was at the start or is gone
-abbrev pub IsLessWaiting : TreeState → TreeState → Type 0
-IsLessWaiting start v = (q : List ℕ) → IsWaitingName q
+abbrev pub JournalOnlyShrinks : TreeState → TreeState → Type 0
+JournalOnlyShrinks start v = (q : List ℕ) → IsJournalName q
     → (files_of v q ≡ None) ⊎ (files_of v q ≡ files_of start q)
 
 -- each name outside the staging area has the bytes of the old files or those of the new ones
 abbrev pub HasOldOrNewBytes : Files → Files → TreeState → Type 0
 HasOldOrNewBytes old new v =
-    (q : List ℕ) → (IsWaitingName q → ⊥) → (files_of v q ≡ old q) ⊎ (files_of v q ≡ new q)
+    (q : List ℕ) → (IsJournalName q → ⊥) → (files_of v q ≡ old q) ⊎ (files_of v q ≡ new q)
 
 -- each name outside the staging area has old bytes or new ones at each moment since, for any old files
 -- for which this held at the start
@@ -49,36 +50,37 @@ KeepsOldOrNewBytes files v old new =
 -- the intent is as it was at the start, and each staged file is unchanged or gone
 pub record KeepsIntent (start v : TreeState) : Type 0 where
   pub intent : v.names intent_name ≡ start.names intent_name
-  pub waiting : IsLessWaiting start v
+  pub waiting : JournalOnlyShrinks start v
 
 -- ---- the maps of names
 
 -- each name except these leads in every map to the same file as in the newest, so no crash undoes its
 -- change
-abbrev pub NamesLastBut : List (List ℕ) → TreeState → Type 0
-NamesLastBut these v =
-    (map : NameMap) → IsMapOf v map → (q : List ℕ) → IsNoneOf q these → map q ≡ v.names q
+abbrev pub NamesAreDurableExcept : List (List ℕ) → TreeState → Type 0
+NamesAreDurableExcept these v =
+    (map : NameMap) → IsCrashMap v map → (q : List ℕ) → IsNoneOf q these → map q ≡ v.names q
 
 -- each name except the intent's and those in the staging area leads in every map to the same file as in
 -- the newest, so no crash undoes its change
-abbrev pub ShownNamesLast : TreeState → Type 0
-ShownNamesLast v = (map : NameMap) → IsMapOf v map → (q : List ℕ) → q ≢ intent_name
+abbrev pub ShownNamesAreDurable : TreeState → Type 0
+ShownNamesAreDurable v = (map : NameMap) → IsCrashMap v map → (q : List ℕ) → q ≢ intent_name
     → is_staged q ≡ false → map q ≡ v.names q
 
 -- the same of each name except the intent's, those in the staging area and these
-abbrev pub ShownNamesLastBut : List (List ℕ) → TreeState → Type 0
-ShownNamesLastBut these v = (map : NameMap) → IsMapOf v map → (q : List ℕ) → IsNoneOf q these
+abbrev pub ShownNamesAreDurableExcept : List (List ℕ) → TreeState → Type 0
+ShownNamesAreDurableExcept these v = (map : NameMap) → IsCrashMap v map → (q : List ℕ)
+    → IsNoneOf q these
     → q ≢ intent_name → is_staged q ≡ false → map q ≡ v.names q
 
 -- no crash restores the name
 abbrev pub IsInNoMap : List ℕ → TreeState → Type 0
-IsInNoMap name v = (map : NameMap) → IsMapOf v map → map name ≡ None
+IsInNoMap name v = (map : NameMap) → IsCrashMap v map → map name ≡ None
 
 -- each map is one from before, except for these names: so a crash leaves each other name as it might
 -- have left it before
-abbrev pub KeepsMapsBut : List (List ℕ) → TreeState → TreeState → Type 0
-KeepsMapsBut these start v = (map : NameMap) → IsMapOf v map
-    → (was : NameMap) × IsMapOf start was × ((q : List ℕ) → IsNoneOf q these → map q ≡ was q)
+abbrev pub KeepsMapsExcept : List (List ℕ) → TreeState → TreeState → Type 0
+KeepsMapsExcept these start v = (map : NameMap) → IsCrashMap v map
+    → (was : NameMap) × IsCrashMap start was × ((q : List ℕ) → IsNoneOf q these → map q ≡ was q)
 
 -- there is one map of names, so no crash undoes a change of them; and the file under this name is
 -- synced

@@ -9,6 +9,6 @@ pub mod Kept
 pub mod Targets
 pub mod Reading
 pub mod Filling
-pub mod Entering
+pub mod Committing
 pub mod Acting
 pub mod Recovering

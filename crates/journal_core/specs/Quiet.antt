@@ -1,21 +1,21 @@
 -- A moment at which the state has not changed.
 -- The rules are in `docs/crash-safety.md`, "What files stand for", the table, *quiet* and *still*.
 use Rattle.std.specs.Prelude.{◌≡◌, ◌≤◌, ℕ, Bool, List}
-use Rattle.base_core.specs.Crash.{IsImage, IsOrderly}
+use Rattle.base_core.specs.Undone.{IsDurable, IsCrashImage}
 use Rattle.base_core.specs.Files.{Files}
 use Rattle.base_core.specs.Tree.{TreeState, files_of}
-use Rattle.journal_core.specs.Recovery.{RestsOn, state_of}
+use Rattle.journal_core.specs.Recovery.{StateDependsOn, state_of}
 
 -- each crash leaves a state that one at the start might have left, apart from the ignored names
-abbrev pub IsQuiet : (List ℕ → Bool) → TreeState → TreeState → Type 0
-IsQuiet ignored start v =
-    (image : Files) → IsImage v image → (was : Files) × IsImage start was
+abbrev pub EachCrashLeavesOld : (List ℕ → Bool) → TreeState → TreeState → Type 0
+EachCrashLeavesOld ignored start v =
+    (image : Files) → IsCrashImage v image → (was : Files) × IsCrashImage start was
     × (state_of ignored image ≡ state_of ignored was)
 
--- an orderly moment at which neither the state nor the state as read has changed; files may have been
+-- a durable moment at which neither the state nor the state as read has changed; files may have been
 -- made
-pub record IsStill (ignored : List ℕ → Bool) (start v : TreeState) : Type 0 where
-  pub orderly : IsOrderly (RestsOn ignored) v
-  pub quiet : IsQuiet ignored start v
+pub record StateIsUnchanged (ignored : List ℕ → Bool) (start v : TreeState) : Type 0 where
+  pub is_durable : IsDurable (StateDependsOn ignored) v
+  pub quiet : EachCrashLeavesOld ignored start v
   pub reads : state_of ignored (files_of v) ≡ state_of ignored (files_of start)
   pub made : start.made ≤ v.made

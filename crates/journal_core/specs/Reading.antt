@@ -13,5 +13,5 @@ IsOldOrReplaced scratch name bytes old now =
     ((q : List ℕ) → q ≢ scratch → now q ≡ old q) ⊎ (now ≡ replaced_files_by scratch name bytes old)
 
 -- the files as read are the old ones, apart from the scratch name of this name, or the new ones
-abbrev pub IsReadAs : List ℕ → List ℕ → Files → TreeState → Type 0
-IsReadAs name bytes old v = IsOldOrReplaced (scratch_of name) name bytes old (files_of v)
+abbrev pub ReadsOldOrReplaced : List ℕ → List ℕ → Files → TreeState → Type 0
+ReadsOldOrReplaced name bytes old v = IsOldOrReplaced (scratch_of name) name bytes old (files_of v)

@@ -29,8 +29,8 @@ pub record IsReplayed (start v : TreeState) : Type 0 where
   pub absent : v.names intent_name ≡ None
 
 -- a map or files without the staged files: their names lead nowhere
-abbrev pub unless_staged : {X : Type 0} → (List ℕ → Option X) → List ℕ → Option X
-unless_staged map q = if is_staged q then None else map q
+abbrev pub without_staged_names : {X : Type 0} → (List ℕ → Option X) → List ℕ → Option X
+without_staged_names map q = if is_staged q then None else map q
 
 -- each of these names is in the staging area
 abbrev pub AllStaged : List (List ℕ) → Type 0
@@ -38,13 +38,13 @@ AllStaged names = All (λ name. is_staged name ≡ true) names
 
 -- a moment without some names of the start: these lead nowhere, and the others to the same files; no
 -- file has changed
-pub record IsWithout (names : List (List ℕ)) (start v : TreeState) : Type 0 where
+pub record HasRemovedNames (names : List (List ℕ)) (start v : TreeState) : Type 0 where
   pub map : (q : List ℕ) → v.names q
       ≡ (if list_any (bytes_eq q) names then None else start.names q)
   pub files : v.files ≡ start.files
 
 -- a moment without the staged files of the start: no name in the staging area leads anywhere, and no
 -- file has changed
-pub record IsEmptied (start v : TreeState) : Type 0 where
-  pub map : (q : List ℕ) → v.names q ≡ unless_staged start.names q
+pub record HasEmptiedStage (start v : TreeState) : Type 0 where
+  pub map : (q : List ℕ) → v.names q ≡ without_staged_names start.names q
   pub files : v.files ≡ start.files

@@ -6,7 +6,7 @@ use Rattle.std.specs.Str.{bytes_eq}
 use Rattle.std.specs.List.{list_any}
 use Rattle.base_core.specs.Files.{Files, drop_name, move_name}
 use Rattle.base_core.specs.Tree.{TreeState}
-use Rattle.base_core.specs.Crash.{IsImage}
+use Rattle.base_core.specs.Undone.{IsCrashImage}
 pub use Rattle.journal_intent.specs.Intent.{Intent, intent_name, intent_in, intent_unless, is_staged, stage_folder, stage_name}
 unfoldable pub use Rattle.journal_intent.specs.Intent.{read_intent}
 
@@ -67,25 +67,25 @@ state_of ignored files q = if is_hidden ignored q then None else recovered_files
 -- ---- order
 
 -- the name of a file that is staged for an action of this intent
-abbrev pub IsPlaceOf : Option Intent → List ℕ → Type 0
-IsPlaceOf None q = ⊥
-IsPlaceOf (Some intent) q = (k : ℕ) × (1 ≤ k) × (k < 1 + length intent.writes) × (q ≡ stage_name k)
+abbrev pub IsStagedNameOf : Option Intent → List ℕ → Type 0
+IsStagedNameOf None q = ⊥
+IsStagedNameOf (Some intent) q = (k : ℕ) × (1 ≤ k) × (k < 1 + length intent.writes) × (q ≡ stage_name k)
 
 -- the state of files depends on their intent, on each file that is not hidden, and on those that are
 -- staged for the intent's actions
-abbrev pub RestsOn : (List ℕ → Bool) → Files → List ℕ → Type 0
-RestsOn ignored files q =
-    (q ≡ intent_name) ⊎ ((is_hidden ignored q ≡ false) ⊎ IsPlaceOf (intent_of files) q)
+abbrev pub StateDependsOn : (List ℕ → Bool) → Files → List ℕ → Type 0
+StateDependsOn ignored files q =
+    (q ≡ intent_name) ⊎ ((is_hidden ignored q ≡ false) ⊎ IsStagedNameOf (intent_of files) q)
 
 -- ---- what a crash leaves, as states
 
 -- each crash leaves the state of these files
-abbrev pub IsSettled : (List ℕ → Bool) → Files → TreeState → Type 0
-IsSettled ignored files v =
-    (image : Files) → IsImage v image → state_of ignored image ≡ state_of ignored files
+abbrev pub EachCrashLeaves : (List ℕ → Bool) → Files → TreeState → Type 0
+EachCrashLeaves ignored files v =
+    (image : Files) → IsCrashImage v image → state_of ignored image ≡ state_of ignored files
 
 -- each crash leaves a state that one at the start might have left, or that of these files
-abbrev pub IsOldOrNew : (List ℕ → Bool) → TreeState → Files → TreeState → Type 0
-IsOldOrNew ignored start files v = (image : Files) → IsImage v image
-    → ((was : Files) × IsImage start was × (state_of ignored image ≡ state_of ignored was))
+abbrev pub EachCrashLeavesOldOrNew : (List ℕ → Bool) → TreeState → Files → TreeState → Type 0
+EachCrashLeavesOldOrNew ignored start files v = (image : Files) → IsCrashImage v image
+    → ((was : Files) × IsCrashImage start was × (state_of ignored image ≡ state_of ignored was))
     ⊎ (state_of ignored image ≡ state_of ignored files)

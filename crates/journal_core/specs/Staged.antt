@@ -4,14 +4,15 @@
 -- in "Recovery".
 use Rattle.std.specs.Prelude.{◌≡◌, ◌⊎◌, ◌≤◌, ◌<◌, ℕ, ◌+◌, Bool, true, false, if◌then◌else◌, List, [], ◌∷◌, ◌++◌, length, Option, Some, None, IsSome, slice_get}
 use Rattle.base_core.specs.Files.{Files, NameMap, IsFolderOf, put_name}
-use Rattle.base_core.specs.Tree.{TreeState, IsMapOf, files_by, files_of}
-use Rattle.base_core.specs.Crash.{IsOrderly}
+use Rattle.base_core.specs.Tree.{TreeState, files_by, files_of}
+use Rattle.base_core.specs.Undone.{IsDurable, IsCrashMap}
 use Rattle.base_core.specs.Restart.{EachMoment}
 use Rattle.base_core.specs.declared.cause.Cause.{Cause}
 use Rattle.adb_schema.specs.Soundness.{first_fault}
 use Rattle.adb_view.specs.declared.tables.Which.TheVariants.{Intent as IntentTable}
-use Rattle.journal_core.specs.Recovery.{Intent, IsOldOrNew, IsPlaceOf, RestsOn, intent_name, intent_of, is_staged, recovered_files, stage_name, state_of}
-use Rattle.journal_core.specs.Quiet.{IsQuiet}
+use Rattle.journal_core.specs.Recovery.{Intent, EachCrashLeavesOldOrNew, IsStagedNameOf, StateDependsOn, intent_name, intent_of, is_staged, recovered_files, stage_name, state_of}
+use Rattle.journal_core.specs.Kept.{IsInNoMap}
+use Rattle.journal_core.specs.Quiet.{EachCrashLeavesOld}
 
 -- a stage for its calls: its actions, how many of its writes have their staged files, whether the next
 -- one's file is begun, whether the intent is published, and how many actions are done
@@ -50,23 +51,30 @@ with_staged k (bytes ∷ contents) files =
     with_staged (k + 1) contents (put_name files (stage_name k) bytes)
 
 -- the files with one more staged file, number k, if there are bytes for it: the file that is begun
-abbrev pub with_begun : ℕ → Option (List ℕ) → Files → Files
-with_begun k None files = files
-with_begun k (Some bytes) files = put_name files (stage_name k) bytes
+abbrev pub with_begun_file : ℕ → Option (List ℕ) → Files → Files
+with_begun_file k None files = files
+with_begun_file k (Some bytes) files = put_name files (stage_name k) bytes
 
 -- a file is under the name, and under no other name in any map; and in none of these maps an action of
 -- the intent uses it
-pub record IsAlone (name : List ℕ) (v : TreeState) : Type 0 where
+pub record IsOnlyNameOfFile (name : List ℕ) (v : TreeState) : Type 0 where
   pub number : ℕ
   pub there : v.names name ≡ Some number
-  pub alone : (map : NameMap) → IsMapOf v map → (q : List ℕ) → map q ≡ Some number → q ≡ name
-  pub no_place : (map : NameMap) → IsMapOf v map → map name ≡ Some number
-      → IsPlaceOf (intent_of (files_by v map)) name → ⊥
+  pub alone : (map : NameMap) → IsCrashMap v map → (q : List ℕ) → map q ≡ Some number → q ≡ name
+  pub no_place : (map : NameMap) → IsCrashMap v map → map name ≡ Some number
+      → IsStagedNameOf (intent_of (files_by v map)) name → ⊥
 
 -- the staged file number k was begun, if there are bytes for it
 abbrev pub IsBegun : ℕ → Option (List ℕ) → TreeState → Type 0
 IsBegun k None v = Unit {0}
-IsBegun k (Some bytes) v = IsAlone (stage_name k) v
+IsBegun k (Some bytes) v = IsOnlyNameOfFile (stage_name k) v
+
+-- once a file of a stage is begun, no crash restores an intent, by which it would be a staged file of
+-- another change
+abbrev pub HasNoOtherIntent : List (List ℕ) → Option (List ℕ) → TreeState → Type 0
+HasNoOtherIntent contents (Some bytes) v = IsInNoMap intent_name v
+HasNoOtherIntent (bytes ∷ contents) None v = IsInNoMap intent_name v
+HasNoOtherIntent [] None v = Unit {0}
 
 -- Only a stage's calls have written the tree since the files as read were `base`, without an intent.
 -- Files with these bytes are staged and synced, and one with the bytes of the file that is begun is
@@ -75,25 +83,40 @@ pub record IsStaged (stage : Staging) (contents : List (List ℕ)) (begun : Opti
     (base : Files) (v : TreeState) : Type 0 where
   pub count : length contents ≡ stage.staged
   pub absent : base intent_name ≡ None
-  pub reads : files_of v ≡ with_begun (1 + length contents) begun (with_staged 1 contents base)
+  pub reads : files_of v ≡ with_begun_file (1 + length contents) begun (with_staged 1 contents base)
   pub synced : (k n : ℕ) → 1 ≤ k → k < 1 + length contents → v.names (stage_name k) ≡ Some n
       → (v.files n).synced ≡ true
   pub alone : IsBegun (1 + length contents) begun v
+  pub gone : HasNoOtherIntent contents begun v
 
 -- ---- the actions
 
+-- a name that is still needed when so many actions are done: the intent's, and those of each move that
+-- is left
+abbrev pub IsNeeded : Intent → ℕ → List ℕ → Type 0
+IsNeeded intent acted q =
+    (q ≡ intent_name)
+    ⊎ ((i : ℕ) × (acted ≤ length intent.removals + i)
+    × ((slice_get intent.writes i ≡ Some q) ⊎ ((i < length intent.writes) × (q ≡ stage_name (i + 1)))))
+
+-- no crash undoes a change of a name that is still needed
+abbrev pub NeededNamesLast : Intent → ℕ → TreeState → Type 0
+NeededNamesLast intent acted v =
+    (map : NameMap) → IsCrashMap v map → (q : List ℕ) → IsNeeded intent acted q → map q ≡ v.names q
+
 -- the first so many actions are done in these files
-pub record AreDone (intent : Intent) (acted : ℕ) (files : Files) : Type 0 where
+pub record AreActionsDone (intent : Intent) (acted : ℕ) (files : Files) : Type 0 where
   pub removed : (i : ℕ) (name : List ℕ) → i < acted → slice_get intent.removals i ≡ Some name
       → files name ≡ None
   pub moved : (k : ℕ) → 1 ≤ k → length intent.removals + k ≤ acted → files (stage_name k) ≡ None
 
 -- from the publishing on: the intent is read, recovery of the files as read yields these files, and the
--- stage's actions so far are done
+-- stage's actions so far are done; a crash undoes the publishing no more
 pub record IsActing (stage : Staging) (files : Files) (v : TreeState) : Type 0 where
-  pub stands : intent_of (files_of v) ≡ Some stage.intent
+  pub located : intent_of (files_of v) ≡ Some stage.intent
   pub reads : recovered_files (files_of v) ≡ files
-  pub done : AreDone stage.intent stage.acted (files_of v)
+  pub done : AreActionsDone stage.intent stage.acted (files_of v)
+  pub last : NeededNamesLast stage.intent stage.acted v
 
 -- ---- recovery
 
@@ -107,40 +130,40 @@ IsEmptyStage files = (q : List ℕ) → is_staged q ≡ true → files q ≡ Non
 
 -- ---- moments
 
--- an intent that was made as file number `made` or later is read, and the files as read stand for these
--- files
-abbrev pub Publishes : (List ℕ → Bool) → Files → ℕ → TreeState → Type 0
-Publishes ignored files made v =
+-- an intent is under its name, its file was made since (its number is `made` or larger), and recovery
+-- of the files as read yields the state of these files
+abbrev pub IsCommittedFor : (List ℕ → Bool) → Files → ℕ → TreeState → Type 0
+IsCommittedFor ignored files made v =
     (n : ℕ)
     × (v.names intent_name ≡ Some n)
     × (made ≤ n)
     × (state_of ignored (files_of v) ≡ state_of ignored files)
 
--- at one of these moments an intent that was made as file number `made` or later was read and stood for
--- these files
-abbrev pub HasPublished : (List ℕ → Bool) → Files → ℕ → List TreeState → Type 0
-HasPublished ignored files made [] = ⊥
-HasPublished ignored files made (v ∷ earlier) =
-    Publishes ignored files made v ⊎ HasPublished ignored files made earlier
+-- at one of these moments an intent was under its name, its file was made since (its number is `made` or
+-- larger), and recovery of the files as read would have yielded the state of these files
+abbrev pub WasCommittedFor : (List ℕ → Bool) → Files → ℕ → List TreeState → Type 0
+WasCommittedFor ignored files made [] = ⊥
+WasCommittedFor ignored files made (v ∷ earlier) =
+    IsCommittedFor ignored files made v ⊎ WasCommittedFor ignored files made earlier
 
--- a moment of a run that leads to these files: a crash leaves a state from before or theirs; it leaves
--- one from before as long as no intent that was made since and stands for them was read
-pub record IsOnTheWay (ignored : List ℕ → Bool) (files : Files) (start : TreeState)
+-- A moment of a run that leads to these files. A crash leaves an old state or theirs. Before an intent
+-- that was made since, and yields their state, is under its name, it leaves an old one.
+pub record IsOldUntilCommit (ignored : List ℕ → Bool) (files : Files) (start : TreeState)
     (earlier : List TreeState) (v : TreeState) : Type 0 where
-  pub orderly : IsOrderly (RestsOn ignored) v
-  pub old_or_new : IsOldOrNew ignored start files v
-  pub unpublished : (HasPublished ignored files start.made (v ∷ earlier) → ⊥)
-      → IsQuiet ignored start v
+  pub is_durable : IsDurable (StateDependsOn ignored) v
+  pub old_or_new : EachCrashLeavesOldOrNew ignored start files v
+  pub unpublished : (WasCommittedFor ignored files start.made (v ∷ earlier) → ⊥)
+      → EachCrashLeavesOld ignored start v
   pub made : start.made ≤ v.made
 
 -- a run so far that leads to these files: each of its moments is on the way to them, and by one of them
 -- an intent of the run that stands for them was read
-pub record PublishedBy (ignored : List ℕ → Bool) (files : Files) (start : TreeState)
+pub record CommittedBy (ignored : List ℕ → Bool) (files : Files) (start : TreeState)
     (old new : List TreeState) : Type 0 where
   pub added : List TreeState
   pub is : new ≡ added ++ old
-  pub each : EachMoment (IsOnTheWay ignored files start) added
-  pub published : HasPublished ignored files start.made added
+  pub each : EachMoment (IsOldUntilCommit ignored files start) added
+  pub published : WasCommittedFor ignored files start.made added
 
 -- ---- free paths
 
@@ -150,15 +173,15 @@ MayBePresent files q =
     IsSome (files q) ⊎ ((q ≡ intent_name) ⊎ ((k : ℕ) × (q ≡ stage_name k)))
 
 -- no name becomes a folder of another if the intent and all staged files are added
-pub record HasRoomBeside (files : Files) : Type 0 where
+pub record AreJournalPathsFree (files : Files) : Type 0 where
   pub folders : (p q : List ℕ) → IsFolderOf p q → MayBePresent files p → MayBePresent files q → ⊥
 
 -- nothing is staged yet, and no name becomes a folder of another if the intent and all staged files are
 -- added
-pub record HasRoomToStage (files : Files) : Type 0 where
+pub record AreStagingPathsFree (files : Files) : Type 0 where
   pub empty : IsEmptyStage files
-  pub beside : HasRoomBeside files
+  pub beside : AreJournalPathsFree files
 
 -- if an intent is found, the paths of its actions are free
-abbrev pub HasRoomToReplay : Files → Type 0
-HasRoomToReplay files = IsSome (intent_of files) → HasRoomBeside (recovered_files files)
+abbrev pub AreReplayPathsFree : Files → Type 0
+AreReplayPathsFree files = IsSome (intent_of files) → AreJournalPathsFree (recovered_files files)

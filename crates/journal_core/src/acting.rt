@@ -2,20 +2,20 @@
 //! The rules are in `docs/crash-safety.md`, "A change of several files", step 3 of the table and
 //! the text on actions below it.
 ghost use Rattle.std.specs.Prelude.{◌≡◌, ◌≤◌, ◌<◌, ◌+◌, ℕ, Bool, List, length, IfOk, OnOk, OnErr, IsSome};
-ghost use Rattle.base_core.specs.Calls.{HasNow, IfObservable};
-ghost use Rattle.base_core.specs.Crash.{IsOrderly, Since};
-ghost use Rattle.base_core.specs.Faults.{GoesOn, HasCause, IsNoFault};
+ghost use Rattle.base_core.specs.Calls.{HoldsNow, IfObservable};
+ghost use Rattle.base_core.specs.Crash.{Since};
+ghost use Rattle.base_core.specs.Undone.{IsDurable};
+ghost use Rattle.base_core.specs.Faults.{CountsOnlyRise, HasCause, IsNoFault};
 ghost use Rattle.base_core.specs.Files.{Files};
 ghost use Rattle.base_core.specs.Tree.{CanRename};
-ghost use Rattle.journal_core.specs.Acting.{MovesIfThere, acting_stage};
-ghost use Rattle.journal_core.specs.Kept.{IsOfAction, KeepsFilesBut, KeepsIntent, KeepsOldOrNewBytes, RecoversTo};
-ghost use Rattle.journal_core.specs.Quiet.{IsStill};
-ghost use Rattle.journal_core.specs.Recovery.{RestsOn};
-ghost use Rattle.journal_core.specs.Staged.{HasRoomBeside, IsActing, action_count};
+ghost use Rattle.journal_core.specs.Acting.{MovesIfPresent, acting_stage};
+ghost use Rattle.journal_core.specs.Kept.{IsOfAction, KeepsFilesExcept, KeepsIntent, KeepsOldOrNewBytes, RecoversTo};
+ghost use Rattle.journal_core.specs.Quiet.{StateIsUnchanged};
+ghost use Rattle.journal_core.specs.Recovery.{StateDependsOn};
+ghost use Rattle.journal_core.specs.Staged.{AreJournalPathsFree, IsActing, action_count};
 
 use crate::calls::{remove, rename};
-use crate::laws::Journal;
-use base_core::{Disk, Name, Tree, a_crash_may_leave_the_files_as_read, order_outlasts_a_crash};
+use base_core::{Disk, Name, Tree};
 use journal_intent::PreparedIntent;
 
 /// Does the next action of an intent, of which `acted` are done and one is left, and returns how
@@ -26,12 +26,12 @@ pub(crate) fn act<T: Tree>(
     tree: &mut T,
 ) -> Result<usize, Disk>
     ensures moments { IfObservable (T.history tree.old) (λ v. (ignored : List ℕ → Bool)
-        (files : Files) → IsOrderly (RestsOn ignored) v
+        (files : Files) → IsDurable (StateDependsOn ignored) v
         → IsActing (acting_stage intent.now acted) files v
-        → Since (IsStill ignored v) (T.history tree.old) (T.history tree.new)) }
+        → Since (StateIsUnchanged ignored v) (T.history tree.old) (T.history tree.new)) }
     ensures acting { IfObservable (T.history tree.old) (λ v. (files : Files)
         → IsActing (acting_stage intent.now acted) files v
-        → IfOk result (λ next. HasNow (T.history tree.new)
+        → IfOk result (λ next. HoldsNow (T.history tree.new)
         (IsActing (acting_stage intent.now next) files))) }
     ensures reads { IfObservable (T.history tree.old) (λ v. (files : Files)
         → IsActing (acting_stage intent.now acted) files v
@@ -42,21 +42,21 @@ pub(crate) fn act<T: Tree>(
     ensures waiting { IfObservable (T.history tree.old) (λ v.
         Since (KeepsIntent v) (T.history tree.old) (T.history tree.new)) }
     ensures others { IfObservable (T.history tree.old) (λ v.
-        HasNow (T.history tree.new) (KeepsFilesBut (IsOfAction intent.now acted) v)) }
+        HoldsNow (T.history tree.new) (KeepsFilesExcept (IsOfAction intent.now acted) v)) }
     ensures more { acted < action_count intent.now → IfOk result (λ next. next ≡ acted + 1) }
     ensures none_left { action_count intent.now ≤ acted
         → IfOk result (λ next. next ≡ acted) × (tree.new ≡ tree.old) }
 
     // No count of faults falls; a fault of the tree is returned only if that count rose, and Ok
     // only if it did not.
-    ensures goes_on { GoesOn (T.counts tree.old) (T.counts tree.new) }
+    ensures goes_on { CountsOnlyRise (T.counts tree.old) (T.counts tree.new) }
     ensures cause { OnErr result (HasCause (T.counts tree.old) (T.counts tree.new)) }
     ensures kept { OnOk result (IsNoFault (T.counts tree.old) (T.counts tree.new)) }
 
     // If the intent and the staged files have free paths beside the files of the actions done, no
     // call is a misuse.
     ensures proper { IfObservable (T.history tree.old) (λ v. (files : Files)
-        → IsActing (acting_stage intent.now acted) files v → HasRoomBeside files
+        → IsActing (acting_stage intent.now acted) files v → AreJournalPathsFree files
         → (T.counts tree.new).misuses ≡ (T.counts tree.old).misuses) }
 {
     // A law that the proof needs; it computes nothing.
@@ -78,12 +78,12 @@ pub(crate) fn act<T: Tree>(
 fn remove_one<T: Tree>(intent: &PreparedIntent, i: usize, tree: &mut T) -> Result<(), Disk>
     requires { i < length intent.now.removals }
     ensures moments { IfObservable (T.history tree.old) (λ v. (ignored : List ℕ → Bool)
-        (files : Files) → IsOrderly (RestsOn ignored) v
+        (files : Files) → IsDurable (StateDependsOn ignored) v
         → IsActing (acting_stage intent.now i) files v
-        → Since (IsStill ignored v) (T.history tree.old) (T.history tree.new)) }
+        → Since (StateIsUnchanged ignored v) (T.history tree.old) (T.history tree.new)) }
     ensures acting { IfObservable (T.history tree.old) (λ v. (files : Files)
         → IsActing (acting_stage intent.now i) files v
-        → OnOk result (HasNow (T.history tree.new)
+        → OnOk result (HoldsNow (T.history tree.new)
         (IsActing (acting_stage intent.now (i + 1)) files))) }
     ensures reads { IfObservable (T.history tree.old) (λ v. (files : Files)
         → IsActing (acting_stage intent.now i) files v
@@ -94,11 +94,11 @@ fn remove_one<T: Tree>(intent: &PreparedIntent, i: usize, tree: &mut T) -> Resul
     ensures waiting { IfObservable (T.history tree.old) (λ v.
         Since (KeepsIntent v) (T.history tree.old) (T.history tree.new)) }
     ensures others { IfObservable (T.history tree.old) (λ v.
-        HasNow (T.history tree.new) (KeepsFilesBut (IsOfAction intent.now i) v)) }
+        HoldsNow (T.history tree.new) (KeepsFilesExcept (IsOfAction intent.now i) v)) }
 
     // No count of faults falls; a fault of the tree is returned only if that count rose, and Ok
     // only if it did not.
-    ensures goes_on { GoesOn (T.counts tree.old) (T.counts tree.new) }
+    ensures goes_on { CountsOnlyRise (T.counts tree.old) (T.counts tree.new) }
     ensures cause { OnErr result (HasCause (T.counts tree.old) (T.counts tree.new)) }
     ensures kept { OnOk result (IsNoFault (T.counts tree.old) (T.counts tree.new)) }
 
@@ -106,9 +106,6 @@ fn remove_one<T: Tree>(intent: &PreparedIntent, i: usize, tree: &mut T) -> Resul
     ensures proper { IfObservable (T.history tree.old)
         (λ v. (T.counts tree.new).misuses ≡ (T.counts tree.old).misuses) }
 {
-    // Laws that the proof needs; they compute nothing.
-    a_crash_may_leave_the_files_as_read();
-    order_outlasts_a_crash::<Journal>();
     intent.names_are_free();
     remove(tree, intent.removal(i))
 }
@@ -124,12 +121,12 @@ fn move_one<T: Tree>(
     requires within { j < length intent.now.writes }
     requires behind { acted ≡ length intent.now.removals + j }
     ensures moments { IfObservable (T.history tree.old) (λ v. (ignored : List ℕ → Bool)
-        (files : Files) → IsOrderly (RestsOn ignored) v
+        (files : Files) → IsDurable (StateDependsOn ignored) v
         → IsActing (acting_stage intent.now acted) files v
-        → Since (IsStill ignored v) (T.history tree.old) (T.history tree.new)) }
+        → Since (StateIsUnchanged ignored v) (T.history tree.old) (T.history tree.new)) }
     ensures acting { IfObservable (T.history tree.old) (λ v. (files : Files)
         → IsActing (acting_stage intent.now acted) files v
-        → OnOk result (HasNow (T.history tree.new)
+        → OnOk result (HoldsNow (T.history tree.new)
         (IsActing (acting_stage intent.now (acted + 1)) files))) }
     ensures reads { IfObservable (T.history tree.old) (λ v. (files : Files)
         → IsActing (acting_stage intent.now acted) files v
@@ -140,35 +137,32 @@ fn move_one<T: Tree>(
     ensures waiting { IfObservable (T.history tree.old) (λ v.
         Since (KeepsIntent v) (T.history tree.old) (T.history tree.new)) }
     ensures others { IfObservable (T.history tree.old) (λ v.
-        HasNow (T.history tree.new) (KeepsFilesBut (IsOfAction intent.now acted) v)) }
+        HoldsNow (T.history tree.new) (KeepsFilesExcept (IsOfAction intent.now acted) v)) }
 
     // No count of faults falls; a fault of the tree is returned only if that count rose, and Ok
     // only if it did not.
-    ensures goes_on { GoesOn (T.counts tree.old) (T.counts tree.new) }
+    ensures goes_on { CountsOnlyRise (T.counts tree.old) (T.counts tree.new) }
     ensures cause { OnErr result (HasCause (T.counts tree.old) (T.counts tree.new)) }
     ensures kept { OnOk result (IsNoFault (T.counts tree.old) (T.counts tree.new)) }
 
     // If the intent and the staged files have free paths beside the files of the actions done, no
     // call is a misuse.
     ensures proper { IfObservable (T.history tree.old) (λ v. (files : Files)
-        → IsActing (acting_stage intent.now acted) files v → HasRoomBeside files
+        → IsActing (acting_stage intent.now acted) files v → AreJournalPathsFree files
         → (T.counts tree.new).misuses ≡ (T.counts tree.old).misuses) }
 {
-    // Laws that the proof needs; they compute nothing.
-    a_crash_may_leave_the_files_as_read();
-    order_outlasts_a_crash::<Journal>();
     intent.names_are_free();
     move_waiting(tree, intent.stage_name(j + 1), intent.write(j))
 }
 
 /// Moves the staged file at a place to its name; if it is absent, it was moved before.
 fn move_waiting<T: Tree>(tree: &mut T, place: &Name, name: &Name) -> Result<(), Disk>
-    ensures moves { MovesIfThere place.now name.now (T.history tree.old) (T.history tree.new)
+    ensures moves { MovesIfPresent place.now name.now (T.history tree.old) (T.history tree.new)
         result }
 
     // No count of faults falls; a fault of the tree is returned only if that count rose, and Ok
     // only if it did not.
-    ensures goes_on { GoesOn (T.counts tree.old) (T.counts tree.new) }
+    ensures goes_on { CountsOnlyRise (T.counts tree.old) (T.counts tree.new) }
     ensures cause { OnErr result (HasCause (T.counts tree.old) (T.counts tree.new)) }
     ensures kept { OnOk result (IsNoFault (T.counts tree.old) (T.counts tree.new)) }
 

@@ -2,16 +2,16 @@
 //! clauses.
 //! What each call does is in `docs/crash-safety.md`, "What each call does"; the contract is that of
 //! the same call of the trait `Tree` of `base_core`.
-ghost use Rattle.base_core.specs.Calls.{IsCounted, Moves};
-ghost use Rattle.base_core.specs.Tree.{after_append, after_create, after_failed_append, after_remove, after_rename, after_sync, after_sync_names, same_state, Anywhere, CanCreate, CanRename, HasName};
+ghost use Rattle.base_core.specs.Calls.{IsCounted, ChangesHistory};
+ghost use Rattle.base_core.specs.Tree.{after_append, after_create, after_failed_append, after_remove, after_rename, after_sync, after_sync_names, same_state, IsAlwaysAllowed, CanCreate, CanRename, HasName};
 
 use base_core::{Disk, Name, Tree};
 
 /// Removes the name; an absent one is no fault.
 pub fn remove<T: Tree>(tree: &mut T, name: &Name) -> Result<(), Disk>
-    ensures moves { Moves Anywhere (after_remove name.now) (after_remove name.now)
+    ensures moves { ChangesHistory IsAlwaysAllowed (after_remove name.now) (after_remove name.now)
         (T.history tree.old) (T.history tree.new) result }
-    ensures counts { IsCounted Anywhere (T.history tree.old) (T.counts tree.old)
+    ensures counts { IsCounted IsAlwaysAllowed (T.history tree.old) (T.counts tree.old)
         (T.counts tree.new) result }
 {
     tree.remove(name)
@@ -19,7 +19,8 @@ pub fn remove<T: Tree>(tree: &mut T, name: &Name) -> Result<(), Disk>
 
 /// Makes an empty file under a name that is absent.
 pub fn create<T: Tree>(tree: &mut T, name: &Name) -> Result<(), Disk>
-    ensures moves { Moves (CanCreate name.now) (after_create name.now) (after_create name.now)
+    ensures moves { ChangesHistory (CanCreate name.now) (after_create name.now) (after_create
+        name.now)
         (T.history tree.old) (T.history tree.new) result }
     ensures counts { IsCounted (CanCreate name.now) (T.history tree.old) (T.counts tree.old)
         (T.counts tree.new) result }
@@ -29,7 +30,7 @@ pub fn create<T: Tree>(tree: &mut T, name: &Name) -> Result<(), Disk>
 
 /// Adds the bytes at the end of the file of the name.
 pub fn append<T: Tree>(tree: &mut T, name: &Name, bytes: &[u8]) -> Result<(), Disk>
-    ensures moves { Moves (HasName name.now) (after_append name.now bytes.now)
+    ensures moves { ChangesHistory (HasName name.now) (after_append name.now bytes.now)
         (after_failed_append name.now)
         (T.history tree.old) (T.history tree.new) result }
     ensures counts { IsCounted (HasName name.now) (T.history tree.old)
@@ -40,7 +41,7 @@ pub fn append<T: Tree>(tree: &mut T, name: &Name, bytes: &[u8]) -> Result<(), Di
 
 /// Makes the bytes of the file durable: a crash keeps them.
 pub fn sync_file<T: Tree>(tree: &mut T, name: &Name) -> Result<(), Disk>
-    ensures moves { Moves (HasName name.now) (after_sync name.now) same_state
+    ensures moves { ChangesHistory (HasName name.now) (after_sync name.now) same_state
         (T.history tree.old) (T.history tree.new) result }
     ensures counts { IsCounted (HasName name.now) (T.history tree.old)
         (T.counts tree.old) (T.counts tree.new) result }
@@ -50,7 +51,7 @@ pub fn sync_file<T: Tree>(tree: &mut T, name: &Name) -> Result<(), Disk>
 
 /// Moves the file of `from` to `to`.
 pub fn rename<T: Tree>(tree: &mut T, from: &Name, to: &Name) -> Result<(), Disk>
-    ensures moves { Moves (CanRename from.now to.now) (after_rename from.now to.now)
+    ensures moves { ChangesHistory (CanRename from.now to.now) (after_rename from.now to.now)
         (after_rename from.now to.now) (T.history tree.old) (T.history tree.new) result }
     ensures counts { IsCounted (CanRename from.now to.now) (T.history tree.old)
         (T.counts tree.old) (T.counts tree.new) result }
@@ -60,9 +61,9 @@ pub fn rename<T: Tree>(tree: &mut T, from: &Name, to: &Name) -> Result<(), Disk>
 
 /// Makes all names durable: no crash undoes a change of them.
 pub fn sync_all_names<T: Tree>(tree: &mut T) -> Result<(), Disk>
-    ensures moves { Moves Anywhere after_sync_names same_state (T.history tree.old)
+    ensures moves { ChangesHistory IsAlwaysAllowed after_sync_names same_state (T.history tree.old)
         (T.history tree.new) result }
-    ensures counts { IsCounted Anywhere (T.history tree.old) (T.counts tree.old)
+    ensures counts { IsCounted IsAlwaysAllowed (T.history tree.old) (T.counts tree.old)
         (T.counts tree.new) result }
 {
     tree.sync_names()

@@ -19,16 +19,18 @@ mod targets;
 
 pub use fault::RecoverFault;
 pub use journal_intent::{
-    an_intent_is_read_from_a_sound_container, each_waiting_file_has_its_own_name,
+    an_intent_is_read_from_a_sound_container, each_staged_file_has_its_own_name,
 };
 pub use laws::{
-    Journal, a_crash_leaves_an_orderly_settled_tree, a_new_stage_has_staged_nothing,
-    a_state_has_the_recovered_files, a_state_shows_a_bad_intent, an_image_has_the_state_of_its_map,
+    Journal, a_crash_leaves_a_durable_settled_tree, a_new_stage_has_staged_nothing,
+    a_state_has_the_recovered_files, a_state_shows_a_bad_intent,
+    an_empty_tree_has_free_paths_for_a_change, an_image_has_the_state_of_its_map,
     an_intent_that_is_read_has_been_published, each_write_has_its_own_bytes,
-    moments_on_the_way_join, more_names_may_be_ignored, no_files_leave_room_for_a_change,
-    old_or_new_then_quiet_is_old_or_new, quiet_moments_join, quiet_then_old_or_new_is_old_or_new,
-    settled_then_old_or_new_is_one_of_two, settled_then_quiet_is_settled, still_moments_join,
-    the_actions_touch_the_names_of_their_intent, the_files_as_read_have_the_settled_state,
+    moments_old_until_commit_compose, more_names_may_be_ignored,
+    old_or_new_then_quiet_is_old_or_new, quiet_moments_compose,
+    quiet_then_old_or_new_is_old_or_new, settled_then_old_or_new_is_one_of_two,
+    settled_then_quiet_is_settled, the_actions_touch_the_names_of_their_intent,
+    the_files_as_read_have_the_settled_state, unchanged_moments_compose,
     what_is_not_synced_is_not_safe,
 };
 pub use stage::{Stage, apply_all};

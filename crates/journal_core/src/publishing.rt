@@ -2,23 +2,23 @@
 //! The rules are in `docs/crash-safety.md`, "A change of several files", step 2 of the table, and
 //! the syncs before and after the rename of the intent.
 ghost use Rattle.std.specs.Prelude.{◌≡◌, ◌⊎◌, ◌∷◌, [], ℕ, Bool, List, None, IsSome, OnOk, OnErr};
-ghost use Rattle.base_core.specs.Calls.{HasNow, IfObservable};
-ghost use Rattle.base_core.specs.Crash.{IsOrderly, Since};
-ghost use Rattle.base_core.specs.Faults.{GoesOn, HasCause, IsNoFault};
+ghost use Rattle.base_core.specs.Calls.{HoldsNow, IfObservable};
+ghost use Rattle.base_core.specs.Crash.{Since};
+ghost use Rattle.base_core.specs.Undone.{IsDurable};
+ghost use Rattle.base_core.specs.Faults.{CountsOnlyRise, HasCause, IsNoFault};
 ghost use Rattle.base_core.specs.Files.{Files};
 ghost use Rattle.base_core.specs.Restart.{SinceBy};
 ghost use Rattle.base_core.specs.Tree.{CanCreate, CanRename, files_of};
 ghost use Rattle.journal_core.specs.Acting.{acting_stage, full_stage};
-ghost use Rattle.journal_core.specs.Entering.{IsEntered, IsEntering, IsReady, IsWritten};
+ghost use Rattle.journal_core.specs.Committing.{HasCommittedIntent, IsCommitting, IsReadyToCommit, IsWritten};
 ghost use Rattle.journal_core.specs.Filling.{synced_file};
-ghost use Rattle.journal_core.specs.Kept.{KeepsFilesBut, KeepsMapsBut, NamesLastBut, RecoversTo};
-ghost use Rattle.journal_core.specs.Quiet.{IsStill};
-ghost use Rattle.journal_core.specs.Recovery.{Intent, IsSettled, RestsOn, after_actions, intent_name, stage_name};
-ghost use Rattle.journal_core.specs.Staged.{HasRoomToStage, IsActing, IsOnTheWay, IsStaged, PublishedBy};
+ghost use Rattle.journal_core.specs.Kept.{KeepsFilesExcept, KeepsMapsExcept, NamesAreDurableExcept, RecoversTo};
+ghost use Rattle.journal_core.specs.Quiet.{StateIsUnchanged};
+ghost use Rattle.journal_core.specs.Recovery.{Intent, EachCrashLeaves, StateDependsOn, after_actions, intent_name, stage_name};
+ghost use Rattle.journal_core.specs.Staged.{AreStagingPathsFree, IsActing, IsOldUntilCommit, IsStaged, CommittedBy};
 
 use crate::calls::{append, create, rename, sync_all_names, sync_file};
-use crate::laws::Journal;
-use base_core::{Disk, Name, Tree, a_crash_may_leave_the_files_as_read, order_outlasts_a_crash};
+use base_core::{Disk, Name, Tree};
 use journal_intent::PreparedIntent;
 
 /// Writes the intent as the staged file 0, and moves it to its name. This commits (publishes) the
@@ -26,27 +26,27 @@ use journal_intent::PreparedIntent;
 /// are those of `Stage::publish`, for a stage all of whose files are staged.
 pub(crate) fn publish_intent<T: Tree>(tree: &mut T, intent: &PreparedIntent) -> Result<(), Disk>
     ensures moments { IfObservable (T.history tree.old) (λ v. (ignored : List ℕ → Bool)
-        (contents : List (List ℕ)) (base : Files) → IsOrderly (RestsOn ignored) v
+        (contents : List (List ℕ)) (base : Files) → IsDurable (StateDependsOn ignored) v
         → IsStaged (full_stage intent.now) contents None base v
-        → SinceBy (IsOnTheWay ignored (after_actions intent.now (files_of v)) v)
+        → SinceBy (IsOldUntilCommit ignored (after_actions intent.now (files_of v)) v)
         (T.history tree.old) (T.history tree.new)) }
     ensures published { IfObservable (T.history tree.old) (λ v. (ignored : List ℕ → Bool)
-        (contents : List (List ℕ)) (base : Files) → IsOrderly (RestsOn ignored) v
+        (contents : List (List ℕ)) (base : Files) → IsDurable (StateDependsOn ignored) v
         → IsStaged (full_stage intent.now) contents None base v → OnOk result
-        (PublishedBy ignored (after_actions intent.now (files_of v)) v (T.history tree.old)
+        (CommittedBy ignored (after_actions intent.now (files_of v)) v (T.history tree.old)
         (T.history tree.new))) }
     ensures settled { IfObservable (T.history tree.old) (λ v. (ignored : List ℕ → Bool)
-        (contents : List (List ℕ)) (base : Files) → IsOrderly (RestsOn ignored) v
+        (contents : List (List ℕ)) (base : Files) → IsDurable (StateDependsOn ignored) v
         → IsStaged (full_stage intent.now) contents None base v
-        → OnOk result (HasNow (T.history tree.new)
-        (IsSettled ignored (after_actions intent.now (files_of v))))) }
+        → OnOk result (HoldsNow (T.history tree.new)
+        (EachCrashLeaves ignored (after_actions intent.now (files_of v))))) }
     ensures acting { IfObservable (T.history tree.old) (λ v. (contents : List (List ℕ))
         (base : Files) → IsStaged (full_stage intent.now) contents None base v
-        → OnOk result (HasNow (T.history tree.new)
+        → OnOk result (HoldsNow (T.history tree.new)
         (IsActing (acting_stage intent.now 0) (after_actions intent.now (files_of v))))) }
     ensures last { IfObservable (T.history tree.old) (λ v. v.names intent_name ≡ None
         → Since (λ w. IsSome (w.names intent_name)
-        → NamesLastBut (intent_name ∷ stage_name 0 ∷ []) w)
+        → NamesAreDurableExcept (intent_name ∷ stage_name 0 ∷ []) w)
         (T.history tree.old) (T.history tree.new)) }
     ensures reads { IfObservable (T.history tree.old) (λ v. (contents : List (List ℕ))
         (base : Files) → IsStaged (full_stage intent.now) contents None base v
@@ -54,24 +54,24 @@ pub(crate) fn publish_intent<T: Tree>(tree: &mut T, intent: &PreparedIntent) -> 
         → RecoversTo (after_actions intent.now (files_of v)) w)
         (T.history tree.old) (T.history tree.new)) }
     ensures others { IfObservable (T.history tree.old) (λ v.
-        Since (KeepsFilesBut (λ q. (q ≡ intent_name) ⊎ (q ≡ stage_name 0)) v)
+        Since (KeepsFilesExcept (λ q. (q ≡ intent_name) ⊎ (q ≡ stage_name 0)) v)
         (T.history tree.old) (T.history tree.new)) }
     ensures maps { IfObservable (T.history tree.old) (λ v.
-        Since (KeepsMapsBut (intent_name ∷ stage_name 0 ∷ []) v)
+        Since (KeepsMapsExcept (intent_name ∷ stage_name 0 ∷ []) v)
         (T.history tree.old) (T.history tree.new)) }
     ensures only_intent { IfObservable (T.history tree.old) (λ v. OnOk result
-        (HasNow (T.history tree.new) (KeepsFilesBut (λ q. q ≡ intent_name) v))) }
+        (HoldsNow (T.history tree.new) (KeepsFilesExcept (λ q. q ≡ intent_name) v))) }
 
     // No count of faults falls; a fault of the tree is returned only if that count rose, and Ok
     // only if it did not.
-    ensures goes_on { GoesOn (T.counts tree.old) (T.counts tree.new) }
+    ensures goes_on { CountsOnlyRise (T.counts tree.old) (T.counts tree.new) }
     ensures cause { OnErr result (HasCause (T.counts tree.old) (T.counts tree.new)) }
     ensures kept { OnOk result (IsNoFault (T.counts tree.old) (T.counts tree.new)) }
 
     // If the paths of the stage are free, no call is a misuse.
     ensures proper { IfObservable (T.history tree.old) (λ v. (contents : List (List ℕ))
         (base : Files) → IsStaged (full_stage intent.now) contents None base v
-        → HasRoomToStage base → (T.counts tree.new).misuses ≡ (T.counts tree.old).misuses) }
+        → AreStagingPathsFree base → (T.counts tree.new).misuses ≡ (T.counts tree.old).misuses) }
 {
     // A law that the proof needs; it computes nothing.
     intent.names_are_free();
@@ -84,23 +84,23 @@ pub(crate) fn publish_intent<T: Tree>(tree: &mut T, intent: &PreparedIntent) -> 
 fn write_waiting<T: Tree>(tree: &mut T, place: &Name, bytes: &[u8]) -> Result<(), Disk>
     requires { place.now ≡ stage_name 0 }
     ensures moments { IfObservable (T.history tree.old) (λ v. (ignored : List ℕ → Bool)
-        → IsOrderly (RestsOn ignored) v → files_of v intent_name ≡ None
-        → Since (IsStill ignored v) (T.history tree.old) (T.history tree.new)) }
+        → IsDurable (StateDependsOn ignored) v → files_of v intent_name ≡ None
+        → Since (StateIsUnchanged ignored v) (T.history tree.old) (T.history tree.new)) }
     ensures written { IfObservable (T.history tree.old) (λ v. files_of v intent_name ≡ None
-        → OnOk result (HasNow (T.history tree.new)
+        → OnOk result (HoldsNow (T.history tree.new)
         (IsWritten place.now (synced_file bytes.now) v))) }
     ensures unread { IfObservable (T.history tree.old) (λ v. v.names intent_name ≡ None
         → Since (λ w. w.names intent_name ≡ None) (T.history tree.old) (T.history tree.new)) }
     ensures others { IfObservable (T.history tree.old) (λ v.
-        Since (KeepsFilesBut (λ q. q ≡ place.now) v) (T.history tree.old) (T.history tree.new)) }
+        Since (KeepsFilesExcept (λ q. q ≡ place.now) v) (T.history tree.old) (T.history tree.new)) }
     ensures maps { IfObservable (T.history tree.old) (λ v.
-        Since (KeepsMapsBut (stage_name 0 ∷ []) v) (T.history tree.old) (T.history tree.new)) }
+        Since (KeepsMapsExcept (stage_name 0 ∷ []) v) (T.history tree.old) (T.history tree.new)) }
     ensures absent { OnOk result
         (IfObservable (T.history tree.old) (λ v. v.names place.now ≡ None)) }
 
     // No count of faults falls; a fault of the tree is returned only if that count rose, and Ok
     // only if it did not.
-    ensures goes_on { GoesOn (T.counts tree.old) (T.counts tree.new) }
+    ensures goes_on { CountsOnlyRise (T.counts tree.old) (T.counts tree.new) }
     ensures cause { OnErr result (HasCause (T.counts tree.old) (T.counts tree.new)) }
     ensures kept { OnOk result (IsNoFault (T.counts tree.old) (T.counts tree.new)) }
 
@@ -108,9 +108,6 @@ fn write_waiting<T: Tree>(tree: &mut T, place: &Name, bytes: &[u8]) -> Result<()
     ensures proper { IfObservable (T.history tree.old) (λ v. CanCreate place.now v
         → (T.counts tree.new).misuses ≡ (T.counts tree.old).misuses) }
 {
-    // Laws that the proof needs; they compute nothing.
-    a_crash_may_leave_the_files_as_read();
-    order_outlasts_a_crash::<Journal>();
     create(tree, place)?;
     append(tree, place, bytes)?;
     sync_file(tree, place)
@@ -123,36 +120,36 @@ fn enter<T: Tree>(tree: &mut T, place: &Name, name: &Name) -> Result<(), Disk>
     requires place { place.now ≡ stage_name 0 }
     requires name { name.now ≡ intent_name }
     ensures moments { IfObservable (T.history tree.old) (λ v. (ignored : List ℕ → Bool)
-        (intent : Intent) (base : Files) (made : ℕ) → IsOrderly (RestsOn ignored) v
-        → IsReady intent base made v
-        → Since (IsEntering ignored (after_actions intent base) made v) (T.history tree.old)
+        (intent : Intent) (base : Files) (made : ℕ) → IsDurable (StateDependsOn ignored) v
+        → IsReadyToCommit intent base made v
+        → Since (IsCommitting ignored (after_actions intent base) made v) (T.history tree.old)
         (T.history tree.new)) }
     ensures entered { IfObservable (T.history tree.old) (λ v. (ignored : List ℕ → Bool)
-        (intent : Intent) (base : Files) (made : ℕ) → IsOrderly (RestsOn ignored) v
-        → IsReady intent base made v → OnOk result (HasNow (T.history tree.new)
-        (IsEntered ignored (after_actions intent base) made))) }
+        (intent : Intent) (base : Files) (made : ℕ) → IsDurable (StateDependsOn ignored) v
+        → IsReadyToCommit intent base made v → OnOk result (HoldsNow (T.history tree.new)
+        (HasCommittedIntent ignored (after_actions intent base) made))) }
     ensures acting { IfObservable (T.history tree.old) (λ v. (intent : Intent) (base : Files)
-        (made : ℕ) → IsReady intent base made v → OnOk result (HasNow (T.history tree.new)
+        (made : ℕ) → IsReadyToCommit intent base made v → OnOk result (HoldsNow (T.history tree.new)
         (IsActing (acting_stage intent 0) (after_actions intent base)))) }
     ensures last { IfObservable (T.history tree.old) (λ v. v.names intent_name ≡ None
         → Since (λ w. IsSome (w.names intent_name)
-        → NamesLastBut (intent_name ∷ stage_name 0 ∷ []) w)
+        → NamesAreDurableExcept (intent_name ∷ stage_name 0 ∷ []) w)
         (T.history tree.old) (T.history tree.new)) }
     ensures reads { IfObservable (T.history tree.old) (λ v. (intent : Intent) (base : Files)
-        (made : ℕ) → IsReady intent base made v → Since (λ w. IsSome (w.names intent_name)
+        (made : ℕ) → IsReadyToCommit intent base made v → Since (λ w. IsSome (w.names intent_name)
         → RecoversTo (after_actions intent base) w) (T.history tree.old) (T.history tree.new)) }
     ensures others { IfObservable (T.history tree.old) (λ v.
-        Since (KeepsFilesBut (λ q. (q ≡ intent_name) ⊎ (q ≡ stage_name 0)) v)
+        Since (KeepsFilesExcept (λ q. (q ≡ intent_name) ⊎ (q ≡ stage_name 0)) v)
         (T.history tree.old) (T.history tree.new)) }
     ensures maps { IfObservable (T.history tree.old) (λ v.
-        Since (KeepsMapsBut (intent_name ∷ stage_name 0 ∷ []) v)
+        Since (KeepsMapsExcept (intent_name ∷ stage_name 0 ∷ []) v)
         (T.history tree.old) (T.history tree.new)) }
     ensures moved { OnOk result
         (IfObservable (T.history tree.new) (λ w. w.names (stage_name 0) ≡ None)) }
 
     // No count of faults falls; a fault of the tree is returned only if that count rose, and Ok
     // only if it did not.
-    ensures goes_on { GoesOn (T.counts tree.old) (T.counts tree.new) }
+    ensures goes_on { CountsOnlyRise (T.counts tree.old) (T.counts tree.new) }
     ensures cause { OnErr result (HasCause (T.counts tree.old) (T.counts tree.new)) }
     ensures kept { OnOk result (IsNoFault (T.counts tree.old) (T.counts tree.new)) }
 
@@ -160,9 +157,6 @@ fn enter<T: Tree>(tree: &mut T, place: &Name, name: &Name) -> Result<(), Disk>
     ensures proper { IfObservable (T.history tree.old) (λ v. CanRename place.now name.now v
         → (T.counts tree.new).misuses ≡ (T.counts tree.old).misuses) }
 {
-    // Laws that the proof needs; they compute nothing.
-    a_crash_may_leave_the_files_as_read();
-    order_outlasts_a_crash::<Journal>();
     sync_all_names(tree)?;
     rename(tree, place, name)?;
     sync_all_names(tree)

@@ -4,18 +4,19 @@ ghost use Rattle.std.specs.Prelude.{◌≡◌, ◌⊎◌, ◌≤◌, ◌<◌, �
 ghost use Rattle.adb_schema.specs.Soundness.{first_fault};
 ghost use Rattle.adb_view.specs.declared.tables.Which.TheVariants.{Intent as IntentTable};
 ghost use Rattle.adb_write.specs.Canonical.{overflow_of};
-ghost use Rattle.base_core.specs.Calls.{HasNow, IfObservable};
-ghost use Rattle.base_core.specs.Crash.{IsOrderly, Since};
-ghost use Rattle.base_core.specs.Faults.{GoesOn, HasCause, IsNoFault};
+ghost use Rattle.base_core.specs.Calls.{HoldsNow, IfObservable};
+ghost use Rattle.base_core.specs.Crash.{Since};
+ghost use Rattle.base_core.specs.Undone.{IsDurable};
+ghost use Rattle.base_core.specs.Faults.{CountsOnlyRise, HasCause, IsNoFault};
 ghost use Rattle.base_core.specs.Files.{Files};
 ghost use Rattle.base_core.specs.Restart.{SinceBy};
 ghost use Rattle.base_core.specs.Tree.{files_of};
 ghost use Rattle.base_core.specs.declared.cause.Cause.{Cause};
 ghost use Rattle.journal_core.specs.Acting.{IsNextName};
-ghost use Rattle.journal_core.specs.Kept.{IsInNoMap, IsLessWaiting, IsOfAction, KeepsFilesBut, KeepsIntent, KeepsMapsBut, KeepsOldOrNewBytes, NamesLastBut, RecoversTo};
-ghost use Rattle.journal_core.specs.Quiet.{IsStill};
-ghost use Rattle.journal_core.specs.Recovery.{IsSettled, RestsOn, after_actions, intent_name, read_intent, stage_name};
-ghost use Rattle.journal_core.specs.Staged.{Staging, HasRoomBeside, HasRoomToStage, IsActing, IsAlone, IsOnTheWay, IsStaged, PublishedBy, action_count, new_stage};
+ghost use Rattle.journal_core.specs.Kept.{IsInNoMap, JournalOnlyShrinks, IsOfAction, KeepsFilesExcept, KeepsIntent, KeepsMapsExcept, KeepsOldOrNewBytes, NamesAreDurableExcept, RecoversTo};
+ghost use Rattle.journal_core.specs.Quiet.{StateIsUnchanged};
+ghost use Rattle.journal_core.specs.Recovery.{EachCrashLeaves, StateDependsOn, after_actions, intent_name, read_intent, stage_name};
+ghost use Rattle.journal_core.specs.Staged.{Staging, AreJournalPathsFree, AreStagingPathsFree, IsActing, IsOnlyNameOfFile, IsOldUntilCommit, IsStaged, CommittedBy, action_count, new_stage};
 ghost use Rattle.journal_intent.specs.FreeNames.{HasFreeNames};
 ghost use Rattle.journal_intent.specs.Intent.{AreChangeNames};
 ghost use Rattle.journal_intent.specs.IntentValue.{intent_of_lists, value_of_intent};
@@ -23,12 +24,9 @@ ghost use Rattle.journal_intent.specs.IntentValue.{intent_of_lists, value_of_int
 use crate::acting::act;
 use crate::calls::{append, create, remove, sync_all_names, sync_file};
 use crate::fault::RecoverFault;
-use crate::laws::Journal;
 use crate::publishing::publish_intent;
 use adb_write::WriteFault;
-use base_core::{
-    Disk, Name, Names, Tree, a_crash_may_leave_the_files_as_read, order_outlasts_a_crash,
-};
+use base_core::{Disk, Name, Names, Tree};
 use journal_intent::PreparedIntent;
 use std::alloc::Global;
 use std::marker::Model;
@@ -158,47 +156,76 @@ impl Stage {
         self.intent.stage_name(self.staged + 1)
     }
 
+    /// Before the first file is made, the names are synced. So no crash restores the intent of an
+    /// older change, by which that file would be a staged file of its own.
+    fn sync_before_first<T: Tree>(&self, tree: &mut T) -> Result<(), Disk>
+        ensures moments { IfObservable (T.history tree.old) (λ v. (ignored : List ℕ → Bool)
+            → IsDurable (StateDependsOn ignored) v
+            → Since (StateIsUnchanged ignored v) (T.history tree.old) (T.history tree.new)) }
+        ensures staged { IfObservable (T.history tree.old) (λ v. (contents : List (List ℕ))
+            (base : Files) → IsStaged self.now contents None base v
+            → OnOk result (HoldsNow (T.history tree.new)
+            (λ w. IsStaged self.now contents None base w × IsInNoMap intent_name w))) }
+        ensures reads { IfObservable (T.history tree.old) (λ v.
+            Since (λ w. files_of w ≡ files_of v) (T.history tree.old) (T.history tree.new)) }
+        ensures maps { IfObservable (T.history tree.old) (λ v.
+            Since (KeepsMapsExcept [] v) (T.history tree.old) (T.history tree.new)) }
+
+        // No count of faults falls; a fault of the tree is returned only if that count rose, and
+        // Ok only if it did not.
+        ensures goes_on { CountsOnlyRise (T.counts tree.old) (T.counts tree.new) }
+        ensures cause { OnErr result (HasCause (T.counts tree.old) (T.counts tree.new)) }
+        ensures kept { OnOk result (IsNoFault (T.counts tree.old) (T.counts tree.new)) }
+
+        // No call is a misuse.
+        ensures proper { IfObservable (T.history tree.old)
+            (λ v. (T.counts tree.new).misuses ≡ (T.counts tree.old).misuses) }
+    {
+        if self.staged == 0 {
+            return sync_all_names(tree);
+        }
+        Ok(())
+    }
+
     /// Makes an empty file for the next write.
     pub fn file_begin<T: Tree>(&mut self, tree: &mut T) -> Result<(), Disk>
         requires closed { self.old.is_open ≡ false }
         requires more { self.old.staged < length self.old.intent.writes }
 
-        // From an orderly tree on, each moment is orderly, and the state is unchanged. Once it has
+        // From a durable tree on, each moment is durable, and the state is unchanged. Once it has
         // returned Ok, an empty file is staged for the next write.
         ensures moments { IfObservable (T.history tree.old) (λ v. (ignored : List ℕ → Bool)
-            (contents : List (List ℕ)) (base : Files) → IsOrderly (RestsOn ignored) v
+            (contents : List (List ℕ)) (base : Files) → IsDurable (StateDependsOn ignored) v
             → IsStaged self.old contents None base v
-            → Since (IsStill ignored v) (T.history tree.old) (T.history tree.new)) }
+            → Since (StateIsUnchanged ignored v) (T.history tree.old) (T.history tree.new)) }
         ensures staged { IfObservable (T.history tree.old) (λ v. (contents : List (List ℕ))
             (base : Files) → IsStaged self.old contents None base v
-            → OnOk result (HasNow (T.history tree.new)
+            → OnOk result (HoldsNow (T.history tree.new)
             (IsStaged self.new contents (Some []) base))) }
 
         // At each moment, whatever it returns, the files as read are unchanged under every other
         // name, and so is what a crash leaves of the names.
         ensures others { IfObservable (T.history tree.old) (λ v.
-            Since (KeepsFilesBut (λ q. q ≡ stage_name (self.old.staged + 1)) v)
+            Since (KeepsFilesExcept (λ q. q ≡ stage_name (self.old.staged + 1)) v)
             (T.history tree.old) (T.history tree.new)) }
         ensures maps { IfObservable (T.history tree.old) (λ v.
-            Since (KeepsMapsBut (stage_name (self.old.staged + 1) ∷ []) v)
+            Since (KeepsMapsExcept (stage_name (self.old.staged + 1) ∷ []) v)
             (T.history tree.old) (T.history tree.new)) }
         ensures view { OnOk result (self.new ≡ record self.old { is_open = true }) }
         ensures err { OnErr result (self.new ≡ self.old) }
 
         // No count of faults falls; a fault of the tree is returned only if that count rose, and
         // Ok only if it did not.
-        ensures goes_on { GoesOn (T.counts tree.old) (T.counts tree.new) }
+        ensures goes_on { CountsOnlyRise (T.counts tree.old) (T.counts tree.new) }
         ensures cause { OnErr result (HasCause (T.counts tree.old) (T.counts tree.new)) }
         ensures kept { OnOk result (IsNoFault (T.counts tree.old) (T.counts tree.new)) }
 
         // If the paths of the stage are free, no call is a misuse.
         ensures proper { IfObservable (T.history tree.old) (λ v. (contents : List (List ℕ))
-            (base : Files) → IsStaged self.old contents None base v → HasRoomToStage base
+            (base : Files) → IsStaged self.old contents None base v → AreStagingPathsFree base
             → (T.counts tree.new).misuses ≡ (T.counts tree.old).misuses) }
     {
-        // Laws that the proof needs; they compute nothing.
-        a_crash_may_leave_the_files_as_read();
-        order_outlasts_a_crash::<Journal>();
+        self.sync_before_first(tree)?;
         create(tree, self.next_name())?;
         self.is_open = true;
         Ok(())
@@ -208,31 +235,31 @@ impl Stage {
     pub fn file_append<T: Tree>(&mut self, tree: &mut T, piece: &[u8]) -> Result<(), Disk>
         requires { self.old.is_open ≡ true }
 
-        // From an orderly tree on, each moment is orderly, and the state is unchanged. Once it has
+        // From a durable tree on, each moment is durable, and the state is unchanged. Once it has
         // returned Ok, the piece is added to the bytes so far.
         ensures moments { IfObservable (T.history tree.old) (λ v. (ignored : List ℕ → Bool)
             (contents : List (List ℕ)) (so_far : List ℕ) (base : Files)
-            → IsOrderly (RestsOn ignored) v → IsStaged self.old contents (Some so_far) base v
-            → Since (IsStill ignored v) (T.history tree.old) (T.history tree.new)) }
+            → IsDurable (StateDependsOn ignored) v → IsStaged self.old contents (Some so_far) base v
+            → Since (StateIsUnchanged ignored v) (T.history tree.old) (T.history tree.new)) }
         ensures staged { IfObservable (T.history tree.old) (λ v. (contents : List (List ℕ))
             (so_far : List ℕ) (base : Files) → IsStaged self.old contents (Some so_far) base v
-            → OnOk result (HasNow (T.history tree.new)
+            → OnOk result (HoldsNow (T.history tree.new)
             (IsStaged self.new contents (Some (so_far ++ piece.now)) base))) }
 
         // If the file is under no other name, the files as read are unchanged under each, at each
         // moment; and no name changes.
         ensures others { IfObservable (T.history tree.old) (λ v.
-            IsAlone (stage_name (self.old.staged + 1)) v
-            → Since (KeepsFilesBut (λ q. q ≡ stage_name (self.old.staged + 1)) v)
+            IsOnlyNameOfFile (stage_name (self.old.staged + 1)) v
+            → Since (KeepsFilesExcept (λ q. q ≡ stage_name (self.old.staged + 1)) v)
             (T.history tree.old) (T.history tree.new)) }
         ensures maps { IfObservable (T.history tree.old) (λ v.
-            Since (KeepsMapsBut [] v) (T.history tree.old) (T.history tree.new)) }
+            Since (KeepsMapsExcept [] v) (T.history tree.old) (T.history tree.new)) }
         ensures view { OnOk result (self.new ≡ self.old) }
         ensures err { OnErr result (self.new ≡ self.old) }
 
         // No count of faults falls; a fault of the tree is returned only if that count rose, and
         // Ok only if it did not.
-        ensures goes_on { GoesOn (T.counts tree.old) (T.counts tree.new) }
+        ensures goes_on { CountsOnlyRise (T.counts tree.old) (T.counts tree.new) }
         ensures cause { OnErr result (HasCause (T.counts tree.old) (T.counts tree.new)) }
         ensures kept { OnOk result (IsNoFault (T.counts tree.old) (T.counts tree.new)) }
 
@@ -241,9 +268,6 @@ impl Stage {
             (so_far : List ℕ) (base : Files) → IsStaged self.old contents (Some so_far) base v
             → (T.counts tree.new).misuses ≡ (T.counts tree.old).misuses) }
     {
-        // Laws that the proof needs; they compute nothing.
-        a_crash_may_leave_the_files_as_read();
-        order_outlasts_a_crash::<Journal>();
         append(tree, self.open_name(), piece)
     }
 
@@ -251,15 +275,15 @@ impl Stage {
     pub fn file_end<T: Tree>(&mut self, tree: &mut T) -> Result<(), Disk>
         requires { self.old.is_open ≡ true }
 
-        // From an orderly tree on, each moment is orderly, and the state is unchanged. Once it has
+        // From a durable tree on, each moment is durable, and the state is unchanged. Once it has
         // returned Ok, the bytes so far are staged for this write, synced.
         ensures moments { IfObservable (T.history tree.old) (λ v. (ignored : List ℕ → Bool)
             (contents : List (List ℕ)) (so_far : List ℕ) (base : Files)
-            → IsOrderly (RestsOn ignored) v → IsStaged self.old contents (Some so_far) base v
-            → Since (IsStill ignored v) (T.history tree.old) (T.history tree.new)) }
+            → IsDurable (StateDependsOn ignored) v → IsStaged self.old contents (Some so_far) base v
+            → Since (StateIsUnchanged ignored v) (T.history tree.old) (T.history tree.new)) }
         ensures staged { IfObservable (T.history tree.old) (λ v. (contents : List (List ℕ))
             (so_far : List ℕ) (base : Files) → IsStaged self.old contents (Some so_far) base v
-            → OnOk result (HasNow (T.history tree.new)
+            → OnOk result (HoldsNow (T.history tree.new)
             (IsStaged self.new (contents ++ so_far ∷ []) None base))) }
 
         // At each moment, whatever it returns, the files as read are unchanged, and no name
@@ -267,14 +291,14 @@ impl Stage {
         ensures others { IfObservable (T.history tree.old) (λ v.
             Since (λ w. files_of w ≡ files_of v) (T.history tree.old) (T.history tree.new)) }
         ensures maps { IfObservable (T.history tree.old) (λ v.
-            Since (KeepsMapsBut [] v) (T.history tree.old) (T.history tree.new)) }
+            Since (KeepsMapsExcept [] v) (T.history tree.old) (T.history tree.new)) }
         ensures view { OnOk result
             (self.new ≡ record self.old { staged = self.old.staged + 1; is_open = false }) }
         ensures err { OnErr result (self.new ≡ self.old) }
 
         // No count of faults falls; a fault of the tree is returned only if that count rose, and
         // Ok only if it did not.
-        ensures goes_on { GoesOn (T.counts tree.old) (T.counts tree.new) }
+        ensures goes_on { CountsOnlyRise (T.counts tree.old) (T.counts tree.new) }
         ensures cause { OnErr result (HasCause (T.counts tree.old) (T.counts tree.new)) }
         ensures kept { OnOk result (IsNoFault (T.counts tree.old) (T.counts tree.new)) }
 
@@ -283,9 +307,6 @@ impl Stage {
             (so_far : List ℕ) (base : Files) → IsStaged self.old contents (Some so_far) base v
             → (T.counts tree.new).misuses ≡ (T.counts tree.old).misuses) }
     {
-        // Laws that the proof needs; they compute nothing.
-        a_crash_may_leave_the_files_as_read();
-        order_outlasts_a_crash::<Journal>();
         sync_file(tree, self.open_name())?;
         self.staged += 1;
         self.is_open = false;
@@ -301,30 +322,30 @@ impl Stage {
         // At each moment a crash leaves a state from before or that of the actions done; it leaves
         // one from before as long as no intent of this call that stands for them was read.
         ensures moments { IfObservable (T.history tree.old) (λ v. (ignored : List ℕ → Bool)
-            (contents : List (List ℕ)) (base : Files) → IsOrderly (RestsOn ignored) v
+            (contents : List (List ℕ)) (base : Files) → IsDurable (StateDependsOn ignored) v
             → IsStaged self.old contents None base v
-            → SinceBy (IsOnTheWay ignored (after_actions self.old.intent (files_of v)) v)
+            → SinceBy (IsOldUntilCommit ignored (after_actions self.old.intent (files_of v)) v)
             (T.history tree.old) (T.history tree.new)) }
         ensures published { IfObservable (T.history tree.old) (λ v. (ignored : List ℕ → Bool)
-            (contents : List (List ℕ)) (base : Files) → IsOrderly (RestsOn ignored) v
-            → IsStaged self.old contents None base v → OnOk result (PublishedBy ignored
+            (contents : List (List ℕ)) (base : Files) → IsDurable (StateDependsOn ignored) v
+            → IsStaged self.old contents None base v → OnOk result (CommittedBy ignored
             (after_actions self.old.intent (files_of v)) v
             (T.history tree.old) (T.history tree.new))) }
 
         // Once it has returned Ok, each crash leaves the state of the actions done.
         ensures settled { IfObservable (T.history tree.old) (λ v. (ignored : List ℕ → Bool)
-            (contents : List (List ℕ)) (base : Files) → IsOrderly (RestsOn ignored) v
-            → IsStaged self.old contents None base v → OnOk result (HasNow (T.history tree.new)
-            (IsSettled ignored (after_actions self.old.intent (files_of v))))) }
+            (contents : List (List ℕ)) (base : Files) → IsDurable (StateDependsOn ignored) v
+            → IsStaged self.old contents None base v → OnOk result (HoldsNow (T.history tree.new)
+            (EachCrashLeaves ignored (after_actions self.old.intent (files_of v))))) }
         ensures acting { IfObservable (T.history tree.old) (λ v. (contents : List (List ℕ))
             (base : Files) → IsStaged self.old contents None base v
-            → OnOk result (HasNow (T.history tree.new)
+            → OnOk result (HoldsNow (T.history tree.new)
             (IsActing self.new (after_actions self.old.intent (files_of v))))) }
 
         // As soon as the intent is read, every other change of names is durable.
         ensures last { IfObservable (T.history tree.old) (λ v. v.names intent_name ≡ None
             → Since (λ w. IsSome (w.names intent_name)
-            → NamesLastBut (intent_name ∷ stage_name 0 ∷ []) w)
+            → NamesAreDurableExcept (intent_name ∷ stage_name 0 ∷ []) w)
             (T.history tree.old) (T.history tree.new)) }
 
         // At each moment at which it is read, recovery of the files as read yields those of the
@@ -339,25 +360,25 @@ impl Stage {
         // except the intent's and that under which it is written, and so is what a crash leaves of
         // the names. Once it has returned Ok, the files are unchanged under this name, too.
         ensures others { IfObservable (T.history tree.old) (λ v.
-            Since (KeepsFilesBut (λ q. (q ≡ intent_name) ⊎ (q ≡ stage_name 0)) v)
+            Since (KeepsFilesExcept (λ q. (q ≡ intent_name) ⊎ (q ≡ stage_name 0)) v)
             (T.history tree.old) (T.history tree.new)) }
         ensures maps { IfObservable (T.history tree.old) (λ v.
-            Since (KeepsMapsBut (intent_name ∷ stage_name 0 ∷ []) v)
+            Since (KeepsMapsExcept (intent_name ∷ stage_name 0 ∷ []) v)
             (T.history tree.old) (T.history tree.new)) }
         ensures only_intent { IfObservable (T.history tree.old) (λ v. OnOk result
-            (HasNow (T.history tree.new) (KeepsFilesBut (λ q. q ≡ intent_name) v))) }
+            (HoldsNow (T.history tree.new) (KeepsFilesExcept (λ q. q ≡ intent_name) v))) }
         ensures view { OnOk result (self.new ≡ record self.old { published = true; acted = 0 }) }
         ensures err { OnErr result (self.new ≡ self.old) }
 
         // No count of faults falls; a fault of the tree is returned only if that count rose, and
         // Ok only if it did not.
-        ensures goes_on { GoesOn (T.counts tree.old) (T.counts tree.new) }
+        ensures goes_on { CountsOnlyRise (T.counts tree.old) (T.counts tree.new) }
         ensures cause { OnErr result (HasCause (T.counts tree.old) (T.counts tree.new)) }
         ensures kept { OnOk result (IsNoFault (T.counts tree.old) (T.counts tree.new)) }
 
         // If the paths of the stage are free, no call is a misuse.
         ensures proper { IfObservable (T.history tree.old) (λ v. (contents : List (List ℕ))
-            (base : Files) → IsStaged self.old contents None base v → HasRoomToStage base
+            (base : Files) → IsStaged self.old contents None base v → AreStagingPathsFree base
             → (T.counts tree.new).misuses ≡ (T.counts tree.old).misuses) }
     {
         publish_intent(tree, &self.intent)?;
@@ -370,16 +391,16 @@ impl Stage {
     pub fn apply_one<T: Tree>(&mut self, tree: &mut T) -> Result<bool, Disk>
         requires { self.old.published ≡ true }
 
-        // From an orderly tree on, each moment is orderly, and the state is unchanged. Once it has
+        // From a durable tree on, each moment is durable, and the state is unchanged. Once it has
         // returned Ok, the stage's count of actions done is true of the tree.
         ensures moments { IfObservable (T.history tree.old) (λ v. (ignored : List ℕ → Bool)
-            (files : Files) → IsOrderly (RestsOn ignored) v → IsActing self.old files v
-            → Since (IsStill ignored v) (T.history tree.old) (T.history tree.new)) }
+            (files : Files) → IsDurable (StateDependsOn ignored) v → IsActing self.old files v
+            → Since (StateIsUnchanged ignored v) (T.history tree.old) (T.history tree.new)) }
         ensures acting { IfObservable (T.history tree.old) (λ v. (files : Files)
             → IsActing self.old files v
-            → OnOk result (HasNow (T.history tree.new) (IsActing self.new files))) }
+            → OnOk result (HoldsNow (T.history tree.new) (IsActing self.new files))) }
 
-        // Whether the tree is orderly or not, recovery of the files as read yields the same at each
+        // Whether the tree is durable or not, recovery of the files as read yields the same at each
         // moment.
         ensures reads { IfObservable (T.history tree.old) (λ v. (files : Files)
             → IsActing self.old files v
@@ -395,8 +416,8 @@ impl Stage {
             Since (KeepsIntent v) (T.history tree.old) (T.history tree.new)) }
 
         // Whatever it returns, it changes only the names of its action.
-        ensures others { IfObservable (T.history tree.old) (λ v. HasNow (T.history tree.new)
-            (KeepsFilesBut (IsOfAction self.old.intent self.old.acted) v)) }
+        ensures others { IfObservable (T.history tree.old) (λ v. HoldsNow (T.history tree.new)
+            (KeepsFilesExcept (IsOfAction self.old.intent self.old.acted) v)) }
 
         // True is returned exactly if an action was left, which then counts as done; if none was
         // left, no call is made. A call that fails leaves the stage as it was.
@@ -410,14 +431,14 @@ impl Stage {
 
         // No count of faults falls; a fault of the tree is returned only if that count rose, and
         // Ok only if it did not.
-        ensures goes_on { GoesOn (T.counts tree.old) (T.counts tree.new) }
+        ensures goes_on { CountsOnlyRise (T.counts tree.old) (T.counts tree.new) }
         ensures cause { OnErr result (HasCause (T.counts tree.old) (T.counts tree.new)) }
         ensures kept { OnOk result (IsNoFault (T.counts tree.old) (T.counts tree.new)) }
 
         // If the intent and the staged files have free paths beside the files of the actions done,
         // no call is a misuse.
         ensures proper { IfObservable (T.history tree.old) (λ v. (files : Files)
-            → IsActing self.old files v → HasRoomBeside files
+            → IsActing self.old files v → AreJournalPathsFree files
             → (T.counts tree.new).misuses ≡ (T.counts tree.old).misuses) }
     {
         let acted = act(&self.intent, self.acted, tree)?;
@@ -431,20 +452,20 @@ impl Stage {
         requires published { self.old.published ≡ true }
         requires all { self.old.acted ≡ action_count self.old.intent }
 
-        // From an orderly tree on, each moment is orderly, and the state is unchanged. Once it has
+        // From a durable tree on, each moment is durable, and the state is unchanged. Once it has
         // returned Ok, each crash leaves the state of the actions done, the files as read are
         // these, and no intent is read.
         ensures moments { IfObservable (T.history tree.old) (λ v. (ignored : List ℕ → Bool)
-            (files : Files) → IsOrderly (RestsOn ignored) v → IsActing self.old files v
-            → Since (IsStill ignored v) (T.history tree.old) (T.history tree.new)) }
+            (files : Files) → IsDurable (StateDependsOn ignored) v → IsActing self.old files v
+            → Since (StateIsUnchanged ignored v) (T.history tree.old) (T.history tree.new)) }
         ensures settled { IfObservable (T.history tree.old) (λ v. (ignored : List ℕ → Bool)
-            (files : Files) → IsOrderly (RestsOn ignored) v → IsActing self.old files v
-            → OnOk result (HasNow (T.history tree.new) (IsSettled ignored files))) }
+            (files : Files) → IsDurable (StateDependsOn ignored) v → IsActing self.old files v
+            → OnOk result (HoldsNow (T.history tree.new) (EachCrashLeaves ignored files))) }
         ensures files { IfObservable (T.history tree.old) (λ v. (files : Files)
-            → IsActing self.old files v → OnOk result (HasNow (T.history tree.new)
+            → IsActing self.old files v → OnOk result (HoldsNow (T.history tree.new)
             (λ w. (files_of w ≡ files) × (w.names intent_name ≡ None)))) }
 
-        // Whether the tree is orderly or not, recovery of the files as read yields the same at each
+        // Whether the tree is durable or not, recovery of the files as read yields the same at each
         // moment.
         ensures reads { IfObservable (T.history tree.old) (λ v. (files : Files)
             → IsActing self.old files v
@@ -453,24 +474,24 @@ impl Stage {
         // As soon as no intent is read, every other change of names is durable; and once it has
         // returned Ok, no crash restores the intent.
         ensures last { IfObservable (T.history tree.old) (λ v. IsSome (v.names intent_name)
-            → Since (λ w. w.names intent_name ≡ None → NamesLastBut (intent_name ∷ []) w)
+            → Since (λ w. w.names intent_name ≡ None → NamesAreDurableExcept (intent_name ∷ []) w)
             (T.history tree.old) (T.history tree.new)) }
         ensures gone { OnOk result (IfObservable (T.history tree.new) (IsInNoMap intent_name)) }
 
         // At each moment the intent and the staged files are unchanged or gone, and no other name
         // has changed; the stage is unchanged, whatever it returns.
         ensures waiting { IfObservable (T.history tree.old) (λ v.
-            Since (IsLessWaiting v) (T.history tree.old) (T.history tree.new)) }
-        ensures others { IfObservable (T.history tree.old) (λ v. HasNow (T.history tree.new)
-            (KeepsFilesBut (λ q. q ≡ intent_name) v)) }
+            Since (JournalOnlyShrinks v) (T.history tree.old) (T.history tree.new)) }
+        ensures others { IfObservable (T.history tree.old) (λ v. HoldsNow (T.history tree.new)
+            (KeepsFilesExcept (λ q. q ≡ intent_name) v)) }
         ensures shown { IfObservable (T.history tree.old) (λ v.
-            Since (KeepsFilesBut (λ q. q ≡ intent_name) v)
+            Since (KeepsFilesExcept (λ q. q ≡ intent_name) v)
             (T.history tree.old) (T.history tree.new)) }
         ensures view { self.new ≡ self.old }
 
         // No count of faults falls; a fault of the tree is returned only if that count rose, and
         // Ok only if it did not.
-        ensures goes_on { GoesOn (T.counts tree.old) (T.counts tree.new) }
+        ensures goes_on { CountsOnlyRise (T.counts tree.old) (T.counts tree.new) }
         ensures cause { OnErr result (HasCause (T.counts tree.old) (T.counts tree.new)) }
         ensures kept { OnOk result (IsNoFault (T.counts tree.old) (T.counts tree.new)) }
 
@@ -478,9 +499,6 @@ impl Stage {
         ensures proper { IfObservable (T.history tree.old)
             (λ v. (T.counts tree.new).misuses ≡ (T.counts tree.old).misuses) }
     {
-        // Laws that the proof needs; they compute nothing.
-        a_crash_may_leave_the_files_as_read();
-        order_outlasts_a_crash::<Journal>();
         sync_all_names(tree)?;
         remove(tree, self.intent.name())?;
         sync_all_names(tree)
@@ -493,11 +511,11 @@ pub fn apply_all<T: Tree>(stage: &mut Stage, tree: &mut T) -> Result<(), Disk>
     requires published { stage.old.published ≡ true }
     requires within { stage.old.acted ≤ action_count stage.old.intent }
     ensures moments { IfObservable (T.history tree.old) (λ v. (ignored : List ℕ
-        → Bool) (files : Files) → IsOrderly (RestsOn ignored) v → IsActing stage.old files v
-        → Since (IsStill ignored v) (T.history tree.old) (T.history tree.new)) }
+        → Bool) (files : Files) → IsDurable (StateDependsOn ignored) v → IsActing stage.old files v
+        → Since (StateIsUnchanged ignored v) (T.history tree.old) (T.history tree.new)) }
     ensures acting { IfObservable (T.history tree.old) (λ v. (files : Files)
         → IsActing stage.old files v
-        → OnOk result (HasNow (T.history tree.new) (IsActing stage.new files))) }
+        → OnOk result (HoldsNow (T.history tree.new) (IsActing stage.new files))) }
     ensures reads { IfObservable (T.history tree.old) (λ v. (files : Files)
         → IsActing stage.old files v
         → Since (RecoversTo files) (T.history tree.old) (T.history tree.new)) }
@@ -511,14 +529,14 @@ pub fn apply_all<T: Tree>(stage: &mut Stage, tree: &mut T) -> Result<(), Disk>
 
     // No count of faults falls; a fault of the tree is returned only if that count rose, and Ok
     // only if it did not.
-    ensures goes_on { GoesOn (T.counts tree.old) (T.counts tree.new) }
+    ensures goes_on { CountsOnlyRise (T.counts tree.old) (T.counts tree.new) }
     ensures cause { OnErr result (HasCause (T.counts tree.old) (T.counts tree.new)) }
     ensures kept { OnOk result (IsNoFault (T.counts tree.old) (T.counts tree.new)) }
 
     // If the intent and the staged files have free paths beside the files of the actions done, no
     // call is a misuse.
     ensures proper { IfObservable (T.history tree.old) (λ v. (files : Files)
-        → IsActing stage.old files v → HasRoomBeside files
+        → IsActing stage.old files v → AreJournalPathsFree files
         → (T.counts tree.new).misuses ≡ (T.counts tree.old).misuses) }
 {
     while stage.has_more() {

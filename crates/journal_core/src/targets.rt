@@ -7,7 +7,7 @@ ghost use Rattle.base_core.specs.Read.{OnlyReads};
 ghost use Rattle.journal_core.specs.Targets.{AreAccepted, AreRemovable, AreWritable};
 
 use crate::stage::Stage;
-use base_core::{Disk, Name, Tree, readings_in_a_row_join};
+use base_core::{Disk, Name, Tree, consecutive_reads_compose};
 
 /// Asks the tree for one name: whether a file can be renamed to it later, from the source, or
 /// whether it can be removed later, if there is no source.
@@ -31,7 +31,7 @@ fn check_removals<T: Tree>(stage: &Stage, tree: &mut T) -> Result<(), Disk>
     ensures accepted { OnOk result (AreRemovable T.accepts stage.now.intent.removals) }
 {
     // A law that the proof needs; it computes nothing.
-    readings_in_a_row_join::<u8, (), Disk>();
+    consecutive_reads_compose::<u8, (), Disk>();
     for i in 0..stage.intent.removals_len() {
         check_target(tree, stage.intent.removal(i), None)?;
     }
@@ -45,7 +45,7 @@ fn check_writes<T: Tree>(stage: &Stage, tree: &mut T) -> Result<(), Disk>
     ensures accepted { OnOk result (AreWritable T.accepts stage.now.intent.writes) }
 {
     // Laws that the proof needs; they compute nothing.
-    readings_in_a_row_join::<u8, (), Disk>();
+    consecutive_reads_compose::<u8, (), Disk>();
     stage.names_are_free();
     for i in 0..stage.intent.writes_len() {
         let source = stage.intent.stage_name(i + 1);
@@ -65,7 +65,7 @@ pub fn check_targets<T: Tree>(stage: &Stage, tree: &mut T) -> Result<(), Disk>
     ensures accepted { OnOk result (AreAccepted T.accepts stage.now.intent) }
 {
     // A law that the proof needs; it computes nothing.
-    readings_in_a_row_join::<(), (), Disk>();
+    consecutive_reads_compose::<(), (), Disk>();
     check_removals(stage, tree)?;
     check_writes(stage, tree)
 }

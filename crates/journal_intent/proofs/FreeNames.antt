@@ -19,7 +19,7 @@ use Rattle.adb_view.specs.declared.tables.Which.{Which}
 use Rattle.adb_view.specs.declared.tables.Which.TheVariants as Tables
 use Rattle.adb_view.specs.Plain.{Plain, Plains, none, more}
 use Rattle.adb_view.specs.Shaped.{Each}
-use Rattle.journal_intent.specs.FreeNames.{AllNamed, AreFreeNames, AreOnce, HasFreeNames, IsFreeName, IsNoneOf, IsOneOf}
+use Rattle.journal_intent.specs.FreeNames.{AllNamed, AreFreeNames, HaveNoRepeats, HasFreeNames, IsFreeName, IsNoneOf, IsOneOf}
 use Rattle.journal_intent.specs.Intent.{AreChangeNames, Intent, intent_in, intent_name, intent_unless, is_staged, read_intent, stage_folder, stage_name}
 use Rattle.journal_intent.specs.IntentValue.{intent_of_lists}
 use Rattle.journal_intent.proofs.AtName.{name_cases, other_name}
@@ -74,7 +74,7 @@ one_of : (name : List ℕ) (names : List (List ℕ)) → IsOneOf name names → 
 one_of name [] is = absurd (true_false (sym is))
 one_of name (x ∷ xs) is = ⊎_elim (λ same. inl same) (λ off. inr (one_of name xs (sym (ap (λ b. b || list_any (bytes_eq name) xs) off) ∙ is))) (name_cases name x)
 
-once_of : (names : List (List ℕ)) → AreDistinctNames names → AreOnce names
+once_of : (names : List (List ℕ)) → AreDistinctNames names → HaveNoRepeats names
 once_of [] once = tt
 once_of (x ∷ xs) once = (none_of x xs once.0, once_of xs once.1)
 

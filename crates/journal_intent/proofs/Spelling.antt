@@ -7,7 +7,7 @@ use Rattle.std.proofs.lemmas.List.Elements.{All-head, All-tail}
 use Rattle.adb_view.specs.Plain.{Plain, Plains, none, more, text, blob_value, IsNormal, AreNormal, count_of, text_plains}
 use Rattle.adb_view.specs.Shaped.{Each, IsBlob, HasShape}
 use Rattle.adb_fields.specs.FirstPair.{IsIn}
-use Rattle.adb_fields.specs.Once.{AreDistinctNames, NamesStandOnce}
+use Rattle.adb_fields.specs.Once.{AreDistinctNames, HasNoRepeatedName}
 use Rattle.adb_fields.specs.Repeated.{list_of}
 use Rattle.adb_schema.specs.Rules.{is_change_name}
 use Rattle.adb_schema.specs.SoundValues.{IsChangeName, KeepsRules}
@@ -114,7 +114,7 @@ pub distinct : (names : List (List ℕ)) → AllPairs (λ a b. bytes_eq a b ≡ 
 distinct [] once = tt
 distinct (x ∷ xs) once = (λ at. let found = place_in x xs at in true_false (sym (same_name x (get_or xs found.0 []) (sym found.2)) ∙ once 0 (suc found.0) [] (omega arith) (omega (arith, found.1))), distinct xs (λ i j d less within. once (suc i) (suc j) d (omega (arith, less)) (omega (arith, within))))
 
-pub value_once : (removals writes : List (List ℕ)) → AllPairs (λ a b. bytes_eq a b ≡ false) (removals ++ writes) → NamesStandOnce Tables.Intent (value_of_intent (intent_of_lists removals writes))
+pub value_once : (removals writes : List (List ℕ)) → AllPairs (λ a b. bytes_eq a b ≡ false) (removals ++ writes) → HasNoRepeatedName Tables.Intent (value_of_intent (intent_of_lists removals writes))
 value_once removals writes once =
     subst (λ (i : Intent). AreDistinctNames (i.removals ++ i.writes)) (sym (value_back removals writes)) (distinct (removals ++ writes) once)
 

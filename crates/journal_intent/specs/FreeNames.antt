@@ -25,8 +25,8 @@ pub record IsFreeName (name : List ℕ) : Type 0 where
   pub no_place : (k : ℕ) → name ≢ stage_name k
 
 -- a taken name: the intent's own, or that of a staged file
-abbrev pub IsTakenName : List ℕ → Type 0
-IsTakenName name = (name ≡ intent_name) ⊎ ((k : ℕ) × (name ≡ stage_name k))
+abbrev pub IsUsedByJournal : List ℕ → Type 0
+IsUsedByJournal name = (name ≡ intent_name) ⊎ ((k : ℕ) × (name ≡ stage_name k))
 
 -- each of these names is free
 abbrev pub AreFreeNames : List (List ℕ) → Type 0
@@ -34,15 +34,15 @@ AreFreeNames [] = Unit {0}
 AreFreeNames (name ∷ names) = IsFreeName name × AreFreeNames names
 
 -- none of these names is repeated
-abbrev pub AreOnce : List (List ℕ) → Type 0
-AreOnce [] = Unit {0}
-AreOnce (name ∷ names) = IsNoneOf name names × AreOnce names
+abbrev pub HaveNoRepeats : List (List ℕ) → Type 0
+HaveNoRepeats [] = Unit {0}
+HaveNoRepeats (name ∷ names) = IsNoneOf name names × HaveNoRepeats names
 
 -- the names of an intent are free, no write is repeated, and no name is both written and removed
 pub record HasFreeNames (intent : Intent) : Type 0 where
   pub removals : AreFreeNames intent.removals
   pub writes : AreFreeNames intent.writes
-  pub once : AreOnce intent.writes
+  pub once : HaveNoRepeats intent.writes
   pub apart : (name : List ℕ) → IsOneOf name intent.writes → IsNoneOf name intent.removals
 
 -- the names of this many staged files, from number k on

@@ -10,7 +10,7 @@ ghost use Rattle.journal_intent.specs.Intent.{AreChangeNames, read_intent};
 ghost use Rattle.journal_intent.specs.IntentValue.{intent_of_lists, value_of_intent};
 
 use adb_block::what_is_spelled_is_read;
-use adb_fields::no_name_is_repeated_where_each_stands_once;
+use adb_fields::no_repeated_name_is_reported_if_there_is_none;
 use adb_schema::{INTENT_WORD, no_text_is_bad_where_each_keeps_its_rule};
 use adb_sound::{a_container_of_a_good_value_is_sound, what_a_container_is_made_of_is_read_back};
 use adb_values::Draft;
@@ -69,7 +69,7 @@ fn an_intent_is_read_back()
     a_value_overflows_exactly_past_a_limit();
     // Laws that the proof needs; they compute nothing.
     no_text_is_bad_where_each_keeps_its_rule();
-    no_name_is_repeated_where_each_stands_once();
+    no_repeated_name_is_reported_if_there_is_none();
     a_container_of_a_good_value_is_sound();
     what_a_container_is_made_of_is_read_back();
 }

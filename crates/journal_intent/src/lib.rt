@@ -16,7 +16,7 @@ mod prepared;
 
 pub use names::{
     a_read_intent_has_free_names, an_intent_is_read_from_a_sound_container,
-    each_waiting_file_has_its_own_name, intent_name, no_taken_name_is_a_folder_of_another,
+    each_staged_file_has_its_own_name, intent_name, no_name_of_the_journal_is_a_folder_of_another,
     stage_folder, the_names_of_a_change_are_free,
 };
 pub use prepared::PreparedIntent;

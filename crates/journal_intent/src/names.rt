@@ -4,7 +4,7 @@
 //! law of free names in `docs/formats.md`, "The texts" and "Names that stand twice".
 
 ghost use Rattle.std.specs.Prelude.{◌≡◌, IfOk, ◌≢◌, ◌<◌, ◌^◌, ◌++◌, ℕ, true, List, Some, None};
-ghost use Rattle.journal_intent.specs.FreeNames.{stage_names_from, HasFreeNames, IsTakenName};
+ghost use Rattle.journal_intent.specs.FreeNames.{stage_names_from, HasFreeNames, IsUsedByJournal};
 ghost use Rattle.journal_intent.specs.Intent.{intent_name, stage_folder, stage_name, AreChangeNames, Intent, intent_in, is_staged, read_intent};
 ghost use Rattle.adb_schema.specs.Soundness.{first_fault, payload_in, root_value};
 ghost use Rattle.adb_view.specs.declared.tables.Which.TheVariants.{Intent as IntentTable};
@@ -59,7 +59,7 @@ pub fn an_intent_is_read_from_a_sound_container()
 {}
 
 /// The staged files of an intent's actions are in the staging area, each under a name of its own.
-pub fn each_waiting_file_has_its_own_name()
+pub fn each_staged_file_has_its_own_name()
     // The numbers are those of the program, of 64 bits.
     ensures apart { (j k : ℕ) → j < 2 ^ 64 → k < 2 ^ 64 → stage_name j ≡ stage_name k → j ≡ k }
     ensures staged { (k : ℕ) → is_staged (stage_name k) ≡ true }
@@ -69,8 +69,8 @@ pub fn each_waiting_file_has_its_own_name()
 
 /// The intent and the staged files can exist together: none has a name that is a folder of
 /// another's.
-pub fn no_taken_name_is_a_folder_of_another()
-    ensures { (p q : List ℕ) → IsTakenName p → IsTakenName q → IsFolderOf p q → ⊥ }
+pub fn no_name_of_the_journal_is_a_folder_of_another()
+    ensures { (p q : List ℕ) → IsUsedByJournal p → IsUsedByJournal q → IsFolderOf p q → ⊥ }
 {}
 
 /// An intent that is read has names that a change may have: none is the intent's own name or that

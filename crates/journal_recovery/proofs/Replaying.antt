@@ -5,21 +5,22 @@ use Rattle.base_core.specs.Tree.{TreeState, File, bytes_at, files_of}
 use Rattle.std.specs.Prelude.{Vec}
 use Rattle.std.specs.declared.alloc.Global.{Global}
 use Rattle.base_core.specs.Read.{bytes_in}
-use Rattle.base_core.specs.Calls.{IfObservable, HasNow}
-use Rattle.base_core.specs.Crash.{IsOrderly, Since}
+use Rattle.base_core.specs.Calls.{IfObservable, HoldsNow}
+use Rattle.base_core.specs.Crash.{Since}
+use Rattle.base_core.specs.Undone.{IsDurable}
 use Rattle.adb_schema.specs.Soundness.{first_fault}
 use Rattle.adb_view.specs.declared.tables.Which.TheVariants.{Intent as IntentTable}
 use Rattle.journal_core.specs.Kept.{HasOldOrNewBytes, RecoversTo}
 use Rattle.journal_core.specs.Recovering.{IsReplayed}
-use Rattle.journal_core.specs.Recovery.{IsSettled, RestsOn, intent_name, intent_at, intent_of, recovered_files, recovered_files_by}
-use Rattle.journal_core.specs.Quiet.{IsStill}
-use Rattle.journal_core.specs.Staged.{HasRoomToReplay, IsIntentFault}
+use Rattle.journal_core.specs.Recovery.{EachCrashLeaves, StateDependsOn, intent_name, intent_at, intent_of, recovered_files, recovered_files_by}
+use Rattle.journal_core.specs.Quiet.{StateIsUnchanged}
+use Rattle.journal_core.specs.Staged.{AreReplayPathsFree, IsIntentFault}
 use Rattle.journal_core.proofs.History.{History, no_more, none_since, on_observable, observable_map}
 use Rattle.journal_core.proofs.OneCall.{now_is}
 
 -- no call was made
-pub still_none : (old new : History) → new ≡ old → IfObservable old (λ v. (ignored : List ℕ → Bool) → IsOrderly (RestsOn ignored) v → Since (IsStill ignored v) old new)
-still_none old new same = on_observable old _ (λ v rest is ignored orderly. no_more (IsStill ignored v) old old new (none_since (IsStill ignored v) old) same)
+pub still_none : (old new : History) → new ≡ old → IfObservable old (λ v. (ignored : List ℕ → Bool) → IsDurable (StateDependsOn ignored) v → Since (StateIsUnchanged ignored v) old new)
+still_none old new same = on_observable old _ (λ v rest is ignored is_durable. no_more (StateIsUnchanged ignored v) old old new (none_since (StateIsUnchanged ignored v) old) same)
 
 -- nor where the intent is bad
 pub no_fault : (file : List ℕ) (cause : Cause) → first_fault IntentTable file ≡ None → first_fault IntentTable file ≡ Some cause → ⊥
@@ -45,10 +46,10 @@ module _ (old mid new : History) (same : mid ≡ old) (name file : List ℕ) (na
   back : (B : TreeState → Type 0) → IfObservable mid B → IfObservable old B
   back B told = subst (λ (l : History). IfObservable l B) same told
 
-  pub found_moments : IfObservable mid (λ v. (ignored : List ℕ → Bool) → IsOrderly (RestsOn ignored) v → There v → Since (IsStill ignored v) mid new) → IfObservable old (λ v. (ignored : List ℕ → Bool) → IsOrderly (RestsOn ignored) v → Since (IsStill ignored v) old new)
+  pub found_moments : IfObservable mid (λ v. (ignored : List ℕ → Bool) → IsDurable (StateDependsOn ignored) v → There v → Since (StateIsUnchanged ignored v) mid new) → IfObservable old (λ v. (ignored : List ℕ → Bool) → IsDurable (StateDependsOn ignored) v → Since (StateIsUnchanged ignored v) old new)
   found_moments told =
-      both_told old (λ v. (ignored : List ℕ → Bool) → IsOrderly (RestsOn ignored) v → There v → Since (IsStill ignored v) mid new) There _
-      (λ v t at ignored orderly. subst (λ (l : History). Since (IsStill ignored v) l new) same (t ignored orderly at)) (back _ told) there
+      both_told old (λ v. (ignored : List ℕ → Bool) → IsDurable (StateDependsOn ignored) v → There v → Since (StateIsUnchanged ignored v) mid new) There _
+      (λ v t at ignored is_durable. subst (λ (l : History). Since (StateIsUnchanged ignored v) l new) same (t ignored is_durable at)) (back _ told) there
 
   pub found_reads : IfObservable mid (λ v. There v → Since (RecoversTo (recovered_files (files_of v))) mid new) → IfObservable old (λ v. Since (RecoversTo (recovered_files (files_of v))) old new)
   found_reads told =
@@ -58,16 +59,16 @@ module _ (old mid new : History) (same : mid ≡ old) (name file : List ℕ) (na
   found_bytes told =
       both_told old (λ v. There v → Since (HasOldOrNewBytes (files_of v) (recovered_files (files_of v))) mid new) There _ (λ v t at. subst (λ (l : History). Since (HasOldOrNewBytes (files_of v) (recovered_files (files_of v))) l new) same (t at)) (back _ told) there
 
-  pub found_replayed : {T E : Type 0} (r : Result T E) → IfObservable mid (λ v. There v → OnOk r (HasNow new (IsReplayed v))) → IfObservable old (λ v. OnOk r (HasNow new (IsReplayed v)))
-  found_replayed r told = both_told old (λ v. There v → OnOk r (HasNow new (IsReplayed v))) There _ (λ v t at. t at) (back _ told) there
+  pub found_replayed : {T E : Type 0} (r : Result T E) → IfObservable mid (λ v. There v → OnOk r (HoldsNow new (IsReplayed v))) → IfObservable old (λ v. OnOk r (HoldsNow new (IsReplayed v)))
+  found_replayed r told = both_told old (λ v. There v → OnOk r (HoldsNow new (IsReplayed v))) There _ (λ v t at. t at) (back _ told) there
 
-  pub found_settled : {T E : Type 0} (r : Result T E) → IfObservable mid (λ v. (ignored : List ℕ → Bool) → IsOrderly (RestsOn ignored) v → There v → OnOk r (HasNow new (IsSettled ignored (recovered_files (files_of v)))))
-      → IfObservable old (λ v. (ignored : List ℕ → Bool) → IsOrderly (RestsOn ignored) v → IsSome (intent_of (files_of v)) → OnOk r (HasNow new (IsSettled ignored (recovered_files (files_of v)))))
-  found_settled r told = both_told old (λ v. (ignored : List ℕ → Bool) → IsOrderly (RestsOn ignored) v → There v → OnOk r (HasNow new (IsSettled ignored (recovered_files (files_of v))))) There _ (λ v t at ignored orderly some. t ignored orderly at) (back _ told) there
+  pub found_settled : {T E : Type 0} (r : Result T E) → IfObservable mid (λ v. (ignored : List ℕ → Bool) → IsDurable (StateDependsOn ignored) v → There v → OnOk r (HoldsNow new (EachCrashLeaves ignored (recovered_files (files_of v)))))
+      → IfObservable old (λ v. (ignored : List ℕ → Bool) → IsDurable (StateDependsOn ignored) v → IsSome (intent_of (files_of v)) → OnOk r (HoldsNow new (EachCrashLeaves ignored (recovered_files (files_of v)))))
+  found_settled r told = both_told old (λ v. (ignored : List ℕ → Bool) → IsDurable (StateDependsOn ignored) v → There v → OnOk r (HoldsNow new (EachCrashLeaves ignored (recovered_files (files_of v))))) There _ (λ v t at ignored is_durable some. t ignored is_durable at) (back _ told) there
 
-  pub found_proper : (a b c : ℕ) → IfObservable old (λ v. b ≡ a) → IfObservable mid (λ v. There v → HasRoomToReplay (files_of v) → c ≡ b) → IfObservable old (λ v. HasRoomToReplay (files_of v) → c ≡ a)
-  found_proper a b c first told = both_told old (λ v. (b ≡ a) × (There v → HasRoomToReplay (files_of v) → c ≡ b)) There _ (λ v t at room. t.1 at room ∙ t.0)
-      (both_told old (λ v. b ≡ a) (λ v. There v → HasRoomToReplay (files_of v) → c ≡ b) _ (λ v x y. (x, y)) first (back _ told)) there
+  pub found_proper : (a b c : ℕ) → IfObservable old (λ v. b ≡ a) → IfObservable mid (λ v. There v → AreReplayPathsFree (files_of v) → c ≡ b) → IfObservable old (λ v. AreReplayPathsFree (files_of v) → c ≡ a)
+  found_proper a b c first told = both_told old (λ v. (b ≡ a) × (There v → AreReplayPathsFree (files_of v) → c ≡ b)) There _ (λ v t at room. t.1 at room ∙ t.0)
+      (both_told old (λ v. b ≡ a) (λ v. There v → AreReplayPathsFree (files_of v) → c ≡ b) _ (λ v x y. (x, y)) first (back _ told)) there
 
   pub found_idle : (B : Type 0) → IfObservable old (λ v. v.names intent_name ≡ None → B)
   found_idle B = observable_map old There _ there (λ v at none. absurd (let here : files_of v intent_name ≡ None = ap (bytes_at v.files) none in cc (here, at)))
@@ -102,13 +103,13 @@ module _ (old new : History) (same : new ≡ old) (name : List ℕ) (name_is : n
   names_none files None e = refl
   names_none files (Some n) e = absurd (cc)
 
-  pub absent_replayed : IfObservable old (λ v. HasNow new (IsReplayed v))
+  pub absent_replayed : IfObservable old (λ v. HoldsNow new (IsReplayed v))
   absent_replayed = on_observable old _ (λ v rest is.
       let none = subst (λ (l : History). IfObservable l Absent) is absent in
       now_is new v rest (IsReplayed v) (same ∙ is) (record { reads = sym (ap (λ o. recovered_files_by o (files_of v)) (ap intent_at none)); absent = names_none v.files (v.names intent_name) none }))
 
-  pub absent_settled : IfObservable old (λ v. (ignored : List ℕ → Bool) → IsOrderly (RestsOn ignored) v → IsSome (intent_of (files_of v)) → HasNow new (IsSettled ignored (recovered_files (files_of v))))
-  absent_settled = observable_map old Absent _ absent (λ v none ignored orderly some. absurd (let gone : intent_of (files_of v) ≡ None = ap intent_at none in cc (gone, some)))
+  pub absent_settled : IfObservable old (λ v. (ignored : List ℕ → Bool) → IsDurable (StateDependsOn ignored) v → IsSome (intent_of (files_of v)) → HoldsNow new (EachCrashLeaves ignored (recovered_files (files_of v))))
+  absent_settled = observable_map old Absent _ absent (λ v none ignored is_durable some. absurd (let gone : intent_of (files_of v) ≡ None = ap intent_at none in cc (gone, some)))
 
   pub absent_good : IfObservable old (λ v. (cause : Cause) → IsIntentFault (files_of v) cause → ⊥)
   absent_good = observable_map old Absent _ absent (λ v none cause fault. absurd (let there = fault.1 in cc (none, there)))

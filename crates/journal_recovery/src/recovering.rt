@@ -4,23 +4,21 @@
 ghost use Rattle.std.specs.Prelude.{◌≡◌, [], ℕ, Bool, true, List, Some, None, IsSome, OnOk, OnErr, IsErrOf};
 ghost use Rattle.adb_schema.specs.Soundness.{first_fault};
 ghost use Rattle.adb_view.specs.declared.tables.Which.TheVariants.{Intent as IntentTable};
-ghost use Rattle.base_core.specs.Calls.{HasNow, IfObservable};
-ghost use Rattle.base_core.specs.Crash.{IsOrderly, Since};
-ghost use Rattle.base_core.specs.Faults.{GoesOn, HasCause, IsNoFault};
+ghost use Rattle.base_core.specs.Calls.{HoldsNow, IfObservable};
+ghost use Rattle.base_core.specs.Crash.{Since};
+ghost use Rattle.base_core.specs.Undone.{IsDurable};
+ghost use Rattle.base_core.specs.Faults.{CountsOnlyRise, HasCause, IsNoFault};
 ghost use Rattle.base_core.specs.Tree.{files_of};
 ghost use Rattle.base_core.specs.declared.cause.Cause.{Cause};
-ghost use Rattle.journal_core.specs.Kept.{HasOldOrNewBytes, IsInNoMap, IsLessWaiting, KeepsFilesBut, RecoversTo, ShownNamesLast};
-ghost use Rattle.journal_core.specs.Quiet.{IsStill};
-ghost use Rattle.journal_core.specs.Recovering.{AllStaged, IsEmptied, IsReplayed, IsWithout};
-ghost use Rattle.journal_core.specs.Recovery.{IsSettled, RestsOn, intent_name, intent_of, is_staged, recovered_files};
-ghost use Rattle.journal_core.specs.Staged.{HasRoomToReplay, IsEmptyStage, IsIntentFault, unstaged_files};
+ghost use Rattle.journal_core.specs.Kept.{HasOldOrNewBytes, IsInNoMap, JournalOnlyShrinks, KeepsFilesExcept, RecoversTo, ShownNamesAreDurable};
+ghost use Rattle.journal_core.specs.Quiet.{StateIsUnchanged};
+ghost use Rattle.journal_core.specs.Recovering.{AllStaged, HasEmptiedStage, IsReplayed, HasRemovedNames};
+ghost use Rattle.journal_core.specs.Recovery.{EachCrashLeaves, StateDependsOn, intent_name, intent_of, is_staged, recovered_files};
+ghost use Rattle.journal_core.specs.Staged.{AreReplayPathsFree, IsEmptyStage, IsIntentFault, unstaged_files};
 
-use base_core::{
-    Disk, Names, Tree, TreeFault, a_crash_may_leave_the_files_as_read, order_outlasts_a_crash,
-    read_all,
-};
-use journal_core::calls::remove;
-use journal_core::{Journal, RecoverFault, Stage, apply_all};
+use base_core::{Disk, Names, Tree, TreeFault, read_all};
+use journal_core::calls::{remove, sync_all_names};
+use journal_core::{RecoverFault, Stage, apply_all};
 use journal_intent::{intent_name, stage_folder};
 use std::alloc::{AllocError, Global};
 
@@ -30,13 +28,13 @@ use std::alloc::{AllocError, Global};
 ///
 /// `IntentBad` if the intent is no intent container; then nothing has changed.
 pub fn recover<T: Tree>(alloc: Global, tree: &mut T) -> Result<(), RecoverFault>
-    // If the tree is orderly at the start: at each moment it is orderly, each crash leaves a state
+    // If the tree is durable at the start: at each moment it is durable, each crash leaves a state
     // that one at the start might have left, and the files as read keep their state.
     ensures moments { IfObservable (T.history tree.old) (λ v. (ignored : List ℕ → Bool)
-        → IsOrderly (RestsOn ignored) v
-        → Since (IsStill ignored v) (T.history tree.old) (T.history tree.new)) }
+        → IsDurable (StateDependsOn ignored) v
+        → Since (StateIsUnchanged ignored v) (T.history tree.old) (T.history tree.new)) }
 
-    // Whether the tree is orderly or not, recovery of the files as read yields the same at each
+    // Whether the tree is durable or not, recovery of the files as read yields the same at each
     // moment, apart from staged files.
     ensures reads { IfObservable (T.history tree.old) (λ v.
         Since (λ w. unstaged_files (files_of w) ≡ unstaged_files (files_of v))
@@ -51,27 +49,27 @@ pub fn recover<T: Tree>(alloc: Global, tree: &mut T) -> Result<(), RecoverFault>
     // Once it has returned Ok, the files as read have the intent done and nothing staged; and no
     // intent is read.
     ensures files { IfObservable (T.history tree.old) (λ v.
-        OnOk result (HasNow (T.history tree.new) (λ w. (files_of w ≡ unstaged_files (files_of v))
+        OnOk result (HoldsNow (T.history tree.new) (λ w. (files_of w ≡ unstaged_files (files_of v))
         × (w.names intent_name ≡ None)))) }
 
     // If it found an intent, each crash leaves their state.
     ensures settled { IfObservable (T.history tree.old) (λ v. (ignored : List ℕ → Bool)
-        → IsOrderly (RestsOn ignored) v → IsSome (intent_of (files_of v))
-        → OnOk result (HasNow (T.history tree.new) (IsSettled ignored (files_of v)))) }
+        → IsDurable (StateDependsOn ignored) v → IsSome (intent_of (files_of v))
+        → OnOk result (HoldsNow (T.history tree.new) (EachCrashLeaves ignored (files_of v)))) }
 
     // Whatever it returns, staged files are only removed.
     ensures waiting { IfObservable (T.history tree.old) (λ v.
-        Since (IsLessWaiting v) (T.history tree.old) (T.history tree.new)) }
+        Since (JournalOnlyShrinks v) (T.history tree.old) (T.history tree.new)) }
 
     // If it found an intent: as soon as none is read, a crash undoes no change of a name outside
     // the staging area.
     ensures last { IfObservable (T.history tree.old) (λ v. IsSome (v.names intent_name)
-        → Since (λ w. w.names intent_name ≡ None → ShownNamesLast w)
+        → Since (λ w. w.names intent_name ≡ None → ShownNamesAreDurable w)
         (T.history tree.old) (T.history tree.new)) }
 
     // Once it has returned Ok, no crash restores an intent that it found.
     ensures gone { IfObservable (T.history tree.old) (λ v. IsSome (v.names intent_name)
-        → OnOk result (HasNow (T.history tree.new) (IsInNoMap intent_name))) }
+        → OnOk result (HoldsNow (T.history tree.new) (IsInNoMap intent_name))) }
 
     // If there is nothing to do, no writing call is made.
     ensures idle { IfObservable (T.history tree.old) (λ v. v.names intent_name ≡ None
@@ -91,7 +89,7 @@ pub fn recover<T: Tree>(alloc: Global, tree: &mut T) -> Result<(), RecoverFault>
 
     // No count of faults falls; a fault of the tree is returned only if that count rose, and Ok
     // only if it did not.
-    ensures goes_on { GoesOn (T.counts tree.old) (T.counts tree.new) }
+    ensures goes_on { CountsOnlyRise (T.counts tree.old) (T.counts tree.new) }
     ensures disk { IsErrOf result RecoverFault.Disk
         → HasCause (T.counts tree.old) (T.counts tree.new) }
     ensures kept { OnOk result (IsNoFault (T.counts tree.old) (T.counts tree.new)) }
@@ -101,7 +99,7 @@ pub fn recover<T: Tree>(alloc: Global, tree: &mut T) -> Result<(), RecoverFault>
         → IsNoFault (T.counts tree.old) (T.counts tree.new) }
 
     // If an intent that is found has free paths for its actions, no call is a misuse.
-    ensures proper { IfObservable (T.history tree.old) (λ v. HasRoomToReplay (files_of v)
+    ensures proper { IfObservable (T.history tree.old) (λ v. AreReplayPathsFree (files_of v)
         → (T.counts tree.new).misuses ≡ (T.counts tree.old).misuses) }
 {
     replay(alloc, tree)?;
@@ -113,8 +111,8 @@ pub fn recover<T: Tree>(alloc: Global, tree: &mut T) -> Result<(), RecoverFault>
 /// `recover`, but without an intent the staged files are kept.
 fn replay<T: Tree>(alloc: Global, tree: &mut T) -> Result<(), RecoverFault>
     ensures moments { IfObservable (T.history tree.old) (λ v. (ignored : List ℕ → Bool)
-        → IsOrderly (RestsOn ignored) v
-        → Since (IsStill ignored v) (T.history tree.old) (T.history tree.new)) }
+        → IsDurable (StateDependsOn ignored) v
+        → Since (StateIsUnchanged ignored v) (T.history tree.old) (T.history tree.new)) }
     ensures reads { IfObservable (T.history tree.old) (λ v.
         Since (RecoversTo (recovered_files (files_of v)))
         (T.history tree.old) (T.history tree.new)) }
@@ -122,15 +120,15 @@ fn replay<T: Tree>(alloc: Global, tree: &mut T) -> Result<(), RecoverFault>
         Since (HasOldOrNewBytes (files_of v) (recovered_files (files_of v)))
         (T.history tree.old) (T.history tree.new)) }
     ensures replayed { IfObservable (T.history tree.old) (λ v.
-        OnOk result (HasNow (T.history tree.new) (IsReplayed v))) }
+        OnOk result (HoldsNow (T.history tree.new) (IsReplayed v))) }
     ensures settled { IfObservable (T.history tree.old) (λ v. (ignored : List ℕ → Bool)
-        → IsOrderly (RestsOn ignored) v → IsSome (intent_of (files_of v))
-        → OnOk result (HasNow (T.history tree.new)
-        (IsSettled ignored (recovered_files (files_of v))))) }
+        → IsDurable (StateDependsOn ignored) v → IsSome (intent_of (files_of v))
+        → OnOk result (HoldsNow (T.history tree.new)
+        (EachCrashLeaves ignored (recovered_files (files_of v))))) }
     ensures waiting { IfObservable (T.history tree.old) (λ v.
-        Since (IsLessWaiting v) (T.history tree.old) (T.history tree.new)) }
+        Since (JournalOnlyShrinks v) (T.history tree.old) (T.history tree.new)) }
     ensures last { IfObservable (T.history tree.old) (λ v. IsSome (v.names intent_name)
-        → Since (λ w. w.names intent_name ≡ None → ShownNamesLast w)
+        → Since (λ w. w.names intent_name ≡ None → ShownNamesAreDurable w)
         (T.history tree.old) (T.history tree.new)) }
     ensures gone { IfObservable (T.history tree.old) (λ v. IsSome (v.names intent_name)
         → OnOk result (IfObservable (T.history tree.new) (IsInNoMap intent_name))) }
@@ -148,7 +146,7 @@ fn replay<T: Tree>(alloc: Global, tree: &mut T) -> Result<(), RecoverFault>
 
     // No count of faults falls; a fault of the tree is returned only if that count rose, and Ok
     // only if it did not.
-    ensures goes_on { GoesOn (T.counts tree.old) (T.counts tree.new) }
+    ensures goes_on { CountsOnlyRise (T.counts tree.old) (T.counts tree.new) }
     ensures disk { IsErrOf result RecoverFault.Disk
         → HasCause (T.counts tree.old) (T.counts tree.new) }
     ensures kept { OnOk result (IsNoFault (T.counts tree.old) (T.counts tree.new)) }
@@ -158,7 +156,7 @@ fn replay<T: Tree>(alloc: Global, tree: &mut T) -> Result<(), RecoverFault>
         → IsNoFault (T.counts tree.old) (T.counts tree.new) }
 
     // If an intent that is found has free paths for its actions, no call is a misuse.
-    ensures proper { IfObservable (T.history tree.old) (λ v. HasRoomToReplay (files_of v)
+    ensures proper { IfObservable (T.history tree.old) (λ v. AreReplayPathsFree (files_of v)
         → (T.counts tree.new).misuses ≡ (T.counts tree.old).misuses) }
 {
     let name = intent_name(alloc)?;
@@ -169,12 +167,13 @@ fn replay<T: Tree>(alloc: Global, tree: &mut T) -> Result<(), RecoverFault>
 }
 
 /// Does all actions of the intent that this file encodes, since it is not known which were done
-/// before, and removes the intent. The clauses are those of `replay`, for the file under the
-/// intent's name.
+/// before, and removes the intent. The names are synced first: otherwise a crash could undo the
+/// publishing of the intent and keep one of the actions. The clauses are those of `replay`, for the
+/// file under the intent's name.
 fn replay_file<T: Tree>(alloc: Global, tree: &mut T, file: Vec<u8>) -> Result<(), RecoverFault>
     ensures moments { IfObservable (T.history tree.old) (λ v. (ignored : List ℕ → Bool)
-        → IsOrderly (RestsOn ignored) v → files_of v intent_name ≡ Some file.items
-        → Since (IsStill ignored v) (T.history tree.old) (T.history tree.new)) }
+        → IsDurable (StateDependsOn ignored) v → files_of v intent_name ≡ Some file.items
+        → Since (StateIsUnchanged ignored v) (T.history tree.old) (T.history tree.new)) }
     ensures reads { IfObservable (T.history tree.old) (λ v. files_of v intent_name
         ≡ Some file.items → Since (RecoversTo (recovered_files (files_of v)))
         (T.history tree.old) (T.history tree.new)) }
@@ -183,15 +182,15 @@ fn replay_file<T: Tree>(alloc: Global, tree: &mut T, file: Vec<u8>) -> Result<()
         → Since (HasOldOrNewBytes (files_of v) (recovered_files (files_of v)))
         (T.history tree.old) (T.history tree.new)) }
     ensures replayed { IfObservable (T.history tree.old) (λ v. files_of v intent_name
-        ≡ Some file.items → OnOk result (HasNow (T.history tree.new) (IsReplayed v))) }
+        ≡ Some file.items → OnOk result (HoldsNow (T.history tree.new) (IsReplayed v))) }
     ensures settled { IfObservable (T.history tree.old) (λ v. (ignored : List ℕ → Bool)
-        → IsOrderly (RestsOn ignored) v → files_of v intent_name ≡ Some file.items
-        → OnOk result (HasNow (T.history tree.new)
-        (IsSettled ignored (recovered_files (files_of v))))) }
+        → IsDurable (StateDependsOn ignored) v → files_of v intent_name ≡ Some file.items
+        → OnOk result (HoldsNow (T.history tree.new)
+        (EachCrashLeaves ignored (recovered_files (files_of v))))) }
     ensures waiting { IfObservable (T.history tree.old) (λ v.
-        Since (IsLessWaiting v) (T.history tree.old) (T.history tree.new)) }
+        Since (JournalOnlyShrinks v) (T.history tree.old) (T.history tree.new)) }
     ensures last { IfObservable (T.history tree.old) (λ v. IsSome (v.names intent_name)
-        → Since (λ w. w.names intent_name ≡ None → ShownNamesLast w)
+        → Since (λ w. w.names intent_name ≡ None → ShownNamesAreDurable w)
         (T.history tree.old) (T.history tree.new)) }
     ensures gone { OnOk result (IfObservable (T.history tree.new) (IsInNoMap intent_name)) }
     ensures bad { (cause : Cause) → IsErrOf result (RecoverFault.IntentBad cause)
@@ -203,7 +202,7 @@ fn replay_file<T: Tree>(alloc: Global, tree: &mut T, file: Vec<u8>) -> Result<()
 
     // No count of faults falls; a fault of the tree is returned only if that count rose, and Ok
     // only if it did not.
-    ensures goes_on { GoesOn (T.counts tree.old) (T.counts tree.new) }
+    ensures goes_on { CountsOnlyRise (T.counts tree.old) (T.counts tree.new) }
     ensures disk { IsErrOf result RecoverFault.Disk
         → HasCause (T.counts tree.old) (T.counts tree.new) }
     ensures kept { OnOk result (IsNoFault (T.counts tree.old) (T.counts tree.new)) }
@@ -214,10 +213,11 @@ fn replay_file<T: Tree>(alloc: Global, tree: &mut T, file: Vec<u8>) -> Result<()
 
     // If an intent that is found has free paths for its actions, no call is a misuse.
     ensures proper { IfObservable (T.history tree.old) (λ v. files_of v intent_name
-        ≡ Some file.items → HasRoomToReplay (files_of v)
+        ≡ Some file.items → AreReplayPathsFree (files_of v)
         → (T.counts tree.new).misuses ≡ (T.counts tree.old).misuses) }
 {
     let mut stage = Stage::found(alloc, file)?;
+    sync_all_names(tree)?;
     apply_all(&mut stage, tree)?;
     stage.finish(tree)?;
     Ok(())
@@ -227,25 +227,25 @@ fn replay_file<T: Tree>(alloc: Global, tree: &mut T, file: Vec<u8>) -> Result<()
 /// changes.
 fn empty_stage<T: Tree>(alloc: Global, tree: &mut T) -> Result<(), TreeFault>
     ensures moments { IfObservable (T.history tree.old) (λ v. (ignored : List ℕ → Bool)
-        → IsOrderly (RestsOn ignored) v → v.names intent_name ≡ None
-        → Since (IsStill ignored v) (T.history tree.old) (T.history tree.new)) }
+        → IsDurable (StateDependsOn ignored) v → v.names intent_name ≡ None
+        → Since (StateIsUnchanged ignored v) (T.history tree.old) (T.history tree.new)) }
     ensures shown { IfObservable (T.history tree.old) (λ v.
-        Since (KeepsFilesBut (λ q. is_staged q ≡ true) v)
+        Since (KeepsFilesExcept (λ q. is_staged q ≡ true) v)
         (T.history tree.old) (T.history tree.new)) }
     ensures waiting { IfObservable (T.history tree.old) (λ v.
-        Since (IsLessWaiting v) (T.history tree.old) (T.history tree.new)) }
-    ensures last { IfObservable (T.history tree.old) (λ v. ShownNamesLast v
-        → Since ShownNamesLast (T.history tree.old) (T.history tree.new)) }
+        Since (JournalOnlyShrinks v) (T.history tree.old) (T.history tree.new)) }
+    ensures last { IfObservable (T.history tree.old) (λ v. ShownNamesAreDurable v
+        → Since ShownNamesAreDurable (T.history tree.old) (T.history tree.new)) }
     ensures emptied { IfObservable (T.history tree.old) (λ v.
-        OnOk result (HasNow (T.history tree.new) (IsEmptied v))) }
+        OnOk result (HoldsNow (T.history tree.new) (HasEmptiedStage v))) }
     ensures gone { IfObservable (T.history tree.old) (λ v. OnOk result (IsInNoMap intent_name v
-        → HasNow (T.history tree.new) (IsInNoMap intent_name))) }
+        → HoldsNow (T.history tree.new) (IsInNoMap intent_name))) }
     ensures idle { IfObservable (T.history tree.old) (λ v. IsEmptyStage v.names
         → T.history tree.new ≡ T.history tree.old) }
 
     // No count of faults falls; a fault of the tree is returned only if that count rose, and Ok
     // only if it did not.
-    ensures goes_on { GoesOn (T.counts tree.old) (T.counts tree.new) }
+    ensures goes_on { CountsOnlyRise (T.counts tree.old) (T.counts tree.new) }
     ensures disk { IsErrOf result TreeFault.Disk
         → HasCause (T.counts tree.old) (T.counts tree.new) }
     ensures kept { OnOk result (IsNoFault (T.counts tree.old) (T.counts tree.new)) }
@@ -259,32 +259,34 @@ fn empty_stage<T: Tree>(alloc: Global, tree: &mut T) -> Result<(), TreeFault>
 {
     let folder = stage_folder(alloc)?;
     let names = tree.list(alloc, &folder)?;
-    remove_all(tree, &names)?;
+    clear_all(tree, &names)?;
     Ok(())
 }
 
-/// Removes these names, which are all in the staging area. The clauses are those of `empty_stage`.
-fn remove_all<T: Tree>(tree: &mut T, names: &Names) -> Result<(), Disk>
+/// Removes these names, which are all in the staging area, if there are any. The names are synced
+/// first, so that no crash restores an intent for which one of these files is staged. The clauses
+/// are those of `empty_stage`.
+fn clear_all<T: Tree>(tree: &mut T, names: &Names) -> Result<(), Disk>
     ensures moments { IfObservable (T.history tree.old) (λ v. (ignored : List ℕ → Bool)
-        → IsOrderly (RestsOn ignored) v → v.names intent_name ≡ None → AllStaged names.now
-        → Since (IsStill ignored v) (T.history tree.old) (T.history tree.new)) }
+        → IsDurable (StateDependsOn ignored) v → v.names intent_name ≡ None → AllStaged names.now
+        → Since (StateIsUnchanged ignored v) (T.history tree.old) (T.history tree.new)) }
     ensures shown { IfObservable (T.history tree.old) (λ v. AllStaged names.now
-        → Since (KeepsFilesBut (λ q. is_staged q ≡ true) v)
+        → Since (KeepsFilesExcept (λ q. is_staged q ≡ true) v)
         (T.history tree.old) (T.history tree.new)) }
     ensures waiting { IfObservable (T.history tree.old) (λ v.
-        Since (IsLessWaiting v) (T.history tree.old) (T.history tree.new)) }
+        Since (JournalOnlyShrinks v) (T.history tree.old) (T.history tree.new)) }
     ensures last { IfObservable (T.history tree.old) (λ v. AllStaged names.now
-        → ShownNamesLast v
-        → Since ShownNamesLast (T.history tree.old) (T.history tree.new)) }
+        → ShownNamesAreDurable v
+        → Since ShownNamesAreDurable (T.history tree.old) (T.history tree.new)) }
     ensures cleared { IfObservable (T.history tree.old) (λ v.
-        OnOk result (HasNow (T.history tree.new) (IsWithout names.now v))) }
+        OnOk result (HoldsNow (T.history tree.new) (HasRemovedNames names.now v))) }
     ensures gone { IfObservable (T.history tree.old) (λ v. OnOk result (IsInNoMap intent_name v
-        → HasNow (T.history tree.new) (IsInNoMap intent_name))) }
+        → HoldsNow (T.history tree.new) (IsInNoMap intent_name))) }
     ensures none { names.now ≡ [] → T.history tree.new ≡ T.history tree.old }
 
     // No count of faults falls; a fault of the tree is returned only if that count rose, and Ok
     // only if it did not.
-    ensures goes_on { GoesOn (T.counts tree.old) (T.counts tree.new) }
+    ensures goes_on { CountsOnlyRise (T.counts tree.old) (T.counts tree.new) }
     ensures cause { OnErr result (HasCause (T.counts tree.old) (T.counts tree.new)) }
     ensures kept { OnOk result (IsNoFault (T.counts tree.old) (T.counts tree.new)) }
 
@@ -292,9 +294,43 @@ fn remove_all<T: Tree>(tree: &mut T, names: &Names) -> Result<(), Disk>
     ensures proper { IfObservable (T.history tree.old) (λ v. (T.counts tree.new).misuses
         ≡ (T.counts tree.old).misuses) }
 {
-    // Laws that the proof needs; they compute nothing.
-    a_crash_may_leave_the_files_as_read();
-    order_outlasts_a_crash::<Journal>();
+    if names.is_empty() {
+        return Ok(());
+    }
+    sync_all_names(tree)?;
+    remove_all(tree, names)
+}
+
+/// Removes these names, which are all in the staging area, once no crash restores an intent. The
+/// clauses are those of `clear_all`.
+fn remove_all<T: Tree>(tree: &mut T, names: &Names) -> Result<(), Disk>
+    ensures moments { IfObservable (T.history tree.old) (λ v. (ignored : List ℕ → Bool)
+        → IsDurable (StateDependsOn ignored) v → IsInNoMap intent_name v → AllStaged names.now
+        → Since (StateIsUnchanged ignored v) (T.history tree.old) (T.history tree.new)) }
+    ensures shown { IfObservable (T.history tree.old) (λ v. AllStaged names.now
+        → Since (KeepsFilesExcept (λ q. is_staged q ≡ true) v)
+        (T.history tree.old) (T.history tree.new)) }
+    ensures waiting { IfObservable (T.history tree.old) (λ v.
+        Since (JournalOnlyShrinks v) (T.history tree.old) (T.history tree.new)) }
+    ensures last { IfObservable (T.history tree.old) (λ v. AllStaged names.now
+        → ShownNamesAreDurable v
+        → Since ShownNamesAreDurable (T.history tree.old) (T.history tree.new)) }
+    ensures cleared { IfObservable (T.history tree.old) (λ v.
+        OnOk result (HoldsNow (T.history tree.new) (HasRemovedNames names.now v))) }
+    ensures gone { IfObservable (T.history tree.old) (λ v. OnOk result (IsInNoMap intent_name v
+        → HoldsNow (T.history tree.new) (IsInNoMap intent_name))) }
+    ensures none { names.now ≡ [] → T.history tree.new ≡ T.history tree.old }
+
+    // No count of faults falls; a fault of the tree is returned only if that count rose, and Ok
+    // only if it did not.
+    ensures goes_on { CountsOnlyRise (T.counts tree.old) (T.counts tree.new) }
+    ensures cause { OnErr result (HasCause (T.counts tree.old) (T.counts tree.new)) }
+    ensures kept { OnOk result (IsNoFault (T.counts tree.old) (T.counts tree.new)) }
+
+    // No call is a misuse.
+    ensures proper { IfObservable (T.history tree.old) (λ v. (T.counts tree.new).misuses
+        ≡ (T.counts tree.old).misuses) }
+{
     for i in 0..names.len() {
         remove(tree, names.get(i))?;
     }

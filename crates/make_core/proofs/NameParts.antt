@@ -101,8 +101,8 @@ suffix_whole : (part : List ℕ) → list_any is_slash part ≡ false → suffix
 suffix_whole part free =
     suffix_len_is is_other part 0 0 (omega arith) (λ k lo hi. ap not (no_slash_at part k 0 free hi)) (λ lt. absurd (omega arith)) ∙ omega arith
 
-suffix_behind : (folder part : List ℕ) → list_any is_slash part ≡ false → suffix_len is_other (folder ++ 47 ∷ part) ≡ length part
-suffix_behind folder part free =
+suffix_after : (folder part : List ℕ) → list_any is_slash part ≡ false → suffix_len is_other (folder ++ 47 ∷ part) ≡ length part
+suffix_after folder part free =
     let all : List ℕ = folder ++ 47 ∷ part in
     let long : length all ≡ length folder + suc (length part) = length-append folder (47 ∷ part) in
     let n : ℕ = length folder + 1 in
@@ -121,10 +121,10 @@ part_alone part free =
     let before : length part - suffix_len is_other part - 1 ≡ 0 = omega arith in
     (ap (λ k. take k part) before, ap (λ k. drop k part) none_left)
 
-pub part_behind : (folder part : List ℕ) → list_any is_slash part ≡ false → (folder_of (folder ++ 47 ∷ part) ≡ folder) × (last_part_of (folder ++ 47 ∷ part) ≡ part)
-part_behind folder part free =
+pub part_after : (folder part : List ℕ) → list_any is_slash part ≡ false → (folder_of (folder ++ 47 ∷ part) ≡ folder) × (last_part_of (folder ++ 47 ∷ part) ≡ part)
+part_after folder part free =
     let all : List ℕ = folder ++ 47 ∷ part in
-    let n = suffix_behind folder part free in
+    let n = suffix_after folder part free in
     let long : length all ≡ length folder + suc (length part) = length-append folder (47 ∷ part) in
     let before : length all - suffix_len is_other all - 1 ≡ length folder = omega arith in
     let behind : length all - suffix_len is_other all ≡ length folder + 1 = omega arith in
@@ -180,7 +180,7 @@ path_good path name = by_slash (last_slash path)
         file_by path [] path alone.0 alone.1 refl name free short
     by_slash (inr last) =
         let is = last.is in
-        let there = part_behind last.folder last.part last.free in
+        let there = part_after last.folder last.part last.free in
         let both = sides last.folder last.part (ap is_name (sym is) ∙ name) in
         let some = (named last.folder both.0).some in
         let short = (named path name).short in
@@ -195,11 +195,11 @@ pub same_part : (dir path : List ℕ) → last_part_of (dir ++ 47 ∷ path) ≡ 
 same_part dir path = by_slash (last_slash path)
   where
     by_slash : (list_any is_slash path ≡ false) ⊎ IsLast path → last_part_of (dir ++ 47 ∷ path) ≡ last_part_of path
-    by_slash (inl free) = (part_behind dir path free).1 ∙ sym (part_alone path free).1
+    by_slash (inl free) = (part_after dir path free).1 ∙ sym (part_alone path free).1
     by_slash (inr last) =
         let is = last.is in
         let grouped : (dir ++ 47 ∷ last.folder) ++ 47 ∷ last.part ≡ dir ++ 47 ∷ (last.folder ++ 47 ∷ last.part) = append_assoc dir (47 ∷ last.folder) (47 ∷ last.part) in
         ap (λ (xs : List ℕ). last_part_of (dir ++ 47 ∷ xs)) is
         ∙ (ap last_part_of (sym grouped)
-        ∙ ((part_behind (dir ++ 47 ∷ last.folder) last.part last.free).1
-        ∙ (sym (part_behind last.folder last.part last.free).1 ∙ ap last_part_of (sym is))))
+        ∙ ((part_after (dir ++ 47 ∷ last.folder) last.part last.free).1
+        ∙ (sym (part_after last.folder last.part last.free).1 ∙ ap last_part_of (sym is))))

@@ -18,10 +18,10 @@ use Rattle.adb_view.specs.Schema.{shape_of}
 use Rattle.adb_view.specs.Values.{value_at}
 use Rattle.adb_view.specs.Walk.{shape_fault}
 use Rattle.adb_schema.specs.Texts.{text_fault}
-use Rattle.adb_schema.specs.Soundness.{blocks_fault, file_fault, first_payload, payload_behind, payload_fault, payload_in, root_value, schema_fault}
+use Rattle.adb_schema.specs.Soundness.{blocks_fault, file_fault, first_payload, payload_after_header, payload_fault, payload_in, root_value, schema_fault}
 use Rattle.adb_view.specs.declared.tables.Which.TheVariants.{Package}
 use Rattle.adb_view.specs.declared.tables.Kind.TheVariants.{Obj}
-use Rattle.pkg_core.specs.Whole.{behind_fault, package_fault, package_with_contents, whole_fault}
+use Rattle.pkg_core.specs.Whole.{fault_after_first, package_fault, package_with_contents, whole_fault}
 
 -- what the layers below say of values that are found
 pub record Values : Type 0 where
@@ -81,13 +81,13 @@ step_first at bytes h = either _ _ _ (failed_first (Truncated at)) (headed_first
 abbrev IsPayload : List ℕ → Type 0
 IsPayload payload = AreBytes payload × (payload_fault Package payload ≡ None)
 
-first_passed : (at : ℕ) (further : Piece → ℕ → Reading) (s : Step) → IsFirst s → blocks_fault (behind_fault Package) Package (reading_by_step at further s) ≡ None → IsPayload (first_payload (reading_by_step at further s))
+first_passed : (at : ℕ) (further : Piece → ℕ → Reading) (s : Step) → IsFirst s → blocks_fault (fault_after_first Package) Package (reading_by_step at further s) ≡ None → IsPayload (first_payload (reading_by_step at further s))
 unfolding IsFirst
 first_passed at further ended f h = absurd f
 first_passed at further (failed c) f h = absurd cc
 first_passed at further (block b size) f h = (f, front_none (payload_fault Package b.payload) _ h)
 
-header_passed : (file : List ℕ) (h : Result ℕ Cause) → AreBytes file → file_fault (behind_fault Package) Package file h ≡ None → IsPayload (payload_behind file h)
+header_passed : (file : List ℕ) (h : Result ℕ Cause) → AreBytes file → file_fault (fault_after_first Package) Package file h ≡ None → IsPayload (payload_after_header file h)
 unfolding reading_of reading_from
 header_passed file (Ok schema) bytes e =
     first_passed 8 _ (next_step None 8 (drop 8 file)) (step_first 8 (drop 8 file) (All-drop (λ b. b < 256) 8 file bytes)) (back_none (schema_fault Package schema) _ e)

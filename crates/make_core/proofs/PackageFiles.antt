@@ -31,8 +31,8 @@ abbrev pub IsGoodKind : FileKind → Type 0
 IsGoodKind (Link target) = (rest : List ℕ) × (target ≡ 0 ∷ 160 ∷ rest) × (is_target (0 ∷ 160 ∷ rest) ≡ true)
 IsGoodKind (Regular size digest) = (size < 2 ^ 64) × (length digest ≡ 32)
 
-behind_mark : (bytes : List ℕ) → take 10 bytes ≡ codes "!<symlink>" → (length bytes == 10) ≡ false → 0 < length (link_text bytes)
-behind_mark bytes mark other = by_length (ltb (length bytes) 11) refl
+after_mark : (bytes : List ℕ) → take 10 bytes ≡ codes "!<symlink>" → (length bytes == 10) ≡ false → 0 < length (link_text bytes)
+after_mark bytes mark other = by_length (ltb (length bytes) 11) refl
   where
     by_length : (b : Bool) → ltb (length bytes) 11 ≡ b → 0 < length (link_text bytes)
     by_length true e =
@@ -59,7 +59,7 @@ link_target bytes e =
     let a = and_parts (bytes_eq (take 10 bytes) (codes "!<symlink>") && not (length bytes == 10)) (is_utf8 (link_text bytes)) e in
     let b = and_parts (bytes_eq (take 10 bytes) (codes "!<symlink>")) (not (length bytes == 10)) a.0 in
     let mark = (bytes_eq-Decides (take 10 bytes) (codes "!<symlink>")).0 b.0 in
-    both_true (nat_lt 0 (length (link_text bytes))) (is_utf8 (link_text bytes)) (lt-ltb 0 (length (link_text bytes)) (behind_mark bytes mark (not_true _ b.1))) a.1
+    both_true (nat_lt 0 (length (link_text bytes))) (is_utf8 (link_text bytes)) (lt-ltb 0 (length (link_text bytes)) (after_mark bytes mark (not_true _ b.1))) a.1
 
 pub good_kind : (bytes : List ℕ) → size_of_kind (kind_of_file bytes) < 2 ^ 64 → IsGoodKind (kind_of_file bytes)
 unfolding kind_of_file

@@ -128,7 +128,7 @@ module _ (files : Files) where
       let name = name_stands s.name (kind_of_file s.bytes) in
       record {
         bytes = s.bytes;
-        stands = ap (λ (part : List ℕ). files (name_below dir (path_of folder part))) name ∙ e;
+        located = ap (λ (part : List ℕ). files (name_below dir (path_of folder part))) name ∙ e;
         is = ap (λ (part : List ℕ). value_of_file (record { name = part; bytes = s.bytes })) (sym name);
       }
 

@@ -18,7 +18,7 @@ name_below dir path = dir ++ 47 ∷ path
 -- a file of a package, in a folder of the package, is what the bytes under its path in the tree are
 pub record IsFileBelow (files : Files) (dir folder : List ℕ) (file : Plain) : Type 0 where
   pub bytes : List ℕ
-  pub stands : files (name_below dir (path_of folder (name_of file))) ≡ Some bytes
+  pub located : files (name_below dir (path_of folder (name_of file))) ≡ Some bytes
   pub is : file ≡ value_of_file (record { name = name_of file; bytes = bytes })
 
 -- the paths in a package are exactly those of some names below a folder of the tree, each once, and

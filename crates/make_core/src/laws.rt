@@ -26,13 +26,13 @@ ghost use Rattle.make_info.specs.declared.fault.MakeFault.TheVariants.{FileMissi
 use adb_fields::the_first_pair_in_one_of_several_lists_is_reported;
 use adb_sound::{
     a_container_of_a_good_value_is_sound, a_package_of_a_good_value_and_its_contents_is_sound,
-    contents_stand_in_their_container, what_a_container_is_made_of_is_read_back,
+    contents_are_in_their_container, what_a_container_is_made_of_is_read_back,
 };
 use adb_view::{values_are_normal, values_have_their_shape, values_of_few_visits_have_no_fault};
 use adb_write::a_value_overflows_exactly_past_a_limit;
 use dep_core::{read_texts_are_spelled, values_are_read_back};
 use make_index::an_index_is_in_order;
-use make_package::{each_name_stands_in_one_folder, the_installed_size_is_that_of_the_contents};
+use make_package::{each_name_is_in_one_folder, the_installed_size_is_that_of_the_contents};
 
 /// An index that `mkndx` makes is sound, whatever packages it is made from: files of bytes, fewer
 /// than 2^64 each.
@@ -57,7 +57,7 @@ pub fn a_made_package_is_sound()
         → container_fault bytes ≡ None }
 {
     a_package_of_a_good_value_and_its_contents_is_sound();
-    contents_stand_in_their_container();
+    contents_are_in_their_container();
     the_installed_size_is_that_of_the_contents();
     a_value_overflows_exactly_past_a_limit();
     read_texts_are_spelled();
@@ -88,7 +88,7 @@ pub fn a_made_package_is_read_back()
         → packed_package command names read ≡ Ok (package_with_contents bytes) }
 {
     what_a_container_is_made_of_is_read_back();
-    contents_stand_in_their_container();
+    contents_are_in_their_container();
     the_installed_size_is_that_of_the_contents();
     a_value_overflows_exactly_past_a_limit();
     read_texts_are_spelled();
@@ -122,9 +122,9 @@ pub fn a_made_package_has_the_files_below_its_folder()
         → HasFilesBelow files (without_dot folder.text) names
         (root_value Package (payload_in bytes)) }
 {
-    each_name_stands_in_one_folder();
+    each_name_is_in_one_folder();
     what_a_container_is_made_of_is_read_back();
-    contents_stand_in_their_container();
+    contents_are_in_their_container();
     the_installed_size_is_that_of_the_contents();
     a_value_overflows_exactly_past_a_limit();
     read_texts_are_spelled();

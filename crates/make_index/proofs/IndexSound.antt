@@ -8,7 +8,7 @@ use Rattle.adb_block.specs.Framing.{HeadFields, Step, ended, failed, block, step
 use Rattle.adb_block.specs.Piece.{Piece, comes_after, least_payload, padding_of}
 use Rattle.adb_block.specs.Header.{header_of}
 use Rattle.adb_block.specs.Reading.{Reading, reading_by_step, reading_from, reading_of}
-use Rattle.adb_schema.specs.Soundness.{first_payload, payload_behind, payload_in}
+use Rattle.adb_schema.specs.Soundness.{first_payload, payload_after_header, payload_in}
 
 -- ---- the payload is a part of the file
 
@@ -52,11 +52,11 @@ module _ (P : ℕ → Type 0) where
   stepped_all at f (failed c) h = nothing
   stepped_all at f (block b size) h = h
 
-  behind_all : (file : List ℕ) (header : Result ℕ Cause) → All P file → All P (payload_behind file header)
+  after_all : (file : List ℕ) (header : Result ℕ Cause) → All P file → All P (payload_after_header file header)
   unfolding reading_of reading_from
-  behind_all file (Ok schema) h = stepped_all _ _ _ (step_all None 8 (drop 8 file) (All-drop P 8 file h))
-  behind_all file (Err c) h = nothing
+  after_all file (Ok schema) h = stepped_all _ _ _ (step_all None 8 (drop 8 file) (All-drop P 8 file h))
+  after_all file (Err c) h = nothing
 
   pub payload_all : (file : List ℕ) → All P file → All P (payload_in file)
   unfolding payload_in
-  payload_all file h = behind_all file (header_of file) h
+  payload_all file h = after_all file (header_of file) h

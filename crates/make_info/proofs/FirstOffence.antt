@@ -9,11 +9,11 @@ module _ (too_long : Bool) where
   NoneBehind : List OptionValue → List OptionValue → Type 0
   NoneBehind done values = (before : List OptionValue) (v : OptionValue) (after : List OptionValue) → values ≡ before ++ v ∷ after → offends too_long (done ++ before) v ≡ false
 
-  record IsFirstBehind (done values : List OptionValue) (place : ℕ) : Type 0 where
+  record IsFirstAfter (done values : List OptionValue) (place : ℕ) : Type 0 where
     before : List OptionValue
     value : OptionValue
     after : List OptionValue
-    stands : values ≡ before ++ value ∷ after
+    located : values ≡ before ++ value ∷ after
     reported : value.place ≡ place
     bad : offends too_long (done ++ before) value ≡ true
     first : NoneBehind done before
@@ -36,18 +36,18 @@ module _ (too_long : Bool) where
       let left : values ≡ ws ++ u ∷ after = cc (e) in
       ap (λ (d : List OptionValue). offends too_long d u) (ap (λ (x : OptionValue). done ++ x ∷ ws) (sym same) ∙ sym (shifted done v ws)) ∙ rest ws u after left
 
-  found : (done values : List OptionValue) (place : ℕ) → first_offence too_long done values ≡ Some place → IsFirstBehind done values place
+  found : (done values : List OptionValue) (place : ℕ) → first_offence too_long done values ≡ Some place → IsFirstAfter done values place
   found done [] place e = absurd (cc (e))
   found done (v ∷ vs) place e = by (offends too_long done v) refl (found (done ++ v ∷ []) vs place) e
     where
-      by : (b : Bool) → offends too_long done v ≡ b → (first_offence too_long (done ++ v ∷ []) vs ≡ Some place → IsFirstBehind (done ++ v ∷ []) vs place)
-          → (if b then Some v.place else first_offence too_long (done ++ v ∷ []) vs) ≡ Some place → IsFirstBehind done (v ∷ vs) place
+      by : (b : Bool) → offends too_long done v ≡ b → (first_offence too_long (done ++ v ∷ []) vs ≡ Some place → IsFirstAfter (done ++ v ∷ []) vs place)
+          → (if b then Some v.place else first_offence too_long (done ++ v ∷ []) vs) ≡ Some place → IsFirstAfter done (v ∷ vs) place
       by true t further e =
           record {
             before = [];
             value = v;
             after = vs;
-            stands = refl;
+            located = refl;
             reported = cc (e);
             bad = ap (λ (d : List OptionValue). offends too_long d v) (append-nil done) ∙ t;
             first = no_none done;
@@ -58,7 +58,7 @@ module _ (too_long : Bool) where
             before = v ∷ rest.before;
             value = rest.value;
             after = rest.after;
-            stands = ap (λ (l : List OptionValue). v ∷ l) rest.stands;
+            located = ap (λ (l : List OptionValue). v ∷ l) rest.located;
             reported = rest.reported;
             bad = ap (λ (d : List OptionValue). offends too_long d rest.value) (sym (shifted done v rest.before)) ∙ rest.bad;
             first = one_more done v rest.before t rest.first;
@@ -77,7 +77,7 @@ module _ (too_long : Bool) where
   unfolding NoneBehind
   first_is values place e =
       let is = found [] values place e in
-      record { before = is.before; value = is.value; after = is.after; stands = is.stands; reported = is.reported; offends = is.bad; first = is.first }
+      record { before = is.before; value = is.value; after = is.after; located = is.located; reported = is.reported; offends = is.bad; first = is.first }
 
   pub none_is : (values : List OptionValue) → first_offence too_long [] values ≡ None → NoneOffends too_long values
   unfolding NoneBehind

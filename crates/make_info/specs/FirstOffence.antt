@@ -17,7 +17,7 @@ pub record IsFirstOffence (too_long : Bool) (values : List OptionValue) (place :
   pub before : List OptionValue
   pub value : OptionValue
   pub after : List OptionValue
-  pub stands : values ≡ before ++ value ∷ after
+  pub located : values ≡ before ++ value ∷ after
   pub reported : value.place ≡ place
   pub offends : offends too_long before value ≡ true
   pub first : NoneOffends too_long before

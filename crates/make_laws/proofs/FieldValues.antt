@@ -35,11 +35,11 @@ text_from b value said is e = ap (λ (c : Bool). text_if c value) is ∙ ap Some
 -- ---- pairs of digits
 
 -- what comes of two digits, and of those behind them
-abbrev pair_behind : ℕ → ℕ → ℕ → Option ℕ → Option ℕ → Result (List ℕ) FromHexError → Result (List ℕ) FromHexError
-pair_behind h l i oh ol r = (digit_or_error h i oh >>= (λ a. digit_or_error l (i + 1) ol >>= (λ b. Ok (a * 16 + b)))) >>= (λ byte. r >>= (λ bs. Ok (byte ∷ bs)))
+abbrev pair_after : ℕ → ℕ → ℕ → Option ℕ → Option ℕ → Result (List ℕ) FromHexError → Result (List ℕ) FromHexError
+pair_after h l i oh ol r = (digit_or_error h i oh >>= (λ a. digit_or_error l (i + 1) ol >>= (λ b. Ok (a * 16 + b)))) >>= (λ byte. r >>= (λ bs. Ok (byte ∷ bs)))
 
 pair_to : (h l i : ℕ) (rest bytes : List ℕ) (oh ol : Option ℕ) (r : Result (List ℕ) FromHexError) → hex_digit_value h ≡ oh → hex_digit_value l ≡ ol → ((bs : List ℕ) → r ≡ Ok bs → SpellsBytes rest bs)
-    → pair_behind h l i oh ol r ≡ Ok bytes → SpellsBytes (h ∷ l ∷ rest) bytes
+    → pair_after h l i oh ol r ≡ Ok bytes → SpellsBytes (h ∷ l ∷ rest) bytes
 pair_to h l i rest bytes (Some a) (Some b) (Ok bs) eh el further e =
     let same : (a * 16 + b) ∷ bs ≡ bytes = cc (e) in
     subst (SpellsBytes (h ∷ l ∷ rest)) same ((a, b, eh, el, refl), further bs refl)
@@ -64,7 +64,7 @@ bytes_from i (h ∷ l ∷ rest) [] s = absurd s
 bytes_from i (h ∷ l ∷ rest) (byte ∷ bs) s =
     let (a, b, eh, el, is) = s.0 in
     let more = bytes_from (i + 2) rest bs s.1 in
-    (λ k. pair_behind h l i (eh k) (el k) (more k))
+    (λ k. pair_after h l i (eh k) (el k) (more k))
     ∙ ap (λ (x : ℕ). Ok (x ∷ bs)) (sym is)
 
 two_each : (digits bytes : List ℕ) → SpellsBytes digits bytes → length digits ≡ 2 * length bytes

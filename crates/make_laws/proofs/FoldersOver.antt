@@ -12,13 +12,13 @@ use Rattle.command_core.specs.Command.{CommandLine}
 use Rattle.command_core.specs.Files.{without_dot}
 use Rattle.command_core.specs.declared.values.OptionValue.{OptionValue}
 use Rattle.make_info.specs.Reads.{Reads}
-use Rattle.package_files.specs.Folders.{before_slashes, folder_names, folders_of, folders_over, is_slash, listing_of, path_below}
+use Rattle.package_files.specs.Folders.{before_slashes, folder_names, folders_of, folders_above, is_slash, listing_of, path_below}
 use Rattle.package_files.specs.Package.{SourceFolder}
 use Rattle.package_files.specs.Sources.{AreNamesFor, folders_below, values_with}
 use Rattle.make_core.specs.FilesBelow.{name_below}
 use Rattle.make_core.proofs.ListedNames.{AreListed, below_is, listed_in}
 use Rattle.make_core.proofs.SoundPackage.{are_listed}
-use Rattle.make_laws.specs.MadePackages.{HasFoldersOver, IsOverOne, IsOverPath}
+use Rattle.make_laws.specs.MadePackages.{HasJustFoldersAbove, IsAboveOnePath, IsAbovePath}
 use Rattle.make_laws.proofs.MadeFrom.{IsMadeFrom, folders_are}
 use Rattle.make_laws.proofs.NamesRising.{folder_names_stand, folders_named, listed_names}
 
@@ -40,19 +40,19 @@ before_one : (path f : List ℕ) → IsIn f (before_slashes path) → IsFolderOf
 before_one [] f h = absurd h
 before_one (b ∷ bs) f h = at_byte b bs (is_slash b) refl (before_one bs) f h
 
-over_is : (path f : List ℕ) → IsIn f (folders_over path) → IsOverPath f path
+over_is : (path f : List ℕ) → IsIn f (folders_above path) → IsAbovePath f path
 over_is path f (inl is) = inl is
 over_is path f (inr h) = inr (before_one path f h)
 
-behind_byte : (b : ℕ) (c : Bool) (f : List ℕ) (folders : List (List ℕ)) → IsIn f folders → IsIn (b ∷ f) (if c then [] ∷ map (λ folder. b ∷ folder) folders else map (λ folder. b ∷ folder) folders)
-behind_byte b true f folders h = inr (in-map (λ folder. b ∷ folder) f folders h)
-behind_byte b false f folders h = in-map (λ folder. b ∷ folder) f folders h
+after_byte : (b : ℕ) (c : Bool) (f : List ℕ) (folders : List (List ℕ)) → IsIn f folders → IsIn (b ∷ f) (if c then [] ∷ map (λ folder. b ∷ folder) folders else map (λ folder. b ∷ folder) folders)
+after_byte b true f folders h = inr (in-map (λ folder. b ∷ folder) f folders h)
+after_byte b false f folders h = in-map (λ folder. b ∷ folder) f folders h
 
 before_there : (f rest : List ℕ) → IsIn f (before_slashes (f ++ 47 ∷ rest))
 before_there [] rest = inl refl
-before_there (b ∷ f) rest = behind_byte b (is_slash b) f (before_slashes (f ++ 47 ∷ rest)) (before_there f rest)
+before_there (b ∷ f) rest = after_byte b (is_slash b) f (before_slashes (f ++ 47 ∷ rest)) (before_there f rest)
 
-over_there : (path f : List ℕ) → IsOverPath f path → IsIn f (folders_over path)
+over_there : (path f : List ℕ) → IsAbovePath f path → IsIn f (folders_above path)
 over_there path f (inl is) = inl is
 over_there path f (inr (rest, e)) = inr (subst (λ (p : List ℕ). IsIn f (before_slashes p)) (sym e) (before_there f rest))
 
@@ -60,8 +60,8 @@ over_there path f (inr (rest, e)) = inr (subst (λ (p : List ℕ). IsIn f (befor
 
 -- what the names of a package's folders are
 pub record AreFolderNames : Type 0 where
-  pub over : (paths : List (List ℕ)) (folder : List ℕ) → Contains (folder_names paths) folder → Any (λ path. Contains (folders_over path) folder) paths
-  pub whole : (paths : List (List ℕ)) (path folder : List ℕ) → Contains paths path → Contains (folders_over path) folder → Contains (folder_names paths) folder
+  pub over : (paths : List (List ℕ)) (folder : List ℕ) → Contains (folder_names paths) folder → Any (λ path. Contains (folders_above path) folder) paths
+  pub whole : (paths : List (List ℕ)) (path folder : List ℕ) → Contains paths path → Contains (folders_above path) folder → Contains (folder_names paths) folder
 
 in_from : {A : Type 0} (x : A) (xs : List A) → Contains xs x → IsIn x xs
 in_from x xs h = in-from_index x x xs h.0 h.1 h.2
@@ -70,7 +70,7 @@ module _ (dir : List ℕ) (names : List (List ℕ)) (all : AreListed dir names) 
   abbrev paths : List (List ℕ)
   paths = map (path_below dir) names
 
-  over_one : (f : List ℕ) → IsIn f (folder_names paths) → IsOverOne dir names f
+  over_one : (f : List ℕ) → IsIn f (folder_names paths) → IsAboveOnePath dir names f
   over_one f h =
       let found = law.over paths f (contains-from_in f (folder_names paths) h) in
       let path : List ℕ = found.1 in
@@ -78,14 +78,14 @@ module _ (dir : List ℕ) (names : List (List ℕ)) (all : AreListed dir names) 
       let (name, at, is) = from-map (path_below dir) path names here in
       let listed = listed_in dir names name all at in
       let same : name ≡ name_below dir path = listed.is ∙ ap (name_below dir) (sym is) in
-      (path, subst (λ (n : List ℕ). IsIn n names) same at, over_is path f (in_from f (folders_over path) found.4))
+      (path, subst (λ (n : List ℕ). IsIn n names) same at, over_is path f (in_from f (folders_above path) found.4))
 
-  one_over : (f : List ℕ) → IsOverOne dir names f → IsIn f (folder_names paths)
+  one_over : (f : List ℕ) → IsAboveOnePath dir names f → IsIn f (folder_names paths)
   one_over f (path, at, over) =
       let here : IsIn path paths = subst (λ (p : List ℕ). IsIn p paths) (below_is dir path) (in-map (path_below dir) (name_below dir path) names at) in
-      in_from f (folder_names paths) (law.whole paths path f (contains-from_in path paths here) (contains-from_in f (folders_over path) (over_there path f over)))
+      in_from f (folder_names paths) (law.whole paths path f (contains-from_in path paths here) (contains-from_in f (folders_above path) (over_there path f over)))
 
-  pub names_over : (pkg : Plain) → map name_of (folders_in pkg) ≡ folder_names paths → HasFoldersOver dir names pkg
+  pub names_over : (pkg : Plain) → map name_of (folders_in pkg) ≡ folder_names paths → HasJustFoldersAbove dir names pkg
   names_over pkg e f =
       (λ h. over_one f (subst (IsIn f) e h), λ h. subst (IsIn f) (sym e) (one_over f h))
 
@@ -97,7 +97,7 @@ names_read read n place dir names sources v vs e =
     listed_names (without_dot v.text) names fs sources (folders_named v.place read n (map (listing_of (without_dot v.text) names) fs) sources e)
 
 pub folders_over_paths : AreFolderNames → (command : CommandLine) (names : List (List ℕ)) (read : Reads) (pkg : Plain) (v : OptionValue) (vs : List OptionValue) → AreNamesFor (values_with FILES command.values) names
-    → values_with FILES command.values ≡ v ∷ vs → IsMadeFrom command names read pkg → HasFoldersOver (without_dot v.text) names pkg
+    → values_with FILES command.values ≡ v ∷ vs → IsMadeFrom command names read pkg → HasJustFoldersAbove (without_dot v.text) names pkg
 folders_over_paths law command names read pkg v vs below given m =
     let dir : List ℕ = without_dot v.text in
     let named : AreNamesFor (v ∷ vs) names = subst (λ (l : List OptionValue). AreNamesFor l names) given below in

@@ -79,8 +79,8 @@ colon_found word value h =
     let lt : length word < length all = omega arith in
     (λ k. cond (nat_lt (n k) (length all)) (Some (n k)) None) ∙ ap (λ (c : Bool). cond c (Some (length word)) None) (lt-ltb (length word) (length all) lt)
 
-behind_colon : (word value : List ℕ) → drop (length word + 1) (word ++ 58 ∷ value) ≡ value
-behind_colon word value =
+after_colon : (word value : List ℕ) → drop (length word + 1) (word ++ 58 ∷ value) ≡ value
+after_colon word value =
     ap (drop (length word + 1)) (sym (append_assoc word (58 ∷ []) value)) ∙ drop_at (word ++ 58 ∷ []) value (length word + 1) (omega (arith, length-append word (58 ∷ [])))
 
 -- of TYPE:FILE the part before the first colon, and the part behind it
@@ -88,7 +88,7 @@ pub script_parts : (type file : List ℕ) → list_any is_colon type ≡ false �
 script_parts type file free =
     let n = before_colon type file free in (
       ap (λ m. take m (type ++ 58 ∷ file)) n ∙ take_at type (58 ∷ file) (length type) refl,
-      ap (λ m. drop (m + 1) (type ++ 58 ∷ file)) n ∙ behind_colon type file,
+      ap (λ m. drop (m + 1) (type ++ 58 ∷ file)) n ∙ after_colon type file,
     )
 
 pub given : (f : Field) (value : List ℕ) → field_text_in (option_text f value) ≡ Some (record { field = f; value = value })
@@ -96,7 +96,7 @@ given f value =
     let word : List ℕ = field_word f in
     let t : List ℕ = option_text f value in
     let front : take (length word) t ≡ word = take_at word (58 ∷ value) (length word) refl in
-    let back : drop (length word + 1) t ≡ value = behind_colon word value in
+    let back : drop (length word + 1) t ≡ value = after_colon word value in
     let make : List ℕ → Field → FieldText = λ (v : List ℕ) (g : Field). record { field = g; value = v } in
     ap (field_text_from t) (colon_found word value (colon_free f))
     ∙ ((λ k. option_map (make (back k)) (field_of (front k)))

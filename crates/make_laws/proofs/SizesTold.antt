@@ -12,28 +12,28 @@ use Rattle.adb_view.specs.Plain.{Plain}
 use Rattle.make_info.specs.Information.{InfoItem, information_fields, information_value}
 use Rattle.package_files.specs.Package.{Source, SourceFolder, installed_size, kind_of_file, size_of_folder, size_of_kind, value_of_file, value_of_folder}
 use Rattle.make_core.proofs.PackageFiles.{files_stand, int-size_value, size_stands}
-use Rattle.make_laws.specs.MadePackages.{size_told}
+use Rattle.make_laws.specs.MadePackages.{listed_file_size}
 use Rattle.make_laws.specs.NamedFields.{field_named}
 
 abbrev own_size : Source → ℕ
 own_size file = size_of_kind (kind_of_file file.bytes)
 
-files_told : (files : List Source) → sum_by own_size files ≡ sum_by size_told (map value_of_file files)
+files_told : (files : List Source) → sum_by own_size files ≡ sum_by listed_file_size (map value_of_file files)
 files_told [] = refl
 files_told (f ∷ fs) =
     sum_by-cons own_size f fs
     ∙ ((λ k. sym (size_stands f.name (kind_of_file f.bytes)) k + files_told fs k)
-    ∙ sym (sum_by-cons size_told (value_of_file f) (map value_of_file fs)))
+    ∙ sym (sum_by-cons listed_file_size (value_of_file f) (map value_of_file fs)))
 
-pub sizes_told : (sources : List SourceFolder) → installed_size sources ≡ sum_by size_told (flat_map files_in (map value_of_folder sources))
+pub sizes_told : (sources : List SourceFolder) → installed_size sources ≡ sum_by listed_file_size (flat_map files_in (map value_of_folder sources))
 sizes_told [] = refl
 sizes_told (s ∷ ss) =
     let here : List Plain = files_in (value_of_folder s) in
     let rest : List Plain = flat_map files_in (map value_of_folder ss) in
-    let one : size_of_folder s ≡ sum_by size_told here = files_told s.files ∙ ap (sum_by size_told) (sym (files_stand s)) in
+    let one : size_of_folder s ≡ sum_by listed_file_size here = files_told s.files ∙ ap (sum_by listed_file_size) (sym (files_stand s)) in
     sum_by-cons size_of_folder s ss
     ∙ ((λ k. one k + sizes_told ss k)
-    ∙ (sym (sum_by-append size_told here rest) ∙ ap (sum_by size_told) (sym (flat_map-cons files_in (value_of_folder s) (map value_of_folder ss)))))
+    ∙ (sym (sum_by-append listed_file_size here rest) ∙ ap (sum_by listed_file_size) (sym (flat_map-cons files_in (value_of_folder s) (map value_of_folder ss)))))
 
 pub size_is : (items : List InfoItem) (size : ℕ) → int_in (field_named PkgInfo (codes "installed-size") (information_value items size)) ≡ size
 unfolding information_value

@@ -22,7 +22,7 @@ use Rattle.make_info.specs.Values.{number_value}
 use Rattle.make_info.proofs.Reading.{same_field}
 use Rattle.make_laws.specs.NamedFields.{field_named}
 use Rattle.make_laws.specs.OptionGrammar.{IsGivenFor, SaysOfField, option_text}
-use Rattle.make_laws.specs.SaidOfFields.{SayOfField, SaysOfOne, TellsAll, TellsFirst, TellsOfField}
+use Rattle.make_laws.specs.SaidOfFields.{SayOfField, SaysOfOne, HasAllValues, HasFirstValue, HasValuesOfField}
 use Rattle.make_laws.proofs.FieldValues.{says_to}
 use Rattle.make_laws.proofs.OptionTexts.{given, text_is}
 
@@ -119,26 +119,26 @@ told_list f (x ∷ xs) = by_test (is_item_for f x) (told_list f xs)
     by_test true e = ap (λ (l : List Plain). plain_value x.value ∷ l) e
     by_test false e = e
 
-tells_all : (f : Field) (items : List InfoItem) (v : Plain) → v ≡ value_of_list f items → TellsAll (values_for f items) v
+tells_all : (f : Field) (items : List InfoItem) (v : Plain) → v ≡ value_of_list f items → HasAllValues (values_for f items) v
 tells_all f items v e =
     ap (λ (u : Plain). list_of (entries_in u)) e ∙ (ap list_of (entries_arr (plains_for f items)) ∙ told_list f items)
 
-told_first : (f : Field) (items : List InfoItem) → TellsFirst (values_for f items) (item_value (find (is_item_for f) items))
+told_first : (f : Field) (items : List InfoItem) → HasFirstValue (values_for f items) (item_value (find (is_item_for f) items))
 told_first f [] = refl
 told_first f (x ∷ xs) = by_test (is_item_for f x) (told_first f xs)
   where
-    by_test : (b : Bool) → TellsFirst (values_for f xs) (item_value (find (is_item_for f) xs))
-        → TellsFirst (map (λ (i : InfoItem). i.value) (cond b (x ∷ filter (is_item_for f) xs) (filter (is_item_for f) xs))) (item_value (cond b (Some x) (find (is_item_for f) xs)))
+    by_test : (b : Bool) → HasFirstValue (values_for f xs) (item_value (find (is_item_for f) xs))
+        → HasFirstValue (map (λ (i : InfoItem). i.value) (cond b (x ∷ filter (is_item_for f) xs) (filter (is_item_for f) xs))) (item_value (cond b (Some x) (find (is_item_for f) xs)))
     by_test true e = refl
     by_test false e = e
 
-tells_first : (f : Field) (items : List InfoItem) (v : Plain) → v ≡ value_of_single f items → TellsFirst (values_for f items) v
-tells_first f items v e = subst (TellsFirst (values_for f items)) (sym e) (told_first f items)
+tells_first : (f : Field) (items : List InfoItem) (v : Plain) → v ≡ value_of_single f items → HasFirstValue (values_for f items) v
+tells_first f items v e = subst (HasFirstValue (values_for f items)) (sym e) (told_first f items)
 
 abbrev field_at : Field → List InfoItem → ℕ → Plain
 field_at f items size = field_named PkgInfo (field_word f) (information_value items size)
 
-pub told_info : (f : Field) (items : List InfoItem) (size : ℕ) → (f ≡ Fields.ReplacesPriority → ⊥) → TellsOfField f (values_for f items) (field_at f items size)
+pub told_info : (f : Field) (items : List InfoItem) (size : ℕ) → (f ≡ Fields.ReplacesPriority → ⊥) → HasValuesOfField f (values_for f items) (field_at f items size)
 unfolding information_value
 told_info Fields.Name items size other = tells_first Fields.Name items _ (nth_obj (information_fields items size) 0)
 told_info Fields.Version items size other = tells_first Fields.Version items _ (nth_obj (information_fields items size) 1)
@@ -199,7 +199,7 @@ first_number f (x ∷ xs) all = by_test (is_item_for f x) all (first_number f xs
     by_test false a further = further a
 
 pub told_priority : (told : List OptionValue) (items : List InfoItem) → SayOfField Fields.ReplacesPriority told (values_for Fields.ReplacesPriority items) → (v : Plain) → v ≡ number_value (replaces_priority items)
-    → TellsOfField Fields.ReplacesPriority (values_for Fields.ReplacesPriority items) v
+    → HasValuesOfField Fields.ReplacesPriority (values_for Fields.ReplacesPriority items) v
 told_priority told items say v e =
     tells_first Fields.ReplacesPriority items v (e ∙ first_number Fields.ReplacesPriority items (all_numbers told (values_for Fields.ReplacesPriority items) say))
 

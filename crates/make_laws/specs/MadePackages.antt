@@ -39,18 +39,18 @@ pub record IsInByteOrder (pkg : Plain) : Type 0 where
   pub files : All (λ folder. IsRising (map name_of (files_in folder))) (folders_in pkg)
 
 -- the folder is above the path: it is the root, or the path is below it, at any depth
-abbrev pub IsOverPath : List ℕ → List ℕ → Type 0
-IsOverPath folder path = (folder ≡ []) ⊎ IsFolderOf folder path
+abbrev pub IsAbovePath : List ℕ → List ℕ → Type 0
+IsAbovePath folder path = (folder ≡ []) ⊎ IsFolderOf folder path
 
 -- a folder of the package is above the path of one of the names, which are below `dir` of the tree
-abbrev pub IsOverOne : List ℕ → List (List ℕ) → List ℕ → Type 0
-IsOverOne dir names folder =
-    (path : List ℕ) × IsIn (name_below dir path) names × IsOverPath folder path
+abbrev pub IsAboveOnePath : List ℕ → List (List ℕ) → List ℕ → Type 0
+IsAboveOnePath dir names folder =
+    (path : List ℕ) × IsIn (name_below dir path) names × IsAbovePath folder path
 
 -- the folders of a package are exactly those above the path of a name
-abbrev pub HasFoldersOver : List ℕ → List (List ℕ) → Plain → Type 0
-HasFoldersOver dir names pkg =
-    (folder : List ℕ) → IsIn folder (map name_of (folders_in pkg)) ↔ IsOverOne dir names folder
+abbrev pub HasJustFoldersAbove : List ℕ → List (List ℕ) → Plain → Type 0
+HasJustFoldersAbove dir names pkg =
+    (folder : List ℕ) → IsIn folder (map name_of (folders_in pkg)) ↔ IsAboveOnePath dir names folder
 
 -- ---- access rights
 
@@ -96,11 +96,11 @@ HasTriggersInOrder values pkg =
     ≡ map (λ (v : OptionValue). v.text) (filter (λ (v : OptionValue). v.letter == TRIGGER) values)
 
 -- the size in a file's entry
-abbrev pub size_told : Plain → ℕ
-size_told file = int_in (field_named File (codes "size") file)
+abbrev pub listed_file_size : Plain → ℕ
+listed_file_size file = int_in (field_named File (codes "size") file)
 
 -- the installed size of a package is the sum of its files' sizes
 abbrev pub HasSizeOfFiles : Plain → Type 0
 HasSizeOfFiles pkg =
     int_in (field_named PkgInfo (codes "installed-size") (field_named Package (codes "info") pkg))
-    ≡ sum_by size_told (flat_map files_in (folders_in pkg))
+    ≡ sum_by listed_file_size (flat_map files_in (folders_in pkg))

@@ -1,7 +1,7 @@
 -- The options of a command for a field, and the field's value in a package.
 -- The rule is in `docs/commands.md`, "`mkpkg`": a field of a list may be given several times, and each
 -- value is added; any other is given once. It serves the law
--- `a_made_package_tells_what_its_options_say`.
+-- `a_made_package_has_the_values_of_its_options`.
 use Rattle.command_core.specs.declared.values.TheConstants.{INFO}
 use Rattle.std.specs.Prelude.{◌≡◌, ◌⊎◌, ◌==◌, List, [], ◌∷◌, ◌++◌, map, Bool, true, false}
 use Rattle.std.specs.List.{filter}
@@ -32,33 +32,33 @@ SayOfField f (option ∷ options) said =
     × SaysOfOne f option here × SayOfField f options further × (said ≡ here ++ further)
 
 -- a value has all given values, in this order
-abbrev pub TellsAll : List FieldValue → Plain → Type 0
-TellsAll said v = list_of (entries_in v) ≡ map plain_value said
+abbrev pub HasAllValues : List FieldValue → Plain → Type 0
+HasAllValues said v = list_of (entries_in v) ≡ map plain_value said
 
 -- a value is the first given one, and Null if none is given
-abbrev pub TellsFirst : List FieldValue → Plain → Type 0
-TellsFirst [] v = v ≡ null
-TellsFirst (x ∷ said) v = v ≡ plain_value x
+abbrev pub HasFirstValue : List FieldValue → Plain → Type 0
+HasFirstValue [] v = v ≡ null
+HasFirstValue (x ∷ said) v = v ≡ plain_value x
 
 -- a value has the given ones: all of them for a list, otherwise the first
-abbrev pub TellsAsList : Bool → List FieldValue → Plain → Type 0
-TellsAsList true said v = TellsAll said v
-TellsAsList false said v = TellsFirst said v
+abbrev pub HasValuesAsList : Bool → List FieldValue → Plain → Type 0
+HasValuesAsList true said v = HasAllValues said v
+HasValuesAsList false said v = HasFirstValue said v
 
 -- a value has the given ones of the field: all of them for a list, of another field the first
-abbrev pub TellsOfField : Field → List FieldValue → Plain → Type 0
-TellsOfField f said v = TellsAsList (is_list_field f) said v
+abbrev pub HasValuesOfField : Field → List FieldValue → Plain → Type 0
+HasValuesOfField f said v = HasValuesAsList (is_list_field f) said v
 
 -- the value of a field in a package: in its information, except the priority in replacing, which is a
 -- field of the package
-abbrev pub told_of_field : Field → Plain → Plain
-told_of_field Fields.ReplacesPriority pkg =
+abbrev pub field_value_in_package : Field → Plain → Plain
+field_value_in_package Fields.ReplacesPriority pkg =
     field_named Package (field_word Fields.ReplacesPriority) pkg
-told_of_field f pkg =
+field_value_in_package f pkg =
     field_named PkgInfo (field_word f) (field_named Package (codes "info") pkg)
 
 -- the package has what the options `-I` of a command give for the field
-pub record TellsOptions (f : Field) (values : List OptionValue) (pkg : Plain) : Type 0 where
+pub record HasValuesOfOptions (f : Field) (values : List OptionValue) (pkg : Plain) : Type 0 where
   pub said : List FieldValue
   pub say : SayOfField f (filter (λ (v : OptionValue). v.letter == INFO) values) said
-  pub tells : TellsOfField f said (told_of_field f pkg)
+  pub tells : HasValuesOfField f said (field_value_in_package f pkg)

@@ -12,14 +12,14 @@ mod values;
 
 pub use packages::{
     a_made_package_has_its_scripts, a_made_package_has_its_triggers_in_order,
-    a_made_package_has_just_the_folders_over_its_paths, a_made_package_is_in_byte_order,
-    a_made_package_may_be_read_by_all, a_made_package_tells_the_size_of_its_files,
-    a_made_package_tells_what_its_options_say,
+    a_made_package_has_just_the_folders_above_its_paths, a_made_package_has_the_size_of_its_files,
+    a_made_package_has_the_values_of_its_options, a_made_package_is_in_byte_order,
+    a_made_package_may_be_read_by_all,
 };
 pub use values::{
-    a_file_tells_what_its_bytes_are, a_script_is_given_as_its_type_and_its_file,
-    a_text_gives_a_value_to_a_field, a_value_is_taken_by_the_grammar_of_its_field,
-    a_value_stands_as_it_is_said, an_entry_tells_what_its_package_tells,
+    a_script_is_given_as_its_type_and_its_file, a_text_gives_a_value_to_a_field,
+    a_value_is_stored_as_given, a_value_is_taken_by_the_grammar_of_its_field,
+    an_entry_describes_the_bytes_of_its_file, an_entry_has_the_values_of_its_package,
     an_index_has_its_description_and_packages, an_option_offends_unless_it_is_taken,
     values_without_zeros_tell_the_same,
 };

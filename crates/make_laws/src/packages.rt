@@ -11,14 +11,14 @@ ghost use Rattle.command_core.specs.declared.values.TheConstants.{FILES, SCRIPT}
 ghost use Rattle.make_info.specs.declared.field.Field.{Field};
 ghost use Rattle.make_info.specs.Reads.{Reads};
 ghost use Rattle.package_files.specs.Sources.{values_with};
-ghost use Rattle.make_laws.specs.MadePackages.{HasFoldersOver, HasSizeOfFiles, HasTriggersInOrder, IsEnterableFolder, IsInByteOrder, IsMadePackage, contained_package};
-ghost use Rattle.make_laws.specs.SaidOfFields.{TellsOptions};
+ghost use Rattle.make_laws.specs.MadePackages.{HasJustFoldersAbove, HasSizeOfFiles, HasTriggersInOrder, IsEnterableFolder, IsInByteOrder, IsMadePackage, contained_package};
+ghost use Rattle.make_laws.specs.SaidOfFields.{HasValuesOfOptions};
 ghost use Rattle.make_laws.specs.ScriptFiles.{IsScriptGiven, script_named};
 ghost use Rattle.std.specs.Prelude.{◌≡◌, ◌∷◌, ℕ, All, List};
 
 use dep_core::{read_texts_are_spelled, spelled_texts_are_read};
 use make_core::a_made_package_is_read_back;
-use make_package::each_name_stands_in_one_folder;
+use make_package::each_name_is_in_one_folder;
 
 /// The folders of a package that was made are in byte order, each once, and so are the files of
 /// each folder.
@@ -31,14 +31,14 @@ pub fn a_made_package_is_in_byte_order()
 
 /// The folders of a package that was made are exactly those above the path of a file, at any depth,
 /// with the root.
-pub fn a_made_package_has_just_the_folders_over_its_paths()
+pub fn a_made_package_has_just_the_folders_above_its_paths()
     ensures { (command : CommandLine) (names : List (List ℕ)) (read : Reads) (bytes : List ℕ)
         (dir : OptionValue) (others : List OptionValue) → IsMadePackage command names read bytes
         → values_with FILES command.values ≡ dir ∷ others
-        → HasFoldersOver (without_dot dir.text) names (contained_package bytes) }
+        → HasJustFoldersAbove (without_dot dir.text) names (contained_package bytes) }
 {
     a_made_package_is_read_back();
-    each_name_stands_in_one_folder();
+    each_name_is_in_one_folder();
 }
 
 /// All may read each file of a package that was made, and enter each folder; both belong to root.
@@ -72,10 +72,10 @@ pub fn a_made_package_has_its_scripts()
 
 /// Each field of a package that was made has what the options `-I` say: a list has all values, in
 /// the order given, another field the one value, if there is one.
-pub fn a_made_package_tells_what_its_options_say()
+pub fn a_made_package_has_the_values_of_its_options()
     ensures { (command : CommandLine) (names : List (List ℕ)) (read : Reads) (bytes : List ℕ)
         (f : Field) → IsMadePackage command names read bytes
-        → TellsOptions f command.values (contained_package bytes) }
+        → HasValuesOfOptions f command.values (contained_package bytes) }
 {
     a_made_package_is_read_back();
     read_texts_are_spelled();
@@ -83,7 +83,7 @@ pub fn a_made_package_tells_what_its_options_say()
 }
 
 /// The installed size of a package is the sum of its files' sizes.
-pub fn a_made_package_tells_the_size_of_its_files()
+pub fn a_made_package_has_the_size_of_its_files()
     ensures { (command : CommandLine) (names : List (List ℕ)) (read : Reads) (bytes : List ℕ)
         → IsMadePackage command names read bytes → HasSizeOfFiles (contained_package bytes) }
 {

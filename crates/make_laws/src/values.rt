@@ -64,7 +64,7 @@ pub fn a_script_is_given_as_its_type_and_its_file()
 
 /// The entry of a file describes its bytes: for a link the target and neither size nor hash;
 /// otherwise their number and their SHA-256, and no target.
-pub fn a_file_tells_what_its_bytes_are()
+pub fn an_entry_describes_the_bytes_of_its_file()
     // A link: 0 and 160 are the kind 0xa000, little-endian.
     ensures link { (name bytes target : List ℕ) → IsLinkTo target bytes
         → (let file = value_of_file (record { name = name; bytes = bytes }) in
@@ -81,7 +81,7 @@ pub fn a_file_tells_what_its_bytes_are()
 
 /// The value of an option is stored unchanged: a text, a number, also 0, and for a dependency the
 /// name, the version and the match number.
-pub fn a_value_stands_as_it_is_said()
+pub fn a_value_is_stored_as_given()
     ensures text { (bytes : List ℕ) → plain_value (text bytes) ≡ blob_value bytes }
     ensures number { (n : ℕ) → plain_value (number n) ≡ int n }
     ensures need { (d : Dependency)
@@ -93,7 +93,7 @@ pub fn a_value_stands_as_it_is_said()
 
 /// An entry of an index has the package's id and the length of its file. Each other field, by its
 /// name, is the one of the package's information, without zeros.
-pub fn an_entry_tells_what_its_package_tells()
+pub fn an_entry_has_the_values_of_its_package()
     ensures id { (file : List ℕ) → field_named PkgInfo (codes "hashes") (entry_of_package file)
         ≡ blob_value (package_id file) }
     ensures length { (file : List ℕ)

@@ -131,16 +131,16 @@ module _ (command : CommandLine) (names : List (List ℕ)) (read : Reads) where
   abbrev behind_info : List packages.Script → List InfoItem → Result (List ℕ) MakeFault
   behind_info scripts about = and_then (folders_below read (length scripts) (values_with FILES command.values) names) (package_of_parts command scripts about)
 
-  abbrev behind_scripts : List packages.Script → Result (List ℕ) MakeFault
-  behind_scripts scripts = and_then (or_info_bad (information command)) (behind_info scripts)
+  abbrev after_scripts : List packages.Script → Result (List ℕ) MakeFault
+  after_scripts scripts = and_then (or_info_bad (information command)) (behind_info scripts)
 
   pub scripts_fault : (fault : MakeFault) → IsAnswer AreScripts (Err fault) (scripts_from read 0 (values_with SCRIPT command.values)) → IsAnswer IsBytes (Err fault) (made_package command names read)
   unfolding made_package
-  scripts_fault fault h = fault_of_part AreScripts IsBytes fault (scripts_from read 0 (values_with SCRIPT command.values)) behind_scripts h
+  scripts_fault fault h = fault_of_part AreScripts IsBytes fault (scripts_from read 0 (values_with SCRIPT command.values)) after_scripts h
 
-  to_info : (ys : List packages.Script) → scripts_from read 0 (values_with SCRIPT command.values) ≡ Ok ys → made_package command names read ≡ behind_scripts ys
+  to_info : (ys : List packages.Script) → scripts_from read 0 (values_with SCRIPT command.values) ≡ Ok ys → made_package command names read ≡ after_scripts ys
   unfolding made_package
-  to_info ys e = ap (λ (r : Result (List packages.Script) MakeFault). and_then r behind_scripts) e
+  to_info ys e = ap (λ (r : Result (List packages.Script) MakeFault). and_then r after_scripts) e
 
   pub info_fault : (ys : List packages.Script) (fault : MakeFault) → scripts_from read 0 (values_with SCRIPT command.values) ≡ Ok ys → IsInfoFault fault (information command) → IsAnswer IsBytes (Err fault) (made_package command names read)
   info_fault ys (InfoBad place) e h = to_info ys e ∙ ap (λ (r : Result (List InfoItem) ℕ). and_then (or_info_bad r) (behind_info ys)) h

@@ -9,7 +9,7 @@ ghost use Rattle.make_info.specs.declared.field.Field.TheVariants.{ReplacesPrior
 ghost use Rattle.make_info.specs.Fields.{field_word};
 ghost use Rattle.make_info.specs.Named.{value_by_name};
 ghost use Rattle.make_info.specs.Values.{number_value, plains_of_list, size_value};
-ghost use Rattle.package_files.specs.Folders.{folder_names, folders_of, folders_over};
+ghost use Rattle.package_files.specs.Folders.{folder_names, folders_of, folders_above};
 ghost use Rattle.package_files.specs.Package.{FILE_MODE, FOLDER_MODE, Script, access_value, file_fields, folder_fields, is_link_file, kind_of_file, link_text, package_fields, script_fields, script_in};
 ghost use Rattle.package_files.specs.declared.file.FileKind.{FileKind};
 ghost use Rattle.sha2.specs.Sha256.{sha256};
@@ -22,7 +22,7 @@ ghost use Rattle.std.specs.Prelude.{◌≡◌, ◌∷◌, ℕ, All, Any, Contain
 /// The types that `--script` may name are the fields of a package's scripts, in their order, and a
 /// script is at the field of its type. The value of `-I` for the priority in replacing is at the
 /// package's field of that name.
-pub fn a_part_stands_in_the_field_of_its_name()
+pub fn a_part_is_in_the_field_of_its_name()
     // The types of `-s` are the names of the fields of table 6, in their order.
     ensures types { script_types ≡ map (λ field. field_name_text field.name) (table Scripts) }
     // A script is at the field of its type.
@@ -39,7 +39,7 @@ pub fn a_part_stands_in_the_field_of_its_name()
 
 /// The folders of a package are in byte order, so none is repeated. They are exactly those above a
 /// path, at any depth. The files in them are the listed names, each once.
-pub fn each_name_stands_in_one_folder()
+pub fn each_name_is_in_one_folder()
     // The files of all folders are the listed names, each once.
     ensures names { (dir : List ℕ) (names : List (List ℕ))
         → IsPermutation names (flat_map (λ folder. folder.files) (folders_of dir names)) }
@@ -49,10 +49,10 @@ pub fn each_name_stands_in_one_folder()
     // Each folder is above a path.
     ensures over { (paths : List (List ℕ)) (folder : List ℕ)
         → Contains (folder_names paths) folder
-        → Any (λ path. Contains (folders_over path) folder) paths }
+        → Any (λ path. Contains (folders_above path) folder) paths }
     // Each folder that is above a path is one of them.
     ensures whole { (paths : List (List ℕ)) (path folder : List ℕ)
-        → Contains paths path → Contains (folders_over path) folder
+        → Contains paths path → Contains (folders_above path) folder
         → Contains (folder_names paths) folder }
 {}
 

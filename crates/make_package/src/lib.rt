@@ -15,7 +15,7 @@ mod writing;
 
 pub use assembly::the_installed_size_is_that_of_the_contents;
 pub use laws::{
-    a_part_stands_in_the_field_of_its_name, each_name_stands_in_one_folder,
+    a_part_is_in_the_field_of_its_name, each_name_is_in_one_folder,
     the_fields_of_a_file_are_those_of_its_bytes,
 };
 pub use making::make;

@@ -9,8 +9,8 @@ ghost use Rattle.std.specs.Prelude.{◌≡◌};
 use crate::assembly::package;
 use crate::reading::{list_names, pack_below, read_scripts};
 use crate::writing::Script;
-use adb_sound::contents_stand_in_their_container;
-use base_core::{Names, Tree, readings_in_a_row_join};
+use adb_sound::contents_are_in_their_container;
+use base_core::{Names, Tree, consecutive_reads_compose};
 use command_core::{Applet, Command, a_command_has_what_its_applet_may_have};
 use make_info::{MakeFault, read_information};
 use package_files::Packing;
@@ -57,8 +57,8 @@ fn pack<T: Tree>(
 {
     // Laws that the proof needs; they compute nothing.
     a_command_has_what_its_applet_may_have();
-    contents_stand_in_their_container();
-    readings_in_a_row_join::<Vec<Script<'_>>, Packing<'_>, MakeFault>();
+    contents_are_in_their_container();
+    consecutive_reads_compose::<Vec<Script<'_>>, Packing<'_>, MakeFault>();
     let values = command.values();
     let scripts = read_scripts(alloc, tree, values)?;
     let about = read_information(alloc, command)?;

@@ -1,6 +1,6 @@
 -- A command has one first clash of names, or none.
 use Rattle.std.proofs.Common.{◌≡◌, ◌∙◌, ℕ, Bool, true, false, List, Option, None, Result, Ok, Err, refl, sym}
-use Rattle.base_core.specs.Files.{Files, IsWithin}
+use Rattle.base_core.specs.Files.{Files, HasNamesAmong}
 use Rattle.change_inputs.specs.Inputs.{Inputs}
 use Rattle.change_outcome.specs.ChangeOutcome.{ChangeWishes, IsClashOfChange}
 use Rattle.command_core.specs.Command.{CommandLine}
@@ -15,24 +15,24 @@ use Rattle.outcome.specs.Given.{IsClashBy}
 
 -- a change of files under finitely many names has a first clash, or none, and no second one
 abbrev pub HaveClash : Type 0
-HaveClash = (inputs : Inputs) (r : Replacement) (wishes : ChangeWishes) (read : Reads) (within : List (List ℕ)) (files : Files) → IsWithin within files
+HaveClash = (inputs : Inputs) (r : Replacement) (wishes : ChangeWishes) (read : Reads) (within : List (List ℕ)) (files : Files) → HasNamesAmong within files
     → (clash : Option NamePair) × IsClashOfChange inputs r wishes read files clash
 
 abbrev pub HaveOneClash : Type 0
 HaveOneClash = (inputs : Inputs) (r : Replacement) (wishes : ChangeWishes) (read : Reads) (files : Files) (a b : Option NamePair)
     → IsClashOfChange inputs r wishes read files a → IsClashOfChange inputs r wishes read files b → a ≡ b
 
-unless_simulated : HaveClash → (simulate : Bool) (wishes : ChangeWishes) (read : Reads) (files : Files) (within : List (List ℕ)) (s : Selected) → IsWithin within files
+unless_simulated : HaveClash → (simulate : Bool) (wishes : ChangeWishes) (read : Reads) (files : Files) (within : List (List ℕ)) (s : Selected) → HasNamesAmong within files
     → (clash : Option NamePair) × IsClashUnlessSimulated simulate wishes read files s clash
 unless_simulated have true wishes read files within s finite = (None, refl)
 unless_simulated have false wishes read files within s finite = have s.inputs s.replacement wishes read within files finite
 
-of_selected : HaveClash → (command : CommandLine) (read : Reads) (files : Files) (within : List (List ℕ)) (selected : Result Selected Refusal) → IsWithin within files
+of_selected : HaveClash → (command : CommandLine) (read : Reads) (files : Files) (within : List (List ℕ)) (selected : Result Selected Refusal) → HasNamesAmong within files
     → (clash : Option NamePair) × IsClashOfSelected command read files selected clash
 of_selected have command read files within (Ok s) finite = unless_simulated have command.flags.simulate (wishes_of command) read files within s finite
 of_selected have command read files within (Err refusal) finite = (None, refl)
 
-pub clash_exists : HaveClash → (effect : Effect) (command : CommandLine) (read : Reads) (files : Files) (within : List (List ℕ)) (chosen : Option (List ℕ)) → IsWithin within files
+pub clash_exists : HaveClash → (effect : Effect) (command : CommandLine) (read : Reads) (files : Files) (within : List (List ℕ)) (chosen : Option (List ℕ)) → HasNamesAmong within files
     → (clash : Option NamePair) × IsClashBy effect command read files chosen clash
 clash_exists have Changes command read files within chosen finite = of_selected have command read files within (selected_for command read chosen) finite
 clash_exists have other command read files within chosen finite = (None, refl)

@@ -16,13 +16,13 @@ use Rattle.change_outcome.specs.ChangeOutcome.{ChangeDone}
 use Rattle.engine_core.specs.Changed.{change_of_command}
 use Rattle.report_core.specs.declared.refusal.Refusal.{Refusal}
 use Rattle.report_core.specs.declared.refusal.Refusal.TheVariants.{Reserved, ResultTooLarge}
-use Rattle.tell_core.specs.ToldBy.{told_by}
+use Rattle.tell_core.specs.ReportForCommand.{report_for_command}
 use Rattle.words_core.specs.Grammar.{command_of}
 use Rattle.outcome.proofs.Applets.{change_is, report_is, told_commits, told_files}
 use Rattle.outcome.proofs.MadeSound.{IsRefusalOrMade, index_fine, package_fine}
 use Rattle.outcome.specs.Changing.{change_outcome}
 use Rattle.outcome.specs.Given.{Given}
-use Rattle.outcome.specs.Commands.{IsOutcomeOf, IsOutcomeUnless, applet_outcome, reads_in}
+use Rattle.outcome.specs.Commands.{IsOutcomeOf, IsOutcomeUnlessBadIntent, effect_outcome, reads_in}
 use Rattle.outcome.specs.Effect.{Effect, Computes, Reads as OnlyReads, Tells, Makes, Changes, does_only_read, effect_by, effect_of, reads_only}
 use Rattle.outcome.specs.Make.{files_with_output, index_line, make_outcome, unless_reserved}
 use Rattle.outcome.specs.Outcome.{Outcome, commit_report, just_refusal}
@@ -49,12 +49,12 @@ made_commits files output report (Err (TooLarge bytes values)) fine = unless_out
 made_commits files output report (Err Disk) fine = absurd fine
 made_commits files output report (Err Memory) fine = absurd fine
 
-applet_commits : (applet : Applet) (command : CommandLine) (given : Given) (files : Files) → effect_of applet ≡ Makes → CommitsUnlessRefused (applet_outcome applet command given (reads_in files) files)
+applet_commits : (applet : Applet) (command : CommandLine) (given : Given) (files : Files) → effect_of applet ≡ Makes → CommitsUnlessRefused (effect_outcome (effect_of applet) applet command given (reads_in files) files)
 applet_commits Mkpkg command given files makes = made_commits files (output_name command) [] (made_package command given.names (reads_in files)) (package_fine command given.names (reads_in files))
 applet_commits Mkndx command given files makes = made_commits files (output_name command) (index_line (length command.operands)) (made_index command (reads_in files)) (index_fine command (reads_in files))
 applet_commits other command given files makes = cc
 
-commits_unless : (fault : Option Cause) (command : CommandLine) (files : Files) (o : Outcome) → effect_of command.applet ≡ Makes → IsOutcomeUnless fault command files o → CommitsUnlessRefused o
+commits_unless : (fault : Option Cause) (command : CommandLine) (files : Files) (o : Outcome) → effect_of command.applet ≡ Makes → IsOutcomeUnlessBadIntent fault command files o → CommitsUnlessRefused o
 commits_unless (Some cause) command files o makes is = subst CommitsUnlessRefused (sym is) refl
 commits_unless None command files o makes (given, are, is) = subst CommitsUnlessRefused (sym is) (applet_commits command.applet command given (work_files (effect_of command.applet) files) makes)
 
@@ -75,11 +75,11 @@ change_commits : (files : Files) (result : Result ChangeDone Refusal) → Commit
 change_commits files (Ok done) some = absurd (true≢false (sym some))
 change_commits files (Err refusal) some = refl
 
-applet_changes : (applet : Applet) (command : CommandLine) (given : Given) (files : Files) → effect_of applet ≡ Changes → CommitsNoRefusal (applet_outcome applet command given (reads_in files) files)
+applet_changes : (applet : Applet) (command : CommandLine) (given : Given) (files : Files) → effect_of applet ≡ Changes → CommitsNoRefusal (effect_outcome (effect_of applet) applet command given (reads_in files) files)
 applet_changes applet command given files changes =
     subst CommitsNoRefusal (change_is applet command given (reads_in files) files changes) (change_commits files (change_of_command command (reads_in files) files given.chosen given.clash))
 
-changes_unless : (fault : Option Cause) (command : CommandLine) (files : Files) (o : Outcome) → effect_of command.applet ≡ Changes → IsOutcomeUnless fault command files o → CommitsNoRefusal o
+changes_unless : (fault : Option Cause) (command : CommandLine) (files : Files) (o : Outcome) → effect_of command.applet ≡ Changes → IsOutcomeUnlessBadIntent fault command files o → CommitsNoRefusal o
 changes_unless (Some cause) command files o changes is = λ some. ap (λ (p : Outcome). p.commits) is
 changes_unless None command files o changes (given, are, is) = subst CommitsNoRefusal (sym is) (applet_changes command.applet command given (work_files (effect_of command.applet) files) changes)
 
@@ -89,12 +89,12 @@ changes_by (Ok command) files o changes is = changes_unless (recovery_fault (eff
 
 -- ---- a command that only reports
 
-tells_unless : (fault : Option Cause) (command : CommandLine) (files : Files) (o : Outcome) → effect_of command.applet ≡ Tells → IsOutcomeUnless fault command files o → o.commits ≡ false
+tells_unless : (fault : Option Cause) (command : CommandLine) (files : Files) (o : Outcome) → effect_of command.applet ≡ Tells → IsOutcomeUnlessBadIntent fault command files o → o.commits ≡ false
 tells_unless (Some cause) command files o tells is = ap (λ (p : Outcome). p.commits) is
 tells_unless None command files o tells (given, are, is) =
     let work = work_files (effect_of command.applet) files in
     ap (λ (p : Outcome). p.commits) (is ∙ sym (report_is command.applet command given (reads_in work) work tells))
-    ∙ told_commits work (told_by command (reads_in work))
+    ∙ told_commits work (report_for_command command (reads_in work))
 
 tells_by : (read : Result CommandLine ℕ) (files : Files) (o : Outcome) → effect_by read ≡ Tells → IsOutcomeOf read files o → o.commits ≡ false
 tells_by (Err place) files o tells is = cc
@@ -104,13 +104,13 @@ tells_by (Ok command) files o tells is = tells_unless (recovery_fault (effect_of
 pub teller_commits : (words : List (List ℕ)) (files : Files) (o : Outcome) → effect_by (command_of words) ≡ Tells → IsOutcomeOf (command_of words) files o → o.commits ≡ false
 teller_commits words files o tells is = tells_by (command_of words) files o tells is
 
-tells_files : (fault : Option Cause) (command : CommandLine) (files : Files) (o : Outcome) → effect_of command.applet ≡ Tells → IsOutcomeUnless fault command files o → (o.files ≡ files) ⊎ (o.files ≡ work_files Tells files)
+tells_files : (fault : Option Cause) (command : CommandLine) (files : Files) (o : Outcome) → effect_of command.applet ≡ Tells → IsOutcomeUnlessBadIntent fault command files o → (o.files ≡ files) ⊎ (o.files ≡ work_files Tells files)
 tells_files (Some cause) command files o tells is = inl (ap (λ (p : Outcome). p.files) is)
 tells_files None command files o tells (given, are, is) =
     let work = work_files (effect_of command.applet) files in
     inr (
     ap (λ (p : Outcome). p.files) (is ∙ sym (report_is command.applet command given (reads_in work) work tells))
-    ∙ told_files work (told_by command (reads_in work))
+    ∙ told_files work (report_for_command command (reads_in work))
     ∙ ap (λ (e : Effect). work_files e files) tells
     )
 

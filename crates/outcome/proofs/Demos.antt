@@ -4,7 +4,7 @@ use Rattle.std.specs.Prelude.{if◌then◌else◌, option_and_then, slice_get, t
 use Rattle.std.specs.List.{list_any}
 use Rattle.std.specs.Str.{bytes_eq}
 use Rattle.adb_schema.specs.Reserved.{is_reserved}
-use Rattle.base_core.specs.Files.{Files, IsWithin, drop_name, no_names, put_name}
+use Rattle.base_core.specs.Files.{Files, HasNamesAmong, drop_name, no_names, put_name}
 use Rattle.base_core.specs.declared.cause.Cause.{Cause}
 use Rattle.command_core.specs.Command.{CommandLine}
 use Rattle.command_core.specs.declared.command.Applet.{Applet}
@@ -24,8 +24,8 @@ use Rattle.words_core.specs.Grammar.{asked_at, asked_or_err, command_of, line_co
 use Rattle.words_core.specs.Options.{asked_by}
 use Rattle.outcome.proofs.Existing.{work_within}
 use Rattle.outcome.proofs.Looking.{read_leaves}
-use Rattle.outcome.specs.Commands.{IsOutcomeOf, IsOutcomeUnless, applet_outcome, reads_in}
-use Rattle.outcome.specs.Demo.{AreIndexed, AreInstalled, ArePackaged, IsDemoOutcome, IsRunBehind, IsRunUnless, demo_start, with_demo_file}
+use Rattle.outcome.specs.Commands.{IsOutcomeOf, IsOutcomeUnlessBadIntent, effect_outcome, reads_in}
+use Rattle.outcome.specs.Demo.{AreIndexed, AreInstalled, ArePackaged, IsDemoOutcome, IsRunAfter, IsRunUnlessRefused, demo_start, with_demo_file}
 use Rattle.outcome.specs.Effect.{Makes, does_only_read, effect_of}
 use Rattle.outcome.specs.Given.{Given}
 use Rattle.outcome.specs.Make.{files_with_output, index_line, make_outcome, unless_reserved}
@@ -36,7 +36,7 @@ use Rattle.outcome.specs.Work.{recovery_fault, work_files}
 
 -- the names of which they are
 abbrev pub AreFew : Files → Type 0
-AreFew files = (names : List (List ℕ)) × IsWithin names files
+AreFew files = (names : List (List ℕ)) × HasNamesAmong names files
 
 or_right : (a b : Bool) → b ≡ true → (a || b) ≡ true
 or_right true b is = refl
@@ -79,12 +79,12 @@ few_made files output report (Err (TooLarge bytes values)) few = few_output file
 few_made files output report (Err Disk) few = few
 few_made files output report (Err Memory) few = few
 
-few_applet : (applet : Applet) (command : CommandLine) (given : Given) (files : Files) → effect_of applet ≡ Makes → AreFew files → AreFew ((applet_outcome applet command given (reads_in files) files).files)
+few_applet : (applet : Applet) (command : CommandLine) (given : Given) (files : Files) → effect_of applet ≡ Makes → AreFew files → AreFew ((effect_outcome (effect_of applet) applet command given (reads_in files) files).files)
 few_applet Mkpkg command given files makes few = few_made files (output_name command) [] (made_package command given.names (reads_in files)) few
 few_applet Mkndx command given files makes few = few_made files (output_name command) (index_line (length command.operands)) (made_index command (reads_in files)) few
 few_applet other command given files makes few = cc
 
-few_unless : (fault : Option Cause) (command : CommandLine) (files : Files) (o : Outcome) → effect_of command.applet ≡ Makes → IsOutcomeUnless fault command files o → AreFew files → AreFew o.files
+few_unless : (fault : Option Cause) (command : CommandLine) (files : Files) (o : Outcome) → effect_of command.applet ≡ Makes → IsOutcomeUnlessBadIntent fault command files o → AreFew files → AreFew o.files
 few_unless (Some cause) command files o makes is few = subst AreFew (sym (ap (λ (p : Outcome). p.files) is)) few
 few_unless None command files o makes (given, are, is) few =
     let (names, within) = few in
@@ -151,19 +151,19 @@ mkndx_makes words = line_makes (codes "mkndx" ∷ words) (line_command (codes "m
 
 -- a command that is read has an outcome over few files
 abbrev pub HaveOutcome : Type 0
-HaveOutcome = (read : Result CommandLine ℕ) (files : Files) (within : List (List ℕ)) → IsWithin within files → (o : Outcome) × IsOutcomeOf read files o
+HaveOutcome = (read : Result CommandLine ℕ) (files : Files) (within : List (List ℕ)) → HasNamesAmong within files → (o : Outcome) × IsOutcomeOf read files o
 
 -- an outcome that leaves few files
 abbrev One : (Outcome → Type 0) → Type 0
 One IsOne = (o : Outcome) × IsOne o × AreFew o.files
 
-unless_exists : HaveOutcome → (refusal : Option Refusal) (words : List (List ℕ)) (files : Files) (before : Outcome) → AreFew files → (o : Outcome) × IsRunUnless refusal words files before o
+unless_exists : HaveOutcome → (refusal : Option Refusal) (words : List (List ℕ)) (files : Files) (before : Outcome) → AreFew files → (o : Outcome) × IsRunUnlessRefused refusal words files before o
 unless_exists have (Some refusal) words files before few = (before, refl)
 unless_exists have None words files before (names, within) = have (command_of words) files names within
 
-few_behind : (refusal : Option Refusal) (words : List (List ℕ)) (files : Files) (before o : Outcome) → DoMake (command_of words) → IsRunUnless refusal words files before o → AreFew before.files → AreFew files → AreFew o.files
-few_behind (Some refusal) words files before o makes is few few_now = subst AreFew (sym (ap (λ (p : Outcome). p.files) is)) few
-few_behind None words files before o makes is few few_now = few_by (command_of words) files o makes is few_now
+few_after : (refusal : Option Refusal) (words : List (List ℕ)) (files : Files) (before o : Outcome) → DoMake (command_of words) → IsRunUnlessRefused refusal words files before o → AreFew before.files → AreFew files → AreFew o.files
+few_after (Some refusal) words files before o makes is few few_now = subst AreFew (sym (ap (λ (p : Outcome). p.files) is)) few
+few_after None words files before o makes is few few_now = few_by (command_of words) files o makes is few_now
 
 packaged_exists : HaveOutcome → (n : ℕ) → One (ArePackaged n)
 packaged_exists have zero =
@@ -174,13 +174,13 @@ packaged_exists have (suc i) =
     let files = with_demo_file (suc i) before.files in
     let few_now : AreFew files = few_put before.files (demo_file (suc i)) (demo_text (suc i)) few in
     let (o, is_next) = unless_exists have before.refusal (mkpkg_words (suc i)) files before few_now in
-    (o, (before, is, is_next), few_behind before.refusal (mkpkg_words (suc i)) files before o (mkpkg_makes _) is_next few few_now)
+    (o, (before, is, is_next), few_after before.refusal (mkpkg_words (suc i)) files before o (mkpkg_makes _) is_next few few_now)
 
 indexed_exists : HaveOutcome → (n : ℕ) → One (AreIndexed n)
 indexed_exists have n =
     let (before, is, few) = packaged_exists have n in
     let (o, is_next) = unless_exists have before.refusal (mkndx_words n) before.files before few in
-    (o, (before, is, is_next), few_behind before.refusal (mkndx_words n) before.files before o (mkndx_makes _) is_next few few)
+    (o, (before, is, is_next), few_after before.refusal (mkndx_words n) before.files before o (mkndx_makes _) is_next few few)
 
 installed_exists : HaveOutcome → (n : ℕ) → (o : Outcome) × AreInstalled n o
 installed_exists have n =
@@ -199,14 +199,14 @@ demo_exists have n files =
 abbrev pub HaveOneOutcome : Type 0
 HaveOneOutcome = (read : Result CommandLine ℕ) (files : Files) (a b : Outcome) → IsOutcomeOf read files a → IsOutcomeOf read files b → a ≡ b
 
-unless_one : HaveOneOutcome → (refusal : Option Refusal) (words : List (List ℕ)) (files : Files) (before a b : Outcome) → IsRunUnless refusal words files before a → IsRunUnless refusal words files before b → a ≡ b
+unless_one : HaveOneOutcome → (refusal : Option Refusal) (words : List (List ℕ)) (files : Files) (before a b : Outcome) → IsRunUnlessRefused refusal words files before a → IsRunUnlessRefused refusal words files before b → a ≡ b
 unless_one one (Some refusal) words files before a b x y = x ∙ sym y
 unless_one one None words files before a b x y = one (command_of words) files a b x y
 
 -- behind one outcome, over files that it gives
-behind_one : HaveOneOutcome → (words : List (List ℕ)) (next : Outcome → Files) (p q a b : Outcome) → p ≡ q → IsRunBehind words (next p) p a → IsRunBehind words (next q) q b → a ≡ b
+behind_one : HaveOneOutcome → (words : List (List ℕ)) (next : Outcome → Files) (p q a b : Outcome) → p ≡ q → IsRunAfter words (next p) p a → IsRunAfter words (next q) q b → a ≡ b
 behind_one one words next p q a b same x y =
-    unless_one one q.refusal words (next q) q a b (subst (λ (r : Outcome). IsRunBehind words (next r) r a) same x) y
+    unless_one one q.refusal words (next q) q a b (subst (λ (r : Outcome). IsRunAfter words (next r) r a) same x) y
 
 packaged_one : HaveOneOutcome → (n : ℕ) (a b : Outcome) → ArePackaged n a → ArePackaged n b → a ≡ b
 packaged_one one zero a b x y = x ∙ sym y

@@ -4,7 +4,7 @@ use Rattle.std.specs.Prelude.{if◌then◌else◌, nat_eq}
 use Rattle.std.specs.List.{list_any, starts_with}
 use Rattle.std.specs.Str.{bytes_eq}
 use Rattle.std.proofs.lemmas.Bool.{false≢true}
-use Rattle.base_core.specs.Files.{Files, IsWithin}
+use Rattle.base_core.specs.Files.{Files, HasNamesAmong}
 use Rattle.base_core.specs.Listed.{IsNamesOf}
 use Rattle.base_core.specs.declared.cause.Cause.{Cause}
 use Rattle.engine_core.specs.Choice.{IsChoiceFrom}
@@ -24,7 +24,7 @@ use Rattle.package_files.specs.Sources.{values_with}
 use Rattle.outcome.proofs.Clashes.{HaveClash, HaveOneClash, clash_exists, clash_one}
 use Rattle.outcome.proofs.Recovered.{unstaged_within}
 use Rattle.outcome.specs.Given.{Given, IsChosenFor, IsClashBy, IsGiven, IsListingFor}
-use Rattle.outcome.specs.Commands.{IsOutcomeOf, IsOutcomeOver, IsOutcomeUnless, reads_in, command_outcome}
+use Rattle.outcome.specs.Commands.{IsOutcomeOf, IsOutcomeOn, IsOutcomeUnlessBadIntent, effect_outcome, reads_in}
 use Rattle.outcome.specs.Effect.{Effect, Computes, Reads as OnlyReads, Tells, Makes, Changes, effect_of}
 use Rattle.outcome.specs.Make.{IsListing, files_below}
 use Rattle.outcome.specs.Outcome.{Outcome, just_refusal}
@@ -32,28 +32,28 @@ use Rattle.outcome.specs.Work.{recovery_fault, work_files}
 
 -- files under finitely many names have a list of them, and no second one
 abbrev pub HaveList : Type 0
-HaveList = (files : Files) (within : List (List ℕ)) → IsWithin within files → (names : List (List ℕ)) × IsNamesOf files names
+HaveList = (files : Files) (within : List (List ℕ)) → HasNamesAmong within files → (names : List (List ℕ)) × IsNamesOf files names
 
 abbrev pub HaveOneList : Type 0
 HaveOneList = (files : Files) (a b : List (List ℕ)) → IsNamesOf files a → IsNamesOf files b → a ≡ b
 
 -- what is below a folder is within the files
-within_below : (folder : List ℕ) (files : Files) (within : List (List ℕ)) → IsWithin within files → IsWithin within (files_below folder files)
+within_below : (folder : List ℕ) (files : Files) (within : List (List ℕ)) → HasNamesAmong within files → HasNamesAmong within (files_below folder files)
 within_below folder files within h q some =
     elim (starts_with nat_eq q (folder ++ codes "/")) as (λ b. IsSome (if b then files q else None) → list_any (bytes_eq q) within ≡ true) [
       | true ↦ λ s. h q s
       | false ↦ λ s. absurd (false≢true s)
     ] some
 
-listing_exists : HaveList → (values : List OptionValue) (files : Files) (within : List (List ℕ)) → IsWithin within files → (names : List (List ℕ)) × IsListing values files names
+listing_exists : HaveList → (values : List OptionValue) (files : Files) (within : List (List ℕ)) → HasNamesAmong within files → (names : List (List ℕ)) × IsListing values files names
 listing_exists have [] files within h = ([], refl)
 listing_exists have (v ∷ values) files within h = have (files_below (without_dot v.text) files) within (within_below (without_dot v.text) files within h)
 
-names_exist : HaveList → (applet : Applet) (command : CommandLine) (files : Files) (within : List (List ℕ)) → IsWithin within files → (names : List (List ℕ)) × IsListingFor applet command files names
+names_exist : HaveList → (applet : Applet) (command : CommandLine) (files : Files) (within : List (List ℕ)) → HasNamesAmong within files → (names : List (List ℕ)) × IsListingFor applet command files names
 names_exist have Mkpkg command files within h = listing_exists have (values_with FILES command.values) files within h
 names_exist have other command files within h = ([], refl)
 
-pub work_within : (effect : Effect) (files : Files) (within : List (List ℕ)) → IsWithin within files → (names : List (List ℕ)) × IsWithin names (work_files effect files)
+pub work_within : (effect : Effect) (files : Files) (within : List (List ℕ)) → HasNamesAmong within files → (names : List (List ℕ)) × HasNamesAmong names (work_files effect files)
 work_within Computes files within h = (within, h)
 work_within OnlyReads files within h = (within, h)
 work_within Tells files within h = unstaged_within files within h
@@ -75,22 +75,22 @@ chosen_one : HaveOneChoice → (effect : Effect) (command : CommandLine) (read :
 chosen_one one Changes command read a b x y = one (pool_for command read) a b x y
 chosen_one one other command read a b x y = x ∙ sym y
 
-given_exists : HaveList → HaveChoice → HaveClash → (command : CommandLine) (read : Reads) (files : Files) (within : List (List ℕ)) → IsWithin within files → (given : Given) × IsGiven command read files given
+given_exists : HaveList → HaveChoice → HaveClash → (command : CommandLine) (read : Reads) (files : Files) (within : List (List ℕ)) → HasNamesAmong within files → (given : Given) × IsGiven command read files given
 given_exists have choose clashes command read files within finite =
     let (names, listed) = names_exist have command.applet command files within finite in
     let (chosen, choice) = chosen_exists choose (effect_of command.applet) command read in
     let (clash, first) = clash_exists clashes (effect_of command.applet) command read files within chosen finite in
     (record { names = names; chosen = chosen; clash = clash }, record { names = listed; chosen = choice; clash = first })
 
-outcome_unless : HaveList → HaveChoice → HaveClash → (fault : Option Cause) (command : CommandLine) (files : Files) (within : List (List ℕ)) → IsWithin within files → (o : Outcome) × IsOutcomeUnless fault command files o
+outcome_unless : HaveList → HaveChoice → HaveClash → (fault : Option Cause) (command : CommandLine) (files : Files) (within : List (List ℕ)) → HasNamesAmong within files → (o : Outcome) × IsOutcomeUnlessBadIntent fault command files o
 outcome_unless have choose clashes (Some cause) command files within h = (just_refusal files (IntentBad cause), refl)
 outcome_unless have choose clashes None command files within h =
     let work = work_files (effect_of command.applet) files in
     let (within_work, is) = work_within (effect_of command.applet) files within h in
     let (given, are) = given_exists have choose clashes command (reads_in work) work within_work is in
-    (command_outcome command given (reads_in work) work, (given, are, refl))
+    (effect_outcome (effect_of command.applet) command.applet command given (reads_in work) work, (given, are, refl))
 
-pub outcome_by : HaveList → HaveChoice → HaveClash → (read : Result CommandLine ℕ) (files : Files) (within : List (List ℕ)) → IsWithin within files → (o : Outcome) × IsOutcomeOf read files o
+pub outcome_by : HaveList → HaveChoice → HaveClash → (read : Result CommandLine ℕ) (files : Files) (within : List (List ℕ)) → HasNamesAmong within files → (o : Outcome) × IsOutcomeOf read files o
 outcome_by have choose clashes (Err place) files within h = (just_refusal files (Usage place), refl)
 outcome_by have choose clashes (Ok command) files within h = outcome_unless have choose clashes (recovery_fault (effect_of command.applet) files) command files within h
 
@@ -110,13 +110,13 @@ given_one one choice clashes command read files a b x y =
     (subst (λ (c : Option (List ℕ)). IsClashBy (effect_of command.applet) command read files c b.clash) (sym chosen) y.clash) in
     λ i. record { names = names i; chosen = chosen i; clash = clash i }
 
-pub over_one : HaveOneList → HaveOneChoice → HaveOneClash → (command : CommandLine) (files : Files) (a b : Outcome) → IsOutcomeOver command files a → IsOutcomeOver command files b → a ≡ b
+pub over_one : HaveOneList → HaveOneChoice → HaveOneClash → (command : CommandLine) (files : Files) (a b : Outcome) → IsOutcomeOn command files a → IsOutcomeOn command files b → a ≡ b
 over_one one choice clashes command files a b (g, is_g, x) (h, is_h, y) =
     x
-    ∙ ap (λ given. command_outcome command given (reads_in files) files) (given_one one choice clashes command (reads_in files) files g h is_g is_h)
+    ∙ ap (λ given. effect_outcome (effect_of command.applet) command.applet command given (reads_in files) files) (given_one one choice clashes command (reads_in files) files g h is_g is_h)
     ∙ sym y
 
-unless_one : HaveOneList → HaveOneChoice → HaveOneClash → (fault : Option Cause) (command : CommandLine) (files : Files) (a b : Outcome) → IsOutcomeUnless fault command files a → IsOutcomeUnless fault command files b → a ≡ b
+unless_one : HaveOneList → HaveOneChoice → HaveOneClash → (fault : Option Cause) (command : CommandLine) (files : Files) (a b : Outcome) → IsOutcomeUnlessBadIntent fault command files a → IsOutcomeUnlessBadIntent fault command files b → a ≡ b
 unless_one one choice clashes (Some cause) command files a b x y = x ∙ sym y
 unless_one one choice clashes None command files a b x y = over_one one choice clashes command (work_files (effect_of command.applet) files) a b x y
 

@@ -15,7 +15,7 @@ use Rattle.command_core.specs.Command.{CommandLine}
 use Rattle.engine_core.specs.Changed.{IsClashFor, Selected, change_of_selected, change_of_command, selected_by, selected_of_inputs, simulated_change}
 use Rattle.engine_core.specs.Choice.{IsChoiceFrom}
 use Rattle.engine_core.specs.Selecting.{pool_by, pool_for, replacement_of_choice}
-use Rattle.engine_core.specs.Wishes.{names_to_reinstall, names_to_upgrade, unknown_place, unless_place, wishes_of}
+use Rattle.engine_core.specs.Wishes.{names_to_reinstall, names_to_upgrade, unknown_operand_place, unless_unknown_operand, wishes_of}
 use Rattle.make_info.specs.Reads.{Reads}
 use Rattle.package_changes.specs.Changes.{Replacement, changes_of}
 use Rattle.package_changes.specs.Report.{selected_sum_line, simulated_report, stay_lines}
@@ -29,7 +29,7 @@ use Rattle.outcome.proofs.Ends.{HasKnownRefusal, inputs_stated, pool_stated}
 use Rattle.outcome.proofs.PackageRefusals.{refusal_stated}
 use Rattle.outcome.specs.ChangeEnd.{IsChangeEnd, IsEndBy, IsRunEnd, is_input_refusal, is_package_refusal}
 use Rattle.outcome.specs.Changing.{change_outcome}
-use Rattle.outcome.specs.Commands.{IsOutcomeOf, IsOutcomeOver, IsOutcomeUnless, reads_in}
+use Rattle.outcome.specs.Commands.{IsOutcomeOf, IsOutcomeOn, IsOutcomeUnlessBadIntent, reads_in}
 use Rattle.outcome.specs.Effect.{Changes, Effect, effect_of}
 use Rattle.outcome.specs.Given.{IsChosenFor, IsClashBy}
 use Rattle.outcome.specs.Outcome.{Outcome}
@@ -46,10 +46,10 @@ abbrev pub IsMadeKnown : Type 0
 IsMadeKnown = (inputs : Inputs) (r : Replacement) (wishes : ChangeWishes) (read : Reads) (clash : Option NamePair) (files : Files) (done : ChangeDone)
     → change_or_refusal inputs r wishes read clash files ≡ Ok done → IsChangeMade inputs r wishes read clash files done
 
-simulated_lines : (r : Replacement) (to_go : List (List ℕ)) → HasChangeLines r (simulated_report r to_go)
+simulated_lines : (r : Replacement) (to_remove : List (List ℕ)) → HasChangeLines r (simulated_report r to_remove)
 unfolding simulated_report
-simulated_lines r to_go =
-    let stays = stay_lines r.before r.selected to_go in
+simulated_lines r to_remove =
+    let stays = stay_lines r.before r.selected to_remove in
     let sum = selected_sum_line r.selected in
     (stays ++ sum, append_assoc (change_lines (changes_of r)) stays sum)
 
@@ -57,7 +57,7 @@ made_lines : (inputs : Inputs) (r : Replacement) (wishes : ChangeWishes) (read :
 made_lines inputs r wishes read clash files done made =
     let change = file_change inputs wishes made.found in
     let lines = change_lines (changes_of r) in
-    let stays = stay_lines r.before r.selected wishes.to_go in
+    let stays = stay_lines r.before r.selected wishes.to_remove in
     let configuration = configuration_lines (aside_of change files) (kept_of change files) in
     let triggers = trigger_lines (touched_paths change files) change.members in
     let sum = member_sum_line change.members in (
@@ -79,7 +79,7 @@ MadeBy command files clash s simulate =
 end_by : IsMadeKnown → (command : CommandLine) (files : Files) (clash : Option NamePair) (s : Selected) (simulate : Bool) → command.flags.simulate ≡ simulate
     → (result : Result ChangeDone Refusal) → MadeBy command files clash s simulate ≡ result → IsEndBy command files s result (change_outcome files result)
 end_by known command files clash s true simulates (Ok done) is =
-    let (rest, lines) = subst (λ (d : ChangeDone). HasChangeLines s.replacement d.report) (ap done_or is) (simulated_lines s.replacement (wishes_of command).to_go) in
+    let (rest, lines) = subst (λ (d : ChangeDone). HasChangeLines s.replacement d.report) (ap done_or is) (simulated_lines s.replacement (wishes_of command).to_remove) in
     record { outcome = refl; rest = rest; report = lines; simulated = λ simulated. (sym (ap (λ (r : Result ChangeDone Refusal). (done_or r).files) is), sym (ap (λ (r : Result ChangeDone Refusal). (done_or r).commits) is)) }
   where
     done_or : Result ChangeDone Refusal → ChangeDone
@@ -100,7 +100,7 @@ module _ (known : IsMadeKnown) (command : CommandLine) (files : Files) where
   end_of clash selected = change_outcome files (and_then selected (change_of_selected command (reads_in files) files clash))
 
   by_choice : (inputs : Inputs) (pool : SealedPool) (chosen : Option (List ℕ)) (clash : Option NamePair)
-      → inputs_of command (reads_in files) ≡ Ok inputs → pool_by command inputs ≡ Ok pool → unknown_place command.applet inputs command.operands ≡ None
+      → inputs_of command (reads_in files) ≡ Ok inputs → pool_by command inputs ≡ Ok pool → unknown_operand_place command.applet inputs command.operands ≡ None
       → IsChoiceFrom (Ok pool) chosen → IsClashFor command (reads_in files) files chosen clash
       → IsChangeEnd command files (end_of clash (selected_by command inputs pool chosen))
   by_choice inputs pool None clash are is known_names choice is_clash =
@@ -114,8 +114,8 @@ module _ (known : IsMadeKnown) (command : CommandLine) (files : Files) where
         first = choice;
         selected = s;
         selects = ap (λ (r : Result Inputs Refusal). and_then r (selected_of_inputs command (Some trace))) are
-            ∙ ap (λ (r : Result SealedPool Refusal). and_then r (λ pool. unless_place (unknown_place command.applet inputs command.operands) (selected_by command inputs pool (Some trace)))) is
-            ∙ ap (λ (place : Option ℕ). unless_place place (selected_by command inputs pool (Some trace))) known_names;
+            ∙ ap (λ (r : Result SealedPool Refusal). and_then r (λ pool. unless_unknown_operand (unknown_operand_place command.applet inputs command.operands) (selected_by command inputs pool (Some trace)))) is
+            ∙ ap (λ (place : Option ℕ). unless_unknown_operand place (selected_by command inputs pool (Some trace))) known_names;
         candidates = refl;
         clash = clash;
         is_clash = is_clash;
@@ -125,9 +125,9 @@ module _ (known : IsMadeKnown) (command : CommandLine) (files : Files) where
   -- ---- by what is read
 
   by_place : (inputs : Inputs) (pool : SealedPool) (place : Option ℕ) (chosen : Option (List ℕ)) (clash : Option NamePair)
-      → inputs_of command (reads_in files) ≡ Ok inputs → pool_by command inputs ≡ Ok pool → unknown_place command.applet inputs command.operands ≡ place
+      → inputs_of command (reads_in files) ≡ Ok inputs → pool_by command inputs ≡ Ok pool → unknown_operand_place command.applet inputs command.operands ≡ place
       → IsChoiceFrom (Ok pool) chosen → IsClashFor command (reads_in files) files chosen clash
-      → IsChangeEnd command files (end_of clash (unless_place place (selected_by command inputs pool chosen)))
+      → IsChangeEnd command files (end_of clash (unless_unknown_operand place (selected_by command inputs pool chosen)))
   by_place inputs pool None chosen clash are is at choice is_clash = by_choice inputs pool chosen clash are is at choice is_clash
   by_place inputs pool (Some place) chosen clash are is at choice is_clash =
       inl (record {
@@ -136,15 +136,15 @@ module _ (known : IsMadeKnown) (command : CommandLine) (files : Files) where
         outcome = refl;
         unchosen = λ other.
             ap (λ (r : Result Inputs Refusal). and_then r (selected_of_inputs command other)) are
-            ∙ ap (λ (r : Result SealedPool Refusal). and_then r (λ pool. unless_place (unknown_place command.applet inputs command.operands) (selected_by command inputs pool other))) is
-            ∙ ap (λ (p : Option ℕ). unless_place p (selected_by command inputs pool other)) at;
+            ∙ ap (λ (r : Result SealedPool Refusal). and_then r (λ pool. unless_unknown_operand (unknown_operand_place command.applet inputs command.operands) (selected_by command inputs pool other))) is
+            ∙ ap (λ (p : Option ℕ). unless_unknown_operand p (selected_by command inputs pool other)) at;
       })
 
   by_pool : (inputs : Inputs) (pool : Result SealedPool Refusal) (chosen : Option (List ℕ)) (clash : Option NamePair)
       → inputs_of command (reads_in files) ≡ Ok inputs → pool_by command inputs ≡ pool
       → IsChoiceFrom pool chosen → IsClashFor command (reads_in files) files chosen clash
-      → IsChangeEnd command files (end_of clash (and_then pool (λ pool. unless_place (unknown_place command.applet inputs command.operands) (selected_by command inputs pool chosen))))
-  by_pool inputs (Ok pool) chosen clash are is choice is_clash = by_place inputs pool (unknown_place command.applet inputs command.operands) chosen clash are is refl choice is_clash
+      → IsChangeEnd command files (end_of clash (and_then pool (λ pool. unless_unknown_operand (unknown_operand_place command.applet inputs command.operands) (selected_by command inputs pool chosen))))
+  by_pool inputs (Ok pool) chosen clash are is choice is_clash = by_place inputs pool (unknown_operand_place command.applet inputs command.operands) chosen clash are is refl choice is_clash
   by_pool inputs (Err refusal) chosen clash are is choice is_clash =
       inl (record {
         refusal = refusal;
@@ -152,7 +152,7 @@ module _ (known : IsMadeKnown) (command : CommandLine) (files : Files) where
         outcome = refl;
         unchosen = λ other.
             ap (λ (r : Result Inputs Refusal). and_then r (selected_of_inputs command other)) are
-            ∙ ap (λ (r : Result SealedPool Refusal). and_then r (λ pool. unless_place (unknown_place command.applet inputs command.operands) (selected_by command inputs pool other))) is;
+            ∙ ap (λ (r : Result SealedPool Refusal). and_then r (λ pool. unless_unknown_operand (unknown_operand_place command.applet inputs command.operands) (selected_by command inputs pool other))) is;
       })
 
   by_inputs : (inputs : Result Inputs Refusal) (chosen : Option (List ℕ)) (clash : Option NamePair) → inputs_of command (reads_in files) ≡ inputs
@@ -169,18 +169,18 @@ module _ (known : IsMadeKnown) (command : CommandLine) (files : Files) where
 
 -- ---- over the files on which it works, and by the words
 
-pub over_end : IsMadeKnown → (command : CommandLine) (files : Files) (o : Outcome) → effect_of command.applet ≡ Changes → IsOutcomeOver command files o → IsChangeEnd command files o
+pub over_end : IsMadeKnown → (command : CommandLine) (files : Files) (o : Outcome) → effect_of command.applet ≡ Changes → IsOutcomeOn command files o → IsChangeEnd command files o
 over_end known command files o changes (given, are, is) =
     subst (IsChangeEnd command files) (change_is command.applet command given (reads_in files) files changes ∙ sym is)
     (change_end known command files given.chosen given.clash
     (subst (λ (e : Effect). IsChosenFor e command (reads_in files) given.chosen) changes are.chosen)
     (subst (λ (e : Effect). IsClashBy e command (reads_in files) files given.chosen given.clash) changes are.clash))
 
-unless_end : IsMadeKnown → (fault : Option Cause) (command : CommandLine) (files : Files) (o : Outcome) → effect_of command.applet ≡ Changes → recovery_fault Changes files ≡ fault → IsOutcomeUnless fault command files o → IsRunEnd command files o
+unless_end : IsMadeKnown → (fault : Option Cause) (command : CommandLine) (files : Files) (o : Outcome) → effect_of command.applet ≡ Changes → recovery_fault Changes files ≡ fault → IsOutcomeUnlessBadIntent fault command files o → IsRunEnd command files o
 unless_end known (Some cause) command files o changes at is = inl (record { cause = cause; bad = at; outcome = is })
 unless_end known None command files o changes at is =
-    inr (over_end known command (work_files Changes files) o changes (subst (λ (e : Effect). IsOutcomeOver command (work_files e files) o) changes is))
+    inr (over_end known command (work_files Changes files) o changes (subst (λ (e : Effect). IsOutcomeOn command (work_files e files) o) changes is))
 
 pub run_end : IsMadeKnown → (command : CommandLine) (files : Files) (o : Outcome) → effect_of command.applet ≡ Changes → IsOutcomeOf (Ok command) files o → IsRunEnd command files o
 run_end known command files o changes is =
-    unless_end known (recovery_fault Changes files) command files o changes refl (subst (λ (e : Effect). IsOutcomeUnless (recovery_fault e files) command files o) changes is)
+    unless_end known (recovery_fault Changes files) command files o changes refl (subst (λ (e : Effect). IsOutcomeUnlessBadIntent (recovery_fault e files) command files o) changes is)

@@ -16,7 +16,7 @@ use Rattle.command_core.specs.declared.command.Flags.{Flags}
 use Rattle.command_core.specs.declared.operands.Operand.{Operand}
 use Rattle.engine_core.specs.Changed.{Selected, change_of_selected, change_of_command, selected_by, selected_for, selected_of_inputs, simulated_change}
 use Rattle.engine_core.specs.Selecting.{pool_by}
-use Rattle.engine_core.specs.Wishes.{unknown_place, unless_place, wishes_of}
+use Rattle.engine_core.specs.Wishes.{unknown_operand_place, unless_unknown_operand, wishes_of}
 use Rattle.gen_core.specs.Generated.{generated_file}
 use Rattle.gen_core.specs.declared.generate.GenFault.{GenFault}
 use Rattle.gen_core.specs.declared.generate.GenFault.TheVariants.{Bad as BadLine, TooLarge as TextTooLarge, Memory as NoMemory}
@@ -31,11 +31,11 @@ use Rattle.path_clashes.specs.Clash.{NamePair}
 use Rattle.candidate_core.specs.Rank.{SealedPool}
 use Rattle.report_core.specs.declared.refusal.Refusal.{Refusal}
 use Rattle.report_core.specs.declared.refusal.Refusal.TheVariants.{Reserved, ResultTooLarge}
-use Rattle.tell_core.specs.ToldBy.{told_by}
+use Rattle.tell_core.specs.ReportForCommand.{report_for_command}
 use Rattle.words_core.specs.Grammar.{command_of}
 use Rattle.outcome.proofs.Applets.{told_files}
 use Rattle.outcome.specs.Changing.{change_outcome}
-use Rattle.outcome.specs.Commands.{IsOutcomeOf, IsOutcomeOver, IsOutcomeUnless, computing_outcome, effect_outcome, making_outcome, reading_outcome, reads_in}
+use Rattle.outcome.specs.Commands.{IsOutcomeOf, IsOutcomeOn, IsOutcomeUnlessBadIntent, computing_outcome, effect_outcome, making_outcome, reading_outcome, reads_in}
 use Rattle.outcome.specs.Dump.{adbdump, dump_of, dump_outcome, text_outcome}
 use Rattle.outcome.specs.Effect.{Effect, Changes, Computes, Makes, Reads as OnlyReads, Tells, effect_by, effect_of}
 use Rattle.outcome.specs.Generate.{adbgen, container_outcome, generate_outcome}
@@ -137,7 +137,7 @@ pub chain_ok : {A B : Type 0} (a : Result A Refusal) (next : A → Result B Refu
 chain_ok (Ok x) next b e = (x, refl, e)
 chain_ok (Err refusal) next b e = absurd (cc (e))
 
-place_ok : {A : Type 0} (place : Option ℕ) (next : Result A Refusal) (a : A) → unless_place place next ≡ Ok a → next ≡ Ok a
+place_ok : {A : Type 0} (place : Option ℕ) (next : Result A Refusal) (a : A) → unless_unknown_operand place next ≡ Ok a → next ≡ Ok a
 place_ok None next a e = e
 place_ok (Some place) next a e = absurd (cc (e))
 
@@ -152,8 +152,8 @@ chosen_inputs command inputs pool (Some trace) s e = ap (λ (r : Result Selected
 pub selected_inputs : (command : CommandLine) (read : Reads) (chosen : Option (List ℕ)) (s : Selected) → selected_for command read chosen ≡ Ok s → inputs_of command read ≡ Ok s.inputs
 selected_inputs command read chosen s e =
     let (inputs, are, rest) = chain_ok (inputs_of command read) (selected_of_inputs command chosen) s e in
-    let (pool, is, left) = chain_ok (pool_by command inputs) (λ pool. unless_place (unknown_place command.applet inputs command.operands) (selected_by command inputs pool chosen)) s rest in
-    are ∙ ap (λ (x : Inputs). Ok x) (sym (chosen_inputs command inputs pool chosen s (place_ok (unknown_place command.applet inputs command.operands) (selected_by command inputs pool chosen) s left)))
+    let (pool, is, left) = chain_ok (pool_by command inputs) (λ pool. unless_unknown_operand (unknown_operand_place command.applet inputs command.operands) (selected_by command inputs pool chosen)) s rest in
+    are ∙ ap (λ (x : Inputs). Ok x) (sym (chosen_inputs command inputs pool chosen s (place_ok (unknown_operand_place command.applet inputs command.operands) (selected_by command inputs pool chosen) s left)))
 
 selected_idle : HaveIdle → (command : CommandLine) (read : Reads) (files : Files) (clash : Option NamePair) (s : Selected) (done : ChangeDone) → IsRootOfFiles files s.inputs.root
     → (simulate : Bool) → (if simulate then Ok (simulated_change s.replacement (wishes_of command) files) else change_or_refusal s.inputs s.replacement (wishes_of command) read clash files) ≡ Ok done
@@ -182,17 +182,17 @@ change_idle rooted idle command files chosen clash (Err refusal) is nothing = re
 effect_idle : HaveRoot → HaveIdle → (effect : Effect) (applet : Applet) (command : CommandLine) (given : Given) (files : Files) → LeavesIdle files (effect_outcome effect applet command given (reads_in files) files)
 effect_idle rooted idle Computes applet command given files = computing_idle applet command files
 effect_idle rooted idle OnlyReads applet command given files = reading_idle applet command (reads_in files) files
-effect_idle rooted idle Tells applet command given files = λ nothing. told_files files (told_by command (reads_in files))
+effect_idle rooted idle Tells applet command given files = λ nothing. told_files files (report_for_command command (reads_in files))
 effect_idle rooted idle Makes applet command given files = making_idle applet command given.names (reads_in files) files
 effect_idle rooted idle Changes applet command given files = change_idle rooted idle command files given.chosen given.clash (change_of_command command (reads_in files) files given.chosen given.clash) refl
 
-pub over_idle : HaveRoot → HaveIdle → (command : CommandLine) (files : Files) (o : Outcome) → IsOutcomeOver command files o → o.commits ≡ false → o.files ≡ files
+pub over_idle : HaveRoot → HaveIdle → (command : CommandLine) (files : Files) (o : Outcome) → IsOutcomeOn command files o → o.commits ≡ false → o.files ≡ files
 over_idle rooted idle command files o (given, are, is) nothing =
     subst (LeavesIdle files) (sym is) (effect_idle rooted idle (effect_of command.applet) command.applet command given files) nothing
 
 -- ---- by the words
 
-unless_leaves : HaveRoot → HaveIdle → (fault : Option Cause) (command : CommandLine) (files : Files) (o : Outcome) → IsOutcomeUnless fault command files o → o.commits ≡ false
+unless_leaves : HaveRoot → HaveIdle → (fault : Option Cause) (command : CommandLine) (files : Files) (o : Outcome) → IsOutcomeUnlessBadIntent fault command files o → o.commits ≡ false
     → (o.files ≡ files) ⊎ (o.files ≡ work_files (effect_of command.applet) files)
 unless_leaves rooted idle (Some cause) command files o is nothing = inl (ap (λ (p : Outcome). p.files) is)
 unless_leaves rooted idle None command files o is nothing = inr (over_idle rooted idle command (work_files (effect_of command.applet) files) o is nothing)

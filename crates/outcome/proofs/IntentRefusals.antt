@@ -10,23 +10,23 @@ use Rattle.command_core.specs.Command.{CommandLine}
 use Rattle.command_core.specs.declared.command.Applet.{Applet}
 use Rattle.command_core.specs.declared.command.Applet.TheVariants.{Demo, Mkndx, Mkpkg}
 use Rattle.engine_core.specs.Changed.{Selected, change_of_selected}
-use Rattle.installed_info.specs.declared.telling.InfoDone.{InfoDone}
+use Rattle.installed_info.specs.declared.telling.ReportAndRefusal.{ReportAndRefusal}
 use Rattle.make_info.specs.Output.{output_name}
 use Rattle.make_info.specs.Reads.{Reads as Reading}
 use Rattle.make_info.specs.declared.fault.MakeFault.{MakeFault}
 use Rattle.make_info.specs.declared.fault.MakeFault.TheVariants.{FileMissing as NoFile, FileBad as BadFile, InfoBad as BadInfo, TooLarge, Disk, Memory}
 use Rattle.report_core.specs.declared.refusal.Refusal.{Refusal}
 use Rattle.report_core.specs.declared.refusal.Refusal.TheVariants.{IntentBad, Reserved, Unsatisfied}
-use Rattle.tell_core.specs.ToldBy.{told_by}
+use Rattle.tell_core.specs.ReportForCommand.{report_for_command}
 use Rattle.words_core.specs.Grammar.{command_of}
 use Rattle.outcome.specs.ChangeEnd.{IsChangeEnd, IsEndBy, is_input_refusal, is_package_refusal}
-use Rattle.outcome.specs.Commands.{IsOutcomeOf, IsOutcomeOver, IsOutcomeUnless, applet_outcome, reads_in}
+use Rattle.outcome.specs.Commands.{IsOutcomeOf, IsOutcomeOn, IsOutcomeUnlessBadIntent, effect_outcome, reads_in}
 use Rattle.outcome.specs.Effect.{Effect, Computes, Reads, Tells, Makes, Changes, does_recover, effect_by, effect_of}
 use Rattle.outcome.specs.Given.{Given}
 use Rattle.outcome.specs.Make.{make_outcome, unless_reserved}
 use Rattle.outcome.specs.Outcome.{Outcome, just_refusal}
-use Rattle.outcome.specs.Telling.{told_outcome}
-use Rattle.outcome.specs.Words.{IsOutcome, IsOutcomeBy, IsOutcomeFor}
+use Rattle.outcome.specs.OutcomeOfReport.{outcome_of_report}
+use Rattle.outcome.specs.Words.{IsOutcome, IsOutcomeFor}
 use Rattle.outcome.specs.Work.{recovery_fault, work_files}
 use Rattle.outcome.proofs.Applets.{report_is}
 
@@ -79,34 +79,34 @@ made_other output report files (Err (TooLarge bytes values)) = reserved_other fi
 made_other output report files (Err Disk) = λ cause is. cc (is)
 made_other output report files (Err Memory) = λ cause is. cc (is)
 
-maker_other : (applet : Applet) (command : CommandLine) (given : Given) (read : Reading) (files : Files) → effect_of applet ≡ Makes → NamesNoIntent (applet_outcome applet command given read files)
+maker_other : (applet : Applet) (command : CommandLine) (given : Given) (read : Reading) (files : Files) → effect_of applet ≡ Makes → NamesNoIntent (effect_outcome (effect_of applet) applet command given read files)
 maker_other Mkpkg command given read files makes = made_other (output_name command) _ files _
 maker_other Mkndx command given read files makes = made_other (output_name command) _ files _
 maker_other other command given read files makes = absurd (cc (makes))
 
 -- ---- a report
 
-module _ (refused : (c : CommandLine) (read : Reading) (refusal : Refusal) → told_by c read ≡ Err refusal → is_input_refusal refusal ≡ true)
-    (late : (c : CommandLine) (read : Reading) (done : InfoDone) (refusal : Refusal) → told_by c read ≡ Ok done → done.late ≡ Some refusal → is_input_refusal refusal ≡ true) where
-  report_other : (command : CommandLine) (read : Reading) (files : Files) (told : Result InfoDone Refusal) → told_by command read ≡ told → NamesNoIntent (told_outcome files told)
-  report_other command read files (Ok done) is = λ cause beside. input_other (IntentBad cause) (late command read done (IntentBad cause) is beside) cause refl
+module _ (refused : (c : CommandLine) (read : Reading) (refusal : Refusal) → report_for_command c read ≡ Err refusal → is_input_refusal refusal ≡ true)
+    (following_refusal : (c : CommandLine) (read : Reading) (done : ReportAndRefusal) (refusal : Refusal) → report_for_command c read ≡ Ok done → done.following_refusal ≡ Some refusal → is_input_refusal refusal ≡ true) where
+  report_other : (command : CommandLine) (read : Reading) (files : Files) (told : Result ReportAndRefusal Refusal) → report_for_command command read ≡ told → NamesNoIntent (outcome_of_report files told)
+  report_other command read files (Ok done) is = λ cause beside. input_other (IntentBad cause) (following_refusal command read done (IntentBad cause) is beside) cause refl
   report_other command read files (Err refusal) is = refused_other files refusal (input_other refusal (refused command read refusal is))
 
   -- ---- by the words
 
-  module _ (ends : (command : CommandLine) (files : Files) (o : Outcome) → effect_of command.applet ≡ Changes → IsOutcomeOver command files o → IsChangeEnd command files o) where
-    over_other : (command : CommandLine) (files : Files) (o : Outcome) (effect : Effect) → effect_of command.applet ≡ effect → does_recover effect ≡ true → IsOutcomeOver command files o → NamesNoIntent o
+  module _ (ends : (command : CommandLine) (files : Files) (o : Outcome) → effect_of command.applet ≡ Changes → IsOutcomeOn command files o → IsChangeEnd command files o) where
+    over_other : (command : CommandLine) (files : Files) (o : Outcome) (effect : Effect) → effect_of command.applet ≡ effect → does_recover effect ≡ true → IsOutcomeOn command files o → NamesNoIntent o
     over_other command files o Computes at recovers over = absurd (false≢true recovers)
     over_other command files o Reads at recovers over = absurd (false≢true recovers)
     over_other command files o Tells at recovers (given, are, is) =
-        subst NamesNoIntent (report_is command.applet command given (reads_in files) files at ∙ sym is) (report_other command (reads_in files) files (told_by command (reads_in files)) refl)
+        subst NamesNoIntent (report_is command.applet command given (reads_in files) files at ∙ sym is) (report_other command (reads_in files) files (report_for_command command (reads_in files)) refl)
     over_other command files o Makes at recovers (given, are, is) = subst NamesNoIntent (sym is) (maker_other command.applet command given (reads_in files) files at)
     over_other command files o Changes at recovers over = change_other command files o (ends command files o at over)
 
     same_cause : (a b : Cause) → IntentBad a ≡ IntentBad b → a ≡ b
     same_cause a b is = cc
 
-    unless_other : (command : CommandLine) (files : Files) (o : Outcome) (cause : Cause) (fault : Option Cause) → does_recover (effect_of command.applet) ≡ true → IsOutcomeUnless fault command files o
+    unless_other : (command : CommandLine) (files : Files) (o : Outcome) (cause : Cause) (fault : Option Cause) → does_recover (effect_of command.applet) ≡ true → IsOutcomeUnlessBadIntent fault command files o
         → o.refusal ≡ Some (IntentBad cause) → fault ≡ Some cause
     unless_other command files o cause (Some bad) recovers is refusal =
         ap (λ (c : Cause). Some c) (same_cause bad cause (some_same (IntentBad bad) (IntentBad cause) (sym (ap (λ (p : Outcome). p.refusal) is) ∙ refusal)))
@@ -118,12 +118,12 @@ module _ (refused : (c : CommandLine) (read : Reading) (refusal : Refusal) → t
     no_demo Demo command files o recovers one = absurd (false≢true recovers)
     no_demo other command files o recovers one = one
 
-    by_command : (read : Result CommandLine ℕ) (files : Files) (o : Outcome) (cause : Cause) → does_recover (effect_by read) ≡ true → IsOutcomeBy read files o → o.refusal ≡ Some (IntentBad cause)
+    by_command : (read : Result CommandLine ℕ) (files : Files) (o : Outcome) (cause : Cause) → does_recover (effect_by read) ≡ true → IsOutcome read files o → o.refusal ≡ Some (IntentBad cause)
         → recovery_fault (effect_by read) files ≡ Some cause
     by_command (Ok command) files o cause recovers one refusal =
         unless_other command files o cause (recovery_fault (effect_of command.applet) files) recovers (no_demo command.applet command files o recovers one) refusal
     by_command (Err place) files o cause recovers one refusal = absurd (false≢true recovers)
 
-    pub refused_bad : (words : List (List ℕ)) (files : Files) (o : Outcome) (cause : Cause) → does_recover (effect_by (command_of words)) ≡ true → IsOutcome words files o → o.refusal ≡ Some (IntentBad cause)
+    pub refused_bad : (words : List (List ℕ)) (files : Files) (o : Outcome) (cause : Cause) → does_recover (effect_by (command_of words)) ≡ true → IsOutcome (command_of words) files o → o.refusal ≡ Some (IntentBad cause)
         → recovery_fault (effect_by (command_of words)) files ≡ Some cause
     refused_bad words = by_command (command_of words)

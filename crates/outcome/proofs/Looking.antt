@@ -14,7 +14,7 @@ use Rattle.gen_core.specs.declared.generate.GenFault.{GenFault}
 use Rattle.gen_core.specs.declared.generate.GenFault.TheVariants.{Bad, TooLarge, Memory}
 use Rattle.make_info.specs.Reads.{Reads}
 use Rattle.report_core.specs.declared.refusal.Refusal.{Refusal}
-use Rattle.outcome.specs.Commands.{IsOutcomeOf, IsOutcomeOver, IsOutcomeUnless, computing_outcome, effect_outcome, reading_outcome, reads_in}
+use Rattle.outcome.specs.Commands.{IsOutcomeOf, IsOutcomeOn, IsOutcomeUnlessBadIntent, computing_outcome, effect_outcome, reading_outcome, reads_in}
 use Rattle.outcome.specs.Dump.{adbdump, dump_of, dump_outcome, text_outcome}
 use Rattle.outcome.specs.Effect.{Effect, Changes, Computes, Makes, Reads as OnlyReads, Tells, does_only_read, effect_of, reads_only}
 use Rattle.outcome.specs.Generate.{adbgen, container_outcome, generate_outcome}
@@ -100,6 +100,6 @@ pub read_leaves : (read : Result CommandLine ℕ) (files : Files) (o : Outcome) 
 read_leaves (Err place) files o reads is = (ap (λ (p : Outcome). p.files) is, ap (λ (p : Outcome). p.commits) is)
 read_leaves (Ok command) files o reads is =
     let effect = effect_of command.applet in
-    let over : IsOutcomeOver command (work_files effect files) o = subst (λ (f : Option Cause). IsOutcomeUnless f command files o) (no_fault effect files reads) is in
-    let here : IsOutcomeOver command files o = subst (λ (work : Files). IsOutcomeOver command work o) (same_files effect files reads) over in
+    let over : IsOutcomeOn command (work_files effect files) o = subst (λ (f : Option Cause). IsOutcomeUnlessBadIntent f command files o) (no_fault effect files reads) is in
+    let here : IsOutcomeOn command files o = subst (λ (work : Files). IsOutcomeOn command work o) (same_files effect files reads) over in
     subst (LeavesFiles files) (sym here.2) (look_leaves effect command.applet command here.0 files reads)

@@ -9,7 +9,7 @@ use Rattle.adb_view.specs.Plain.{Plain}
 use Rattle.adb_write.specs.Canonical.{PayloadCounts, overflow_of, written_of}
 use Rattle.base_core.specs.Files.{AreNamedFiles, Files, drop_name}
 use Rattle.base_core.specs.Listed.{AreNamesBelow, IsNameBelow, IsNamesOf}
-use Rattle.base_core.specs.Tree.{IsWhole, TreeState, files_of}
+use Rattle.base_core.specs.Tree.{IsWellFormed, TreeState, files_of}
 use Rattle.base_core.specs.declared.cause.Cause.{Cause}
 use Rattle.command_core.specs.declared.values.TheConstants.{FILES, SCRIPT, TRIGGER}
 use Rattle.journal_core.specs.Replacing.{replaced_files, scratch_of}
@@ -42,7 +42,7 @@ use Rattle.command_core.specs.declared.values.OptionValue.{OptionValue}
 use Rattle.journal_core.proofs.Below.{is_below}
 use Rattle.outcome.proofs.Listings.{if_some}
 use Rattle.outcome.specs.Given.{Given, IsListingFor}
-use Rattle.outcome.specs.Commands.{IsOutcomeOf, IsOutcomeUnless, reads_in, applet_outcome}
+use Rattle.outcome.specs.Commands.{IsOutcomeOf, IsOutcomeUnlessBadIntent, effect_outcome, reads_in}
 use Rattle.outcome.specs.Effect.{Effect, Computes, Reads as OnlyReads, Tells, Makes, Changes, effect_of, output, output_by, output_if}
 use Rattle.outcome.specs.Make.{IsListing, files_below, index_line, make_outcome, mkndx, mkpkg}
 use Rattle.outcome.specs.Outcome.{Outcome, commit_report, just_refusal}
@@ -217,19 +217,19 @@ refused_either_way : (reserved : Bool) (a b : Refusal) (files : Files) → (if r
 refused_either_way true a b files none = cc
 refused_either_way false a b files none = cc
 
-stands : (files : Files) (name report : List ℕ) (result : Result (List ℕ) MakeFault) → IsRefusalOrMade result → (make_outcome files (Some name) report result).refusal ≡ None → Stands name result (make_outcome files (Some name) report result)
-stands files name report (Ok bytes) fine none = (bytes, refl, stands_unless (is_reserved name) name bytes report files none)
-stands files name report (Err (FileMissing place)) fine none = absurd (cc (none))
-stands files name report (Err (FileBad place cause)) fine none = absurd (cc (none))
-stands files name report (Err (InfoBad place)) fine none = absurd (cc (none))
-stands files name report (Err (TooLarge bytes values)) fine none = absurd (refused_either_way (is_reserved name) (Reserved name) (ResultTooLarge bytes values) files none)
-stands files name report (Err Disk) fine none = absurd fine
-stands files name report (Err Memory) fine none = absurd fine
+located : (files : Files) (name report : List ℕ) (result : Result (List ℕ) MakeFault) → IsRefusalOrMade result → (make_outcome files (Some name) report result).refusal ≡ None → Stands name result (make_outcome files (Some name) report result)
+located files name report (Ok bytes) fine none = (bytes, refl, stands_unless (is_reserved name) name bytes report files none)
+located files name report (Err (FileMissing place)) fine none = absurd (cc (none))
+located files name report (Err (FileBad place cause)) fine none = absurd (cc (none))
+located files name report (Err (InfoBad place)) fine none = absurd (cc (none))
+located files name report (Err (TooLarge bytes values)) fine none = absurd (refused_either_way (is_reserved name) (Reserved name) (ResultTooLarge bytes values) files none)
+located files name report (Err Disk) fine none = absurd fine
+located files name report (Err Memory) fine none = absurd fine
 
 stands_at : (files : Files) (output : Option (List ℕ)) (name report : List ℕ) (result : Result (List ℕ) MakeFault) → IsRefusalOrMade result → output ≡ Some name → (make_outcome files output report result).refusal ≡ None
     → Stands name result (make_outcome files output report result)
 stands_at files output name report result fine is =
-    subst (λ (o : Option (List ℕ)). (make_outcome files o report result).refusal ≡ None → Stands name result (make_outcome files o report result)) (sym is) (stands files name report result fine)
+    subst (λ (o : Option (List ℕ)). (make_outcome files o report result).refusal ≡ None → Stands name result (make_outcome files o report result)) (sym is) (located files name report result fine)
 
 -- ---- the outcome of a command
 
@@ -248,7 +248,7 @@ index_sound law command files name good is none =
     (bytes, here, λ few. law command read bytes (files_found files good 0 command.operands) ok)
 
 applet_sound : SoundPackage → SoundIndex → (applet : Applet) (command : CommandLine) (given : Given) (files : Files) (name : List ℕ) → AreNamedFiles files → IsListingFor applet command files given.names
-    → output_if (effect_of applet) command ≡ Some name → (applet_outcome applet command given (reads_in files) files).refusal ≡ None → IsSoundAt name (applet_outcome applet command given (reads_in files) files).files
+    → output_if (effect_of applet) command ≡ Some name → (effect_outcome (effect_of applet) applet command given (reads_in files) files).refusal ≡ None → IsSoundAt name (effect_outcome (effect_of applet) applet command given (reads_in files) files).files
 applet_sound packages indexes Mkpkg command given files name good are is none = package_sound packages command given.names files name good are is none
 applet_sound packages indexes Mkndx command given files name good are is none = index_sound indexes command files name good is none
 applet_sound packages indexes other command given files name good are is none = absurd (cc (is))
@@ -264,7 +264,7 @@ work_named stay Tells files good = stay files good
 work_named stay Makes files good = stay files good
 work_named stay Changes files good = stay files good
 
-sound_unless : StayNamed → SoundPackage → SoundIndex → (fault : Option Cause) (command : CommandLine) (files : Files) (o : Outcome) (name : List ℕ) → AreNamedFiles files → IsOutcomeUnless fault command files o → o.refusal ≡ None
+sound_unless : StayNamed → SoundPackage → SoundIndex → (fault : Option Cause) (command : CommandLine) (files : Files) (o : Outcome) (name : List ℕ) → AreNamedFiles files → IsOutcomeUnlessBadIntent fault command files o → o.refusal ≡ None
     → output_if (effect_of command.applet) command ≡ Some name → IsSoundAt name o.files
 sound_unless stay packages indexes (Some cause) command files o name good is none named = absurd (let e : Some (IntentBad cause) ≡ None = ap (λ (p : Outcome). p.refusal) (sym is) ∙ none in cc)
 sound_unless stay packages indexes None command files o name good (given, are, is) none named =
@@ -277,7 +277,7 @@ sound_by : StayNamed → SoundPackage → SoundIndex → (read : Result CommandL
 sound_by stay packages indexes (Err place) files o name good is none named = absurd (cc (named))
 sound_by stay packages indexes (Ok command) files o name good is none named = sound_unless stay packages indexes (recovery_fault (effect_of command.applet) files) command files o name good is none named
 
-pub made_sound : ((v : TreeState) → IsWhole v → AreNamedFiles (files_of v)) → StayNamed → SoundPackage → SoundIndex
-    → (words : List (List ℕ)) (v : TreeState) (o : Outcome) (name : List ℕ) → IsWhole v → IsOutcomeOf (command_of words) (files_of v) o → o.refusal ≡ None → output words ≡ Some name
+pub made_sound : ((v : TreeState) → IsWellFormed v → AreNamedFiles (files_of v)) → StayNamed → SoundPackage → SoundIndex
+    → (words : List (List ℕ)) (v : TreeState) (o : Outcome) (name : List ℕ) → IsWellFormed v → IsOutcomeOf (command_of words) (files_of v) o → o.refusal ≡ None → output words ≡ Some name
     → IsSoundAt name o.files
 made_sound named stay packages indexes words v o name whole is none under = sound_by stay packages indexes (command_of words) (files_of v) o name (named v whole) is none under

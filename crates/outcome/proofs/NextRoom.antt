@@ -10,7 +10,7 @@ use Rattle.command_core.specs.declared.command.Applet.{Applet}
 use Rattle.engine_core.specs.Changed.{IsClashFor, IsClashOfSelected, IsClashUnlessSimulated, Selected, change_of_selected, change_of_command, selected_for, simulated_change}
 use Rattle.engine_core.specs.Wishes.{wishes_of}
 use Rattle.journal_core.specs.Recovery.{Intent, intent_at, intent_name, is_staged, recovered_files, recovered_files_by}
-use Rattle.journal_core.specs.Staged.{HasRoomToReplay, HasRoomToStage, unstaged_files}
+use Rattle.journal_core.specs.Staged.{AreReplayPathsFree, AreStagingPathsFree, unstaged_files}
 use Rattle.make_info.specs.Reads.{Reads}
 use Rattle.package_changes.specs.Changes.{Replacement}
 use Rattle.path_clashes.specs.Clash.{NamePair}
@@ -20,7 +20,7 @@ use Rattle.outcome.proofs.Applets.{change_is}
 use Rattle.outcome.proofs.Idle.{chain_ok}
 use Rattle.outcome.proofs.Recovered.{ReadSound}
 use Rattle.outcome.specs.Changing.{change_outcome}
-use Rattle.outcome.specs.Commands.{IsOutcomeOf, IsOutcomeOver, IsOutcomeUnless, applet_outcome, reads_in}
+use Rattle.outcome.specs.Commands.{IsOutcomeOf, IsOutcomeOn, IsOutcomeUnlessBadIntent, effect_outcome, reads_in}
 use Rattle.outcome.specs.Effect.{Changes, Effect, effect_by, effect_of}
 use Rattle.outcome.specs.Given.{Given, IsClashBy}
 use Rattle.outcome.specs.Outcome.{Outcome}
@@ -29,7 +29,7 @@ use Rattle.outcome.specs.Work.{fault_of_intent, recovery_fault, work_files}
 -- a change leaves room to stage, and brings no intent
 abbrev pub KeepsRoom : Type 0
 KeepsRoom = (inputs : Inputs) (r : Replacement) (wishes : ChangeWishes) (read : Reads) (clash : Option NamePair) (files : Files) (done : ChangeDone)
-    → change_or_refusal inputs r wishes read clash files ≡ Ok done → IsClashOfChange inputs r wishes read files clash → HasRoomToStage files → HasRoomToStage done.files
+    → change_or_refusal inputs r wishes read clash files ≡ Ok done → IsClashOfChange inputs r wishes read files clash → AreStagingPathsFree files → AreStagingPathsFree done.files
 
 abbrev pub BringsNoIntent : Type 0
 BringsNoIntent = (inputs : Inputs) (r : Replacement) (wishes : ChangeWishes) (read : Reads) (clash : Option NamePair) (files : Files) (done : ChangeDone)
@@ -37,7 +37,7 @@ BringsNoIntent = (inputs : Inputs) (r : Replacement) (wishes : ChangeWishes) (re
 
 -- no intent stands there, and a stage has room
 abbrev HasRoomNow : Files → Type 0
-HasRoomNow files = (files intent_name ≡ None) × HasRoomToStage files
+HasRoomNow files = (files intent_name ≡ None) × AreStagingPathsFree files
 
 -- ---- a change
 
@@ -68,14 +68,14 @@ module _ (room : KeepsRoom) (gone : BringsNoIntent) where
 
   applet_room : (applet : Applet) (command : CommandLine) (given : Given) (files : Files) → effect_of applet ≡ Changes
       → IsClashBy (effect_of applet) command (reads_in files) files given.chosen given.clash
-      → (applet_outcome applet command given (reads_in files) files).refusal ≡ None → HasRoomNow files
-      → HasRoomNow (applet_outcome applet command given (reads_in files) files).files
+      → (effect_outcome (effect_of applet) applet command given (reads_in files) files).refusal ≡ None → HasRoomNow files
+      → HasRoomNow (effect_outcome (effect_of applet) applet command given (reads_in files) files).files
   applet_room applet command given files changes is_clash =
       subst (λ (o : Outcome). o.refusal ≡ None → HasRoomNow files → HasRoomNow o.files) (change_is applet command given (reads_in files) files changes)
       (change_room command files given.chosen given.clash (change_of_command command (reads_in files) files given.chosen given.clash) refl
       (subst (λ (e : Effect). IsClashBy e command (reads_in files) files given.chosen given.clash) changes is_clash))
 
-  over_room : (command : CommandLine) (files : Files) (o : Outcome) → effect_of command.applet ≡ Changes → IsOutcomeOver command files o → o.refusal ≡ None → HasRoomNow files → HasRoomNow o.files
+  over_room : (command : CommandLine) (files : Files) (o : Outcome) → effect_of command.applet ≡ Changes → IsOutcomeOn command files o → o.refusal ≡ None → HasRoomNow files → HasRoomNow o.files
   over_room command files o changes (given, are, is) =
       subst (λ (p : Outcome). p.refusal ≡ None → HasRoomNow files → HasRoomNow p.files) (sym is) (applet_room command.applet command given files changes are.clash)
 
@@ -96,27 +96,27 @@ nothing_at files q (absent, stage) false shown = ap (λ (o : Option (List ℕ)).
 nothing_left : (files : Files) → HasRoomNow files → unstaged_files files ≡ files
 nothing_left files now i q = nothing_at files q now (is_staged q) refl i
 
-room_now : (files : Files) → HasRoomNow files → HasRoomToReplay files × HasRoomToStage (unstaged_files files)
+room_now : (files : Files) → HasRoomNow files → AreReplayPathsFree files × AreStagingPathsFree (unstaged_files files)
 room_now files now =
-    (λ some. absurd (let e = subst (λ (o : Option (List ℕ)). IsSome (intent_at o)) now.0 some in cc (e)), subst HasRoomToStage (sym (nothing_left files now)) now.1)
+    (λ some. absurd (let e = subst (λ (o : Option (List ℕ)). IsSome (intent_at o)) now.0 some in cc (e)), subst AreStagingPathsFree (sym (nothing_left files now)) now.1)
 
 -- ---- by the words
 
 abbrev LeavesNext : Outcome → Type 0
-LeavesNext o = HasRoomToReplay o.files × HasRoomToStage (unstaged_files o.files)
+LeavesNext o = AreReplayPathsFree o.files × AreStagingPathsFree (unstaged_files o.files)
 
 module _ (room : KeepsRoom) (gone : BringsNoIntent) (sound : ReadSound) where
   unless_room : (fault : Option Cause) (command : CommandLine) (files : Files) (o : Outcome) → effect_of command.applet ≡ Changes → recovery_fault (effect_of command.applet) files ≡ fault
-      → IsOutcomeUnless fault command files o → o.refusal ≡ None → HasRoomToStage (unstaged_files files) → LeavesNext o
+      → IsOutcomeUnlessBadIntent fault command files o → o.refusal ≡ None → AreStagingPathsFree (unstaged_files files) → LeavesNext o
   unless_room (Some cause) command files o changes at is unrefused stage = absurd (let e = sym (ap (λ (p : Outcome). p.refusal) is) ∙ unrefused in cc (e))
   unless_room None command files o changes at is unrefused stage =
       let good = subst (λ (e : Effect). recovery_fault e files ≡ None) changes at in
-      let over = subst (λ (e : Effect). IsOutcomeOver command (work_files e files) o) changes is in
+      let over = subst (λ (e : Effect). IsOutcomeOn command (work_files e files) o) changes is in
       room_now o.files (over_room room gone command (unstaged_files files) o changes over unrefused (intent_gone sound files (files intent_name) refl good, stage))
 
-  by_line : (read : Result CommandLine ℕ) (files : Files) (o : Outcome) → effect_by read ≡ Changes → IsOutcomeOf read files o → o.refusal ≡ None → HasRoomToStage (unstaged_files files) → LeavesNext o
+  by_line : (read : Result CommandLine ℕ) (files : Files) (o : Outcome) → effect_by read ≡ Changes → IsOutcomeOf read files o → o.refusal ≡ None → AreStagingPathsFree (unstaged_files files) → LeavesNext o
   by_line (Err place) files o changes is unrefused stage = absurd (cc (changes))
   by_line (Ok command) files o changes is unrefused stage = unless_room (recovery_fault (effect_of command.applet) files) command files o changes refl is unrefused stage
 
-  pub next_room : (words : List (List ℕ)) (files : Files) (o : Outcome) → effect_by (command_of words) ≡ Changes → IsOutcomeOf (command_of words) files o → o.refusal ≡ None → HasRoomToStage (unstaged_files files) → LeavesNext o
+  pub next_room : (words : List (List ℕ)) (files : Files) (o : Outcome) → effect_by (command_of words) ≡ Changes → IsOutcomeOf (command_of words) files o → o.refusal ≡ None → AreStagingPathsFree (unstaged_files files) → LeavesNext o
   next_room words files o = by_line (command_of words) files o

@@ -10,8 +10,8 @@ use Rattle.change_files.specs.PlanLists.{first_reserved}
 use Rattle.change_inputs.specs.Chains.{and_then}
 use Rattle.change_inputs.specs.Inputs.{Inputs}
 use Rattle.change_outcome.specs.ChangeOutcome.{ChangeDone, ChangeWishes, actions_of, change_done, change_members, change_or_refusal, change_with_members, file_change, new_records, touched_paths, unless_clash, unless_contested, unless_large, unless_overflow, unless_reserved_path, unless_too_large}
-use Rattle.change_outcome.specs.MembersAfter.{MemberFound, coming_by_path, coming_found, members_after, name_after, name_by_change, name_by_selected, name_that_goes, names_after}
-use Rattle.change_outcome.specs.PackageFiles.{ComingPackage, first_script_of, package_file_of, package_found, scripts_of_change, unless_different, unless_number, unless_package_bad, unless_script}
+use Rattle.change_outcome.specs.MembersAfter.{MemberFound, added_package_by_path, added_member_found, members_after, name_after, name_by_change, name_by_selected, member_of_removed_name, names_after}
+use Rattle.change_outcome.specs.PackageFiles.{AddedPackage, first_script_of, package_file_of, package_found, scripts_of_change, unless_different, unless_script_number, unless_package_bad, unless_script}
 use Rattle.change_outcome.specs.Triggers.{folders_of_paths, has_due_trigger, unless_trigger}
 use Rattle.db_core.specs.Members.{Member}
 use Rattle.db_write.specs.NewDatabase.{database_of}
@@ -37,13 +37,13 @@ test_stated : {A : Type 0} (test : Bool) (refusal : Refusal) (next : Result A Re
 test_stated true refusal next stated h = stated
 test_stated false refusal next stated h = h
 
-different_stated : (c : Candidate) (pkg : ComingPackage) → IsPackagesResult (unless_different c pkg)
+different_stated : (c : Candidate) (pkg : AddedPackage) → IsPackagesResult (unless_different c pkg)
 different_stated c pkg =
     test_stated (not (is_same_id c.id pkg.id)) _ _ refl
     (test_stated (not (bytes_eq c.name (package_name pkg.value))) _ _ refl
     (test_stated _ _ (Ok pkg) refl tt))
 
-bad_stated : (c : Candidate) (cause : Option Cause) (pkg : ComingPackage) → IsPackagesResult (unless_package_bad c cause pkg)
+bad_stated : (c : Candidate) (cause : Option Cause) (pkg : AddedPackage) → IsPackagesResult (unless_package_bad c cause pkg)
 bad_stated c None pkg = different_stated c pkg
 bad_stated c (Some cause) pkg = refl
 
@@ -51,11 +51,11 @@ file_stated : (c : Candidate) (file : Option (List ℕ)) → IsPackagesResult (p
 file_stated c None = refl
 file_stated c (Some file) = bad_stated c _ _
 
-path_stated : (read : Reads) (n : ℕ) (c : Candidate) (path : Option (List ℕ)) → IsPackagesResult (coming_by_path read n c path)
+path_stated : (read : Reads) (n : ℕ) (c : Candidate) (path : Option (List ℕ)) → IsPackagesResult (added_package_by_path read n c path)
 path_stated read n c None = file_stated c None
 path_stated read n c (Some path) = file_stated c (read n path)
 
-number_stated : {A : Type 0} (name : List ℕ) (number : Option ℕ) (a : A) → IsPackagesResult (unless_number name number a)
+number_stated : {A : Type 0} (name : List ℕ) (number : Option ℕ) (a : A) → IsPackagesResult (unless_script_number name number a)
 number_stated name None a = tt
 number_stated name (Some number) a = refl
 
@@ -65,7 +65,7 @@ script_stated false name pkg numbers a = number_stated name (first_script_of pkg
 
 -- ---- each name
 
-goes_stated : (no_scripts : Bool) (name : List ℕ) (change : Change) (before : Option Plain) → IsPackagesResult (name_that_goes no_scripts name change before)
+goes_stated : (no_scripts : Bool) (name : List ℕ) (change : Change) (before : Option Plain) → IsPackagesResult (member_of_removed_name no_scripts name change before)
 goes_stated no_scripts name change None = tt
 goes_stated no_scripts name change (Some pkg) = script_stated no_scripts name pkg (scripts_of_change change) None
 
@@ -73,8 +73,8 @@ selected_stated : (read : Reads) (repositories : List Repository) (no_scripts : 
     → IsPackagesResult (name_by_selected read repositories no_scripts n name change before selected)
 selected_stated read repositories no_scripts n name change before None = goes_stated no_scripts name change before
 selected_stated read repositories no_scripts n name change before (Some c) =
-    then_stated is_package_refusal (coming_by_path read n c (package_file_of repositories c)) _ (path_stated read n c (package_file_of repositories c)) (λ pkg.
-    script_stated no_scripts name pkg.value (scripts_of_change change) (Some (coming_found pkg)))
+    then_stated is_package_refusal (added_package_by_path read n c (package_file_of repositories c)) _ (path_stated read n c (package_file_of repositories c)) (λ pkg.
+    script_stated no_scripts name pkg.value (scripts_of_change change) (Some (added_member_found pkg)))
 
 change_stated : (read : Reads) (repositories : List Repository) (no_scripts : Bool) (n : ℕ) (name : List ℕ) (change : Option Change) (before : Option Plain) (selected : Option Candidate)
     → IsPackagesResult (name_by_change read repositories no_scripts n name change before selected)

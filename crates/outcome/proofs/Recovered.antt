@@ -17,7 +17,7 @@ use Rattle.adb_view.specs.declared.tables.Which.{Which}
 use Rattle.adb_view.specs.declared.tables.Which.TheVariants.{Intent as IntentTable}
 use Rattle.adb_view.specs.Plain.{Plain, Plains, none, more}
 use Rattle.adb_view.specs.Shaped.{Each}
-use Rattle.base_core.specs.Files.{AreNamedFiles, Files, IsFile, IsWithin, drop_name, move_name}
+use Rattle.base_core.specs.Files.{AreNamedFiles, Files, IsFile, HasNamesAmong, drop_name, move_name}
 use Rattle.base_core.specs.Name.{IsName, is_name}
 use Rattle.base_core.specs.declared.cause.Cause.{Cause}
 use Rattle.journal_core.specs.Recovery.{Intent, after_actions, after_moves, intent_at, intent_in, intent_name, intent_of, is_staged, move_if, read_intent, recovered_files, recovered_files_by, stage_name, without_names}
@@ -104,7 +104,7 @@ abbrev writes_of : Option Intent → List (List ℕ)
 writes_of None = []
 writes_of (Some intent) = intent.writes
 
-pub unstaged_within : (files : Files) (within : List (List ℕ)) → IsWithin within files → (names : List (List ℕ)) × IsWithin names (unstaged_files files)
+pub unstaged_within : (files : Files) (within : List (List ℕ)) → HasNamesAmong within files → (names : List (List ℕ)) × HasNamesAmong names (unstaged_files files)
 unstaged_within files within h =
     let all = writes_of (intent_of files) ++ within in (
       all,

@@ -12,24 +12,24 @@ use Rattle.command_core.specs.declared.command.Applet.TheVariants.{Audit, Info, 
 use Rattle.command_core.specs.declared.operands.Operand.{Operand}
 use Rattle.installed_info.specs.Info.{info_of}
 use Rattle.installed_info.specs.Refusals.{IsOfAnOperand}
-use Rattle.installed_info.specs.declared.telling.InfoDone.{InfoDone}
+use Rattle.installed_info.specs.declared.telling.ReportAndRefusal.{ReportAndRefusal}
 use Rattle.make_info.specs.Reads.{Reads}
 use Rattle.report_core.specs.declared.refusal.Refusal.{Refusal}
-use Rattle.tell_core.specs.AuditTold.{audit_of, manifest_report}
-use Rattle.tell_core.specs.QueryTold.{query_report, query_told}
-use Rattle.tell_core.specs.ToldBy.{told_by, told_for}
+use Rattle.tell_core.specs.AuditResult.{audit_of, manifest_report}
+use Rattle.tell_core.specs.QueryResult.{query_report, query_result}
+use Rattle.tell_core.specs.ReportForCommand.{report_for_command, report_for_applet}
 use Rattle.outcome.proofs.Ends.{HasKnownRefusal, database_stated, inputs_stated, pool_stated, then_stated}
 use Rattle.outcome.specs.ChangeEnd.{is_input_refusal}
 
-abbrev IsStated : Refusal → Type 0
-IsStated refusal = is_input_refusal refusal ≡ true
+abbrev IsAnsweredInFull : Refusal → Type 0
+IsAnsweredInFull refusal = is_input_refusal refusal ≡ true
 
 -- the refusal in the place of a report, or beside it, is one of the input
-abbrev AreStated : Result InfoDone Refusal → Type 0
-AreStated (Ok done) = (refusal : Refusal) → done.late ≡ Some refusal → IsStated refusal
-AreStated (Err refusal) = IsStated refusal
+abbrev AreStated : Result ReportAndRefusal Refusal → Type 0
+AreStated (Ok done) = (refusal : Refusal) → done.following_refusal ≡ Some refusal → IsAnsweredInFull refusal
+AreStated (Err refusal) = IsAnsweredInFull refusal
 
-then_all_stated : {A : Type 0} (a : Result A Refusal) (next : A → Result InfoDone Refusal) → HasKnownRefusal is_input_refusal a → ((x : A) → AreStated (next x)) → AreStated (and_then a next)
+then_all_stated : {A : Type 0} (a : Result A Refusal) (next : A → Result ReportAndRefusal Refusal) → HasKnownRefusal is_input_refusal a → ((x : A) → AreStated (next x)) → AreStated (and_then a next)
 then_all_stated (Ok x) next h rest = rest x
 then_all_stated (Err refusal) next h rest = h
 
@@ -46,21 +46,21 @@ manifest_stated packages (o ∷ operands) = with_stated o (operand_package packa
 
 -- ---- a query
 
-query_stated : (command : CommandLine) (read : Reads) → AreStated (query_told command read)
+query_stated : (command : CommandLine) (read : Reads) → AreStated (query_result command read)
 query_stated command read =
     then_all_stated (inputs_of command read) (query_report command) (inputs_stated command read)
     (λ inputs. then_all_stated (root_pool inputs no_names) _ (pool_stated inputs no_names) (λ pool refusal beside. absurd (cc (beside))))
 
 module _ (refused : (c : CommandLine) (packages : List Plain) (refusal : Refusal) → info_of c packages ≡ Err refusal → IsOfAnOperand c.operands refusal)
-    (late : (c : CommandLine) (packages : List Plain) (done : InfoDone) (refusal : Refusal) → info_of c packages ≡ Ok done → done.late ≡ Some refusal → (c.flags.installed ≡ true) × IsOfAnOperand c.operands refusal) where
-  operand_stated : (command : CommandLine) (refusal : Refusal) → IsOfAnOperand command.operands refusal → IsStated refusal
+    (following_refusal : (c : CommandLine) (packages : List Plain) (done : ReportAndRefusal) (refusal : Refusal) → info_of c packages ≡ Ok done → done.following_refusal ≡ Some refusal → (c.flags.installed ≡ true) × IsOfAnOperand c.operands refusal) where
+  operand_stated : (command : CommandLine) (refusal : Refusal) → IsOfAnOperand command.operands refusal → IsAnsweredInFull refusal
   operand_stated command refusal (operand, among, is) = ap is_input_refusal is
 
-  info_stated : (command : CommandLine) (packages : List Plain) (told : Result InfoDone Refusal) → info_of command packages ≡ told → AreStated told
-  info_stated command packages (Ok done) is = λ refusal beside. operand_stated command refusal (late command packages done refusal is beside).1
+  info_stated : (command : CommandLine) (packages : List Plain) (told : Result ReportAndRefusal Refusal) → info_of command packages ≡ told → AreStated told
+  info_stated command packages (Ok done) is = λ refusal beside. operand_stated command refusal (following_refusal command packages done refusal is beside).1
   info_stated command packages (Err refusal) is = operand_stated command refusal (refused command packages refusal is)
 
-  told_stated : (applet : Applet) (command : CommandLine) (read : Reads) → AreStated (told_for applet command read)
+  told_stated : (applet : Applet) (command : CommandLine) (read : Reads) → AreStated (report_for_applet applet command read)
   told_stated Info command read =
       then_all_stated (database_for command read) (λ database. info_of command database.packages) (database_stated command.flags.initdb _ _)
       (λ database. info_stated command database.packages (info_of command database.packages) refl)
@@ -76,8 +76,8 @@ module _ (refused : (c : CommandLine) (packages : List Plain) (refusal : Refusal
   told_stated Policy command read = query_stated command read
   told_stated other command read = λ refusal beside. absurd (cc (beside))
 
-  pub refused_stated : (command : CommandLine) (read : Reads) (refusal : Refusal) → told_by command read ≡ Err refusal → IsStated refusal
+  pub refused_stated : (command : CommandLine) (read : Reads) (refusal : Refusal) → report_for_command command read ≡ Err refusal → IsAnsweredInFull refusal
   refused_stated command read refusal is = subst AreStated is (told_stated command.applet command read)
 
-  pub late_stated : (command : CommandLine) (read : Reads) (done : InfoDone) (refusal : Refusal) → told_by command read ≡ Ok done → done.late ≡ Some refusal → IsStated refusal
+  pub late_stated : (command : CommandLine) (read : Reads) (done : ReportAndRefusal) (refusal : Refusal) → report_for_command command read ≡ Ok done → done.following_refusal ≡ Some refusal → IsAnsweredInFull refusal
   late_stated command read done refusal is beside = (subst AreStated is (told_stated command.applet command read)) refusal beside

@@ -1,7 +1,7 @@
 -- The outcome of words is that of a command, or that of `demo`.
 use Rattle.std.proofs.Common.{◌≡◌, ◌⊎◌, inl, inr, ⊎_elim, ℕ, false, List, None, Some, Result, Ok, Err, refl, sym, subst, ◌∙◌}
 use Rattle.std.specs.Prelude.{IsTrue}
-use Rattle.base_core.specs.Files.{Files, IsWithin}
+use Rattle.base_core.specs.Files.{Files, HasNamesAmong}
 use Rattle.command_core.specs.Command.{CommandLine}
 use Rattle.command_core.specs.declared.command.Applet.{Applet}
 use Rattle.command_core.specs.declared.command.Applet.TheVariants.{Demo}
@@ -9,17 +9,17 @@ use Rattle.demo_lines.specs.Count.{demo_count}
 use Rattle.outcome.proofs.Demos.{HaveOneOutcome, HaveOutcome, demo_everywhere, demo_exists, demo_leaves, demo_one}
 use Rattle.outcome.specs.Commands.{IsOutcomeOf}
 use Rattle.outcome.specs.Demo.{IsDemoOutcome}
-use Rattle.outcome.specs.Effect.{Effect, Computes, Tells, Makes, Changes, does_rest_on_words, effect_by, effect_of, output_by, output_if, rests_on_words}
+use Rattle.outcome.specs.Effect.{Effect, Computes, Tells, Makes, Changes, ignores_files, effect_by, effect_of, output_by, output_if, depends_only_on_arguments}
 use Rattle.outcome.specs.Outcome.{Outcome, outcome_of}
-use Rattle.outcome.specs.Words.{IsOutcomeBy, IsOutcomeFor}
+use Rattle.outcome.specs.Words.{IsOutcome, IsOutcomeFor}
 
 -- ---- there is one, and no second one
 
-applet_exists : HaveOutcome → (applet : Applet) (command : CommandLine) (files : Files) (within : List (List ℕ)) → IsWithin within files → (o : Outcome) × IsOutcomeFor applet command files o
+applet_exists : HaveOutcome → (applet : Applet) (command : CommandLine) (files : Files) (within : List (List ℕ)) → HasNamesAmong within files → (o : Outcome) × IsOutcomeFor applet command files o
 applet_exists have Demo command files within few = demo_exists have (demo_count command.operands) files
 applet_exists have other command files within few = have (Ok command) files within few
 
-pub by_exists : HaveOutcome → (read : Result CommandLine ℕ) (files : Files) (within : List (List ℕ)) → IsWithin within files → (o : Outcome) × IsOutcomeBy read files o
+pub by_exists : HaveOutcome → (read : Result CommandLine ℕ) (files : Files) (within : List (List ℕ)) → HasNamesAmong within files → (o : Outcome) × IsOutcome read files o
 by_exists have (Ok command) files within few = applet_exists have command.applet command files within few
 by_exists have (Err place) files within few = have (Err place) files within few
 
@@ -27,7 +27,7 @@ applet_one : HaveOneOutcome → (applet : Applet) (command : CommandLine) (files
 applet_one one Demo command files a b x y = demo_one one (demo_count command.operands) files a b x y
 applet_one one other command files a b x y = one (Ok command) files a b x y
 
-pub by_one : HaveOneOutcome → (read : Result CommandLine ℕ) (files : Files) (a b : Outcome) → IsOutcomeBy read files a → IsOutcomeBy read files b → a ≡ b
+pub by_one : HaveOneOutcome → (read : Result CommandLine ℕ) (files : Files) (a b : Outcome) → IsOutcome read files a → IsOutcome read files b → a ≡ b
 by_one one (Ok command) files a b x y = applet_one one command.applet command files a b x y
 by_one one (Err place) files a b x y = one (Err place) files a b x y
 
@@ -42,12 +42,12 @@ applet_either : (applet : Applet) (command : CommandLine) (files : Files) (o : O
 applet_either Demo command files o is = inr (demo_count command.operands, is, refl)
 applet_either other command files o is = inl is
 
-pub either : (read : Result CommandLine ℕ) (files : Files) (o : Outcome) → IsOutcomeBy read files o → IsOutcomeOf read files o ⊎ IsOfDemo read files o
+pub either : (read : Result CommandLine ℕ) (files : Files) (o : Outcome) → IsOutcome read files o → IsOutcomeOf read files o ⊎ IsOfDemo read files o
 either (Ok command) files o is = applet_either command.applet command files o is
 either (Err place) files o is = inl is
 
 -- where it does not rest on the words alone, it is not that of `demo`
-pub of_by : (read : Result CommandLine ℕ) (files : Files) (o : Outcome) → (effect_by read ≡ Computes → ⊥) → IsOutcomeBy read files o → IsOutcomeOf read files o
+pub of_by : (read : Result CommandLine ℕ) (files : Files) (o : Outcome) → (effect_by read ≡ Computes → ⊥) → IsOutcome read files o → IsOutcomeOf read files o
 of_by read files o rests is = ⊎_elim (λ of. of) (λ demo. absurd (rests demo.2)) (either read files o is)
 
 pub tells_not : (effect : Effect) → effect ≡ Tells → effect ≡ Computes → ⊥
@@ -66,20 +66,20 @@ output_not (Ok command) name is computes =
 
 -- ---- it leaves the files
 
-pub leaves_by : (P : Outcome → Type 0) (read : Result CommandLine ℕ) (files : Files) (o : Outcome) → (IsOutcomeOf read files o → P o) → ((o.files ≡ files) × (o.commits ≡ false) → P o) → IsOutcomeBy read files o → P o
+pub leaves_by : (P : Outcome → Type 0) (read : Result CommandLine ℕ) (files : Files) (o : Outcome) → (IsOutcomeOf read files o → P o) → ((o.files ≡ files) × (o.commits ≡ false) → P o) → IsOutcome read files o → P o
 leaves_by P read files o of demo is = ⊎_elim of (λ d. demo (demo_leaves d.0 files o d.1)) (either read files o is)
 
 -- ---- it is the same over all files
 
 -- so it is of a command that rests on the words alone
 abbrev pub SameEverywhere : Type 0
-SameEverywhere = (read : Result CommandLine ℕ) (files others : Files) (o : Outcome) → IsTrue (rests_on_words read) → IsOutcomeOf read files o → IsOutcomeOf read others (outcome_of o.refusal o.out others)
+SameEverywhere = (read : Result CommandLine ℕ) (files others : Files) (o : Outcome) → IsTrue (depends_only_on_arguments read) → IsOutcomeOf read files o → IsOutcomeOf read others (outcome_of o.refusal o.out others)
 
-applet_everywhere : SameEverywhere → (applet : Applet) (command : CommandLine) (files others : Files) (o : Outcome) → IsTrue (does_rest_on_words (effect_of command.applet)) → IsOutcomeFor applet command files o
+applet_everywhere : SameEverywhere → (applet : Applet) (command : CommandLine) (files others : Files) (o : Outcome) → IsTrue (ignores_files (effect_of command.applet)) → IsOutcomeFor applet command files o
     → IsOutcomeFor applet command others (outcome_of o.refusal o.out others)
 applet_everywhere same Demo command files others o rests is = demo_everywhere (demo_count command.operands) files others o is
 applet_everywhere same other command files others o rests is = same (Ok command) files others o rests is
 
-pub by_everywhere : SameEverywhere → (read : Result CommandLine ℕ) (files others : Files) (o : Outcome) → IsTrue (rests_on_words read) → IsOutcomeBy read files o → IsOutcomeBy read others (outcome_of o.refusal o.out others)
+pub by_everywhere : SameEverywhere → (read : Result CommandLine ℕ) (files others : Files) (o : Outcome) → IsTrue (depends_only_on_arguments read) → IsOutcome read files o → IsOutcome read others (outcome_of o.refusal o.out others)
 by_everywhere same (Ok command) files others o rests is = applet_everywhere same command.applet command files others o rests is
 by_everywhere same (Err place) files others o rests is = same (Err place) files others o rests is

@@ -12,17 +12,17 @@ use Rattle.command_core.specs.Command.{CommandLine}
 use Rattle.command_core.specs.declared.command.Applet.{Applet}
 use Rattle.command_core.specs.declared.command.Applet.TheVariants.{Adbdump, Adbgen, Help, Mkndx, Mkpkg, ProgramVersion, Verify, Version}
 use Rattle.engine_core.specs.ChangeRun.{HasSpoiledPackage}
-use Rattle.engine_core.specs.Changed.{packages_found, selected_for}
-use Rattle.tell_core.specs.ToldBy.{told_by}
+use Rattle.engine_core.specs.Changed.{change_of_command, found_packages, selected_for}
+use Rattle.tell_core.specs.ReportForCommand.{report_for_command}
 use Rattle.words_core.specs.HelpTexts.{help_text, version_line}
-use Rattle.outcome.specs.Changing.{change}
+use Rattle.outcome.specs.Changing.{change_outcome}
 use Rattle.outcome.specs.Dump.{adbdump}
 use Rattle.outcome.specs.Effect.{Effect, Computes, Reads as OnlyReads, Tells, Makes, Changes, does_recover, effect_of}
 use Rattle.outcome.specs.Generate.{adbgen}
 use Rattle.outcome.specs.Given.{Given, IsGiven, MayBeGiven}
 use Rattle.outcome.specs.Make.{mkndx, mkpkg}
 use Rattle.outcome.specs.Outcome.{Outcome, just_refusal, just_report}
-use Rattle.outcome.specs.Telling.{told_outcome}
+use Rattle.outcome.specs.OutcomeOfReport.{outcome_of_report}
 use Rattle.outcome.specs.Verify.{verify}
 use Rattle.outcome.specs.Version.{version}
 use Rattle.outcome.specs.Work.{recovery_fault, work_files}
@@ -50,27 +50,18 @@ making_outcome Mkpkg command names read files = mkpkg read files command names
 making_outcome Mkndx command names read files = mkndx read files command
 making_outcome other command names read files = just_report files []
 
--- The outcome of an applet by its effect: from the parts that relations specify, from what its reads
--- find, and from the files, which it may change. All commands that only report have one definition, and
--- so have all changes.
+-- The outcome of a command by its effect and its applet: from the parts that relations specify, from
+-- what its reads find, and from the files, which it may change. All commands that only report have one
+-- definition, and so have all changes.
 abbrev pub effect_outcome : Effect → Applet → CommandLine → Given → Reads → Files → Outcome
 effect_outcome Computes applet command given read files = computing_outcome applet command files
 effect_outcome OnlyReads applet command given read files = reading_outcome applet command read files
-effect_outcome Tells applet command given read files = told_outcome files (told_by command read)
+effect_outcome Tells applet command given read files = outcome_of_report files (report_for_command
+    command read)
 effect_outcome Makes applet command given read files =
     making_outcome applet command given.names read files
 effect_outcome Changes applet command given read files =
-    change read files command given.chosen given.clash
-
--- the outcome of an applet, by its effect
-abbrev pub applet_outcome : Applet → CommandLine → Given → Reads → Files → Outcome
-applet_outcome applet command given read files =
-    effect_outcome (effect_of applet) applet command given read files
-
--- the outcome of a command over the files on which it works
-abbrev pub command_outcome : CommandLine → Given → Reads → Files → Outcome
-command_outcome command given read files =
-    applet_outcome command.applet command given read files
+    change_outcome files (change_of_command command read files given.chosen given.clash)
 
 -- ---- over the files of a tree
 
@@ -79,63 +70,67 @@ abbrev pub reads_in : Files → Reads
 reads_in files n name = files name
 
 -- the outcome of a command that works on these files
-abbrev pub IsOutcomeOver : CommandLine → Files → Outcome → Type 0
-IsOutcomeOver command files outcome =
+abbrev pub IsOutcomeOn : CommandLine → Files → Outcome → Type 0
+IsOutcomeOn command files outcome =
     (given : Given)
     × IsGiven command (reads_in files) files given
-    × (outcome ≡ command_outcome command given (reads_in files) files)
+    × (outcome
+    ≡ effect_outcome (effect_of command.applet) command.applet command given (reads_in files) files)
 
 -- The outcome of a command, unless recovery is needed and fails. Then a bad intent is refused before
 -- all else except a usage error, and nothing changes.
-abbrev pub IsOutcomeUnless : Option Cause → CommandLine → Files → Outcome → Type 0
-IsOutcomeUnless (Some cause) command files outcome =
+abbrev pub IsOutcomeUnlessBadIntent : Option Cause → CommandLine → Files → Outcome → Type 0
+IsOutcomeUnlessBadIntent (Some cause) command files outcome =
     outcome ≡ just_refusal files (IntentBad cause)
-IsOutcomeUnless None command files outcome =
-    IsOutcomeOver command (work_files (effect_of command.applet) files) outcome
+IsOutcomeUnlessBadIntent None command files outcome =
+    IsOutcomeOn command (work_files (effect_of command.applet) files) outcome
 
--- the outcome of parsed arguments: a usage error is reported before any file is read
+-- the outcome of parsed arguments that do not name `demo`: a usage error is reported before any file is
+-- read
 abbrev pub IsOutcomeOf : Result CommandLine ℕ → Files → Outcome → Type 0
 IsOutcomeOf (Err place) files outcome = outcome ≡ just_refusal files (Usage place)
 IsOutcomeOf (Ok command) files outcome =
-    IsOutcomeUnless (recovery_fault (effect_of command.applet) files) command files outcome
+    IsOutcomeUnlessBadIntent (recovery_fault (effect_of command.applet) files) command files outcome
 
 -- ---- over a tree whose files no contract knows, such as a folder of the host
 
 -- The file of an added package is read once more when a change is carried out. The change is refused if
 -- the file is no longer what was tested. The refusal has the cause of some file with the length and the
 -- values that the first read found, and with other contents.
-pub record IsSpoiled (command : CommandLine) (read : Reads) (given : Given) (files : Files)
+pub record IsRefusedForSpoiledPackage (command : CommandLine) (read : Reads) (given : Given) (files :
+    Files)
     (outcome : Outcome) : Type 0 where
   pub changes : effect_of command.applet ≡ Changes
-  pub commits : (command_outcome command given read files).commits ≡ true
+  pub commits :
+      (effect_outcome (effect_of command.applet) command.applet command given read files).commits
+      ≡ true
   pub refusal : Refusal
   pub spoiled : HasSpoiledPackage
-      (packages_found command read (selected_for command read given.chosen)) refusal
+      (found_packages command read (selected_for command read given.chosen)) refusal
   pub is : outcome ≡ just_refusal files refusal
 
 -- the outcome for some listing, some contents at each read, and some files; and for the first clash of
 -- names among some present files
-abbrev pub IsFoundOver : CommandLine → Outcome → Type 0
-IsFoundOver command outcome =
+abbrev pub IsPossibleOutcomeOn : CommandLine → Outcome → Type 0
+IsPossibleOutcomeOn command outcome =
     (given : Given)
     × (read : Reads)
     × (files : Files)
     × MayBeGiven command read files given
-    × ((outcome ≡ command_outcome command given read files)
-    ⊎ IsSpoiled command read given files outcome)
+    × ((outcome ≡ effect_outcome (effect_of command.applet) command.applet command given read files)
+    ⊎ IsRefusedForSpoiledPackage command read given files outcome)
 
 -- some file is no intent container, and that is refused; nothing else is known of the files
-abbrev pub IsFoundUnrecovered : Outcome → Type 0
-IsFoundUnrecovered outcome =
+abbrev pub IsPossibleIntentRefusal : Outcome → Type 0
+IsPossibleIntentRefusal outcome =
     (file : List ℕ)
     × (cause : Cause)
     × (first_fault IntentTable file ≡ Some cause)
     × (outcome ≡ just_refusal no_names (IntentBad cause))
 
--- *IsOutcomeOf* on a tree whose files no contract knows; a usage error and a bad intent say nothing of
--- files
-abbrev pub IsFoundOutcomeOf : Result CommandLine ℕ → Outcome → Type 0
-IsFoundOutcomeOf (Err place) outcome = outcome ≡ just_refusal no_names (Usage place)
-IsFoundOutcomeOf (Ok command) outcome =
-    IsFoundOver command outcome
-    ⊎ ((does_recover (effect_of command.applet) ≡ true) × IsFoundUnrecovered outcome)
+-- the outcome of a command other than `demo` on a tree whose files no contract knows; a bad intent says
+-- nothing of files
+abbrev pub IsPossibleOutcomeOf : CommandLine → Outcome → Type 0
+IsPossibleOutcomeOf command outcome =
+    IsPossibleOutcomeOn command outcome
+    ⊎ ((does_recover (effect_of command.applet) ≡ true) × IsPossibleIntentRefusal outcome)

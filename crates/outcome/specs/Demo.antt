@@ -13,13 +13,13 @@ use Rattle.outcome.specs.Outcome.{Outcome, just_report, report_unless}
 
 -- the outcome of a run after another one: a refusal of that ends all; otherwise the command line is run
 -- over the files that were left
-abbrev pub IsRunUnless : Option Refusal → List (List ℕ) → Files → Outcome → Outcome → Type 0
-IsRunUnless (Some refusal) words files before outcome = outcome ≡ before
-IsRunUnless None words files before outcome = IsOutcomeOf (command_of words) files outcome
+abbrev pub IsRunUnlessRefused : Option Refusal → List (List ℕ) → Files → Outcome → Outcome → Type 0
+IsRunUnlessRefused (Some refusal) words files before outcome = outcome ≡ before
+IsRunUnlessRefused None words files before outcome = IsOutcomeOf (command_of words) files outcome
 
 -- the outcome of a command line that is run after another outcome, over its files or changes of these
-abbrev pub IsRunBehind : List (List ℕ) → Files → Outcome → Outcome → Type 0
-IsRunBehind words files before outcome = IsRunUnless before.refusal words files before outcome
+abbrev pub IsRunAfter : List (List ℕ) → Files → Outcome → Outcome → Type 0
+IsRunAfter words files before outcome = IsRunUnlessRefused before.refusal words files before outcome
 
 -- ---- the runs
 
@@ -37,21 +37,21 @@ ArePackaged zero outcome = outcome ≡ demo_start
 ArePackaged (suc i) outcome =
     (before : Outcome)
     × ArePackaged i before
-    × IsRunBehind (mkpkg_words (suc i)) (with_demo_file (suc i) before.files) before outcome
+    × IsRunAfter (mkpkg_words (suc i)) (with_demo_file (suc i) before.files) before outcome
 
 -- the packages 1 to n are made, and then their index
 abbrev pub AreIndexed : ℕ → Outcome → Type 0
 AreIndexed n outcome =
     (before : Outcome)
     × ArePackaged n before
-    × IsRunBehind (mkndx_words n) before.files before outcome
+    × IsRunAfter (mkndx_words n) before.files before outcome
 
 -- the packages 1 to n are made and indexed, and then those on which no other depends are added
 abbrev pub AreInstalled : ℕ → Outcome → Type 0
 AreInstalled n outcome =
     (before : Outcome)
     × AreIndexed n before
-    × IsRunBehind (add_words n) before.files before outcome
+    × IsRunAfter (add_words n) before.files before outcome
 
 -- ---- the report
 

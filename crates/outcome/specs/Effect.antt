@@ -42,13 +42,13 @@ effect_of Del = Changes
 effect_of Upgrade = Changes
 effect_of Fix = Changes
 
--- whether the outcome of a command is the same over all files
-abbrev pub does_rest_on_words : Effect → Bool
-does_rest_on_words Computes = true
-does_rest_on_words Reads = false
-does_rest_on_words Tells = false
-does_rest_on_words Makes = false
-does_rest_on_words Changes = false
+-- whether the outcome of a command depends on its arguments alone, whatever the files are
+abbrev pub ignores_files : Effect → Bool
+ignores_files Computes = true
+ignores_files Reads = false
+ignores_files Tells = false
+ignores_files Makes = false
+ignores_files Changes = false
 
 -- whether a command leaves the tree unchanged, whatever it finds there
 abbrev pub does_only_read : Effect → Bool
@@ -81,10 +81,10 @@ abbrev pub effect_by : Result CommandLine ℕ → Effect
 effect_by (Ok command) = effect_of command.applet
 effect_by (Err place) = Computes
 
--- whether the outcome of a command line is the same over all files, as that of a usage error is
-abbrev pub rests_on_words : Result CommandLine ℕ → Bool
-rests_on_words (Ok command) = does_rest_on_words (effect_of command.applet)
-rests_on_words (Err place) = true
+-- whether the outcome of a command line depends on the arguments alone, as that of a usage error does
+abbrev pub depends_only_on_arguments : Result CommandLine ℕ → Bool
+depends_only_on_arguments (Ok command) = ignores_files (effect_of command.applet)
+depends_only_on_arguments (Err place) = true
 
 -- whether a command line writes and removes no file of the root
 abbrev pub reads_only : Result CommandLine ℕ → Bool

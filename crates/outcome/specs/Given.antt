@@ -8,7 +8,7 @@ use Rattle.command_core.specs.Command.{CommandLine}
 use Rattle.command_core.specs.declared.command.Applet.{Applet}
 use Rattle.command_core.specs.declared.command.Applet.TheVariants.{Mkpkg}
 use Rattle.command_core.specs.declared.values.TheConstants.{FILES}
-use Rattle.engine_core.specs.Changed.{IsClashFor, IsClashForOver}
+use Rattle.engine_core.specs.Changed.{IsClashFor, IsClashForAmong}
 use Rattle.engine_core.specs.Choice.{IsChoiceFrom}
 use Rattle.engine_core.specs.Selecting.{pool_for}
 use Rattle.make_info.specs.Reads.{Reads}
@@ -71,7 +71,7 @@ MayBeListedFor other command names = names ≡ []
 abbrev pub MayClash :
     Effect → CommandLine → Reads → Files → Option (List ℕ) → Option NamePair → Type 0
 MayClash Changes command read files chosen clash =
-    (standing : Files) × IsClashForOver command read files standing chosen clash
+    (present_files : Files) × IsClashForAmong command read files present_files chosen clash
 MayClash other command read files chosen clash = clash ≡ None
 
 -- all parts that a command may be given on a tree whose files no contract knows, by some files

@@ -9,7 +9,7 @@ pub mod Verify
 pub mod Dump
 pub mod Generate
 pub mod Make
-pub mod Telling
+pub mod OutcomeOfReport
 pub mod Changing
 pub mod Given
 pub mod Demo

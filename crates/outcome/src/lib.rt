@@ -6,8 +6,8 @@
 //! - `Words`: the outcome of a command line;
 //! - `Commands`: the outcome of each command except `demo`;
 //! - `Effect`: what a command reads and changes;
-//! - `Version`, `Verify`, `Dump`, `Generate`, `Make`, `Telling`, `Changing`: the outcome of each
-//!   command or group of commands;
+//! - `Version`, `Verify`, `Dump`, `Generate`, `Make`, `OutcomeOfReport`, `Changing`: the outcome of
+//!   each command or group of commands;
 //! - `Demo`: the command lines that `demo` runs;
 //! - `Given`: the parts of an outcome that relations specify, and no function computes;
 //! - `ChangeEnd`, `Recovers`, `Sound`: cited by laws: how a change ends, which commands recover,
@@ -19,20 +19,20 @@
 #![tactic(auto)]
 
 ghost use Rattle.std.specs.Prelude.{◌≡◌, ◌⊎◌, ℕ, true, false, List, None, Some, Result, Ok, Err, IsSome, IsTrue, is_some, not};
-ghost use Rattle.base_core.specs.Files.{Files, IsWithin};
+ghost use Rattle.base_core.specs.Files.{Files, HasNamesAmong};
 ghost use Rattle.base_core.specs.Listed.{IsListOf, IsNamesOf};
-ghost use Rattle.base_core.specs.Tree.{IsWhole, TreeState, files_of};
+ghost use Rattle.base_core.specs.Tree.{IsWellFormed, TreeState, files_of};
 ghost use Rattle.base_core.specs.declared.cause.Cause.{Cause};
 ghost use Rattle.change_inputs.specs.Inputs.{database_for};
 ghost use Rattle.command_core.specs.Command.{CommandLine};
 ghost use Rattle.command_core.specs.declared.command.Applet.{Applet};
 ghost use Rattle.journal_core.specs.Recovery.{intent_name};
-ghost use Rattle.journal_core.specs.Staged.{HasRoomToReplay, HasRoomToStage, unstaged_files};
-ghost use Rattle.installed_info.specs.declared.telling.InfoDone.{InfoDone};
+ghost use Rattle.journal_core.specs.Staged.{AreReplayPathsFree, AreStagingPathsFree, unstaged_files};
+ghost use Rattle.installed_info.specs.declared.telling.ReportAndRefusal.{ReportAndRefusal};
 ghost use Rattle.make_info.specs.Reads.{Reads};
 ghost use Rattle.outcome.specs.ChangeEnd.{IsChangeEnd, IsRunEnd, is_input_refusal};
-ghost use Rattle.outcome.specs.Commands.{IsOutcomeOf, IsOutcomeOver, reads_in};
-ghost use Rattle.outcome.specs.Effect.{Changes, Makes, Tells, does_recover, effect_by, effect_of, output, reads_only, rests_on_words};
+ghost use Rattle.outcome.specs.Commands.{IsOutcomeOf, IsOutcomeOn, reads_in};
+ghost use Rattle.outcome.specs.Effect.{Changes, Makes, Tells, does_recover, effect_by, effect_of, output, reads_only, depends_only_on_arguments};
 ghost use Rattle.outcome.specs.Make.{files_below};
 ghost use Rattle.outcome.specs.Outcome.{Outcome, just_refusal, outcome_of};
 ghost use Rattle.outcome.specs.Recovers.{must_recover};
@@ -42,25 +42,25 @@ ghost use Rattle.outcome.specs.Work.{fault_of_intent, recovery_fault, work_files
 ghost use Rattle.report_core.specs.declared.refusal.Refusal.{Refusal};
 ghost use Rattle.report_core.specs.declared.refusal.Refusal.TheVariants.{IntentBad, NoDatabase};
 ghost use Rattle.root_names.specs.RootNames.{database_name, text_database_name};
-ghost use Rattle.tell_core.specs.ToldBy.{told_by};
+ghost use Rattle.tell_core.specs.ReportForCommand.{report_for_command};
 ghost use Rattle.words_core.specs.Grammar.{command_of};
 
 use adb_schema::sound_containers_hold_sound_values;
-use base_core::{files_have_one_list_of_names, the_files_of_a_whole_state_are_named_files};
+use base_core::{files_have_one_list_of_names, the_files_of_a_well_formed_state_are_named_files};
 use change_outcome::{
-    a_change_has_a_first_clash_or_none, a_change_keeps_room,
+    a_change_has_a_first_clash_or_none, a_change_keeps_paths_free,
     a_change_that_is_made_passes_each_test, a_change_that_writes_nothing_leaves_the_files,
-    what_is_read_of_a_root_stands_there,
+    what_is_read_of_a_root_is_in_the_tree,
 };
 use engine_core::{a_choice_exists, a_choice_is_unique};
-use installed_info::info_refuses_an_operand;
+use installed_info::info_refuses_only_for_an_operand;
 use journal_intent::an_intent_is_read_from_a_sound_container;
 use make_core::{a_made_index_is_sound, a_made_package_is_sound};
 
 /// A command line has an outcome over any files under finitely many names.
 pub fn an_outcome_exists()
     ensures { (words within : List (List ℕ)) (files : Files)
-        → IsWithin within files → (o : Outcome) × IsOutcome words files o }
+        → HasNamesAmong within files → (o : Outcome) × IsOutcome (command_of words) files o }
 {
     files_have_one_list_of_names();
     a_choice_exists();
@@ -70,7 +70,7 @@ pub fn an_outcome_exists()
 /// A command line has at most one outcome over given files.
 pub fn an_outcome_is_unique()
     ensures { (words : List (List ℕ)) (files : Files) (a b : Outcome)
-        → IsOutcome words files a → IsOutcome words files b → a ≡ b }
+        → IsOutcome (command_of words) files a → IsOutcome (command_of words) files b → a ≡ b }
 {
     files_have_one_list_of_names();
     a_choice_is_unique();
@@ -80,7 +80,7 @@ pub fn an_outcome_is_unique()
 /// A command has one outcome over the files on which it works, and no second one.
 pub fn an_outcome_over_files_is_unique()
     ensures { (command : CommandLine) (files : Files) (a b : Outcome)
-        → IsOutcomeOver command files a → IsOutcomeOver command files b → a ≡ b }
+        → IsOutcomeOn command files a → IsOutcomeOn command files b → a ≡ b }
 {
     files_have_one_list_of_names();
     a_choice_is_unique();
@@ -90,9 +90,10 @@ pub fn an_outcome_over_files_is_unique()
 /// A command that only reads leaves the files unchanged, and commits nothing.
 pub fn a_command_that_reads_leaves_the_files()
     ensures files { (words : List (List ℕ)) (files : Files) (o : Outcome)
-        → IsTrue (reads_only (command_of words)) → IsOutcome words files o → o.files ≡ files }
+        → IsTrue (reads_only (command_of words)) → IsOutcome (command_of words) files o
+        → o.files ≡ files }
     ensures commits { (words : List (List ℕ)) (files : Files) (o : Outcome)
-        → IsTrue (reads_only (command_of words)) → IsOutcome words files o
+        → IsTrue (reads_only (command_of words)) → IsOutcome (command_of words) files o
         → o.commits ≡ false }
 {
     reading_leaves_the_files();
@@ -109,28 +110,29 @@ fn reading_leaves_the_files()
 
 /// A command that recovers and then only reads commits nothing. It leaves the recovered files, or
 /// the old ones if it cannot recover.
-pub fn a_command_that_tells_leaves_the_files()
+pub fn a_reporting_command_leaves_the_files()
     ensures files { (words : List (List ℕ)) (files : Files) (o : Outcome)
-        → effect_by (command_of words) ≡ Tells → IsOutcome words files o
+        → effect_by (command_of words) ≡ Tells → IsOutcome (command_of words) files o
         → (o.files ≡ files) ⊎ (o.files ≡ work_files Tells files) }
     ensures commits { (words : List (List ℕ)) (files : Files) (o : Outcome)
-        → effect_by (command_of words) ≡ Tells → IsOutcome words files o → o.commits ≡ false }
+        → effect_by (command_of words) ≡ Tells → IsOutcome (command_of words) files o
+        → o.commits ≡ false }
 {}
 
 /// A command that makes a file commits exactly if it is not refused.
 pub fn a_command_that_makes_commits_unless_refused()
     ensures { (words : List (List ℕ)) (files : Files) (o : Outcome)
-        → effect_by (command_of words) ≡ Makes → IsOutcome words files o
+        → effect_by (command_of words) ≡ Makes → IsOutcome (command_of words) files o
         → o.commits ≡ not (is_some o.refusal) }
 {}
 
 /// A refusal commits nothing.
 pub fn a_refusal_commits_nothing()
     ensures { (words : List (List ℕ)) (files : Files) (o : Outcome)
-        → IsOutcome words files o → IsSome o.refusal → o.commits ≡ false }
+        → IsOutcome (command_of words) files o → IsSome o.refusal → o.commits ≡ false }
 {
     a_command_that_reads_leaves_the_files();
-    a_command_that_tells_leaves_the_files();
+    a_reporting_command_leaves_the_files();
     a_command_that_makes_commits_unless_refused();
 }
 
@@ -138,13 +140,13 @@ pub fn a_refusal_commits_nothing()
 pub fn a_command_that_commits_nothing_leaves_the_files()
     // Of a command over the files on which it works.
     ensures over { (command : CommandLine) (files : Files) (o : Outcome)
-        → IsOutcomeOver command files o → o.commits ≡ false → o.files ≡ files }
+        → IsOutcomeOn command files o → o.commits ≡ false → o.files ≡ files }
     // Of a command line, which may first recover.
     ensures words { (words : List (List ℕ)) (files : Files) (o : Outcome)
-        → IsOutcome words files o → o.commits ≡ false → (o.files ≡ files)
+        → IsOutcome (command_of words) files o → o.commits ≡ false → (o.files ≡ files)
         ⊎ (o.files ≡ work_files (effect_by (command_of words)) files) }
 {
-    what_is_read_of_a_root_stands_there();
+    what_is_read_of_a_root_is_in_the_tree();
     a_change_that_writes_nothing_leaves_the_files();
 }
 
@@ -159,25 +161,25 @@ pub fn a_command_recovers()
     // A bad intent is refused, and all files are unchanged.
     ensures bad { (words : List (List ℕ)) (command : CommandLine) (files : Files) (o : Outcome)
         (cause : Cause) → command_of words ≡ Ok command → IsTrue (must_recover command.applet)
-        → fault_of_intent (files intent_name) ≡ Some cause → IsOutcome words files o
+        → fault_of_intent (files intent_name) ≡ Some cause → IsOutcome (command_of words) files o
         → o ≡ just_refusal files (IntentBad cause) }
     // Else the command works on the files that a recovery leaves.
     ensures works { (words : List (List ℕ)) (command : CommandLine) (files : Files) (o : Outcome)
         → command_of words ≡ Ok command → IsTrue (must_recover command.applet)
-        → fault_of_intent (files intent_name) ≡ None → IsOutcome words files o
-        → IsOutcomeOver command (unstaged_files files) o }
+        → fault_of_intent (files intent_name) ≡ None → IsOutcome (command_of words) files o
+        → IsOutcomeOn command (unstaged_files files) o }
     // These files are left if the command commits nothing.
     ensures leaves { (words : List (List ℕ)) (command : CommandLine) (files : Files) (o : Outcome)
         → command_of words ≡ Ok command → IsTrue (must_recover command.applet)
-        → fault_of_intent (files intent_name) ≡ None → IsOutcome words files o
+        → fault_of_intent (files intent_name) ≡ None → IsOutcome (command_of words) files o
         → o.commits ≡ false → o.files ≡ unstaged_files files }
     // The other commands leave all files as they are.
     ensures others { (words : List (List ℕ)) (command : CommandLine) (files : Files) (o : Outcome)
         → command_of words ≡ Ok command → must_recover command.applet ≡ false
-        → IsOutcome words files o → (o.files ≡ files) × (o.commits ≡ false) }
+        → IsOutcome (command_of words) files o → (o.files ≡ files) × (o.commits ≡ false) }
 {
     a_command_that_reads_leaves_the_files();
-    what_is_read_of_a_root_stands_there();
+    what_is_read_of_a_root_is_in_the_tree();
     a_change_that_writes_nothing_leaves_the_files();
 }
 
@@ -185,31 +187,32 @@ pub fn a_command_recovers()
 /// first test that the intent fails.
 pub fn only_a_bad_intent_is_refused_as_one()
     ensures { (words : List (List ℕ)) (files : Files) (o : Outcome) (cause : Cause)
-        → does_recover (effect_by (command_of words)) ≡ true → IsOutcome words files o
+        → does_recover (effect_by (command_of words)) ≡ true → IsOutcome (command_of words) files o
         → o.refusal ≡ Some (IntentBad cause)
         → recovery_fault (effect_by (command_of words)) files ≡ Some cause }
 {
-    a_teller_is_refused_for_its_input();
+    a_reporting_command_is_refused_for_its_input();
     a_change_takes_the_first_selection_or_is_refused();
 }
 
 /// A command that only reports is refused for its input alone. The refusal replaces its report or
 /// follows it.
-pub fn a_teller_is_refused_for_its_input()
+pub fn a_reporting_command_is_refused_for_its_input()
     // The refusal replaces the report.
     ensures refused { (command : CommandLine) (read : Reads) (refusal : Refusal)
-        → told_by command read ≡ Err refusal → is_input_refusal refusal ≡ true }
+        → report_for_command command read ≡ Err refusal → is_input_refusal refusal ≡ true }
     // The refusal follows the report.
-    ensures late { (command : CommandLine) (read : Reads) (done : InfoDone) (refusal : Refusal)
-        → told_by command read ≡ Ok done → done.late ≡ Some refusal
+    ensures following_refusal { (command : CommandLine) (read : Reads) (done : ReportAndRefusal)
+        (refusal : Refusal)
+        → report_for_command command read ≡ Ok done → done.following_refusal ≡ Some refusal
         → is_input_refusal refusal ≡ true }
 {
-    info_refuses_an_operand();
+    info_refuses_only_for_an_operand();
 }
 
 /// A root is refused for having no database only if it has neither file of one, and the command may
 /// not begin one.
-pub fn a_root_has_no_database_where_no_file_of_one_stands()
+pub fn a_root_without_a_database_file_has_no_database()
     ensures { (command : CommandLine) (files : Files)
         → database_for command (reads_in files) ≡ Err NoDatabase
         → (files database_name ≡ None) × (files text_database_name ≡ None)
@@ -224,43 +227,45 @@ pub fn a_root_has_no_database_where_no_file_of_one_stands()
 pub fn a_change_takes_the_first_selection_or_is_refused()
     // Of a command over the files on which it works.
     ensures over { (command : CommandLine) (files : Files) (o : Outcome)
-        → effect_of command.applet ≡ Changes → IsOutcomeOver command files o
+        → effect_of command.applet ≡ Changes → IsOutcomeOn command files o
         → IsChangeEnd command files o }
     // Of a run, which first recovers.
     ensures words { (words : List (List ℕ)) (command : CommandLine) (files : Files) (o : Outcome)
         → command_of words ≡ Ok command → effect_of command.applet ≡ Changes
-        → IsOutcome words files o → IsRunEnd command files o }
+        → IsOutcome (command_of words) files o → IsRunEnd command files o }
 {
     a_change_that_is_made_passes_each_test();
 }
 
 /// A change leaves room for the next one: recovery finds no intent, there is no staged file, and
 /// the paths that a stage may create are free.
-pub fn a_change_leaves_room_for_the_next()
+pub fn a_change_leaves_free_paths_for_the_next()
     ensures { (words : List (List ℕ)) (files : Files) (o : Outcome)
-        → effect_by (command_of words) ≡ Changes → IsOutcome words files o → o.refusal ≡ None
-        → HasRoomToStage (work_files Changes files)
-        → HasRoomToReplay o.files × HasRoomToStage (work_files Changes o.files) }
+        → effect_by (command_of words) ≡ Changes → IsOutcome (command_of words) files o
+        → o.refusal ≡ None
+        → AreStagingPathsFree (work_files Changes files)
+        → AreReplayPathsFree o.files × AreStagingPathsFree (work_files Changes o.files) }
 {
-    a_change_keeps_room();
+    a_change_keeps_paths_free();
     an_intent_is_read_from_a_sound_container();
 }
 
 /// An outcome that depends on the arguments alone is the same over all other files, which it
 /// leaves. It is that of a usage error, of `version`, of `demo`, of `--help` or of `--version`
 /// (`docs/commands.md`, "Words" and the sections of these commands).
-pub fn an_outcome_of_words_is_the_same_everywhere()
+pub fn an_outcome_of_arguments_is_the_same_on_every_tree()
     ensures { (words : List (List ℕ)) (files others : Files) (o : Outcome)
-        → IsTrue (rests_on_words (command_of words))
-        → IsOutcome words files o → IsOutcome words others (outcome_of o.refusal o.out others) }
+        → IsTrue (depends_only_on_arguments (command_of words))
+        → IsOutcome (command_of words) files o
+        → IsOutcome (command_of words) others (outcome_of o.refusal o.out others) }
 {
     words_alone_are_the_same_everywhere();
 }
 
-// `an_outcome_of_words_is_the_same_everywhere` for each command except `demo`.
+// `an_outcome_of_arguments_is_the_same_on_every_tree` for each command except `demo`.
 fn words_alone_are_the_same_everywhere()
     ensures { (read : Result CommandLine ℕ) (files others : Files) (o : Outcome)
-        → IsTrue (rests_on_words read) → IsOutcomeOf read files o
+        → IsTrue (depends_only_on_arguments read) → IsOutcomeOf read files o
         → IsOutcomeOf read others (outcome_of o.refusal o.out others) }
 {}
 
@@ -274,10 +279,10 @@ pub fn a_listing_of_a_tree_is_that_of_its_files()
 /// fewer than 2^64 bytes. This holds in every state of a tree.
 pub fn what_is_made_is_sound()
     ensures { (words : List (List ℕ)) (v : TreeState) (o : Outcome) (name : List ℕ)
-        → IsWhole v → IsOutcome words (files_of v) o → o.refusal ≡ None
+        → IsWellFormed v → IsOutcome (command_of words) (files_of v) o → o.refusal ≡ None
         → output words ≡ Some name → IsSoundAt name o.files }
 {
-    the_files_of_a_whole_state_are_named_files();
+    the_files_of_a_well_formed_state_are_named_files();
     an_intent_is_read_from_a_sound_container();
     sound_containers_hold_sound_values();
     a_made_package_is_sound();

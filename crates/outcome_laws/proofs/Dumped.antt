@@ -4,11 +4,11 @@ use Rattle.std.specs.Prelude.{if◌then◌else◌, nat_lt}
 use Rattle.std.specs.Option.{option_or}
 use Rattle.adb_block.specs.Header.{header_of}
 use Rattle.adb_block.specs.Reading.{Reading, done, fault, more, reading_of}
-use Rattle.adb_block.specs.Standing.{start_of}
+use Rattle.adb_block.specs.ReaderPosition.{start_of}
 use Rattle.adb_block.specs.declared.block.BlockKind.{BlockKind}
 use Rattle.adb_block.specs.declared.block.BlockKind.TheVariants as Kinds
 use Rattle.adb_dump.specs.Dump.{dump_text}
-use Rattle.adb_schema.specs.Soundness.{block_fault, file_pair, first_payload, further_fault, payload_behind, payload_in, root_value}
+use Rattle.adb_schema.specs.Soundness.{block_fault, file_pair, first_payload, further_fault, payload_after_header, payload_in, root_value}
 use Rattle.adb_view.specs.Head.{root_of}
 use Rattle.adb_view.specs.Plain.{Plain}
 use Rattle.adb_view.specs.Schema.{shape_of}
@@ -25,7 +25,7 @@ use Rattle.container_laws.specs.TestsInOrder.{PassesEveryTest}
 use Rattle.make_info.specs.Reads.{Reads}
 use Rattle.outcome.specs.Dump.{adbdump, dump_fault, dump_of, dump_of_blocks, dump_outcome, dump_with_root, dump_with_schema, framing_fault, or_text, text_outcome}
 use Rattle.pkg_core.specs.Contents.{Expected, POSITIONS_LEN, contents_block_fault, expected_contents, fault_in, files_at_block, files_by_blocks, unless_fault, with_next}
-use Rattle.pkg_core.specs.Whole.{behind_fault, root_of_schema}
+use Rattle.pkg_core.specs.Whole.{fault_after_first, root_of_schema}
 use Rattle.report_core.specs.declared.refusal.Refusal.TheVariants.{FileBad, FileMissing}
 use Rattle.outcome_laws.specs.DumpedFiles.{HasTextOfValue}
 
@@ -48,7 +48,7 @@ text_by_root file text schema (Some which) header root e =
       which = which;
       root = root;
       text_is = told_text which (reading_of (start_of schema file)) text e
-          ∙ ap (λ (o : Result ℕ Cause). dump_text which (root_value which (payload_behind file o))) (sym header);
+          ∙ ap (λ (o : Result ℕ Cause). dump_text which (root_value which (payload_after_header file o))) (sym header);
     }
 
 text_by_header : (file text : List ℕ) (h : Result ℕ Cause) → header_of file ≡ h → dump_with_schema file h ≡ Ok text → HasTextOfValue file text
@@ -106,7 +106,7 @@ framed_contents es (more b at r) e = by_kind b.kind e (λ left. framed_contents 
     by_kind Kinds.Adb e further = further es e
     by_kind Kinds.Signature e further = further es e
 
-framed : (which : Which) (value : Plain) (r : Reading) → behind_fault which value r ≡ None → framing_fault r ≡ None
+framed : (which : Which) (value : Plain) (r : Reading) → fault_after_first which value r ≡ None → framing_fault r ≡ None
 framed Tables.Package value r e = framed_contents (expected_contents value) r e
 framed Tables.Dep value r e = framed_further r e
 framed Tables.Acl value r e = framed_further r e

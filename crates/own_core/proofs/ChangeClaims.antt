@@ -9,7 +9,7 @@ use Rattle.std.proofs.lemmas.Bool.{le-leb}
 use Rattle.base_core.specs.Listed.{IsRising}
 use Rattle.base_core.specs.ByteOrder.{bytes_cmp}
 use Rattle.base_core.proofs.Sorting.{sorted_up}
-use Rattle.db_core.specs.Members.{staying_members}
+use Rattle.db_core.specs.Members.{members_of_kept}
 use Rattle.db_core.specs.Seen.{members_of, packages_of}
 use Rattle.path_claims.specs.Claims.{PathClaim, claim_cmp, is_of_path}
 use Rattle.path_claims.specs.Seen.{claim_seen}
@@ -59,22 +59,22 @@ after_sorted change h = subst (IsSorted claim_cmp) (sym h.after) (sorted_up clai
 
 -- ---- before
 
-pub old_entries : (change : Change) → HasClaims change → (path : List ℕ) → option_map (claim_entry (staying_members (packages_of change.db.now))) (find (is_of_path path) (claims_before change)) ≡ old_entry (file_change_of change) path
+pub old_entries : (change : Change) → HasClaims change → (path : List ℕ) → option_map (claim_entry (members_of_kept (packages_of change.db.now))) (find (is_of_path path) (claims_before change)) ≡ old_entry (file_change_of change) path
 unfolding old_listings
 old_entries change h path =
-    ap (option_map (claim_entry (staying_members (packages_of change.db.now)))) (h.before.each path ∙ same_found (claims_in (staying_members (packages_of change.db.now))) path)
-    ∙ old_entry_is (file_change_of change) (staying_members (packages_of change.db.now)) refl path
+    ap (option_map (claim_entry (members_of_kept (packages_of change.db.now)))) (h.before.each path ∙ same_found (claims_in (members_of_kept (packages_of change.db.now))) path)
+    ∙ old_entry_is (file_change_of change) (members_of_kept (packages_of change.db.now)) refl path
 
 -- the entry of the claim that was found
 pub entry_found : (change : Change) → HasClaims change → (path : List ℕ) (listed : ListedFile) (xs : List Claim) (i : ℕ) (d : Claim) → xs ≡ change.before.now → i < length xs
     → option_and_then (slice_get (claims_before change)) (Some i) ≡ find (is_of_path path) (claims_before change)
-    → IsOfEntry listed (claim_entry (staying_members (packages_of change.db.now)) (claim_seen (slice_index_or xs i d))) → IsOfEntryIfAny (Some listed) (old_entry (file_change_of change) path)
+    → IsOfEntry listed (claim_entry (members_of_kept (packages_of change.db.now)) (claim_seen (slice_index_or xs i d))) → IsOfEntryIfAny (Some listed) (old_entry (file_change_of change) path)
 entry_found change h path listed xs i d is l f e =
     subst (IsOfEntryIfAny (Some listed))
-    (ap (option_map (claim_entry (staying_members (packages_of change.db.now)))) (sym (seen_at claim_seen xs i d l) ∙ (ap (λ ys. slice_get (map claim_seen ys) i) is ∙ f)) ∙ old_entries change h path) e
+    (ap (option_map (claim_entry (members_of_kept (packages_of change.db.now)))) (sym (seen_at claim_seen xs i d l) ∙ (ap (λ ys. slice_get (map claim_seen ys) i) is ∙ f)) ∙ old_entries change h path) e
 
 pub none_found : (change : Change) → HasClaims change → (path : List ℕ) → None ≡ find (is_of_path path) (claims_before change) → IsOfEntryIfAny None (old_entry (file_change_of change) path)
-none_found change h path f = subst (IsOfEntryIfAny None) (ap (option_map (claim_entry (staying_members (packages_of change.db.now)))) f ∙ old_entries change h path) tt
+none_found change h path f = subst (IsOfEntryIfAny None) (ap (option_map (claim_entry (members_of_kept (packages_of change.db.now)))) f ∙ old_entries change h path) tt
 
 -- ---- after
 

@@ -12,7 +12,7 @@ use Rattle.adb_view.specs.Values.{count_of, entries_in, entry_in, nth}
 use Rattle.adb_fields.specs.Repeated.{files_in, list_of, name_of}
 use Rattle.base_core.specs.Sorted.{sorted_by}
 use Rattle.base_core.proofs.Sorting.{Each, stable_in_order}
-use Rattle.db_core.specs.Members.{Listing, Member, claims_of, is_coming, listings_by, listings_from, listings_in_folder, listings_in_folders, member_listing, member_listings}
+use Rattle.db_core.specs.Members.{Listing, Member, claims_of, is_added, listings_by, listings_from, listings_in_folder, listings_in_folders, member_listing, member_listings}
 use Rattle.path_claims.specs.Claims.{PathClaim, claim_cmp, is_member, is_of_path}
 use Rattle.path_claims.proofs.ClaimOrder.{claims_total}
 use Rattle.path_claims.proofs.Owned.{ties_path}
@@ -21,8 +21,8 @@ use Rattle.path_claims.proofs.Runs.{filter_ext}
 use Rattle.path_claims.proofs.Whole.{from_sorted}
 use Rattle.claim_lists.proofs.Lists.{found_ext, found_filtered, found_first, found_is, first_of}
 use Rattle.file_owners.specs.Owners.{claim_by, claims_from, claims_in, owner_of_path}
-use Rattle.change_files.specs.FileChange.{FileChange, coming_owner, if_it_comes, is_claimed, old_entry, old_listings, owner_listing}
-use Rattle.own_core.specs.ClaimEntries.{AreClaimsOf, HasFileAt, IsClaimOf, claim_entry, comes_at, comes_if_any, listed_file_at, folders_if_any, is_of_coming_owner}
+use Rattle.change_files.specs.FileChange.{FileChange, added_owner_listing, if_member_added, is_claimed, old_entry, old_listings, owner_listing}
+use Rattle.own_core.specs.ClaimEntries.{AreClaimsOf, HasFileAt, IsClaimOf, claim_entry, is_added_at, is_added_if_any, listed_file_at, folders_if_any, is_of_added_owner}
 
 -- ---- each listing stands where it says
 
@@ -206,34 +206,34 @@ and_true false = refl
 module _ (members : List Member) (path : List ℕ) where
   -- the listing of the owner at a place, if it comes
   abbrev by_owner : Option ℕ → Listing → Bool
-  by_owner owner l = bytes_eq l.path path && (is_member l.place owner && comes_at members l.place)
+  by_owner owner l = bytes_eq l.path path && (is_member l.place owner && is_added_at members l.place)
 
-  place_comes : (w : ℕ) (l : Listing) → IsPlaced members l → (l.place == w) ≡ true → is_coming l.member ≡ comes_at members w
-  place_comes w l h e = sym (ap comes_if_any h.at) ∙ ap (comes_at members) (eqb-true l.place w e)
+  place_comes : (w : ℕ) (l : Listing) → IsPlaced members l → (l.place == w) ≡ true → is_added l.member ≡ is_added_at members w
+  place_comes w l h e = sym (ap is_added_if_any h.at) ∙ ap (is_added_at members) (eqb-true l.place w e)
 
   second : (a b : Bool) → (a && b) ≡ true → b ≡ true
   second true b h = h
   second false b h = absurd (true≢false (sym h))
 
-  by_place : (w : ℕ) (b : Bool) → comes_at members w ≡ b
-      → find (by_owner (Some w)) (member_listings members) ≡ if_it_comes (find (λ l. bytes_eq l.path path && (l.place == w)) (member_listings members))
+  by_place : (w : ℕ) (b : Bool) → is_added_at members w ≡ b
+      → find (by_owner (Some w)) (member_listings members) ≡ if_member_added (find (λ l. bytes_eq l.path path && (l.place == w)) (member_listings members))
   by_place w b e = go (find (λ l. bytes_eq l.path path && (l.place == w)) (member_listings members)) refl b e
     where
-      same_test : comes_at members w ≡ true → (l : Listing) → by_owner (Some w) l ≡ (bytes_eq l.path path && (l.place == w))
+      same_test : is_added_at members w ≡ true → (l : Listing) → by_owner (Some w) l ≡ (bytes_eq l.path path && (l.place == w))
       same_test c l = ap (λ t. bytes_eq l.path path && t) (at_place (l.place == w) refl)
         where
-          at_place : (t : Bool) → (l.place == w) ≡ t → (t && comes_at members l.place) ≡ t
-          at_place true h = ap (comes_at members) (eqb-true l.place w h) ∙ c
+          at_place : (t : Bool) → (l.place == w) ≡ t → (t && is_added_at members l.place) ≡ t
+          at_place true h = ap (is_added_at members) (eqb-true l.place w h) ∙ c
           at_place false h = refl
 
-      no_test : comes_at members w ≡ false → (l : Listing) → by_owner (Some w) l ≡ false
+      no_test : is_added_at members w ≡ false → (l : Listing) → by_owner (Some w) l ≡ false
       no_test c l = ap (λ t. bytes_eq l.path path && t) (at_place (l.place == w) refl) ∙ and_false (bytes_eq l.path path)
         where
-          at_place : (t : Bool) → (l.place == w) ≡ t → (t && comes_at members l.place) ≡ false
-          at_place true h = ap (comes_at members) (eqb-true l.place w h) ∙ c
+          at_place : (t : Bool) → (l.place == w) ≡ t → (t && is_added_at members l.place) ≡ false
+          at_place true h = ap (is_added_at members) (eqb-true l.place w h) ∙ c
           at_place false h = refl
 
-      go : (o : Option Listing) → find (λ l. bytes_eq l.path path && (l.place == w)) (member_listings members) ≡ o → (b : Bool) → comes_at members w ≡ b → find (by_owner (Some w)) (member_listings members) ≡ if_it_comes o
+      go : (o : Option Listing) → find (λ l. bytes_eq l.path path && (l.place == w)) (member_listings members) ≡ o → (b : Bool) → is_added_at members w ≡ b → find (by_owner (Some w)) (member_listings members) ≡ if_member_added o
       go None f true c = found_ext (by_owner (Some w)) (λ l. bytes_eq l.path path && (l.place == w)) (same_test c) (member_listings members) ∙ f
       go None f false c = never (by_owner (Some w)) (no_test c) (member_listings members)
       go (Some l) f true c =
@@ -246,37 +246,37 @@ module _ (members : List Member) (path : List ℕ) where
           ∙ sym (ap (λ t. if t then Some l else None) (place_comes w l h.0 (second (bytes_eq l.path path) (l.place == w) h.1) ∙ c))
 
   owner_listed : (o : Option ℕ) → find (by_owner o) (member_listings members)
-      ≡ if_it_comes (option_and_then (λ place. find (λ l. l.place == place) (filter (λ l. bytes_eq l.path path) (member_listings members))) o)
+      ≡ if_member_added (option_and_then (λ place. find (λ l. l.place == place) (filter (λ l. bytes_eq l.path path) (member_listings members))) o)
   owner_listed None = never (by_owner None) (λ l. and_false (bytes_eq l.path path)) (member_listings members)
-  owner_listed (Some w) = by_place w (comes_at members w) refl ∙ ap if_it_comes (sym (found_and (λ l. l.place == w) (λ l. bytes_eq l.path path) (member_listings members)))
+  owner_listed (Some w) = by_place w (is_added_at members w) refl ∙ ap if_member_added (sym (found_and (λ l. l.place == w) (λ l. bytes_eq l.path path) (member_listings members)))
 
-  claim_test : (c : PathClaim) → (is_of_path path c && is_of_coming_owner members c) ≡ (bytes_eq c.path path && (is_member c.member (owner_of_path members path) && comes_at members c.member))
-  unfolding is_of_coming_owner
+  claim_test : (c : PathClaim) → (is_of_path path c && is_of_added_owner members c) ≡ (bytes_eq c.path path && (is_member c.member (owner_of_path members path) && is_added_at members c.member))
+  unfolding is_of_added_owner
   claim_test c = go (bytes_eq c.path path) refl
     where
-      go : (b : Bool) → bytes_eq c.path path ≡ b → (b && (is_member c.member (owner_of_path members c.path) && comes_at members c.member)) ≡ (b && (is_member c.member (owner_of_path members path) && comes_at members c.member))
-      go true e = ap (λ p. is_member c.member (owner_of_path members p) && comes_at members c.member) ((bytes_decides c.path path).0 e)
+      go : (b : Bool) → bytes_eq c.path path ≡ b → (b && (is_member c.member (owner_of_path members c.path) && is_added_at members c.member)) ≡ (b && (is_member c.member (owner_of_path members path) && is_added_at members c.member))
+      go true e = ap (λ p. is_member c.member (owner_of_path members p) && is_added_at members c.member) ((bytes_decides c.path path).0 e)
       go false e = refl
 
-  pub coming_together : GoTogether (find (by_owner (owner_of_path members path)) (member_listings members)) (find (is_of_path path) (filter (is_of_coming_owner members) (sorted_by claim_cmp (claims_in members))))
+  pub coming_together : GoTogether (find (by_owner (owner_of_path members path)) (member_listings members)) (find (is_of_path path) (filter (is_of_added_owner members) (sorted_by claim_cmp (claims_in members))))
   unfolding claims_in
   coming_together =
       subst (GoTogether (find (by_owner (owner_of_path members path)) (member_listings members)))
-      (sym (same_kept (is_of_coming_owner members) (claims_from 0 (member_listings members)) path
-      ∙ (found_filtered (is_of_path path) (is_of_coming_owner members) (claims_from 0 (member_listings members))
-      ∙ (found_and (is_of_coming_owner members) (is_of_path path) (claims_from 0 (member_listings members))
-      ∙ found_ext (λ c. is_of_path path c && is_of_coming_owner members c) (λ c. bytes_eq c.path path && (is_member c.member (owner_of_path members path) && comes_at members c.member)) claim_test (claims_from 0 (member_listings members))))))
-      (found_together (λ c. bytes_eq c.path path && (is_member c.member (owner_of_path members path) && comes_at members c.member)) (by_owner (owner_of_path members path)) (λ n l. refl) 0 (member_listings members))
+      (sym (same_kept (is_of_added_owner members) (claims_from 0 (member_listings members)) path
+      ∙ (found_filtered (is_of_path path) (is_of_added_owner members) (claims_from 0 (member_listings members))
+      ∙ (found_and (is_of_added_owner members) (is_of_path path) (claims_from 0 (member_listings members))
+      ∙ found_ext (λ c. is_of_path path c && is_of_added_owner members c) (λ c. bytes_eq c.path path && (is_member c.member (owner_of_path members path) && is_added_at members c.member)) claim_test (claims_from 0 (member_listings members))))))
+      (found_together (λ c. bytes_eq c.path path && (is_member c.member (owner_of_path members path) && is_added_at members c.member)) (by_owner (owner_of_path members path)) (λ n l. refl) 0 (member_listings members))
 
 -- the claim of a path's owner that comes, and its listing
-pub coming_is : (change : FileChange) (path : List ℕ) → GoTogether (coming_owner change path) (find (is_of_path path) (filter (is_of_coming_owner change.members) (sorted_by claim_cmp (claims_in change.members))))
+pub coming_is : (change : FileChange) (path : List ℕ) → GoTogether (added_owner_listing change path) (find (is_of_path path) (filter (is_of_added_owner change.members) (sorted_by claim_cmp (claims_in change.members))))
 unfolding owner_listing claims_of
 coming_is change path =
-    subst (λ o. GoTogether o (find (is_of_path path) (filter (is_of_coming_owner change.members) (sorted_by claim_cmp (claims_in change.members)))))
+    subst (λ o. GoTogether o (find (is_of_path path) (filter (is_of_added_owner change.members) (sorted_by claim_cmp (claims_in change.members)))))
     (owner_listed change.members path (owner_of_path change.members path)) (coming_together change.members path)
 
 -- such a listing is one of all, and its member comes
-pub coming_placed : (change : FileChange) (path : List ℕ) (l : Listing) → coming_owner change path ≡ Some l
+pub coming_placed : (change : FileChange) (path : List ℕ) (l : Listing) → added_owner_listing change path ≡ Some l
     → (find (by_owner change.members path (owner_of_path change.members path)) (member_listings change.members) ≡ Some l) × IsPlaced change.members l
 unfolding owner_listing claims_of
 coming_placed change path l e =

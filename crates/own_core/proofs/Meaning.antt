@@ -6,7 +6,7 @@ use Rattle.std.specs.List.{filter, find, list_any}
 use Rattle.base_core.specs.Files.{Files}
 use Rattle.base_core.proofs.Rising as Names
 use Rattle.base_core.specs.Sorted.{sorted_by}
-use Rattle.db_core.specs.Members.{Listing, claims_of, is_coming, member_listings, staying_members}
+use Rattle.db_core.specs.Members.{Listing, claims_of, is_added, member_listings, members_of_kept}
 use Rattle.path_claims.specs.Claims.{PathClaim, claim_cmp, is_of_path}
 use Rattle.path_claims.specs.Contest.{beats_each, winner}
 use Rattle.path_claims.proofs.Places.{no_some, value_or}
@@ -15,14 +15,14 @@ use Rattle.claim_lists.proofs.Lists.{found_passes}
 use Rattle.file_owners.specs.Owners.{claims_in, member_beats, owner_of_path}
 use Rattle.change_files.specs.Fate as Fates
 use Rattle.change_files.specs.Fate.{fate_by, fate_of, goes_aside, goes_in, gives_way, is_guarded}
-use Rattle.change_files.specs.FileChange.{FileChange, coming_owner, if_it_comes, is_claimed, old_entry, old_listings, owner_listing, was_listed}
-use Rattle.change_files.specs.FilesAfter.{if_aside, if_in, is_changed, is_kept, is_left_over, is_removed, is_written, laid_beside, may_stay, path_beside, written_as, written_in}
+use Rattle.change_files.specs.FileChange.{FileChange, added_owner_listing, if_member_added, is_claimed, old_entry, old_listings, owner_listing, was_listed}
+use Rattle.change_files.specs.FilesAfter.{if_aside, if_in, is_changed, is_kept, is_left_over, is_removed, is_written, aside_listing_at, may_be_kept, path_beside, written_as, written_in}
 use Rattle.std.specs.Option.{option_or}
-use Rattle.change_files.specs.NamesAfter.{coming_paths}
+use Rattle.change_files.specs.NamesAfter.{added_paths}
 use Rattle.change_files.specs.PlanLists.{aside_of, kept_of, old_paths, removals_of}
-use Rattle.own_core.specs.ClaimEntries.{claim_entry, is_of_coming_owner}
+use Rattle.own_core.specs.ClaimEntries.{claim_entry, is_of_added_owner}
 use Rattle.own_core.specs.Fates.{claim_fate, is_fate, is_flag}
-use Rattle.own_core.specs.Going.{does_stay, is_beside, is_left}
+use Rattle.own_core.specs.Going.{is_file_kept, is_beside, is_path_left_over}
 use Rattle.own_core.proofs.Listings.{GoTogether, IsClaimFor, coming_is, coming_placed, entry_of, old_entry_is, same_found}
 use Rattle.own_core.proofs.NamesOnce.{found_kept, keep_if, kept_rises, same_names}
 
@@ -40,14 +40,14 @@ there_is cs q h = go (find (is_of_path q) cs) refl h
 
 -- ---- listings of paths
 
-listing_in : (s : Listing → Bool) (ls : List Listing) (l : Listing) → find s ls ≡ Some l → is_coming l.member ≡ true → Names.IsIn l.path (map (λ l. l.path) (filter (λ l. is_coming l.member) ls))
+listing_in : (s : Listing → Bool) (ls : List Listing) (l : Listing) → find s ls ≡ Some l → is_added l.member ≡ true → Names.IsIn l.path (map (λ l. l.path) (filter (λ l. is_added l.member) ls))
 listing_in s [] l e h = absurd (no_some l e)
-listing_in s (k ∷ ls) l e h = go (s k) (is_coming k.member) refl refl (λ f. listing_in s ls l f h) e
+listing_in s (k ∷ ls) l e h = go (s k) (is_added k.member) refl refl (λ f. listing_in s ls l f h) e
   where
-    go : (a b : Bool) → s k ≡ a → is_coming k.member ≡ b → (find s ls ≡ Some l → Names.IsIn l.path (map (λ l. l.path) (filter (λ l. is_coming l.member) ls))) → cond a (Some k) (find s ls) ≡ Some l
-        → Names.IsIn l.path (map (λ l. l.path) (cond b (k ∷ filter (λ l. is_coming l.member) ls) (filter (λ l. is_coming l.member) ls)))
+    go : (a b : Bool) → s k ≡ a → is_added k.member ≡ b → (find s ls ≡ Some l → Names.IsIn l.path (map (λ l. l.path) (filter (λ l. is_added l.member) ls))) → cond a (Some k) (find s ls) ≡ Some l
+        → Names.IsIn l.path (map (λ l. l.path) (cond b (k ∷ filter (λ l. is_added l.member) ls) (filter (λ l. is_added l.member) ls)))
     go true true p c rest f = inl (ap (λ x. x.path) (sym (ap (value_or k) f)))
-    go true false p c rest f = absurd (true≢false (sym h ∙ (ap (λ x. is_coming x.member) (sym (ap (value_or k) f)) ∙ c)))
+    go true false p c rest f = absurd (true≢false (sym h ∙ (ap (λ x. is_added x.member) (sym (ap (value_or k) f)) ∙ c)))
     go false true p c rest f = inr (rest f)
     go false false p c rest f = rest f
 
@@ -69,7 +69,7 @@ in_listed (l ∷ ls) q here = go (bytes_eq l.path q) refl (in_listed ls q) here
     go false e rest (inr old) = rest old
 
 -- the owner that comes lists the path
-pub coming_path : (change : FileChange) (q : List ℕ) (l : Listing) → coming_owner change q ≡ Some l → (l.path ≡ q) × (is_coming l.member ≡ true)
+pub coming_path : (change : FileChange) (q : List ℕ) (l : Listing) → added_owner_listing change q ≡ Some l → (l.path ≡ q) × (is_added l.member ≡ true)
 coming_path change q l e =
     let f = coming_placed change q l e in
     let t = found_passes _ (member_listings change.members) l f.0 in
@@ -79,35 +79,35 @@ coming_path change q l e =
     first true b h = refl
     first false b h = absurd (true≢false (sym h))
 
-    came : (o : Option Listing) (l : Listing) → if_it_comes o ≡ Some l → is_coming l.member ≡ true
+    came : (o : Option Listing) (l : Listing) → if_member_added o ≡ Some l → is_added l.member ≡ true
     came None l e = absurd (no_some l e)
-    came (Some k) l e = go (is_coming k.member) refl e
+    came (Some k) l e = go (is_added k.member) refl e
       where
-        go : (b : Bool) → is_coming k.member ≡ b → (if b then Some k else None) ≡ Some l → is_coming l.member ≡ true
-        go true c f = ap (λ x. is_coming x.member) (sym (ap (value_or k) f)) ∙ c
+        go : (b : Bool) → is_added k.member ≡ b → (if b then Some k else None) ≡ Some l → is_added l.member ≡ true
+        go true c f = ap (λ x. is_added x.member) (sym (ap (value_or k) f)) ∙ c
         go false c f = absurd (no_some l f)
 
-pub in_coming_paths : (change : FileChange) (q : List ℕ) → is_some (coming_owner change q) ≡ true → Names.IsIn q (coming_paths change.members)
-in_coming_paths change q h = go (coming_owner change q) refl h
+pub in_coming_paths : (change : FileChange) (q : List ℕ) → is_some (added_owner_listing change q) ≡ true → Names.IsIn q (added_paths change.members)
+in_coming_paths change q h = go (added_owner_listing change q) refl h
   where
-    go : (o : Option Listing) → coming_owner change q ≡ o → is_some o ≡ true → Names.IsIn q (coming_paths change.members)
+    go : (o : Option Listing) → added_owner_listing change q ≡ o → is_some o ≡ true → Names.IsIn q (added_paths change.members)
     go None e h = absurd (true≢false (sym h))
     go (Some l) e h =
         let p = coming_path change q l e in
-        subst (λ x. Names.IsIn x (coming_paths change.members)) p.0 (listing_in _ (member_listings change.members) l (coming_placed change q l e).0 p.1)
+        subst (λ x. Names.IsIn x (added_paths change.members)) p.0 (listing_in _ (member_listings change.members) l (coming_placed change q l e).0 p.1)
 
 -- ---- fates
 
-pub same_fate : (change : FileChange) (files : Files) (q : List ℕ) (l : Listing) (c : PathClaim) → coming_owner change q ≡ Some l → IsClaimFor l c → claim_fate change c (files c.path) ≡ fate_of change files l
+pub same_fate : (change : FileChange) (files : Files) (q : List ℕ) (l : Listing) (c : PathClaim) → added_owner_listing change q ≡ Some l → IsClaimFor l c → claim_fate change c (files c.path) ≡ fate_of change files l
 unfolding fate_of
 same_fate change files q l c e h =
     (λ j. fate_by change (h.path j) (claim_entry change.members c) (files (h.path j)))
     ∙ ap (λ entry. fate_by change l.path entry (files l.path)) (entry_of change.members l c (coming_placed change q l e).1 h)
 
 module _ (change : FileChange) (files : Files) (coming : List PathClaim) (up : Names.Rises (paths coming))
-    (each : (q : List ℕ) → find (is_of_path q) coming ≡ find (is_of_path q) (filter (is_of_coming_owner change.members) (sorted_by claim_cmp (claims_in change.members)))) where
-  pub together : (q : List ℕ) → GoTogether (coming_owner change q) (find (is_of_path q) coming)
-  together q = subst (GoTogether (coming_owner change q)) (sym (each q)) (coming_is change q)
+    (each : (q : List ℕ) → find (is_of_path q) coming ≡ find (is_of_path q) (filter (is_of_added_owner change.members) (sorted_by claim_cmp (claims_in change.members)))) where
+  pub together : (q : List ℕ) → GoTogether (added_owner_listing change q) (find (is_of_path q) coming)
+  together q = subst (GoTogether (added_owner_listing change q)) (sym (each q)) (coming_is change q)
 
   abbrev pub with_fate : Fates.Fate → List PathClaim
   with_fate f = filter (λ c. is_fate f (claim_fate change c (files c.path))) coming
@@ -126,10 +126,10 @@ module _ (change : FileChange) (files : Files) (coming : List PathClaim) (up : N
   some_if true c = refl
   some_if false c = refl
 
-  pub laid_is : (q : List ℕ) → is_some (laid_beside change files q) ≡ is_some (find (is_of_path q) (with_fate goes_aside))
-  laid_is q = go (coming_owner change q) (find (is_of_path q) coming) refl refl (together q) ∙ sym (ap is_some (found_kept (λ c. is_fate goes_aside (claim_fate change c (files c.path))) coming up q))
+  pub laid_is : (q : List ℕ) → is_some (aside_listing_at change files q) ≡ is_some (find (is_of_path q) (with_fate goes_aside))
+  laid_is q = go (added_owner_listing change q) (find (is_of_path q) coming) refl refl (together q) ∙ sym (ap is_some (found_kept (λ c. is_fate goes_aside (claim_fate change c (files c.path))) coming up q))
     where
-      go : (a : Option Listing) (b : Option PathClaim) → coming_owner change q ≡ a → find (is_of_path q) coming ≡ b → GoTogether a b
+      go : (a : Option Listing) (b : Option PathClaim) → added_owner_listing change q ≡ a → find (is_of_path q) coming ≡ b → GoTogether a b
           → is_some (option_and_then (λ l. if_aside l (fate_of change files l)) a) ≡ is_some (keep_if (λ c. is_fate goes_aside (claim_fate change c (files c.path))) b)
       go None None e f h = refl
       go None (Some c) e f h = absurd h
@@ -138,9 +138,9 @@ module _ (change : FileChange) (files : Files) (coming : List PathClaim) (up : N
           aside_test l (fate_of change files l) ∙ (ap (is_fate goes_aside) (sym (same_fate change files q l c e h)) ∙ sym (some_if (is_fate goes_aside (claim_fate change c (files c.path))) c))
 
   pub in_is : (q : List ℕ) → is_some (written_in change files q) ≡ is_some (find (is_of_path q) (with_fate goes_in))
-  in_is q = go (coming_owner change q) (find (is_of_path q) coming) refl refl (together q) ∙ sym (ap is_some (found_kept (λ c. is_fate goes_in (claim_fate change c (files c.path))) coming up q))
+  in_is q = go (added_owner_listing change q) (find (is_of_path q) coming) refl refl (together q) ∙ sym (ap is_some (found_kept (λ c. is_fate goes_in (claim_fate change c (files c.path))) coming up q))
     where
-      go : (a : Option Listing) (b : Option PathClaim) → coming_owner change q ≡ a → find (is_of_path q) coming ≡ b → GoTogether a b
+      go : (a : Option Listing) (b : Option PathClaim) → added_owner_listing change q ≡ a → find (is_of_path q) coming ≡ b → GoTogether a b
           → is_some (option_and_then (λ l. if_in l (fate_of change files l)) a) ≡ is_some (keep_if (λ c. is_fate goes_in (claim_fate change c (files c.path))) b)
       go None None e f h = refl
       go None (Some c) e f h = absurd h
@@ -148,8 +148,8 @@ module _ (change : FileChange) (files : Files) (coming : List PathClaim) (up : N
       go (Some l) (Some c) e f h =
           in_test l (fate_of change files l) ∙ (ap (is_fate goes_in) (sym (same_fate change files q l c e h)) ∙ sym (some_if (is_fate goes_in (claim_fate change c (files c.path))) c))
 
-  laid_comes : (q : List ℕ) → is_some (laid_beside change files q) ≡ true → is_some (coming_owner change q) ≡ true
-  laid_comes q h = go (coming_owner change q) h
+  laid_comes : (q : List ℕ) → is_some (aside_listing_at change files q) ≡ true → is_some (added_owner_listing change q) ≡ true
+  laid_comes q h = go (added_owner_listing change q) h
     where
       go : (a : Option Listing) → is_some (option_and_then (λ l. if_aside l (fate_of change files l)) a) ≡ true → is_some a ≡ true
       go None h = h
@@ -158,15 +158,15 @@ module _ (change : FileChange) (files : Files) (coming : List PathClaim) (up : N
   -- the paths beside which a file is laid
   pub aside_are : paths (with_fate goes_aside) ≡ aside_of change files
   unfolding aside_of
-  aside_are = same_names (λ path. is_some (laid_beside change files path)) (paths (with_fate goes_aside)) (coming_paths change.members)
+  aside_are = same_names (λ path. is_some (aside_listing_at change files path)) (paths (with_fate goes_aside)) (added_paths change.members)
       (kept_rises (λ c. is_fate goes_aside (claim_fate change c (files c.path))) coming up)
       (λ q here. (let t = laid_is q ∙ is_there (with_fate goes_aside) q here in (in_coming_paths change q (laid_comes q t), t)))
       (λ q here t. there_is (with_fate goes_aside) q (sym (laid_is q) ∙ t))
 
-  pub beside_is : (name : List ℕ) → is_beside (with_fate goes_aside) name ≡ is_some (option_and_then (laid_beside change files) (path_beside name))
+  pub beside_is : (name : List ℕ) → is_beside (with_fate goes_aside) name ≡ is_some (option_and_then (aside_listing_at change files) (path_beside name))
   beside_is name = go (path_beside name)
     where
-      go : (p : Option (List ℕ)) → is_some (option_and_then (λ path. find (is_of_path path) (with_fate goes_aside)) p) ≡ is_some (option_and_then (laid_beside change files) p)
+      go : (p : Option (List ℕ)) → is_some (option_and_then (λ path. find (is_of_path path) (with_fate goes_aside)) p) ≡ is_some (option_and_then (aside_listing_at change files) p)
       go None = refl
       go (Some q) = sym (laid_is q)
 
@@ -180,63 +180,63 @@ no_claims (l ∷ ls) q h = go (bytes_eq l.path q) (no_claims ls q) h
     go true rest h = absurd (true≢false h)
     go false rest h = rest h
 
-pub no_owner : (change : FileChange) (q : List ℕ) → is_claimed change q ≡ false → coming_owner change q ≡ None
+pub no_owner : (change : FileChange) (q : List ℕ) → is_claimed change q ≡ false → added_owner_listing change q ≡ None
 unfolding is_claimed owner_listing owner_of_path claims_of winner
 no_owner change q h =
     let none = no_claims (member_listings change.members) q h in
-    (λ j. if_it_comes (option_and_then (λ place. find (λ l. l.place == place) (none j)) (find (beats_each (member_beats change.members) (map (λ l. l.place) (none j))) (map (λ l. l.place) (none j)))))
+    (λ j. if_member_added (option_and_then (λ place. find (λ l. l.place == place) (none j)) (find (beats_each (member_beats change.members) (map (λ l. l.place) (none j))) (map (λ l. l.place) (none j)))))
 
-pub left_is : (change : FileChange) (files : Files) (q : List ℕ) (b : Bool) → b ≡ is_some (option_and_then (laid_beside change files) (path_beside q))
+pub left_is : (change : FileChange) (files : Files) (q : List ℕ) (b : Bool) → b ≡ is_some (option_and_then (aside_listing_at change files) (path_beside q))
     → (not (is_claimed change q) && not (is_written change files q)) ≡ (not (is_claimed change q) && not b)
 unfolding written_as
 left_is change files q b e = go (is_claimed change q) refl
   where
-    go : (c : Bool) → is_claimed change q ≡ c → (not c && not (is_some (option_or (written_in change files q) (option_and_then (laid_beside change files) (path_beside q))))) ≡ (not c && not b)
+    go : (c : Bool) → is_claimed change q ≡ c → (not c && not (is_some (option_or (written_in change files q) (option_and_then (aside_listing_at change files) (path_beside q))))) ≡ (not c && not b)
     go true h = refl
     go false h =
-        ap (λ o. not (is_some (option_or (option_and_then (λ l. if_in l (fate_of change files l)) o) (option_and_then (laid_beside change files) (path_beside q))))) (no_owner change q h)
+        ap (λ o. not (is_some (option_or (option_and_then (λ l. if_in l (fate_of change files l)) o) (option_and_then (aside_listing_at change files) (path_beside q))))) (no_owner change q h)
         ∙ ap not (sym e)
 
 module _ (change : FileChange) (files : Files) (before : List PathClaim) (up : Names.Rises (paths before))
-    (each : (q : List ℕ) → find (is_of_path q) before ≡ find (is_of_path q) (sorted_by claim_cmp (claims_in (staying_members change.old))))
-    (asides : List PathClaim) (beside : (q : List ℕ) → is_beside asides q ≡ is_some (option_and_then (laid_beside change files) (path_beside q))) where
-  pub entries_are : (q : List ℕ) → option_map (claim_entry (staying_members change.old)) (find (is_of_path q) before) ≡ old_entry change q
+    (each : (q : List ℕ) → find (is_of_path q) before ≡ find (is_of_path q) (sorted_by claim_cmp (claims_in (members_of_kept change.old))))
+    (asides : List PathClaim) (beside : (q : List ℕ) → is_beside asides q ≡ is_some (option_and_then (aside_listing_at change files) (path_beside q))) where
+  pub entries_are : (q : List ℕ) → option_map (claim_entry (members_of_kept change.old)) (find (is_of_path q) before) ≡ old_entry change q
   unfolding old_listings
-  entries_are q = ap (option_map (claim_entry (staying_members change.old))) (each q ∙ same_found (claims_in (staying_members change.old)) q) ∙ old_entry_is change (staying_members change.old) refl q
+  entries_are q = ap (option_map (claim_entry (members_of_kept change.old))) (each q ∙ same_found (claims_in (members_of_kept change.old)) q) ∙ old_entry_is change (members_of_kept change.old) refl q
 
   abbrev pub left_over : List PathClaim
-  left_over = filter (λ c. is_left change asides c.path) before
+  left_over = filter (λ c. is_path_left_over change asides c.path) before
 
   abbrev pub going : Bool → List PathClaim
-  going stays = filter (λ c. is_flag stays (does_stay change c (files c.path))) left_over
+  going stays = filter (λ c. is_flag stays (is_file_kept change c (files c.path))) left_over
 
   -- by the test of a path that is listed
   pub going_is : (stays : Bool) (q : List ℕ) → is_some (find (is_of_path q) (going stays))
-      ≡ (is_left_over change files q && is_flag stays (may_stay change q (files q) (old_entry change q)))
+      ≡ (is_left_over change files q && is_flag stays (may_be_kept change q (files q) (old_entry change q)))
   going_is stays q =
-      ap is_some (found_kept (λ c. is_flag stays (does_stay change c (files c.path))) left_over (kept_rises (λ c. is_left change asides c.path) before up) q)
-      ∙ (ap (λ o. is_some (keep_if (λ c. is_flag stays (does_stay change c (files c.path))) o)) (found_kept (λ c. is_left change asides c.path) before up q)
+      ap is_some (found_kept (λ c. is_flag stays (is_file_kept change c (files c.path))) left_over (kept_rises (λ c. is_path_left_over change asides c.path) before up) q)
+      ∙ (ap (λ o. is_some (keep_if (λ c. is_flag stays (is_file_kept change c (files c.path))) o)) (found_kept (λ c. is_path_left_over change asides c.path) before up q)
       ∙ (go (find (is_of_path q) before) refl
-      ∙ (λ j. (is_some (entries_are q j) && (not (is_claimed change q) && not (is_written change files q))) && is_flag stays (may_stay change q (files q) (entries_are q j)))))
+      ∙ (λ j. (is_some (entries_are q j) && (not (is_claimed change q) && not (is_written change files q))) && is_flag stays (may_be_kept change q (files q) (entries_are q j)))))
     where
-      by_tests : (a s : Bool) (c : PathClaim) → is_some (keep_if (λ c. is_flag stays (does_stay change c (files c.path))) (cond a (Some c) None)) ≡ (a && is_flag stays (does_stay change c (files c.path)))
-      by_tests true s c = some_cond (is_flag stays (does_stay change c (files c.path))) c
+      by_tests : (a s : Bool) (c : PathClaim) → is_some (keep_if (λ c. is_flag stays (is_file_kept change c (files c.path))) (cond a (Some c) None)) ≡ (a && is_flag stays (is_file_kept change c (files c.path)))
+      by_tests true s c = some_cond (is_flag stays (is_file_kept change c (files c.path))) c
         where
           some_cond : (t : Bool) (c : PathClaim) → is_some (cond t (Some c) None) ≡ t
           some_cond true c = refl
           some_cond false c = refl
       by_tests false s c = refl
 
-      go : (o : Option PathClaim) → find (is_of_path q) before ≡ o → is_some (keep_if (λ c. is_flag stays (does_stay change c (files c.path))) (keep_if (λ c. is_left change asides c.path) o))
-          ≡ ((is_some (option_map (claim_entry (staying_members change.old)) o) && (not (is_claimed change q) && not (is_written change files q))) && is_flag stays (may_stay change q (files q) (option_map (claim_entry (staying_members change.old)) o)))
+      go : (o : Option PathClaim) → find (is_of_path q) before ≡ o → is_some (keep_if (λ c. is_flag stays (is_file_kept change c (files c.path))) (keep_if (λ c. is_path_left_over change asides c.path) o))
+          ≡ ((is_some (option_map (claim_entry (members_of_kept change.old)) o) && (not (is_claimed change q) && not (is_written change files q))) && is_flag stays (may_be_kept change q (files q) (option_map (claim_entry (members_of_kept change.old)) o)))
       go None e = refl
       go (Some c) e =
           let is : c.path ≡ q = (bytes_decides c.path q).0 (found_passes (is_of_path q) before c e) in
-          by_tests (is_left change asides c.path) true c
-          ∙ (λ j. left c is j && is_flag stays (is_guarded (is j) && (not change.purge && is_changed (claim_entry (staying_members change.old) c) (files (is j)))))
+          by_tests (is_path_left_over change asides c.path) true c
+          ∙ (λ j. left c is j && is_flag stays (is_guarded (is j) && (not change.purge && is_changed (claim_entry (members_of_kept change.old) c) (files (is j)))))
         where
-          left : (c : PathClaim) (is : c.path ≡ q) → is_left change asides c.path ≡ (not (is_claimed change q) && not (is_written change files q))
-          left c is = ap (is_left change asides) is ∙ sym (left_is change files q (is_beside asides q) (beside q))
+          left : (c : PathClaim) (is : c.path ≡ q) → is_path_left_over change asides c.path ≡ (not (is_claimed change q) && not (is_written change files q))
+          left c is = ap (is_path_left_over change asides) is ∙ sym (left_is change files q (is_beside asides q) (beside q))
 
   old_path : (q : List ℕ) → is_left_over change files q ≡ true → Names.IsIn q (old_paths change)
   unfolding old_entry
@@ -257,13 +257,13 @@ module _ (change : FileChange) (files : Files) (before : List PathClaim) (up : N
   pub kept_are : paths (going true) ≡ kept_of change files
   unfolding kept_of is_kept
   kept_are = same_names (is_kept change files) (paths (going true)) (old_paths change)
-      (kept_rises (λ c. is_flag true (does_stay change c (files c.path))) left_over (kept_rises (λ c. is_left change asides c.path) before up))
+      (kept_rises (λ c. is_flag true (is_file_kept change c (files c.path))) left_over (kept_rises (λ c. is_path_left_over change asides c.path) before up))
       (λ q here. (let t = sym (going_is true q) ∙ is_there (going true) q here in (old_path q (front (is_left_over change files q) _ t), t)))
       (λ q here t. there_is (going true) q (going_is true q ∙ t))
 
   pub removals_are : paths (going false) ≡ removals_of change files
   unfolding removals_of is_removed
   removals_are = same_names (is_removed change files) (paths (going false)) (old_paths change)
-      (kept_rises (λ c. is_flag false (does_stay change c (files c.path))) left_over (kept_rises (λ c. is_left change asides c.path) before up))
+      (kept_rises (λ c. is_flag false (is_file_kept change c (files c.path))) left_over (kept_rises (λ c. is_path_left_over change asides c.path) before up))
       (λ q here. (let t = sym (going_is false q) ∙ is_there (going false) q here in (old_path q (front (is_left_over change files q) _ t), t)))
       (λ q here t. there_is (going false) q (going_is false q ∙ t))

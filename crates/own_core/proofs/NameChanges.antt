@@ -11,20 +11,20 @@ use Rattle.adb_view.specs.Plain.{Plain}
 use Rattle.base_core.specs.ByteOrder.{bytes_cmp}
 use Rattle.base_core.specs.Sorted.{sorted_by, with_element}
 use Rattle.base_core.proofs.Sorting.{Each}
-use Rattle.db_core.specs.Members.{Listing, Member, is_coming, member_listings, staying_members}
+use Rattle.db_core.specs.Members.{Listing, Member, is_added, member_listings, members_of_kept}
 use Rattle.db_core.specs.Seen.{members_of}
 use Rattle.path_claims.specs.Claims.{PathClaim, claim_cmp, is_of_path}
 use Rattle.claim_lists.specs.Once.{HasFirsts}
 use Rattle.file_owners.specs.Owners.{claims_from, claims_in}
 use Rattle.change_files.specs.Fate.{aside_name}
 use Rattle.change_files.specs.FileChange.{old_entry, was_listed}
-use Rattle.change_files.specs.FilesAfter.{database_name, is_kept, is_left_over, laid_beside, may_stay, path_beside, world_name}
-use Rattle.change_files.specs.NamesAfter.{coming_paths, is_let_go, counts_as_written, name_change}
-use Rattle.own_core.specs.ClaimEntries.{claim_entry, comes_at, comes_if_any, is_of_coming_owner}
+use Rattle.change_files.specs.FilesAfter.{database_name, is_kept, is_left_over, aside_listing_at, may_be_kept, path_beside, world_name}
+use Rattle.change_files.specs.NamesAfter.{added_paths, is_released, counts_as_written, name_change}
+use Rattle.own_core.specs.ClaimEntries.{claim_entry, is_added_at, is_added_if_any, is_of_added_owner}
 use Rattle.own_core.specs.Fates.{claim_fate}
 use Rattle.own_core.specs.Found.{said_of}
-use Rattle.own_core.specs.Going.{does_stay, is_beside}
-use Rattle.own_core.specs.Parts.{AreParts, asides_of, kept_of_parts, left_claims_by}
+use Rattle.own_core.specs.Going.{is_file_kept, is_beside}
+use Rattle.own_core.specs.Parts.{AreParts, asides_of, kept_of_parts, left_over_claims_by}
 use Rattle.own_core.specs.Sides.{HasClaims, claims_after, claims_before, file_change_of}
 use Rattle.own_core.specs.declared.change.Change.{Change}
 use Rattle.own_core.specs.declared.parts.Parts.{Parts}
@@ -70,20 +70,20 @@ any_of_kept g t p (x ∷ xs) = go (p x) (any_of_kept g t p xs)
     go false h = h
 
 any_listing : (members : List Member) (t : List ℕ → Bool) (n : ℕ) (ls : List Listing) → Each (IsPlaced members) ls
-    → list_any (λ c. comes_at members c.member && t c.path) (claims_from n ls) ≡ list_any (λ l. is_coming l.member && t l.path) ls
+    → list_any (λ c. is_added_at members c.member && t c.path) (claims_from n ls) ≡ list_any (λ l. is_added l.member && t l.path) ls
 any_listing members t n [] h = refl
-any_listing members t n (l ∷ ls) h = (λ j. (ap comes_if_any h.0.at j && t l.path) || any_listing members t (n + 1) ls h.1 j)
+any_listing members t n (l ∷ ls) h = (λ j. (ap is_added_if_any h.0.at j && t l.path) || any_listing members t (n + 1) ls h.1 j)
 
 -- the paths that packages which come list
 pub any_coming : (members : List Member) (t : List ℕ → Bool) (cs : List PathClaim) → cs ≡ sorted_by claim_cmp (claims_in members)
-    → list_any t (map (λ c. c.path) (filter (λ c. comes_at members c.member) cs)) ≡ list_any t (coming_paths members)
+    → list_any t (map (λ c. c.path) (filter (λ c. is_added_at members c.member) cs)) ≡ list_any t (added_paths members)
 unfolding claims_in
 any_coming members t cs e =
-    any_of_kept (λ c. c.path) t (λ c. comes_at members c.member) cs
-    ∙ (ap (list_any (λ c. comes_at members c.member && t c.path)) e
-    ∙ (any_sorted claim_cmp (λ c. comes_at members c.member && t c.path) (claims_from 0 (member_listings members))
+    any_of_kept (λ c. c.path) t (λ c. is_added_at members c.member) cs
+    ∙ (ap (list_any (λ c. is_added_at members c.member && t c.path)) e
+    ∙ (any_sorted claim_cmp (λ c. is_added_at members c.member && t c.path) (claims_from 0 (member_listings members))
     ∙ (any_listing members t 0 (member_listings members) (each_placed members)
-    ∙ sym (any_of_kept (λ l. l.path) t (λ l. is_coming l.member) (member_listings members)))))
+    ∙ sym (any_of_kept (λ l. l.path) t (λ l. is_added l.member) (member_listings members)))))
 
 -- ---- names beside
 
@@ -140,40 +140,40 @@ mapped_some f (Some c) = refl
 
 abbrev pub all_written : Change → List (List ℕ) → List (List ℕ)
 all_written change besides =
-    (database_name ∷ world_name ∷ []) ++ map (λ c. c.path) (filter (λ c. comes_at (members_of change.members.now) c.member) (claims_after change)) ++ besides
+    (database_name ∷ world_name ∷ []) ++ map (λ c. c.path) (filter (λ c. is_added_at (members_of change.members.now) c.member) (claims_after change)) ++ besides
 
-module _ (change : Change) (claims : HasClaims change) (coming : List PathClaim) (firsts : HasFirsts (filter (is_of_coming_owner (members_of change.members.now)) (claims_after change)) coming)
+module _ (change : Change) (claims : HasClaims change) (coming : List PathClaim) (firsts : HasFirsts (filter (is_of_added_owner (members_of change.members.now)) (claims_after change)) coming)
     (parts : Parts) (history : List TreeState) (are : AreParts change history coming parts) (files : Files)
-    (fates_are : are.fates ≡ said_of (claim_fate (file_change_of change)) files coming) (stays_are : are.stays ≡ said_of (does_stay (file_change_of change)) files (left_claims_by change (asides_of parts))) where
+    (fates_are : are.fates ≡ said_of (claim_fate (file_change_of change)) files coming) (stays_are : are.stays ≡ said_of (is_file_kept (file_change_of change)) files (left_over_claims_by change (asides_of parts))) where
   written_is : (name : List ℕ) → list_any (bytes_eq name) (sorted_by bytes_cmp (all_written change (map (λ c. aside_name c.path) (asides_of parts)))) ≡ counts_as_written (file_change_of change) files name
   unfolding counts_as_written
   written_is name =
       any_sorted bytes_cmp (bytes_eq name) (all_written change (map (λ c. aside_name c.path) (asides_of parts)))
-      ∙ (any_both (bytes_eq name) ((database_name ∷ world_name ∷ []) ++ map (λ c. c.path) (filter (λ c. comes_at (members_of change.members.now) c.member) (claims_after change))) (map (λ c. aside_name c.path) (asides_of parts))
+      ∙ (any_both (bytes_eq name) ((database_name ∷ world_name ∷ []) ++ map (λ c. c.path) (filter (λ c. is_added_at (members_of change.members.now) c.member) (claims_after change))) (map (λ c. aside_name c.path) (asides_of parts))
       ∙ (λ j. front j || back j))
     where
-      front : list_any (bytes_eq name) ((database_name ∷ world_name ∷ []) ++ map (λ c. c.path) (filter (λ c. comes_at (members_of change.members.now) c.member) (claims_after change)))
-          ≡ list_any (bytes_eq name) (database_name ∷ world_name ∷ coming_paths (members_of change.members.now))
+      front : list_any (bytes_eq name) ((database_name ∷ world_name ∷ []) ++ map (λ c. c.path) (filter (λ c. is_added_at (members_of change.members.now) c.member) (claims_after change)))
+          ≡ list_any (bytes_eq name) (database_name ∷ world_name ∷ added_paths (members_of change.members.now))
       front = ap (λ r. bytes_eq name database_name || (bytes_eq name world_name || r)) (any_coming (members_of change.members.now) (bytes_eq name) (claims_after change) claims.after)
 
-      back : list_any (bytes_eq name) (map (λ c. aside_name c.path) (asides_of parts)) ≡ is_some (option_and_then (laid_beside (file_change_of change) files) (path_beside name))
+      back : list_any (bytes_eq name) (map (λ c. aside_name c.path) (asides_of parts)) ≡ is_some (option_and_then (aside_listing_at (file_change_of change) files) (path_beside name))
       back = any_beside name (asides_of parts) ∙ beside_parts change claims coming firsts parts history are files fates_are stays_are name
 
   goes_is : (name : List ℕ) → (is_some (find (is_of_path name) (claims_before change))
-      && not (is_some (find (is_of_path name) (claims_after change)) || is_some (find (is_of_path name) (kept_of_parts parts)))) ≡ is_let_go (file_change_of change) files name
-  unfolding is_let_go is_kept
+      && not (is_some (find (is_of_path name) (claims_after change)) || is_some (find (is_of_path name) (kept_of_parts parts)))) ≡ is_released (file_change_of change) files name
+  unfolding is_released is_kept
   goes_is name =
       (λ j. listed j && not (claimed_after change claims name j || kept j))
     where
       listed : is_some (find (is_of_path name) (claims_before change)) ≡ was_listed (file_change_of change) name
-      listed = sym (mapped_some (claim_entry (staying_members (file_change_of change).old)) (find (is_of_path name) (claims_before change)))
+      listed = sym (mapped_some (claim_entry (members_of_kept (file_change_of change).old)) (find (is_of_path name) (claims_before change)))
           ∙ ap is_some (entries_are (file_change_of change) files (claims_before change) (before_up change claims coming firsts parts history are files fates_are stays_are) (before_each change claims coming firsts parts history are files fates_are stays_are) (asides_of parts) (beside_parts change claims coming firsts parts history are files fates_are stays_are) name)
 
-      kept : is_some (find (is_of_path name) (kept_of_parts parts)) ≡ (is_left_over (file_change_of change) files name && may_stay (file_change_of change) name (files name) (old_entry (file_change_of change) name))
+      kept : is_some (find (is_of_path name) (kept_of_parts parts)) ≡ (is_left_over (file_change_of change) files name && may_be_kept (file_change_of change) name (files name) (old_entry (file_change_of change) name))
       kept = ap (λ cs. is_some (find (is_of_path name) cs)) (kept_parts change claims coming firsts parts history are files fates_are stays_are)
           ∙ going_is (file_change_of change) files (claims_before change) (before_up change claims coming firsts parts history are files fates_are stays_are) (before_each change claims coming firsts parts history are files fates_are stays_are) (asides_of parts) (beside_parts change claims coming firsts parts history are files fates_are stays_are) true name
 
   pub same_names : (counts lets : List ℕ → Bool) → ((name : List ℕ) → counts name ≡ list_any (bytes_eq name) (sorted_by bytes_cmp (all_written change (map (λ c. aside_name c.path) (asides_of parts)))))
       → ((name : List ℕ) → lets name ≡ (is_some (find (is_of_path name) (claims_before change)) && not (is_some (find (is_of_path name) (claims_after change)) || is_some (find (is_of_path name) (kept_of_parts parts)))))
-      → record { counts_as_written = counts; lets_go = lets } ≡ name_change (file_change_of change) files
-  same_names counts lets c l = (λ j. record { counts_as_written = λ name. (c name ∙ written_is name) j; lets_go = λ name. (l name ∙ goes_is name) j })
+      → record { counts_as_written = counts; does_release = lets } ≡ name_change (file_change_of change) files
+  same_names counts lets c l = (λ j. record { counts_as_written = λ name. (c name ∙ written_is name) j; does_release = λ name. (l name ∙ goes_is name) j })

@@ -4,10 +4,10 @@ use Rattle.std.specs.Prelude.{◌&&◌, ◌||◌, not, if◌then◌else◌, IsSo
 use Rattle.adb_view.specs.Plain.{Plain}
 use Rattle.base_core.specs.Calls.{IfObservable}
 use Rattle.base_core.specs.Tree.{TreeState, files_of}
-use Rattle.db_core.specs.Members.{staying_members}
+use Rattle.db_core.specs.Members.{members_of_kept}
 use Rattle.path_claims.specs.Claims.{PathClaim}
 use Rattle.file_guard.specs.AsListed.{is_as_listed, is_as_listed_by}
-use Rattle.file_guard.specs.Listed.{IsOfEntry, comparison_of, is_as_told}
+use Rattle.file_guard.specs.Listed.{IsOfEntry, comparison_of, is_as_described}
 use Rattle.file_guard.specs.declared.compare.Comparison.{Comparison}
 use Rattle.file_guard.specs.declared.compare.ListedFile.{ListedFile}
 use Rattle.change_files.specs.Fate as Fates
@@ -17,13 +17,13 @@ use Rattle.change_files.specs.FilesAfter.{is_changed}
 use Rattle.own_core.specs.ClaimEntries.{claim_entry}
 use Rattle.own_core.specs.Fates.{IsOfEntryIfAny, claim_fate}
 use Rattle.own_core.specs.Found.{IsByFile}
-use Rattle.own_core.specs.Going.{does_stay}
+use Rattle.own_core.specs.Going.{is_file_kept}
 use Rattle.own_core.proofs.FoundFiles.{found_there}
 
-as_told : (listed : ListedFile) (entry : Plain) (bytes : List ℕ) → IsOfEntry listed entry → is_as_told (Some listed) bytes ≡ is_as_listed entry bytes
+as_told : (listed : ListedFile) (entry : Plain) (bytes : List ℕ) → IsOfEntry listed entry → is_as_described (Some listed) bytes ≡ is_as_listed entry bytes
 as_told listed entry bytes of = (λ j. is_as_listed_by (of.size j) (of.hash j) (of.target j) bytes)
 
-as_told_old : (listed : Option ListedFile) (before : Option Plain) (bytes : List ℕ) → IsOfEntryIfAny listed before → is_as_told listed bytes ≡ is_as_old before bytes
+as_told_old : (listed : Option ListedFile) (before : Option Plain) (bytes : List ℕ) → IsOfEntryIfAny listed before → is_as_described listed bytes ≡ is_as_old before bytes
 as_told_old None None bytes of = refl
 as_told_old None (Some entry) bytes of = absurd of
 as_told_old (Some listed) None bytes of = absurd of
@@ -63,10 +63,10 @@ unguarded_fate change h c unguarded =
 
 -- ---- a file that is left over
 
-pub no_stay : (change : FileChange) (h : List TreeState) (c : PathClaim) → (change.purge ≡ true) ⊎ (is_guarded c.path ≡ false) → IsByFile (does_stay change) h c false
+pub no_stay : (change : FileChange) (h : List TreeState) (c : PathClaim) → (change.purge ≡ true) ⊎ (is_guarded c.path ≡ false) → IsByFile (is_file_kept change) h c false
 no_stay change h c goes =
     let (found, told) = found_there h c.path in
-    record { found = found; told = told; is = sym (by_case (is_changed (claim_entry (staying_members change.old) c) found) goes) }
+    record { found = found; told = told; is = sym (by_case (is_changed (claim_entry (members_of_kept change.old) c) found) goes) }
   where
     off : (b : Bool) → (b && false) ≡ false
     off true = refl

@@ -9,11 +9,11 @@ use Rattle.base_core.specs.Listed.{IsRising}
 use Rattle.base_core.specs.Name.{IsName}
 use Rattle.base_core.specs.Tree.{TreeState}
 use Rattle.base_core.proofs.Rising as Names
-use Rattle.db_core.specs.Members.{Listing, member_listings, staying_member}
+use Rattle.db_core.specs.Members.{Listing, member_listings, member_of_kept}
 use Rattle.file_guard.specs.AsListed.{is_as_listed}
 use Rattle.change_files.specs.Fate.{agrees_with_old, aside_name, fate_beside, fate_by, fate_of, gives_way, goes_aside, goes_in, is_as_old, is_guarded}
 use Rattle.change_files.specs.FileChange.{FileChange, is_claimed, old_entry, old_listings}
-use Rattle.change_files.specs.FilesAfter.{is_removed, is_written, laid_beside, written_as}
+use Rattle.change_files.specs.FilesAfter.{is_removed, is_written, aside_listing_at, written_as}
 use Rattle.change_files.specs.PlanLists.{FileWrite, file_writes_of, first_reserved, removals_of}
 use Rattle.change_files.specs.Touched.{IsWriteOf}
 use Rattle.change_files.proofs.LeftOver.{removed_unreserved}
@@ -23,7 +23,7 @@ use Rattle.change_files.proofs.PlanNames.{removals_hold, removals_rise, writes_a
 use Rattle.change_files.proofs.Reserved.{written_unreserved}
 use Rattle.change_files.proofs.Untouched.{removed_is}
 use Rattle.own_core.specs.Fates.{is_free_beside}
-use Rattle.own_core.specs.Planned.{ArePlanLists, HasOwnNames, HasSources, IsOfComingFile, IsOpenName, IsPlanFor, IsPlanOf}
+use Rattle.own_core.specs.Planned.{ArePlanLists, HasOwnNames, HasSources, IsOfAddedFile, IsOpenName, IsPlanFor, IsPlanOf}
 use Rattle.own_core.specs.WritesSeen.{writes_in}
 use Rattle.own_core.specs.declared.fault.PlanFault.{PlanFault}
 use Rattle.own_core.specs.declared.planning.FilePlan.{FilePlan}
@@ -67,7 +67,7 @@ aside_free change path entry (Some bytes) e = by_tests (not (is_guarded path) ||
 pub is_short : (change : FileChange) (path : List ℕ) → is_free_beside change path ≡ true → length (aside_name path) ≤ 1024
 is_short change path room = leb-true (length (aside_name path)) 1024 (and_parts (nat_le (length (aside_name path)) 1024) (not (is_claimed change (aside_name path))) room).0
 
-named_beside : (change : FileChange) (files : Files) (l : Listing) → IsName l.path → laid_beside change files l.path ≡ Some l → IsName (aside_name l.path)
+named_beside : (change : FileChange) (files : Files) (l : Listing) → IsName l.path → aside_listing_at change files l.path ≡ Some l → IsName (aside_name l.path)
 unfolding fate_of
 named_beside change files l named laid =
     let (comes, aside) = aside_found change files l.path l laid in
@@ -75,8 +75,8 @@ named_beside change files l named laid =
 
 -- ---- the names of a plan
 
-module _ (change : FileChange) (files : Files) (old_named : All (λ l. IsName l.path) (member_listings (map staying_member change.old)))
-    (old_free : All (λ l. is_reserved l.path ≡ false) (member_listings (map staying_member change.old))) (named : All (λ l. IsName l.path) (member_listings change.members))
+module _ (change : FileChange) (files : Files) (old_named : All (λ l. IsName l.path) (member_listings (map member_of_kept change.old)))
+    (old_free : All (λ l. is_reserved l.path ≡ false) (member_listings (map member_of_kept change.old))) (named : All (λ l. IsName l.path) (member_listings change.members))
     (none : first_reserved change.members ≡ None) where
   removed_open : (path : List ℕ) → is_removed change files path ≡ true → IsOpenName path
   unfolding old_listings
@@ -109,12 +109,12 @@ module _ (change : FileChange) (files : Files) (old_named : All (λ l. IsName l.
       go (Some l) e h = written_open name l e
 
   -- each write is of a file that comes
-  write_source : (w : FileWrite) → IsWriteOf change files w → IsOfComingFile change.members w
+  write_source : (w : FileWrite) → IsWriteOf change files w → IsOfAddedFile change.members w
   write_source w is =
       let comes = (written_is change files w.name is.listing is.written).comes in
       let placed = (coming_placed change is.listing.path is.listing comes).1 in
       let (path, coming, listed, owner) = coming_listed change is.listing.path is.listing comes in
-      subst (IsOfComingFile change.members) (sym is.shown) (record { member = is.listing.member; at = placed.at; comes = coming; place = placed.place })
+      subst (IsOfAddedFile change.members) (sym is.shown) (record { member = is.listing.member; at = placed.at; comes = coming; place = placed.place })
 
   pub own_names : (plan : FilePlan) → ArePlanLists change files plan → HasOwnNames plan
   own_names plan lists =
@@ -130,17 +130,17 @@ module _ (change : FileChange) (files : Files) (old_named : All (λ l. IsName l.
 
   pub own_sources : (plan : FilePlan) → ArePlanLists change files plan → HasSources change.members plan
   own_sources plan lists =
-      subst (All (IsOfComingFile change.members)) (sym lists.writes)
-      (all_writes (IsOfComingFile change.members) (file_writes_of change files) (λ w here. write_source w ((writes_are change files w).0 (contains_from_one _ w here))))
+      subst (All (IsOfAddedFile change.members)) (sym lists.writes)
+      (all_writes (IsOfAddedFile change.members) (file_writes_of change files) (λ w here. write_source w ((writes_are change files w).0 (contains_from_one _ w here))))
 
-pub names_if_planned : (change : FileChange) (h : List TreeState) (r : Result FilePlan PlanFault) → All (λ l. IsName l.path) (member_listings (map staying_member change.old))
-    → All (λ l. is_reserved l.path ≡ false) (member_listings (map staying_member change.old)) → All (λ l. IsName l.path) (member_listings change.members)
+pub names_if_planned : (change : FileChange) (h : List TreeState) (r : Result FilePlan PlanFault) → All (λ l. IsName l.path) (member_listings (map member_of_kept change.old))
+    → All (λ l. is_reserved l.path ≡ false) (member_listings (map member_of_kept change.old)) → All (λ l. IsName l.path) (member_listings change.members)
     → IfOk r (IsPlanOf change h) → IfOk r (IsPlanFor change.members) → IfOk r HasOwnNames
 names_if_planned change h (Ok plan) old_named old_free named is for = own_names change is.files old_named old_free named for.allowed plan is.lists
 names_if_planned change h (Err fault) old_named old_free named is for = tt
 
-pub sources_if_planned : (change : FileChange) (h : List TreeState) (r : Result FilePlan PlanFault) → All (λ l. IsName l.path) (member_listings (map staying_member change.old))
-    → All (λ l. is_reserved l.path ≡ false) (member_listings (map staying_member change.old)) → All (λ l. IsName l.path) (member_listings change.members)
+pub sources_if_planned : (change : FileChange) (h : List TreeState) (r : Result FilePlan PlanFault) → All (λ l. IsName l.path) (member_listings (map member_of_kept change.old))
+    → All (λ l. is_reserved l.path ≡ false) (member_listings (map member_of_kept change.old)) → All (λ l. IsName l.path) (member_listings change.members)
     → IfOk r (IsPlanOf change h) → IfOk r (IsPlanFor change.members) → IfOk r (HasSources change.members)
 sources_if_planned change h (Ok plan) old_named old_free named is for = own_sources change is.files old_named old_free named for.allowed plan is.lists
 sources_if_planned change h (Err fault) old_named old_free named is for = tt

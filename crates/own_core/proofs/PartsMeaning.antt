@@ -9,7 +9,7 @@ use Rattle.base_core.proofs.Rising as Names
 use Rattle.base_core.specs.Sorted.{sorted_by}
 use Rattle.base_core.proofs.Sorting.{Each}
 use Rattle.db_core.specs.Seen.{members_of}
-use Rattle.db_core.specs.Members.{staying_members}
+use Rattle.db_core.specs.Members.{members_of_kept}
 use Rattle.path_claims.specs.Claims.{PathClaim, claim_cmp, is_of_path}
 use Rattle.path_claims.proofs.Places.{no_some, value_or}
 use Rattle.claim_lists.specs.Named.{HaveNames}
@@ -19,13 +19,13 @@ use Rattle.file_owners.specs.Owners.{claims_in}
 use Rattle.change_files.specs.Fate as Fates
 use Rattle.change_files.specs.Fate.{gives_way, goes_aside, goes_in}
 use Rattle.change_files.specs.FileChange.{FileChange}
-use Rattle.change_files.specs.FilesAfter.{laid_beside, path_beside}
-use Rattle.own_core.specs.ClaimEntries.{AreClaimsOf, claim_entry, is_of_coming_owner}
+use Rattle.change_files.specs.FilesAfter.{aside_listing_at, path_beside}
+use Rattle.own_core.specs.ClaimEntries.{AreClaimsOf, claim_entry, is_of_added_owner}
 use Rattle.own_core.specs.Fates.{claim_fate, is_fate, is_flag, is_free_beside, marked_claims}
 use Rattle.own_core.specs.Found.{AreByFiles, said_of}
-use Rattle.own_core.specs.Going.{does_stay, is_beside, is_left}
+use Rattle.own_core.specs.Going.{is_file_kept, is_beside, is_path_left_over}
 use Rattle.own_core.specs.ListsSeen.{AreListsOfParts}
-use Rattle.own_core.specs.Parts.{AreParts, asides_of, ins_of, kept_of_parts, left_claims_by, removed_of}
+use Rattle.own_core.specs.Parts.{AreParts, asides_of, ins_of, kept_of_parts, left_over_claims_by, removed_of}
 use Rattle.own_core.specs.Planned.{ArePlanLists}
 use Rattle.own_core.specs.Sides.{HasClaims, claims_after, claims_before, file_change_of}
 use Rattle.own_core.specs.WritesSeen.{HaveNamesBeside, aside_write, claim_write, write_cmp}
@@ -46,12 +46,12 @@ each_at P [] h i c g = absurd (no_some c g)
 each_at P (d ∷ cs) h zero c g = subst P (ap (value_or d) g) h.0
 each_at P (d ∷ cs) h (suc i) c g = each_at P cs h.1 i c g
 
-pub coming_claims_of : (change : Change) → HasClaims change → (coming : List PathClaim) → HasFirsts (filter (is_of_coming_owner (members_of change.members.now)) (claims_after change)) coming
+pub coming_claims_of : (change : Change) → HasClaims change → (coming : List PathClaim) → HasFirsts (filter (is_of_added_owner (members_of change.members.now)) (claims_after change)) coming
     → AreClaimsOf (members_of change.members.now) coming
 coming_claims_of change h coming firsts i c g =
     let here = each_at (λ d. find (is_of_path d.path) coming ≡ Some d) coming (each_finds_itself coming (Names.rises_from_pairs (paths coming) firsts.rising)) i c g in
-    let one = found_from (is_of_path c.path) (filter (is_of_coming_owner (members_of change.members.now)) (claims_after change)) c (sym (firsts.each c.path) ∙ here) in
-    let two = filter_from (is_of_coming_owner (members_of change.members.now)) (claims_after change) one.0 c one.1 in
+    let one = found_from (is_of_path c.path) (filter (is_of_added_owner (members_of change.members.now)) (claims_after change)) c (sym (firsts.each c.path) ∙ here) in
+    let two = filter_from (is_of_added_owner (members_of change.members.now)) (claims_after change) one.0 c one.1 in
     h.new_files two.0 c two.1
 
 -- ---- names of the parts
@@ -62,15 +62,15 @@ names_marked test cs xs ms h e i c g = let f = marked_from test cs ms i c (ap (�
 pub ins_named : (change : Change) (history : List TreeState) (coming : List PathClaim) (parts : Parts) → AreClaimsOf (members_of change.members.now) coming → AreParts change history coming parts → HaveNames (ins_of parts)
 ins_named change history coming parts h p = names_marked (is_fate goes_in) coming (ins_of parts) p.fates (λ i c g. (h i c g).name) p.ins
 
-left_named : (change : Change) → HasClaims change → (asides : List PathClaim) → HaveNames (left_claims_by change asides)
+left_named : (change : Change) → HasClaims change → (asides : List PathClaim) → HaveNames (left_over_claims_by change asides)
 left_named change h asides i c g =
-    let f = filter_from (λ d. is_left (file_change_of change) asides d.path) (claims_before change) i c g in (h.old_files f.0 c f.1).name
+    let f = filter_from (λ d. is_path_left_over (file_change_of change) asides d.path) (claims_before change) i c g in (h.old_files f.0 c f.1).name
 
 pub removed_named : (change : Change) (history : List TreeState) (coming : List PathClaim) (parts : Parts) → HasClaims change → AreParts change history coming parts → HaveNames (removed_of parts)
-removed_named change history coming parts h p = names_marked (is_flag false) (left_claims_by change (asides_of parts)) (removed_of parts) p.stays (left_named change h (asides_of parts)) p.removed
+removed_named change history coming parts h p = names_marked (is_flag false) (left_over_claims_by change (asides_of parts)) (removed_of parts) p.stays (left_named change h (asides_of parts)) p.removed
 
 pub kept_named : (change : Change) (history : List TreeState) (coming : List PathClaim) (parts : Parts) → HasClaims change → AreParts change history coming parts → HaveNames (kept_of_parts parts)
-kept_named change history coming parts h p = names_marked (is_flag true) (left_claims_by change (asides_of parts)) (kept_of_parts parts) p.stays (left_named change h (asides_of parts)) p.kept
+kept_named change history coming parts h p = names_marked (is_flag true) (left_over_claims_by change (asides_of parts)) (kept_of_parts parts) p.stays (left_named change h (asides_of parts)) p.kept
 
 room_of : (change : FileChange) (h : List TreeState) (cs : List PathClaim) (fs : List Fates.Fate) → AreByFiles (claim_fate change) h cs fs
     → (i : ℕ) (c : PathClaim) → slice_get (marked_claims (is_fate goes_aside) cs fs) i ≡ Some c → is_free_beside change c.path ≡ true
@@ -100,19 +100,19 @@ kept_sorted change history coming parts h p =
     rising_sorted (kept_of_parts parts)
     (Names.pairs_from_rises (paths (kept_of_parts parts))
     (subst (λ cs. Names.Rises (paths cs)) (sym p.kept)
-    (marked_rises (is_flag true) (left_claims_by change (asides_of parts)) p.stays
-    (filtered_rises (λ c. is_left (file_change_of change) (asides_of parts) c.path) (claims_before change) (Names.rises_from_pairs (paths (claims_before change)) h.before.rising)))))
+    (marked_rises (is_flag true) (left_over_claims_by change (asides_of parts)) p.stays
+    (filtered_rises (λ c. is_path_left_over (file_change_of change) (asides_of parts) c.path) (claims_before change) (Names.rises_from_pairs (paths (claims_before change)) h.before.rising)))))
 
 -- ---- over files under whose paths the values were found
 
-module _ (change : Change) (claims : HasClaims change) (coming : List PathClaim) (firsts : HasFirsts (filter (is_of_coming_owner (members_of change.members.now)) (claims_after change)) coming)
+module _ (change : Change) (claims : HasClaims change) (coming : List PathClaim) (firsts : HasFirsts (filter (is_of_added_owner (members_of change.members.now)) (claims_after change)) coming)
     (parts : Parts) (history : List TreeState) (are : AreParts change history coming parts) (files : Files)
-    (fates_are : are.fates ≡ said_of (claim_fate (file_change_of change)) files coming) (stays_are : are.stays ≡ said_of (does_stay (file_change_of change)) files (left_claims_by change (asides_of parts))) where
+    (fates_are : are.fates ≡ said_of (claim_fate (file_change_of change)) files coming) (stays_are : are.stays ≡ said_of (is_file_kept (file_change_of change)) files (left_over_claims_by change (asides_of parts))) where
   pub up : Names.Rises (paths coming)
   up = Names.rises_from_pairs (paths coming) firsts.rising
 
-  pub each : (q : List ℕ) → find (is_of_path q) coming ≡ find (is_of_path q) (filter (is_of_coming_owner (members_of change.members.now)) (sorted_by claim_cmp (claims_in (members_of change.members.now))))
-  each q = firsts.each q ∙ ap (λ cs. find (is_of_path q) (filter (is_of_coming_owner (members_of change.members.now)) cs)) claims.after
+  pub each : (q : List ℕ) → find (is_of_path q) coming ≡ find (is_of_path q) (filter (is_of_added_owner (members_of change.members.now)) (sorted_by claim_cmp (claims_in (members_of change.members.now))))
+  each q = firsts.each q ∙ ap (λ cs. find (is_of_path q) (filter (is_of_added_owner (members_of change.members.now)) cs)) claims.after
 
   by_fate : (f : Fates.Fate) (xs : List PathClaim) → xs ≡ marked_claims (is_fate f) coming are.fates → xs ≡ with_fate (file_change_of change) files coming up each f
   by_fate f xs e = e ∙ (ap (marked_claims (is_fate f) coming) fates_are ∙ marked_by (is_fate f) (λ c. claim_fate (file_change_of change) c (files c.path)) coming)
@@ -123,19 +123,19 @@ module _ (change : Change) (claims : HasClaims change) (coming : List PathClaim)
   pub ins_are : ins_of parts ≡ with_fate (file_change_of change) files coming up each goes_in
   ins_are = by_fate goes_in (ins_of parts) are.ins
 
-  pub beside_parts : (q : List ℕ) → is_beside (asides_of parts) q ≡ is_some (option_and_then (laid_beside (file_change_of change) files) (path_beside q))
+  pub beside_parts : (q : List ℕ) → is_beside (asides_of parts) q ≡ is_some (option_and_then (aside_listing_at (file_change_of change) files) (path_beside q))
   beside_parts q = ap (λ cs. is_beside cs q) asides_are ∙ beside_is (file_change_of change) files coming up each q
 
   pub before_up : Names.Rises (paths (claims_before change))
   before_up = Names.rises_from_pairs (paths (claims_before change)) claims.before.rising
 
-  pub before_each : (q : List ℕ) → find (is_of_path q) (claims_before change) ≡ find (is_of_path q) (sorted_by claim_cmp (claims_in (staying_members (file_change_of change).old)))
+  pub before_each : (q : List ℕ) → find (is_of_path q) (claims_before change) ≡ find (is_of_path q) (sorted_by claim_cmp (claims_in (members_of_kept (file_change_of change).old)))
   before_each q = claims.before.each q
 
-  by_flag : (b : Bool) (xs : List PathClaim) → xs ≡ marked_claims (is_flag b) (left_claims_by change (asides_of parts)) are.stays
+  by_flag : (b : Bool) (xs : List PathClaim) → xs ≡ marked_claims (is_flag b) (left_over_claims_by change (asides_of parts)) are.stays
       → xs ≡ going (file_change_of change) files (claims_before change) before_up before_each (asides_of parts) beside_parts b
   by_flag b xs e =
-      e ∙ (ap (marked_claims (is_flag b) (left_claims_by change (asides_of parts))) stays_are ∙ marked_by (is_flag b) (λ c. does_stay (file_change_of change) c (files c.path)) (left_claims_by change (asides_of parts)))
+      e ∙ (ap (marked_claims (is_flag b) (left_over_claims_by change (asides_of parts))) stays_are ∙ marked_by (is_flag b) (λ c. is_file_kept (file_change_of change) c (files c.path)) (left_over_claims_by change (asides_of parts)))
 
   pub kept_parts : kept_of_parts parts ≡ going (file_change_of change) files (claims_before change) before_up before_each (asides_of parts) beside_parts true
   kept_parts = by_flag true (kept_of_parts parts) are.kept

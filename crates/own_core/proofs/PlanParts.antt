@@ -13,7 +13,7 @@ use Rattle.root_names.proofs.RootNamesAreNames.{database_named, world_named}
 use Rattle.base_core.specs.ByteOrder.{bytes_cmp}
 use Rattle.base_core.specs.Sorted.{sorted_by, with_element}
 use Rattle.base_core.proofs.Sorting.{Each, sorted_up}
-use Rattle.db_core.specs.Members.{Member, member_listings, staying_members}
+use Rattle.db_core.specs.Members.{Member, member_listings, members_of_kept}
 use Rattle.db_core.specs.Seen.{members_of, packages_of}
 use Rattle.path_claims.specs.Claims.{PathClaim, claim_cmp, is_of_path}
 use Rattle.path_claims.proofs.ClaimOrder.{paths_total}
@@ -27,11 +27,11 @@ use Rattle.file_owners.specs.Owners.{claims_in}
 use Rattle.change_files.specs.Fate.{aside_name}
 use Rattle.change_files.specs.FilesAfter.{database_name, world_name}
 use Rattle.change_files.specs.NamesAfter.{name_change}
-use Rattle.own_core.specs.ClaimEntries.{AreClaimsOf, comes_at, is_of_coming_owner}
+use Rattle.own_core.specs.ClaimEntries.{AreClaimsOf, is_added_at, is_of_added_owner}
 use Rattle.own_core.specs.Fates.{claim_fate}
-use Rattle.own_core.specs.Going.{does_stay}
-use Rattle.own_core.specs.Parts.{AreParts, asides_of, kept_of_parts, left_claims_by}
-use Rattle.own_core.specs.NamesChanged.{is_let_go_by, names_changed_by, names_written_by}
+use Rattle.own_core.specs.Going.{is_file_kept}
+use Rattle.own_core.specs.Parts.{AreParts, asides_of, kept_of_parts, left_over_claims_by}
+use Rattle.own_core.specs.NamesChanged.{is_released_by, names_changed_by, names_written_by}
 use Rattle.own_core.specs.Sides.{HasClaims, claims_after, claims_before, file_change_of}
 use Rattle.own_core.specs.WritesSeen.{HaveNamesBeside}
 use Rattle.own_core.specs.declared.change.Change.{Change}
@@ -78,37 +78,37 @@ pub written_named : (change : Change) → HasClaims change → (asides : List Pa
 written_named change claims asides beside xs e =
     subst (All IsName) (sym e) (all_each IsName (sorted_by bytes_cmp (all_written change (map (λ c. aside_name c.path) asides)))
     (names_sorted (all_written change (map (λ c. aside_name c.path) asides))
-    (each_both IsName ((database_name ∷ world_name ∷ []) ++ map (λ c. c.path) (filter (λ c. comes_at (members_of change.members.now) c.member) (claims_after change))) (map (λ c. aside_name c.path) asides)
-    (each_both IsName (database_name ∷ world_name ∷ []) (map (λ c. c.path) (filter (λ c. comes_at (members_of change.members.now) c.member) (claims_after change)))
+    (each_both IsName ((database_name ∷ world_name ∷ []) ++ map (λ c. c.path) (filter (λ c. is_added_at (members_of change.members.now) c.member) (claims_after change))) (map (λ c. aside_name c.path) asides)
+    (each_both IsName (database_name ∷ world_name ∷ []) (map (λ c. c.path) (filter (λ c. is_added_at (members_of change.members.now) c.member) (claims_after change)))
     (database_named, (world_named, tt))
-    (each_mapped (λ c. IsName c.path) IsName (λ c. c.path) (λ c n. n) (filter (λ c. comes_at (members_of change.members.now) c.member) (claims_after change))
-    (each_from_at (λ c. IsName c.path) (filter (λ c. comes_at (members_of change.members.now) c.member) (claims_after change))
-    (λ i c g. (files_kept (members_of change.members.now) (λ c. comes_at (members_of change.members.now) c.member) (claims_after change) (filter (λ c. comes_at (members_of change.members.now) c.member) (claims_after change)) claims.new_files refl i c g).name))))
+    (each_mapped (λ c. IsName c.path) IsName (λ c. c.path) (λ c n. n) (filter (λ c. is_added_at (members_of change.members.now) c.member) (claims_after change))
+    (each_from_at (λ c. IsName c.path) (filter (λ c. is_added_at (members_of change.members.now) c.member) (claims_after change))
+    (λ i c g. (files_kept (members_of change.members.now) (λ c. is_added_at (members_of change.members.now) c.member) (claims_after change) (filter (λ c. is_added_at (members_of change.members.now) c.member) (claims_after change)) claims.new_files refl i c g).name))))
     (each_mapped (λ c. IsName (aside_name c.path)) IsName (λ c. aside_name c.path) (λ c n. n) asides
     (each_from_at (λ c. IsName (aside_name c.path)) asides (λ i c g. aside_is_name c.path (beside i c g).name (beside i c g).short))))))
 
 -- ---- the clash that is told
 
-pub clash_is : (change : Change) → HasClaims change → (coming : List PathClaim) → HasFirsts (filter (is_of_coming_owner (members_of change.members.now)) (claims_after change)) coming
+pub clash_is : (change : Change) → HasClaims change → (coming : List PathClaim) → HasFirsts (filter (is_of_added_owner (members_of change.members.now)) (claims_after change)) coming
     → (parts : Parts) (h : List TreeState) → AreParts change h coming parts → (counts lets : List ℕ → Bool)
     → ((name : List ℕ) → counts name ≡ list_any (bytes_eq name) (sorted_by bytes_cmp (all_written change (map (λ c. aside_name c.path) (asides_of parts)))))
     → ((name : List ℕ) → lets name ≡ (is_some (find (is_of_path name) (claims_before change)) && not (is_some (find (is_of_path name) (claims_after change)) || is_some (find (is_of_path name) (kept_of_parts parts)))))
     → (r : Result (Option Clash) TreeFault)
-    → IfOk r (λ found. IfObservable h (λ v. IsClashOf (record { counts_as_written = counts; lets_go = lets }) (files_of v) (option_map clash_seen found)))
+    → IfOk r (λ found. IfObservable h (λ v. IsClashOf (record { counts_as_written = counts; does_release = lets }) (files_of v) (option_map clash_seen found)))
     → IfOk r (λ found. IfObservable h (λ v. IsClashOf (name_change (file_change_of change) (files_of v)) (files_of v) (option_map clash_seen found)))
 clash_is change claims coming firsts parts h are counts lets c l (Err fault) told = tt
 clash_is change claims coming firsts parts [] are counts lets c l (Ok found) told = tt
 clash_is change claims coming firsts parts (v ∷ earlier) are counts lets c l (Ok found) told =
     subst (λ (n : NameChange). IsClashOf n (files_of v) (option_map clash_seen found))
     (same_names change claims coming firsts parts (v ∷ earlier) are (files_of v) (by_tree (claim_fate (file_change_of change)) v earlier coming are.fates are.fates_found)
-    (by_tree (does_stay (file_change_of change)) v earlier (left_claims_by change (asides_of parts)) are.stays are.stays_found) counts lets c l) told
+    (by_tree (is_file_kept (file_change_of change)) v earlier (left_over_claims_by change (asides_of parts)) are.stays are.stays_found) counts lets c l) told
 
 pub clash_may : (change : Change) (parts : Parts) (counts lets : List ℕ → Bool)
-    → ((name : List ℕ) → counts name ≡ list_any (bytes_eq name) (sorted_by bytes_cmp (names_written_by change parts))) → ((name : List ℕ) → lets name ≡ is_let_go_by change parts name)
-    → (r : Result (Option Clash) TreeFault) → IfOk r (λ found. MayBeClashOf (record { counts_as_written = counts; lets_go = lets }) (option_map clash_seen found))
+    → ((name : List ℕ) → counts name ≡ list_any (bytes_eq name) (sorted_by bytes_cmp (names_written_by change parts))) → ((name : List ℕ) → lets name ≡ is_released_by change parts name)
+    → (r : Result (Option Clash) TreeFault) → IfOk r (λ found. MayBeClashOf (record { counts_as_written = counts; does_release = lets }) (option_map clash_seen found))
     → IfOk r (λ found. MayBeClashOf (names_changed_by change parts) (option_map clash_seen found))
 clash_may change parts counts lets c l r =
-    subst (λ (n : NameChange). IfOk r (λ found. MayBeClashOf n (option_map clash_seen found))) (λ i. record { counts_as_written = λ name. c name i; lets_go = λ name. l name i })
+    subst (λ (n : NameChange). IfOk r (λ found. MayBeClashOf n (option_map clash_seen found))) (λ i. record { counts_as_written = λ name. c name i; does_release = λ name. l name i })
 
 -- ---- the claims of a change
 
@@ -118,12 +118,12 @@ files_first members all firsts h f i c g =
     let k = found_from (is_of_path c.path) all c (sym (f.each c.path) ∙ here) in
     h k.0 c k.1
 
-pub has_claims : (change : Change) → All (λ l. IsName l.path) (member_listings (staying_members (packages_of change.db.now))) → All (λ l. IsName l.path) (member_listings (members_of change.members.now))
-    → (listed : List PathClaim) → listed ≡ sorted_by claim_cmp (claims_in (staying_members (packages_of change.db.now))) → HasFirsts listed (claims_before change) → claims_after change ≡ sorted_by claim_cmp (claims_in (members_of change.members.now))
+pub has_claims : (change : Change) → All (λ l. IsName l.path) (member_listings (members_of_kept (packages_of change.db.now))) → All (λ l. IsName l.path) (member_listings (members_of change.members.now))
+    → (listed : List PathClaim) → listed ≡ sorted_by claim_cmp (claims_in (members_of_kept (packages_of change.db.now))) → HasFirsts listed (claims_before change) → claims_after change ≡ sorted_by claim_cmp (claims_in (members_of change.members.now))
     → HasClaims change
 has_claims change old new listed e firsts after = record {
   before = subst (λ (cs : List PathClaim). HasFirsts cs (claims_before change)) e firsts;
   after = after;
-  old_files = files_first (staying_members (packages_of change.db.now)) listed (claims_before change) (are_claims (staying_members (packages_of change.db.now)) listed old e) firsts;
+  old_files = files_first (members_of_kept (packages_of change.db.now)) listed (claims_before change) (are_claims (members_of_kept (packages_of change.db.now)) listed old e) firsts;
   new_files = are_claims (members_of change.members.now) (claims_after change) new after;
 }

@@ -13,7 +13,7 @@ use Rattle.base_core.specs.Sorted.{sorted_by}
 use Rattle.base_core.proofs.Smallest.{smallest_first}
 use Rattle.base_core.proofs.Sorting.{Each, Rises, one_order, ranks, rises_in_order, sort_seen, sorted_up, stable, stable_in_order}
 use Rattle.adb_schema.specs.Reserved.{is_reserved}
-use Rattle.db_core.specs.Members.{Listing, Member, is_coming, member_listings}
+use Rattle.db_core.specs.Members.{Listing, Member, is_added, member_listings}
 use Rattle.path_claims.specs.Claims.{ContestedPath, PathClaim, claim_cmp, claimants, contested_at, contested_by, contested_path, is_of_path, owner_by}
 use Rattle.path_claims.specs.Contest.{first_rivals, rivals_of}
 use Rattle.path_claims.specs.Seen.{claim_seen}
@@ -24,7 +24,7 @@ use Rattle.path_claims.proofs.Places.{map_len, no_some, seen_at, value_or}
 use Rattle.claim_lists.proofs.Lists.{filter_swap, first_of, found_both, found_first, found_is, or_found, take_at, take_whole}
 use Rattle.file_owners.specs.Owners.{claim_by, claims_from, claims_in, contested_of, member_beats}
 use Rattle.change_files.specs.PlanLists.{first_reserved}
-use Rattle.own_core.specs.ClaimEntries.{comes_at, comes_if_any, is_reserved_coming}
+use Rattle.own_core.specs.ClaimEntries.{is_added_at, is_added_if_any, is_added_and_reserved}
 use Rattle.own_core.proofs.Listings.{IsPlaced, each_all, each_placed}
 use Rattle.own_core.proofs.NamesOnce.{in_sorted_names}
 use Rattle.own_core.proofs.MarkedClaims.{found_from}
@@ -77,27 +77,27 @@ first_kept p cs =
     ∙ sym (smallest_first (map (λ c. c.path) (filter p cs)))))
 
 reserved_listings : (members : List Member) (n : ℕ) (ls : List Listing) → Each (IsPlaced members) ls
-    → map (λ c. c.path) (filter (is_reserved_coming members) (claims_from n ls)) ≡ filter is_reserved (map (λ l. l.path) (filter (λ l. is_coming l.member) ls))
+    → map (λ c. c.path) (filter (is_added_and_reserved members) (claims_from n ls)) ≡ filter is_reserved (map (λ l. l.path) (filter (λ l. is_added l.member) ls))
 reserved_listings members n [] h = refl
-reserved_listings members n (l ∷ ls) h = go (is_reserved l.path) (comes_at members l.place) (is_coming l.member) refl (ap comes_if_any h.0.at) (reserved_listings members (n + 1) ls h.1)
+reserved_listings members n (l ∷ ls) h = go (is_reserved l.path) (is_added_at members l.place) (is_added l.member) refl (ap is_added_if_any h.0.at) (reserved_listings members (n + 1) ls h.1)
   where
-    go : (r a b : Bool) → is_reserved l.path ≡ r → a ≡ b → map (λ c. c.path) (filter (is_reserved_coming members) (claims_from (n + 1) ls)) ≡ filter is_reserved (map (λ l. l.path) (filter (λ l. is_coming l.member) ls))
-        → map (λ c. c.path) (cond (r && a) (claim_by n l ∷ filter (is_reserved_coming members) (claims_from (n + 1) ls)) (filter (is_reserved_coming members) (claims_from (n + 1) ls)))
-        ≡ filter is_reserved (map (λ l. l.path) (cond b (l ∷ filter (λ l. is_coming l.member) ls) (filter (λ l. is_coming l.member) ls)))
-    go true true true e f rest = ap (λ t. l.path ∷ t) rest ∙ sym (ap (λ t. cond t (l.path ∷ filter is_reserved (map (λ l. l.path) (filter (λ l. is_coming l.member) ls))) (filter is_reserved (map (λ l. l.path) (filter (λ l. is_coming l.member) ls)))) e)
+    go : (r a b : Bool) → is_reserved l.path ≡ r → a ≡ b → map (λ c. c.path) (filter (is_added_and_reserved members) (claims_from (n + 1) ls)) ≡ filter is_reserved (map (λ l. l.path) (filter (λ l. is_added l.member) ls))
+        → map (λ c. c.path) (cond (r && a) (claim_by n l ∷ filter (is_added_and_reserved members) (claims_from (n + 1) ls)) (filter (is_added_and_reserved members) (claims_from (n + 1) ls)))
+        ≡ filter is_reserved (map (λ l. l.path) (cond b (l ∷ filter (λ l. is_added l.member) ls) (filter (λ l. is_added l.member) ls)))
+    go true true true e f rest = ap (λ t. l.path ∷ t) rest ∙ sym (ap (λ t. cond t (l.path ∷ filter is_reserved (map (λ l. l.path) (filter (λ l. is_added l.member) ls))) (filter is_reserved (map (λ l. l.path) (filter (λ l. is_added l.member) ls)))) e)
     go true true false e f rest = absurd (true≢false f)
     go true false true e f rest = absurd (true≢false (sym f))
     go true false false e f rest = rest
-    go false true true e f rest = rest ∙ sym (ap (λ t. cond t (l.path ∷ filter is_reserved (map (λ l. l.path) (filter (λ l. is_coming l.member) ls))) (filter is_reserved (map (λ l. l.path) (filter (λ l. is_coming l.member) ls)))) e)
+    go false true true e f rest = rest ∙ sym (ap (λ t. cond t (l.path ∷ filter is_reserved (map (λ l. l.path) (filter (λ l. is_added l.member) ls))) (filter is_reserved (map (λ l. l.path) (filter (λ l. is_added l.member) ls)))) e)
     go false true false e f rest = absurd (true≢false f)
     go false false true e f rest = absurd (true≢false (sym f))
     go false false false e f rest = rest
 
-pub reserved_is : (members : List Member) (cs : List PathClaim) → cs ≡ sorted_by claim_cmp (claims_in members) → option_map (λ c. c.path) (find (is_reserved_coming members) cs) ≡ first_reserved members
+pub reserved_is : (members : List Member) (cs : List PathClaim) → cs ≡ sorted_by claim_cmp (claims_in members) → option_map (λ c. c.path) (find (is_added_and_reserved members) cs) ≡ first_reserved members
 unfolding claims_in first_reserved
 reserved_is members cs e =
-    ap (λ xs. option_map (λ c. c.path) (find (is_reserved_coming members) xs)) e
-    ∙ (first_kept (is_reserved_coming members) (claims_from 0 (member_listings members)) ∙ ap smallest_text (reserved_listings members 0 (member_listings members) (each_placed members)))
+    ap (λ xs. option_map (λ c. c.path) (find (is_added_and_reserved members) xs)) e
+    ∙ (first_kept (is_added_and_reserved members) (claims_from 0 (member_listings members)) ∙ ap smallest_text (reserved_listings members 0 (member_listings members) (each_placed members)))
 
 -- the search claim by claim
 found_none_here : (p : PathClaim → Bool) (cs : List PathClaim) (i : ℕ) (c : PathClaim) → slice_get cs i ≡ Some c → find p (take i cs) ≡ None → p c ≡ true → find p cs ≡ Some c
@@ -110,27 +110,27 @@ found_none_here p (d ∷ cs) (suc i) c g n t = go (p d) n (λ m. found_none_here
     go false e rest = rest e
 
 pub reserved_here : (members : List Member) (xs : List Claim) (i : ℕ) (d : Claim) (name : List ℕ) (t : Bool) → map claim_seen xs ≡ sorted_by claim_cmp (claims_in members) → i < length xs
-    → find (is_reserved_coming members) (take i (map claim_seen xs)) ≡ None → t ≡ is_reserved_coming members (claim_seen (slice_index_or xs i d)) → t ≡ true → name ≡ (claim_seen (slice_index_or xs i d)).path
+    → find (is_added_and_reserved members) (take i (map claim_seen xs)) ≡ None → t ≡ is_added_and_reserved members (claim_seen (slice_index_or xs i d)) → t ≡ true → name ≡ (claim_seen (slice_index_or xs i d)).path
     → Some name ≡ first_reserved members
 reserved_here members xs i d name t e l n is passes m =
     ap Some m
-    ∙ (sym (ap (option_map (λ c. c.path)) (found_none_here (is_reserved_coming members) (map claim_seen xs) i (claim_seen (slice_index_or xs i d)) (seen_at claim_seen xs i d l) n (sym is ∙ passes)))
+    ∙ (sym (ap (option_map (λ c. c.path)) (found_none_here (is_added_and_reserved members) (map claim_seen xs) i (claim_seen (slice_index_or xs i d)) (seen_at claim_seen xs i d l) n (sym is ∙ passes)))
     ∙ reserved_is members (map claim_seen xs) e)
 
-pub not_reserved_here : (members : List Member) (xs : List Claim) (i : ℕ) (d : Claim) (t : Bool) → i < length xs → find (is_reserved_coming members) (take i (map claim_seen xs)) ≡ None
-    → t ≡ is_reserved_coming members (claim_seen (slice_index_or xs i d)) → t ≡ false → find (is_reserved_coming members) (take (i + 1) (map claim_seen xs)) ≡ None
+pub not_reserved_here : (members : List Member) (xs : List Claim) (i : ℕ) (d : Claim) (t : Bool) → i < length xs → find (is_added_and_reserved members) (take i (map claim_seen xs)) ≡ None
+    → t ≡ is_added_and_reserved members (claim_seen (slice_index_or xs i d)) → t ≡ false → find (is_added_and_reserved members) (take (i + 1) (map claim_seen xs)) ≡ None
 not_reserved_here members xs i d t l n is fails =
     let k : i + 1 ≡ suc i = omega arith in
-    ap (λ j. find (is_reserved_coming members) (take j (map claim_seen xs))) k
-    ∙ (ap (find (is_reserved_coming members)) (take_at (map claim_seen xs) i (claim_seen (slice_index_or xs i d)) (seen_at claim_seen xs i d l))
-    ∙ (found_both (is_reserved_coming members) (take i (map claim_seen xs)) (claim_seen (slice_index_or xs i d) ∷ [])
+    ap (λ j. find (is_added_and_reserved members) (take j (map claim_seen xs))) k
+    ∙ (ap (find (is_added_and_reserved members)) (take_at (map claim_seen xs) i (claim_seen (slice_index_or xs i d)) (seen_at claim_seen xs i d l))
+    ∙ (found_both (is_added_and_reserved members) (take i (map claim_seen xs)) (claim_seen (slice_index_or xs i d) ∷ [])
     ∙ (λ j. or_found (n j) (cond ((sym is ∙ fails) j) (Some (claim_seen (slice_index_or xs i d))) None))))
 
 pub none_reserved : (members : List Member) (xs : List Claim) (i : ℕ) → map claim_seen xs ≡ sorted_by claim_cmp (claims_in members) → length xs ≤ i
-    → find (is_reserved_coming members) (take i (map claim_seen xs)) ≡ None → None ≡ first_reserved members
+    → find (is_added_and_reserved members) (take i (map claim_seen xs)) ≡ None → None ≡ first_reserved members
 none_reserved members xs i e l n =
     let k : length (map claim_seen xs) ≡ length xs = map_len claim_seen xs in
-    sym (ap (option_map (λ c. c.path)) (sym (ap (find (is_reserved_coming members)) (take_whole (map claim_seen xs) i (omega (arith, k, l)))) ∙ n)) ∙ reserved_is members (map claim_seen xs) e
+    sym (ap (option_map (λ c. c.path)) (sym (ap (find (is_added_and_reserved members)) (take_whole (map claim_seen xs) i (omega (arith, k, l)))) ∙ n)) ∙ reserved_is members (map claim_seen xs) e
 
 -- ---- the contested path
 

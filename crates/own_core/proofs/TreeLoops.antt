@@ -32,12 +32,12 @@ there [] i d l = absurd (omega arith)
 there (x ∷ xs) zero d l = refl
 there (x ∷ xs) (suc i) d l = there xs i d (omega arith)
 
-found_behind : {Y : Type 0} (said : PathClaim → Option (List ℕ) → Y) (h : List TreeState) (cs : List PathClaim) (ys : List Y) (c : PathClaim) (y : Y)
+found_after : {Y : Type 0} (said : PathClaim → Option (List ℕ) → Y) (h : List TreeState) (cs : List PathClaim) (ys : List Y) (c : PathClaim) (y : Y)
     → AreByFiles said h cs ys → IsByFile said h c y → AreByFiles said h (cs ++ c ∷ []) (ys ++ y ∷ [])
-found_behind said h [] [] c y are is = (is, tt)
-found_behind said h [] (z ∷ ys) c y are is = absurd are
-found_behind said h (d ∷ cs) [] c y are is = absurd are
-found_behind said h (d ∷ cs) (z ∷ ys) c y are is = (are.0, found_behind said h cs ys c y are.1 is)
+found_after said h [] [] c y are is = (is, tt)
+found_after said h [] (z ∷ ys) c y are is = absurd are
+found_after said h (d ∷ cs) [] c y are is = absurd are
+found_after said h (d ∷ cs) (z ∷ ys) c y are is = (are.0, found_after said h cs ys c y are.1 is)
 
 pub found_more : {Y Z : Type 0} (s : Z → Y) (said : PathClaim → Option (List ℕ) → Y) (h h1 : List TreeState) (xs : List Claim) (i : ℕ) (d : Claim) (ys zs : List Z) (z : Z) → h1 ≡ h → i < length xs
     → zs ≡ ys ++ z ∷ [] → AreByFiles said h (map claim_seen (take i xs)) (map s ys) → IsByFile said h1 (claim_seen (slice_index_or xs i d)) (s z)
@@ -49,7 +49,7 @@ found_more s said h h1 xs i d ys zs z same l e are is =
     let fs : map s zs ≡ map s ys ++ s z ∷ [] = ap (map s) e ∙ map_more s ys z in
     subst (λ (ks : List PathClaim). AreByFiles said h ks (map s zs)) (sym cs)
     (subst (AreByFiles said h (map claim_seen (take i xs) ++ claim_seen (slice_index_or xs i d) ∷ [])) (sym fs)
-    (found_behind said h (map claim_seen (take i xs)) (map s ys) (claim_seen (slice_index_or xs i d)) (s z) are (subst (λ (k : List TreeState). IsByFile said k (claim_seen (slice_index_or xs i d)) (s z)) same is)))
+    (found_after said h (map claim_seen (take i xs)) (map s ys) (claim_seen (slice_index_or xs i d)) (s z) are (subst (λ (k : List TreeState). IsByFile said k (claim_seen (slice_index_or xs i d)) (s z)) same is)))
 
 pub found_all : {Y : Type 0} (said : PathClaim → Option (List ℕ) → Y) (h : List TreeState) (xs : List Claim) (i : ℕ) (ys : List Y) → length xs ≤ i
     → AreByFiles said h (map claim_seen (take i xs)) ys → AreByFiles said h (map claim_seen xs) ys

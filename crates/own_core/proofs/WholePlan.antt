@@ -24,11 +24,11 @@ use Rattle.claim_lists.proofs.Firsts.{found_in, paths}
 use Rattle.claim_lists.proofs.Lists.{found_passes, found_some}
 use Rattle.change_files.specs.FileChange.{is_claimed}
 use Rattle.change_files.specs.NamesAfter.{name_change}
-use Rattle.own_core.specs.ClaimEntries.{AreClaimsOf, is_of_coming_owner}
+use Rattle.own_core.specs.ClaimEntries.{AreClaimsOf, is_of_added_owner}
 use Rattle.own_core.specs.Fates.{claim_fate}
-use Rattle.own_core.specs.Going.{does_stay, is_beside, is_left}
+use Rattle.own_core.specs.Going.{is_file_kept, is_beside, is_path_left_over}
 use Rattle.own_core.specs.ListsSeen.{AreListsOfParts}
-use Rattle.own_core.specs.Parts.{AreParts, asides_of, left_claims_by}
+use Rattle.own_core.specs.Parts.{AreParts, asides_of, left_over_claims_by}
 use Rattle.own_core.specs.NamesChanged.{names_changed_by}
 use Rattle.own_core.specs.Planned.{IsClashBySome, IsOwnedBy, IsPlanOf, MayBeRefusalOf}
 use Rattle.own_core.specs.Sides.{HasClaims, claims_after, claims_before, file_change_of}
@@ -46,15 +46,15 @@ use Rattle.own_core.proofs.MarkedClaims.{files_kept}
 use Rattle.own_core.proofs.PlanParts.{files_first}
 
 -- the claims of owners that come, over other copies of the lists
-pub firsts_over : (members : List Member) (all again coming once : List Claim) → again ≡ all → once ≡ coming → HasFirsts (filter (is_of_coming_owner members) (map claim_seen again)) (map claim_seen coming)
-    → HasFirsts (filter (is_of_coming_owner members) (map claim_seen all)) (map claim_seen once)
+pub firsts_over : (members : List Member) (all again coming once : List Claim) → again ≡ all → once ≡ coming → HasFirsts (filter (is_of_added_owner members) (map claim_seen again)) (map claim_seen coming)
+    → HasFirsts (filter (is_of_added_owner members) (map claim_seen all)) (map claim_seen once)
 firsts_over members all again coming once e o h =
-    subst (λ (xs : List Claim). HasFirsts (filter (is_of_coming_owner members) (map claim_seen all)) (map claim_seen xs)) (sym o)
-    (subst (λ (xs : List Claim). HasFirsts (filter (is_of_coming_owner members) (map claim_seen xs)) (map claim_seen coming)) e h)
+    subst (λ (xs : List Claim). HasFirsts (filter (is_of_added_owner members) (map claim_seen all)) (map claim_seen xs)) (sym o)
+    (subst (λ (xs : List Claim). HasFirsts (filter (is_of_added_owner members) (map claim_seen xs)) (map claim_seen coming)) e h)
 
-pub coming_files_of : (members : List Member) (all : List PathClaim) (coming : List PathClaim) → AreClaimsOf members all → HasFirsts (filter (is_of_coming_owner members) all) coming → AreClaimsOf members coming
+pub coming_files_of : (members : List Member) (all : List PathClaim) (coming : List PathClaim) → AreClaimsOf members all → HasFirsts (filter (is_of_added_owner members) all) coming → AreClaimsOf members coming
 coming_files_of members all coming h firsts =
-    files_first members (filter (is_of_coming_owner members) all) coming (files_kept members (is_of_coming_owner members) all (filter (is_of_coming_owner members) all) h refl) firsts
+    files_first members (filter (is_of_added_owner members) all) coming (files_kept members (is_of_added_owner members) all (filter (is_of_added_owner members) all) h refl) firsts
 
 left_passes : (p : PathClaim → Bool) (cs : List PathClaim) (q : List ℕ) → Names.IsIn q (paths (filter p cs)) → (c : PathClaim) × (c.path ≡ q) × (p c ≡ true)
 left_passes p [] q here = absurd here
@@ -69,29 +69,29 @@ not_both : (b : Bool) → b ≡ true → not b ≡ true → ⊥
 not_both b is off = true≢false (sym off ∙ ap not is)
 
 -- a path of a file that comes is listed after the change, and one that is left over is not
-listed_after : (change : Change) → HasClaims change → (coming : List PathClaim) → HasFirsts (filter (is_of_coming_owner (members_of change.members.now)) (claims_after change)) coming
+listed_after : (change : Change) → HasClaims change → (coming : List PathClaim) → HasFirsts (filter (is_of_added_owner (members_of change.members.now)) (claims_after change)) coming
     → (q : List ℕ) → Names.IsIn q (paths coming) → is_claimed (file_change_of change) q ≡ true
 listed_after change claims coming firsts q here =
     let one = found_in coming q here in
     let all = sym (firsts.each q) ∙ one.1 in
-    let kept = found_from (is_of_path q) (filter (is_of_coming_owner (members_of change.members.now)) (claims_after change)) one.0 all in
-    let at = filter_from (is_of_coming_owner (members_of change.members.now)) (claims_after change) kept.0 one.0 kept.1 in
+    let kept = found_from (is_of_path q) (filter (is_of_added_owner (members_of change.members.now)) (claims_after change)) one.0 all in
+    let at = filter_from (is_of_added_owner (members_of change.members.now)) (claims_after change) kept.0 one.0 kept.1 in
     let some = found_some (is_of_path q) (claims_after change) at.0 one.0 at.1 (found_passes (is_of_path q) coming one.0 one.1) in
     sym (claimed_after change claims q) ∙ ap is_some some.1
 
-left_unlisted : (change : Change) (asides : List PathClaim) (q : List ℕ) → Names.IsIn q (paths (left_claims_by change asides)) → not (is_claimed (file_change_of change) q) ≡ true
+left_unlisted : (change : Change) (asides : List PathClaim) (q : List ℕ) → Names.IsIn q (paths (left_over_claims_by change asides)) → not (is_claimed (file_change_of change) q) ≡ true
 left_unlisted change asides q here =
-    let (c, is, left) = left_passes (λ c. is_left (file_change_of change) asides c.path) (claims_before change) q here in
+    let (c, is, left) = left_passes (λ c. is_path_left_over (file_change_of change) asides c.path) (claims_before change) q here in
     ap (λ path. not (is_claimed (file_change_of change) path)) (sym is) ∙ (and_parts (not (is_claimed (file_change_of change) c.path)) (not (is_beside asides c.path)) left).0
 
 -- ---- the plan
 
-module _ (change : Change) (claims : HasClaims change) (coming : List PathClaim) (firsts : HasFirsts (filter (is_of_coming_owner (members_of change.members.now)) (claims_after change)) coming)
+module _ (change : Change) (claims : HasClaims change) (coming : List PathClaim) (firsts : HasFirsts (filter (is_of_added_owner (members_of change.members.now)) (claims_after change)) coming)
     (parts : Parts) (h : List TreeState) (are : AreParts change h coming parts) where
-  over_files : AreFilesFound (claim_fate (file_change_of change)) (does_stay (file_change_of change)) h coming (left_claims_by change (asides_of parts)) are.fates are.stays
-  over_files = files_found (claim_fate (file_change_of change)) (does_stay (file_change_of change)) h coming (left_claims_by change (asides_of parts)) are.fates are.stays
+  over_files : AreFilesFound (claim_fate (file_change_of change)) (is_file_kept (file_change_of change)) h coming (left_over_claims_by change (asides_of parts)) are.fates are.stays
+  over_files = files_found (claim_fate (file_change_of change)) (is_file_kept (file_change_of change)) h coming (left_over_claims_by change (asides_of parts)) are.fates are.stays
       (Names.rises_from_pairs (paths coming) firsts.rising)
-      (filtered_rises (λ c. is_left (file_change_of change) (asides_of parts) c.path) (claims_before change) (Names.rises_from_pairs (paths (claims_before change)) claims.before.rising))
+      (filtered_rises (λ c. is_path_left_over (file_change_of change) (asides_of parts) c.path) (claims_before change) (Names.rises_from_pairs (paths (claims_before change)) claims.before.rising))
       (λ q here there. not_both (is_claimed (file_change_of change) q) (listed_after change claims coming firsts q here) (left_unlisted change (asides_of parts) q there))
       are.fates_found are.stays_found
 

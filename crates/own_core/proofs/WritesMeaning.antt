@@ -21,12 +21,12 @@ use Rattle.file_owners.specs.Owners.{claims_in}
 use Rattle.change_files.specs.Fate as Fates
 use Rattle.change_files.specs.Fate.{agrees_with_old, aside_name, fate_by, fate_of, goes_aside, goes_in, gives_way, is_as_old, is_guarded}
 use Rattle.file_guard.specs.AsListed.{is_as_listed}
-use Rattle.change_files.specs.FileChange.{FileChange, coming_owner, is_claimed, old_entry}
-use Rattle.change_files.specs.FilesAfter.{if_aside, if_in, laid_beside, path_beside, written_as, written_in}
+use Rattle.change_files.specs.FileChange.{FileChange, added_owner_listing, is_claimed, old_entry}
+use Rattle.change_files.specs.FilesAfter.{if_aside, if_in, aside_listing_at, path_beside, written_as, written_in}
 use Rattle.std.specs.Option.{option_or}
-use Rattle.change_files.specs.NamesAfter.{coming_paths}
+use Rattle.change_files.specs.NamesAfter.{added_paths}
 use Rattle.change_files.specs.PlanLists.{FileWrite, file_writes_of, names_in_order, write_to}
-use Rattle.own_core.specs.ClaimEntries.{claim_entry, is_of_coming_owner}
+use Rattle.own_core.specs.ClaimEntries.{claim_entry, is_of_added_owner}
 use Rattle.own_core.specs.Fates.{claim_fate, is_fate}
 use Rattle.own_core.specs.WritesSeen.{aside_write, claim_write, write_by, write_cmp}
 use Rattle.own_core.proofs.Endings.{found_front, front_of}
@@ -255,7 +255,7 @@ free_beside change files c h = by_file (files c.path) h
         (not (agrees_with_old (old_entry change c.path) (claim_entry change.members c))) (nat_le (length (aside_name c.path)) 1024) (is_claimed change (aside_name c.path)) h
 
 module _ (change : FileChange) (files : Files) (coming : List PathClaim) (up : Names.Rises (paths coming))
-    (each : (q : List ℕ) → find (is_of_path q) coming ≡ find (is_of_path q) (filter (is_of_coming_owner change.members) (sorted_by claim_cmp (claims_in change.members)))) where
+    (each : (q : List ℕ) → find (is_of_path q) coming ≡ find (is_of_path q) (filter (is_of_added_owner change.members) (sorted_by claim_cmp (claims_in change.members)))) where
   abbrev ins : List PathClaim
   ins = with_fate change files coming up each goes_in
 
@@ -268,27 +268,27 @@ module _ (change : FileChange) (files : Files) (coming : List PathClaim) (up : N
   same_write : (name : List ℕ) (l : Listing) (c : PathClaim) → IsClaimFor l c → write_to name l ≡ write_by name c
   same_write name l c h = (λ j. record { name = name; member = sym h.member j; folder = sym h.folder j; file = sym h.file j })
 
-  owner_claim : (c : PathClaim) → find (is_of_path c.path) coming ≡ Some c → GoTogether (coming_owner change c.path) (Some c)
-  owner_claim c f = subst (GoTogether (coming_owner change c.path)) f (together change files coming up each c.path)
+  owner_claim : (c : PathClaim) → find (is_of_path c.path) coming ≡ Some c → GoTogether (added_owner_listing change c.path) (Some c)
+  owner_claim c f = subst (GoTogether (added_owner_listing change c.path)) f (together change files coming up each c.path)
 
   in_as_written : (c : PathClaim) → (find (is_of_path c.path) coming ≡ Some c) × (is_fate goes_in (claim_fate change c (files c.path)) ≡ true) → as_written c.path ≡ Some (claim_write c)
   unfolding written_as
-  in_as_written c h = go (coming_owner change c.path) refl (owner_claim c h.0)
+  in_as_written c h = go (added_owner_listing change c.path) refl (owner_claim c h.0)
     where
-      go : (a : Option Listing) → coming_owner change c.path ≡ a → GoTogether a (Some c)
-          → option_map (write_to c.path) (option_or (option_and_then (λ l. if_in l (fate_of change files l)) a) (option_and_then (laid_beside change files) (path_beside c.path))) ≡ Some (claim_write c)
+      go : (a : Option Listing) → added_owner_listing change c.path ≡ a → GoTogether a (Some c)
+          → option_map (write_to c.path) (option_or (option_and_then (λ l. if_in l (fate_of change files l)) a) (option_and_then (aside_listing_at change files) (path_beside c.path))) ≡ Some (claim_write c)
       go None e k = absurd k
       go (Some l) e k =
-          ap (λ f. option_map (write_to c.path) (option_or (if_in l f) (option_and_then (laid_beside change files) (path_beside c.path)))) (sym (same_fate change files c.path l c e k) ∙ is_in (claim_fate change c (files c.path)) h.1)
+          ap (λ f. option_map (write_to c.path) (option_or (if_in l f) (option_and_then (aside_listing_at change files) (path_beside c.path)))) (sym (same_fate change files c.path l c e k) ∙ is_in (claim_fate change c (files c.path)) h.1)
           ∙ ap Some (same_write c.path l c k)
 
   aside_as_written : (c : PathClaim) → (find (is_of_path c.path) coming ≡ Some c) × (is_fate goes_aside (claim_fate change c (files c.path)) ≡ true) → as_written (aside_name c.path) ≡ Some (aside_write c)
   unfolding written_as
   aside_as_written c h =
-      (λ j. option_map (write_to (aside_name c.path)) (option_or (option_and_then (λ l. if_in l (fate_of change files l)) (no_owner change (aside_name c.path) (free_beside change files c h.1) j)) (option_and_then (laid_beside change files) (front_of c.path j))))
-      ∙ go (coming_owner change c.path) refl (owner_claim c h.0)
+      (λ j. option_map (write_to (aside_name c.path)) (option_or (option_and_then (λ l. if_in l (fate_of change files l)) (no_owner change (aside_name c.path) (free_beside change files c h.1) j)) (option_and_then (aside_listing_at change files) (front_of c.path j))))
+      ∙ go (added_owner_listing change c.path) refl (owner_claim c h.0)
     where
-      go : (a : Option Listing) → coming_owner change c.path ≡ a → GoTogether a (Some c)
+      go : (a : Option Listing) → added_owner_listing change c.path ≡ a → GoTogether a (Some c)
           → option_map (write_to (aside_name c.path)) (option_and_then (λ l. if_aside l (fate_of change files l)) a) ≡ Some (aside_write c)
       go None e k = absurd k
       go (Some l) e k =
@@ -308,8 +308,8 @@ module _ (change : FileChange) (files : Files) (coming : List PathClaim) (up : N
   claimed_in : (q : List ℕ) → Names.IsIn q (paths ins) → is_claimed change q ≡ true
   claimed_in q here = go (is_claimed change q) refl
     where
-      comes : is_some (coming_owner change q) ≡ true
-      comes = by_owner (coming_owner change q) (in_is change files coming up each q ∙ is_there ins q here)
+      comes : is_some (added_owner_listing change q) ≡ true
+      comes = by_owner (added_owner_listing change q) (in_is change files coming up each q ∙ is_there ins q here)
         where
           by_owner : (a : Option Listing) → is_some (option_and_then (λ l. if_in l (fate_of change files l)) a) ≡ true → is_some a ≡ true
           by_owner None h = h
@@ -339,7 +339,7 @@ module _ (change : FileChange) (files : Files) (coming : List PathClaim) (up : N
       (in_sorted_names q (write_names all_writes) (subst (Names.IsIn q) (names_sorted all_writes) here)))
 
   abbrev places : List (List ℕ)
-  places = coming_paths change.members ++ map aside_name (coming_paths change.members)
+  places = added_paths change.members ++ map aside_name (added_paths change.members)
 
   mapped_some : (name : List ℕ) (o : Option Listing) → is_some (option_map (write_to name) o) ≡ is_some o
   mapped_some name None = refl
@@ -348,23 +348,23 @@ module _ (change : FileChange) (files : Files) (coming : List PathClaim) (up : N
   there : (q : List ℕ) → Names.IsIn q (write_names (sorted_by write_cmp all_writes)) → Names.IsIn q places × (is_some (as_written q) ≡ true)
   there q here = (
     elim (of_write_names q here) [
-      | inl a ↦ both_in q (coming_paths change.members) (map aside_name (coming_paths change.members)) (inl (in_coming_paths change q (comes_in q a)))
+      | inl a ↦ both_in q (added_paths change.members) (map aside_name (added_paths change.members)) (inl (in_coming_paths change q (comes_in q a)))
       | inr b ↦ (let f = in_aside q (paths asides) b in
-          both_in q (coming_paths change.members) (map aside_name (coming_paths change.members))
-          (inr (subst (λ z. Names.IsIn z (map aside_name (coming_paths change.members))) (sym f.1) (aside_in f.0 (coming_paths change.members) (in_coming_paths change f.0 (comes_aside f.0 f.2))))))
+          both_in q (added_paths change.members) (map aside_name (added_paths change.members))
+          (inr (subst (λ z. Names.IsIn z (map aside_name (added_paths change.members))) (sym f.1) (aside_in f.0 (added_paths change.members) (in_coming_paths change f.0 (comes_aside f.0 f.2))))))
     ],
     written q here,
   )
     where
-      comes_in : (q : List ℕ) → Names.IsIn q (paths ins) → is_some (coming_owner change q) ≡ true
-      comes_in q a = by_owner (coming_owner change q) (in_is change files coming up each q ∙ is_there ins q a)
+      comes_in : (q : List ℕ) → Names.IsIn q (paths ins) → is_some (added_owner_listing change q) ≡ true
+      comes_in q a = by_owner (added_owner_listing change q) (in_is change files coming up each q ∙ is_there ins q a)
         where
           by_owner : (a : Option Listing) → is_some (option_and_then (λ l. if_in l (fate_of change files l)) a) ≡ true → is_some a ≡ true
           by_owner None h = h
           by_owner (Some l) h = refl
 
-      comes_aside : (q : List ℕ) → Names.IsIn q (paths asides) → is_some (coming_owner change q) ≡ true
-      comes_aside q a = by_owner (coming_owner change q) (laid_is change files coming up each q ∙ is_there asides q a)
+      comes_aside : (q : List ℕ) → Names.IsIn q (paths asides) → is_some (added_owner_listing change q) ≡ true
+      comes_aside q a = by_owner (added_owner_listing change q) (laid_is change files coming up each q ∙ is_there asides q a)
         where
           by_owner : (a : Option Listing) → is_some (option_and_then (λ l. if_aside l (fate_of change files l)) a) ≡ true → is_some a ≡ true
           by_owner None h = h
@@ -382,21 +382,21 @@ module _ (change : FileChange) (files : Files) (coming : List PathClaim) (up : N
   unfolding written_as
   back q here t = in_write_names q (by_in (is_some (written_in change files q)) refl)
     where
-      w : is_some (option_or (written_in change files q) (option_and_then (laid_beside change files) (path_beside q))) ≡ true
-      w = sym (mapped_some q (option_or (written_in change files q) (option_and_then (laid_beside change files) (path_beside q)))) ∙ t
+      w : is_some (option_or (written_in change files q) (option_and_then (aside_listing_at change files) (path_beside q))) ≡ true
+      w = sym (mapped_some q (option_or (written_in change files q) (option_and_then (aside_listing_at change files) (path_beside q)))) ∙ t
 
       skip : (a b : Option Listing) → is_some a ≡ false → is_some (option_or a b) ≡ true → is_some b ≡ true
       skip None b e h = h
       skip (Some l) b e h = absurd (true≢false e)
 
-      by_front : (p : Option (List ℕ)) → path_beside q ≡ p → is_some (option_and_then (laid_beside change files) p) ≡ true → Names.IsIn q (map aside_name (paths asides))
+      by_front : (p : Option (List ℕ)) → path_beside q ≡ p → is_some (option_and_then (aside_listing_at change files) p) ≡ true → Names.IsIn q (map aside_name (paths asides))
       by_front None e h = absurd (true≢false (sym h))
       by_front (Some p) e h =
           subst (λ z. Names.IsIn z (map aside_name (paths asides))) (sym (found_front q p e)) (aside_in p (paths asides) (there_is asides p (sym (laid_is change files coming up each p) ∙ h)))
 
       by_in : (b : Bool) → is_some (written_in change files q) ≡ b → Names.IsIn q (paths ins) ⊎ Names.IsIn q (map aside_name (paths asides))
       by_in true e = inl (there_is ins q (sym (in_is change files coming up each q) ∙ e))
-      by_in false e = inr (by_front (path_beside q) refl (skip (written_in change files q) (option_and_then (laid_beside change files) (path_beside q)) e w))
+      by_in false e = inr (by_front (path_beside q) refl (skip (written_in change files q) (option_and_then (aside_listing_at change files) (path_beside q)) e w))
 
   pub writes_are : sorted_by write_cmp all_writes ≡ file_writes_of change files
   unfolding file_writes_of

@@ -37,8 +37,8 @@ pub written_more : (name : PathClaim → List ℕ) (xs : List Claim) (i : ℕ) (
 written_more name xs i d old now new n l e is inv =
     behind_more (λ c. write_by (name c) c) xs i d old now new (write_by n (claim_seen (slice_index_or xs i d))) l e (ap (λ m. write_by m (claim_seen (slice_index_or xs i d))) is) inv
 
-pub behind_all : {Y : Type 0} (g : PathClaim → Y) (xs : List Claim) (i : ℕ) (old now : List Y) → length xs ≤ i → now ≡ old ++ map g (map claim_seen (take i xs)) → now ≡ old ++ map g (map claim_seen xs)
-behind_all g xs i old now l inv = inv ∙ ap (λ (zs : List Claim). old ++ map g (map claim_seen zs)) (take_whole xs i l)
+pub after_all : {Y : Type 0} (g : PathClaim → Y) (xs : List Claim) (i : ℕ) (old now : List Y) → length xs ≤ i → now ≡ old ++ map g (map claim_seen (take i xs)) → now ≡ old ++ map g (map claim_seen xs)
+after_all g xs i old now l inv = inv ∙ ap (λ (zs : List Claim). old ++ map g (map claim_seen zs)) (take_whole xs i l)
 
 -- ---- paths
 

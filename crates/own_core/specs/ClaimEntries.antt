@@ -8,7 +8,7 @@ use Rattle.adb_view.specs.Plain.{Plain, null}
 use Rattle.adb_view.specs.FieldIndexes.{DIR_FILES, PACKAGE_PATHS}
 use Rattle.adb_view.specs.Values.{count_of, entries_in, entry_in}
 use Rattle.adb_schema.specs.Reserved.{is_reserved}
-use Rattle.db_core.specs.Members.{Member, is_coming}
+use Rattle.db_core.specs.Members.{Member, is_added}
 use Rattle.path_claims.specs.Claims.{PathClaim, is_member}
 use Rattle.file_owners.specs.Owners.{owner_of_path}
 
@@ -52,19 +52,19 @@ AreClaimsOf members cs = (i : ℕ) (c : PathClaim) → slice_get cs i ≡ Some c
 -- ---- added members
 
 -- whether a member is added; not if there is none
-abbrev pub comes_if_any : Option Member → Bool
-comes_if_any None = false
-comes_if_any (Some m) = is_coming m
+abbrev pub is_added_if_any : Option Member → Bool
+is_added_if_any None = false
+is_added_if_any (Some m) = is_added m
 
 -- whether the member at a place is added
-abbrev pub comes_at : List Member → ℕ → Bool
-comes_at members place = comes_if_any (slice_get members place)
+abbrev pub is_added_at : List Member → ℕ → Bool
+is_added_at members place = is_added_if_any (slice_get members place)
 
 -- whether a claim is that of an added member, and of a reserved path
-abbrev pub is_reserved_coming : List Member → PathClaim → Bool
-is_reserved_coming members c = is_reserved c.path && comes_at members c.member
+abbrev pub is_added_and_reserved : List Member → PathClaim → Bool
+is_added_and_reserved members c = is_reserved c.path && is_added_at members c.member
 
 -- whether a claim is that of its path's owner, and this member is added
-unfoldable pub is_of_coming_owner : List Member → PathClaim → Bool
-is_of_coming_owner members c =
-    is_member c.member (owner_of_path members c.path) && comes_at members c.member
+unfoldable pub is_of_added_owner : List Member → PathClaim → Bool
+is_of_added_owner members c =
+    is_member c.member (owner_of_path members c.path) && is_added_at members c.member

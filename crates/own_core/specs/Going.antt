@@ -3,7 +3,7 @@
 -- which of those below `etc/` are kept.
 use Rattle.std.specs.Prelude.{ℕ, Bool, not, ◌&&◌, List, Option, option_and_then, is_some}
 use Rattle.std.specs.List.{find}
-use Rattle.db_core.specs.Members.{staying_members}
+use Rattle.db_core.specs.Members.{members_of_kept}
 use Rattle.path_claims.specs.Claims.{PathClaim, is_of_path}
 use Rattle.change_files.specs.Fate.{is_guarded}
 use Rattle.change_files.specs.FileChange.{FileChange, is_claimed}
@@ -17,12 +17,12 @@ is_beside asides name =
 
 -- whether a path is left over: no package lists it any more, and nothing is laid beside another
 -- file there
-abbrev pub is_left : FileChange → List PathClaim → List ℕ → Bool
-is_left change asides path = not (is_claimed change path) && not (is_beside asides path)
+abbrev pub is_path_left_over : FileChange → List PathClaim → List ℕ → Bool
+is_path_left_over change asides path = not (is_claimed change path) && not (is_beside asides path)
 
 -- whether the file of a claim of a package before the change is kept: it is configuration, the user
 -- changed it, and there is no `--purge`; `found` is the file under its path
-abbrev pub does_stay : FileChange → PathClaim → Option (List ℕ) → Bool
-does_stay change c found =
+abbrev pub is_file_kept : FileChange → PathClaim → Option (List ℕ) → Bool
+is_file_kept change c found =
     is_guarded c.path
-    && (not change.purge && is_changed (claim_entry (staying_members change.old) c) found)
+    && (not change.purge && is_changed (claim_entry (members_of_kept change.old) c) found)

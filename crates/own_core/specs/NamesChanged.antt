@@ -10,7 +10,7 @@ use Rattle.path_claims.specs.Claims.{is_of_path}
 use Rattle.change_files.specs.Fate.{aside_name}
 use Rattle.change_files.specs.FilesAfter.{database_name, world_name}
 use Rattle.path_clashes.specs.Clash.{NameChange}
-use Rattle.own_core.specs.ClaimEntries.{comes_at}
+use Rattle.own_core.specs.ClaimEntries.{is_added_at}
 use Rattle.own_core.specs.Parts.{asides_of, kept_of_parts}
 use Rattle.own_core.specs.Sides.{claims_after, claims_before}
 use Rattle.own_core.specs.declared.change.Change.{Change}
@@ -21,13 +21,13 @@ use Rattle.own_core.specs.declared.parts.Parts.{Parts}
 abbrev pub names_written_by : Change → Parts → List (List ℕ)
 names_written_by change parts =
     database_name ∷ world_name ∷ [] ++ map (λ c. c.path)
-    (filter (λ c. comes_at (members_of change.members.now) c.member) (claims_after change))
+    (filter (λ c. is_added_at (members_of change.members.now) c.member) (claims_after change))
     ++ map (λ c. aside_name c.path) (asides_of parts)
 
 -- whether a path is let go: packages before list it, no package lists it any more, and no file is
 -- kept there
-abbrev pub is_let_go_by : Change → Parts → List ℕ → Bool
-is_let_go_by change parts name =
+abbrev pub is_released_by : Change → Parts → List ℕ → Bool
+is_released_by change parts name =
     is_some (find (is_of_path name) (claims_before change))
     && not (is_some (find (is_of_path name) (claims_after change))
     || is_some (find (is_of_path name) (kept_of_parts parts)))
@@ -37,5 +37,5 @@ abbrev pub names_changed_by : Change → Parts → NameChange
 names_changed_by change parts = record {
   counts_as_written = λ name.
       list_any (bytes_eq name) (sorted_by bytes_cmp (names_written_by change parts));
-  lets_go = is_let_go_by change parts;
+  does_release = is_released_by change parts;
 }

@@ -10,7 +10,7 @@ use Rattle.change_files.specs.Fate as Fates
 use Rattle.change_files.specs.Fate.{goes_aside, goes_in}
 use Rattle.own_core.specs.Fates.{claim_fate, is_fate, is_flag, marked_claims}
 use Rattle.own_core.specs.Found.{AreByFiles}
-use Rattle.own_core.specs.Going.{does_stay, is_left}
+use Rattle.own_core.specs.Going.{is_file_kept, is_path_left_over}
 use Rattle.own_core.specs.Sides.{claims_before, file_change_of}
 use Rattle.own_core.specs.declared.change.Change.{Change}
 use Rattle.own_core.specs.declared.parts.Parts.{Parts}
@@ -32,9 +32,9 @@ abbrev pub kept_of_parts : Parts → List PathClaim
 kept_of_parts parts = map claim_seen parts.kept.items
 
 -- the claims of paths that are left over, if the files of the claims `asides` are laid beside others
-abbrev pub left_claims_by : Change → List PathClaim → List PathClaim
-left_claims_by change asides =
-    filter (λ c. is_left (file_change_of change) asides c.path) (claims_before change)
+abbrev pub left_over_claims_by : Change → List PathClaim → List PathClaim
+left_over_claims_by change asides =
+    filter (λ c. is_path_left_over (file_change_of change) asides c.path) (claims_before change)
 
 -- the files of a change are divided: the added ones by their fates, and those that are left over by
 -- whether they are kept
@@ -43,11 +43,11 @@ pub record AreParts (change : Change) (history : List TreeState) (coming : List 
   pub fates : List Fates.Fate
   pub stays : List Bool
   pub fates_found : AreByFiles (claim_fate (file_change_of change)) history coming fates
-  pub stays_found : AreByFiles (does_stay (file_change_of change)) history
-      (left_claims_by change (asides_of parts)) stays
+  pub stays_found : AreByFiles (is_file_kept (file_change_of change)) history
+      (left_over_claims_by change (asides_of parts)) stays
   pub ins : ins_of parts ≡ marked_claims (is_fate goes_in) coming fates
   pub asides : asides_of parts ≡ marked_claims (is_fate goes_aside) coming fates
   pub removed : removed_of parts
-      ≡ marked_claims (is_flag false) (left_claims_by change (asides_of parts)) stays
+      ≡ marked_claims (is_flag false) (left_over_claims_by change (asides_of parts)) stays
   pub kept : kept_of_parts parts
-      ≡ marked_claims (is_flag true) (left_claims_by change (asides_of parts)) stays
+      ≡ marked_claims (is_flag true) (left_over_claims_by change (asides_of parts)) stays

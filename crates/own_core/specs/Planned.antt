@@ -11,7 +11,7 @@ use Rattle.base_core.specs.Files.{Files}
 use Rattle.base_core.specs.Listed.{IsRising}
 use Rattle.base_core.specs.Name.{IsName}
 use Rattle.base_core.specs.Tree.{TreeState, files_of}
-use Rattle.db_core.specs.Members.{Member, is_coming, member_name}
+use Rattle.db_core.specs.Members.{Member, is_added, member_name}
 use Rattle.db_core.specs.Seen.{members_of, packages_of}
 use Rattle.db_core.specs.declared.db.Db.{Db}
 use Rattle.db_core.specs.declared.members.Members.{Members}
@@ -78,15 +78,15 @@ pub record HasOwnNames (plan : FilePlan) : Type 0 where
   pub apart : (name : List ℕ) → Contains plan.removals name → Contains (written_names plan) name → ⊥
 
 -- the member of a write is added, and has the file at the write's positions
-pub record IsOfComingFile (members : List Member) (w : FileWrite) : Type 0 where
+pub record IsOfAddedFile (members : List Member) (w : FileWrite) : Type 0 where
   pub member : Member
   pub at : slice_get members w.member ≡ Some member
-  pub comes : is_coming member ≡ true
+  pub comes : is_added member ≡ true
   pub place : HasFileAt (entry_in member.pkg PACKAGE_PATHS) w.folder w.file
 
 -- each file that a plan writes is one of an added member
 abbrev pub HasSources : List Member → FilePlan → Type 0
-HasSources members plan = All (IsOfComingFile members) (writes_in plan.writes)
+HasSources members plan = All (IsOfAddedFile members) (writes_in plan.writes)
 
 -- ---- why there is none
 

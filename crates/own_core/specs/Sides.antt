@@ -3,7 +3,7 @@
 -- *FileChange* of `change_files`.
 use Rattle.std.specs.Prelude.{◌≡◌, List, map}
 use Rattle.base_core.specs.Sorted.{sorted_by}
-use Rattle.db_core.specs.Members.{staying_members}
+use Rattle.db_core.specs.Members.{members_of_kept}
 use Rattle.db_core.specs.Seen.{members_of, packages_of}
 use Rattle.path_claims.specs.Claims.{PathClaim, claim_cmp}
 use Rattle.path_claims.specs.Seen.{claim_seen}
@@ -28,8 +28,8 @@ claims_after c = map claim_seen c.after.now
 
 -- the claims of a change are those of its packages: before the change one for each path, after it all
 pub record HasClaims (c : Change) : Type 0 where
-  pub before : HasFirsts (sorted_by claim_cmp (claims_in (staying_members (packages_of c.db.now))))
+  pub before : HasFirsts (sorted_by claim_cmp (claims_in (members_of_kept (packages_of c.db.now))))
       (claims_before c)
   pub after : claims_after c ≡ sorted_by claim_cmp (claims_in (members_of c.members.now))
-  pub old_files : AreClaimsOf (staying_members (packages_of c.db.now)) (claims_before c)
+  pub old_files : AreClaimsOf (members_of_kept (packages_of c.db.now)) (claims_before c)
   pub new_files : AreClaimsOf (members_of c.members.now) (claims_after c)

@@ -15,7 +15,7 @@ ghost use Rattle.base_core.specs.ByteOrder.{bytes_cmp};
 ghost use Rattle.base_core.specs.Sorted.{sorted_by};
 ghost use Rattle.path_claims.specs.Claims.{claim_cmp, is_of_path};
 ghost use Rattle.path_claims.specs.Seen.{claim_seen};
-ghost use Rattle.own_core.specs.ClaimEntries.{AreClaimsOf, comes_at};
+ghost use Rattle.own_core.specs.ClaimEntries.{AreClaimsOf, is_added_at};
 ghost use Rattle.own_core.specs.WritesSeen.{HaveNamesBeside};
 
 use crate::coming::comes;
@@ -25,7 +25,7 @@ use base_core::Names;
 use claim_lists::{find_claim, name_of_path};
 use db_core::Members;
 use path_claims::Claim;
-use path_clashes::LetGo;
+use path_clashes::IsReleased;
 use root_names::{DATABASE_NAME, WORLD_NAME};
 use std::alloc::{AllocError, Global};
 
@@ -51,7 +51,7 @@ fn add_coming<'a>(
 ) -> Result<(), AllocError>
     requires { AreClaimsOf (members_of members.now) (map claim_seen claims.now) }
     ensures { OnOk result (map joined_path paths.new.items ≡ map joined_path paths.old.items
-        ++ map (λ c. c.path) (filter (λ c. comes_at (members_of members.now) c.member)
+        ++ map (λ c. c.path) (filter (λ c. is_added_at (members_of members.now) c.member)
         (map claim_seen claims.now))) }
 {
     for claim in claims {
@@ -96,7 +96,7 @@ pub(crate) fn written_paths<'a>(
     requires { AreClaimsOf (members_of members.now) (map claim_seen claims.now) }
     ensures { IfOk result (λ paths. map joined_path paths.items ≡ sorted_by bytes_cmp
         (database_name ∷ world_name ∷ [] ++ map (λ c. c.path)
-        (filter (λ c. comes_at (members_of members.now) c.member) (map claim_seen claims.now))
+        (filter (λ c. is_added_at (members_of members.now) c.member) (map claim_seen claims.now))
         ++ besides.now)) }
 {
     let mut paths = Vec::new(alloc);
@@ -117,7 +117,7 @@ pub(crate) fn written_paths<'a>(
 /// The paths that a change lets go of: packages before list them, no package lists them any more,
 /// and no file is kept there.
 #[derive(Clone, Copy)]
-pub(crate) struct LetGoPaths<'c, 'o, 'n> {
+pub(crate) struct ReleasedPaths<'c, 'o, 'n> {
     /// The files that the old database lists, one of each path.
     pub(crate) before: &'c [Claim<'o>],
     /// The files that packages list after the change.
@@ -130,15 +130,15 @@ pub(crate) struct LetGoPaths<'c, 'o, 'n> {
     ghost kept_sorted: { IsSorted claim_cmp (map claim_seen kept.now) },
 }
 
-impl<'c, 'o, 'n> LetGo for LetGoPaths<'c, 'o, 'n> {
-    ghost lets_go = { λ paths name.
+impl<'c, 'o, 'n> IsReleased for ReleasedPaths<'c, 'o, 'n> {
+    ghost does_release = { λ paths name.
         is_some (find (is_of_path name) (map claim_seen paths.before.now))
         && not (is_some (find (is_of_path name) (map claim_seen paths.after.now))
         || is_some (find (is_of_path name) (map claim_seen paths.kept.now))) };
 
     /// Whether the old database lists the path, no package lists it after the change, and no file
     /// is kept there.
-    fn lets_go(&self, name: &[u8]) -> bool {
+    fn does_release(&self, name: &[u8]) -> bool {
         let path = FilePath { folder: &[], name };
         if find_claim(self.before, &path).is_none() || find_claim(self.after, &path).is_some() {
             return false;

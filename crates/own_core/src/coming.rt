@@ -10,7 +10,7 @@ ghost use Rattle.db_core.specs.Seen.{members_of};
 ghost use Rattle.file_owners.specs.Owners.{owner_of_path};
 ghost use Rattle.path_claims.specs.Claims.{claim_cmp};
 ghost use Rattle.path_claims.specs.Seen.{claim_seen};
-ghost use Rattle.own_core.specs.ClaimEntries.{AreClaimsOf, IsClaimOf, comes_at, is_of_coming_owner};
+ghost use Rattle.own_core.specs.ClaimEntries.{AreClaimsOf, IsClaimOf, is_added_at, is_of_added_owner};
 
 use claim_lists::one_of_each_path;
 use db_core::Members;
@@ -20,18 +20,18 @@ use std::alloc::{AllocError, Global};
 /// Whether the member of a claim is added: it has the id of a package that is read.
 pub fn comes(members: &Members<'_>, claim: &Claim<'_>) -> bool
     requires { IsClaimOf (members_of members.now) (claim_seen claim.now) }
-    ensures { result ≡ comes_at (members_of members.now) claim.now.member }
+    ensures { result ≡ is_added_at (members_of members.now) claim.now.member }
 {
     members.id(claim.member as usize).is_some()
 }
 
 /// Whether a claim is that of its path's owner (`owner` is the owner's place), and this member is
 /// added.
-#[tactic(auto, unfolding(crate::specs::ClaimEntries::is_of_coming_owner))]
-fn is_of_coming_owner(members: &Members<'_>, claim: &Claim<'_>, owner: Option<u32>) -> bool
+#[tactic(auto, unfolding(crate::specs::ClaimEntries::is_of_added_owner))]
+fn is_of_added_owner(members: &Members<'_>, claim: &Claim<'_>, owner: Option<u32>) -> bool
     requires file { IsClaimOf (members_of members.now) (claim_seen claim.now) }
     requires owner { owner ≡ owner_of_path (members_of members.now) (claim_seen claim.now).path }
-    ensures { result ≡ is_of_coming_owner (members_of members.now) (claim_seen claim.now) }
+    ensures { result ≡ is_of_added_owner (members_of members.now) (claim_seen claim.now) }
 {
     match owner {
         Some(owner) => claim.member == owner && comes(members, claim),
@@ -51,11 +51,11 @@ fn owned_claims<'n>(
     requires owners { owners.now
         ≡ map (λ c. owner_of_path (members_of members.now) c.path) (map claim_seen claims.now) }
     ensures { IfOk result (λ owned. map claim_seen owned.items
-        ≡ filter (is_of_coming_owner (members_of members.now)) (map claim_seen claims.now)) }
+        ≡ filter (is_of_added_owner (members_of members.now)) (map claim_seen claims.now)) }
 {
     let mut owned = Vec::new(alloc);
     for i in 0..claims.len() {
-        if is_of_coming_owner(members, &claims[i], owners[i]) {
+        if is_of_added_owner(members, &claims[i], owners[i]) {
             owned.push(claims[i])?;
         }
     }
@@ -64,7 +64,7 @@ fn owned_claims<'n>(
 
 /// For each path with an added owner, the claim by which the owner lists it, in the order of paths.
 /// `owners` has for each claim the place of the owner of its path, or none.
-pub fn coming_claims<'n>(
+pub fn added_claims<'n>(
     alloc: Global,
     members: &Members<'n>,
     claims: &[Claim<'n>],
@@ -75,7 +75,7 @@ pub fn coming_claims<'n>(
     requires owners { owners.now
         ≡ map (λ c. owner_of_path (members_of members.now) c.path) (map claim_seen claims.now) }
     ensures { IfOk result (λ coming. HasFirsts
-        (filter (is_of_coming_owner (members_of members.now)) (map claim_seen claims.now))
+        (filter (is_of_added_owner (members_of members.now)) (map claim_seen claims.now))
         (map claim_seen coming.items)) }
 {
     let owned = owned_claims(alloc, members, claims, owners)?;

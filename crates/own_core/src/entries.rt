@@ -7,7 +7,7 @@ ghost use Rattle.adb_fields.specs.ListValue.{list_value};
 ghost use Rattle.adb_schema.specs.Views.{package_value};
 ghost use Rattle.adb_view.specs.FieldIndexes.{PACKAGE_PATHS};
 ghost use Rattle.adb_view.specs.Values.{count_of, entries_in, entry_in};
-ghost use Rattle.db_core.specs.Members.{staying_members};
+ghost use Rattle.db_core.specs.Members.{members_of_kept};
 ghost use Rattle.db_core.specs.Seen.{members_of, packages_of};
 ghost use Rattle.file_guard.specs.Listed.{IsOfEntry};
 ghost use Rattle.path_claims.specs.Seen.{claim_seen};
@@ -68,9 +68,9 @@ pub(crate) fn listed_before<'a>(
     claim: &Claim<'_>,
     _mark: PhantomData<PackageView<'a>>,
 ) -> ListedFile<'a>
-    requires { IsClaimOf (staying_members (packages_of db.now)) (claim_seen claim.now) }
+    requires { IsClaimOf (members_of_kept (packages_of db.now)) (claim_seen claim.now) }
     ensures { IsOfEntry result
-        (claim_entry (staying_members (packages_of db.now)) (claim_seen claim.now)) }
+        (claim_entry (members_of_kept (packages_of db.now)) (claim_seen claim.now)) }
 {
     let pkg = db.package(claim.member as usize);
     listed_in(&pkg, claim)

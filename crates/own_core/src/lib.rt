@@ -25,7 +25,7 @@ mod planning;
 mod writes;
 
 pub use change::Change;
-pub use coming::{comes, coming_claims};
+pub use coming::{added_claims, comes};
 pub use fault::PlanFault;
 pub use guarded::name_beside;
 pub use parts::{Parts, parts_of};

@@ -8,14 +8,14 @@ ghost use Rattle.std.specs.List.Sorted.{IsSorted};
 ghost use Rattle.adb_fields.specs.JoinedPath.{joined_path};
 ghost use Rattle.base_core.specs.Listed.{IsRising};
 ghost use Rattle.base_core.specs.Read.{OnlyReads};
-ghost use Rattle.db_core.specs.Members.{staying_members};
+ghost use Rattle.db_core.specs.Members.{members_of_kept};
 ghost use Rattle.db_core.specs.Seen.{members_of, packages_of};
 ghost use Rattle.path_claims.specs.Claims.{claim_cmp};
 ghost use Rattle.path_claims.specs.Seen.{claim_seen};
 ghost use Rattle.own_core.specs.ClaimEntries.{AreClaimsOf, IsClaimOf};
 ghost use Rattle.own_core.specs.Fates.{fate_seen, is_fate, is_flag, marked_claims};
 ghost use Rattle.own_core.specs.Found.{AreByFiles, IsByFile};
-ghost use Rattle.own_core.specs.Going.{does_stay, is_beside, is_left};
+ghost use Rattle.own_core.specs.Going.{is_file_kept, is_beside, is_path_left_over};
 ghost use Rattle.own_core.specs.Parts.{AreParts};
 ghost use Rattle.own_core.specs.Sides.{HasClaims, claims_before, file_change_of};
 
@@ -78,7 +78,7 @@ fn is_beside(asides: &[Claim<'_>], path: &FilePath<'_>) -> bool
 
 /// Whether no package lists a path any more, and nothing is laid beside another one there. If paths
 /// are tested in their order, each search starts at `next`.
-fn is_left(
+fn is_path_left_over(
     change: &Change<'_, '_, '_>,
     asides: &[Claim<'_>],
     path: &FilePath<'_>,
@@ -86,7 +86,7 @@ fn is_left(
 ) -> bool
     requires claims { HasClaims change.now }
     requires sorted { IsSorted claim_cmp (map claim_seen asides.now) }
-    ensures { result ≡ is_left (file_change_of change.now) (map claim_seen asides.now)
+    ensures { result ≡ is_path_left_over (file_change_of change.now) (map claim_seen asides.now)
         (joined_path path.now) }
 {
     if find_next_claim(change.after, path, next).is_some() {
@@ -97,7 +97,7 @@ fn is_left(
 
 /// The claims of the packages before the change whose paths are left over: no package lists them
 /// any more, and nothing is laid beside another file there.
-fn left_claims<'o>(
+fn left_over_claims<'o>(
     alloc: Global,
     change: &Change<'_, 'o, '_>,
     asides: &[Claim<'_>],
@@ -105,14 +105,15 @@ fn left_claims<'o>(
     requires claims { HasClaims change.now }
     requires sorted { IsSorted claim_cmp (map claim_seen asides.now) }
     ensures { IfOk result (λ left. map claim_seen left.items
-        ≡ filter (λ c. is_left (file_change_of change.now) (map claim_seen asides.now) c.path)
+        ≡ filter (λ c. is_path_left_over (file_change_of change.now) (map claim_seen asides.now)
+        c.path)
         (claims_before change.now)) }
 {
     let mut left = Vec::new(alloc);
     // Paths are searched in their order, so each search starts where the last one ended.
     let mut next = 0;
     for i in 0..change.before.len() {
-        if is_left(change, asides, &change.before[i].path, &mut next) {
+        if is_path_left_over(change, asides, &change.before[i].path, &mut next) {
             left.push(change.before[i])?;
         }
     }
@@ -121,14 +122,14 @@ fn left_claims<'o>(
 
 /// Whether the user's file is kept under a path that is left over: it is configuration, the user
 /// changed it, and there is no `--purge`.
-fn does_stay<T: Tree>(
+fn is_file_kept<T: Tree>(
     alloc: Global,
     tree: &mut T,
     change: &Change<'_, '_, '_>,
     claim: &Claim<'_>,
 ) -> Result<bool, TreeFault>
-    requires { IsClaimOf (staying_members (packages_of change.now.db.now)) (claim_seen claim.now) }
-    ensures stays { IfOk result (IsByFile (does_stay (file_change_of change.now))
+    requires { IsClaimOf (members_of_kept (packages_of change.now.db.now)) (claim_seen claim.now) }
+    ensures stays { IfOk result (IsByFile (is_file_kept (file_change_of change.now))
         (T.history tree.old) (claim_seen claim.now)) }
     ensures tree { OnlyReads TreeFault.Disk (T.history tree.old) (T.history tree.new)
         (T.counts tree.old) (T.counts tree.new) result }
@@ -158,16 +159,16 @@ fn stays_of<T: Tree>(
     change: &Change<'_, '_, '_>,
     left: &[Claim<'_>],
 ) -> Result<Vec<bool>, TreeFault>
-    requires { AreClaimsOf (staying_members (packages_of change.now.db.now))
+    requires { AreClaimsOf (members_of_kept (packages_of change.now.db.now))
         (map claim_seen left.now) }
-    ensures stays { IfOk result (λ stays. AreByFiles (does_stay (file_change_of change.now))
+    ensures stays { IfOk result (λ stays. AreByFiles (is_file_kept (file_change_of change.now))
         (T.history tree.old) (map claim_seen left.now) stays.items) }
     ensures tree { OnlyReads TreeFault.Disk (T.history tree.old) (T.history tree.new)
         (T.counts tree.old) (T.counts tree.new) result }
 {
     let mut stays = Vec::new(alloc);
     for claim in left {
-        let flag = does_stay(alloc, tree, change, claim)?;
+        let flag = is_file_kept(alloc, tree, change, claim)?;
         add_flag(&mut stays, flag)?;
     }
     Ok(stays)
@@ -232,7 +233,7 @@ pub fn parts_of<'o, 'n, T: Tree>(
     let fates = fates_of(alloc, tree, change, coming)?;
     let ins = claims_with(alloc, coming, &fates, Fate::GoesIn)?;
     let asides = claims_with(alloc, coming, &fates, Fate::GoesAside)?;
-    let left = left_claims(alloc, change, &asides)?;
+    let left = left_over_claims(alloc, change, &asides)?;
     let stays = stays_of(alloc, tree, change, &left)?;
     let removed = claims_where(alloc, &left, &stays, false)?;
     let kept = claims_where(alloc, &left, &stays, true)?;

@@ -21,7 +21,7 @@ ghost use Rattle.path_claims.specs.ContestedSeen.{contested_seen};
 ghost use Rattle.path_claims.specs.Seen.{claim_seen};
 ghost use Rattle.path_clashes.specs.ClashSeen.{clash_seen};
 ghost use Rattle.path_clashes.specs.FirstClash.{IsClashOf, MayBeClashOf};
-ghost use Rattle.own_core.specs.ClaimEntries.{AreClaimsOf, IsClaimOf, is_of_coming_owner, is_reserved_coming};
+ghost use Rattle.own_core.specs.ClaimEntries.{AreClaimsOf, IsClaimOf, is_of_added_owner, is_added_and_reserved};
 ghost use Rattle.own_core.specs.ListsSeen.{AreListsOfParts};
 ghost use Rattle.own_core.specs.Parts.{AreParts, asides_of, ins_of, kept_of_parts, removed_of};
 ghost use Rattle.own_core.specs.NamesChanged.{names_changed_by};
@@ -30,8 +30,8 @@ ghost use Rattle.own_core.specs.Sides.{HasClaims, claims_after, file_change_of};
 ghost use Rattle.own_core.specs.WritesSeen.{HaveNamesBeside};
 
 use crate::change::Change;
-use crate::clashes::{LetGoPaths, names_beside, written_paths};
-use crate::coming::{comes, coming_claims};
+use crate::clashes::{ReleasedPaths, names_beside, written_paths};
+use crate::coming::{added_claims, comes};
 use crate::fault::PlanFault;
 use crate::parts::{Parts, parts_of};
 use crate::writes::{Writes, writes_of};
@@ -108,7 +108,7 @@ fn clash_of<T: Tree>(
     requires claims { HasClaims change.now }
     requires files { AreClaimsOf (members_of change.now.members.now) (map claim_seen coming.now) }
     requires firsts { HasFirsts
-        (filter (is_of_coming_owner (members_of change.now.members.now)) (claims_after change.now))
+        (filter (is_of_added_owner (members_of change.now.members.now)) (claims_after change.now))
         (map claim_seen coming.now) }
     requires parts { AreParts change.now (T.history tree.old) (map claim_seen coming.now)
         parts.now }
@@ -124,7 +124,7 @@ fn clash_of<T: Tree>(
 {
     let besides = names_beside(alloc, &parts.asides)?;
     let written = written_paths(alloc, change.members, change.after, &besides)?;
-    let let_go = LetGoPaths {
+    let let_go = ReleasedPaths {
         before: change.before,
         after: change.after,
         kept: &parts.kept,
@@ -133,9 +133,9 @@ fn clash_of<T: Tree>(
 }
 
 /// Whether a claim is of an added member, and of a reserved path.
-fn is_reserved_coming(members: &Members<'_>, claim: &Claim<'_>) -> bool
+fn is_added_and_reserved(members: &Members<'_>, claim: &Claim<'_>) -> bool
     requires { IsClaimOf (members_of members.now) (claim_seen claim.now) }
-    ensures { result ≡ is_reserved_coming (members_of members.now) (claim_seen claim.now) }
+    ensures { result ≡ is_added_and_reserved (members_of members.now) (claim_seen claim.now) }
 {
     is_reserved_file(claim.path.folder, claim.path.name) && comes(members, claim)
 }
@@ -152,7 +152,7 @@ fn first_reserved(
     ensures { IfOk result (λ found. found ≡ first_reserved (members_of members.now)) }
 {
     for claim in claims {
-        if is_reserved_coming(members, claim) {
+        if is_added_and_reserved(members, claim) {
             let name = name_of_path(alloc, &claim.path)?;
             return Ok(Some(name));
         }
@@ -223,7 +223,7 @@ fn plan_of_claims<T: Tree>(
 ) -> Result<FilePlan, PlanFault>
     requires claims { HasClaims change.now }
     requires firsts { HasFirsts
-        (filter (is_of_coming_owner (members_of change.now.members.now)) (claims_after change.now))
+        (filter (is_of_added_owner (members_of change.now.members.now)) (claims_after change.now))
         (map claim_seen coming.now) }
     requires contested { option_map contested_seen contested.now
         ≡ contested_of (members_of change.now.members.now) }
@@ -315,6 +315,6 @@ pub fn plan<'c, T: Tree>(
         after: &found.claims,
         purge,
     };
-    let coming = coming_claims(alloc, after, &found.claims, &found.owners)?;
+    let coming = added_claims(alloc, after, &found.claims, &found.owners)?;
     plan_of_claims(alloc, tree, &change, &coming, &contested, owned)
 }

@@ -35,12 +35,12 @@ const QUESTIONS: [(&[u8], Question); 3] = [
 
 /// The added packages, as the rows before have told them.
 #[derive(Drop)]
-struct ComingPackages {
+struct AddedPackages {
     /// Their containers, in the order in which they were told.
     packages: Vec<Vec<u8>>,
 }
 
-impl Subject for ComingPackages {
+impl Subject for AddedPackages {
     // Answers a question by its first word, on the packages that the rows before have told.
     fn answer(
         &mut self,
@@ -69,7 +69,7 @@ impl Subject for ComingPackages {
 // Answers the rows of standard input.
 fn main(rt: HostRuntime) -> io::Result<ExitCode> {
     let alloc = rt.alloc();
-    let mut change = ComingPackages {
+    let mut change = AddedPackages {
         packages: Vec::new(alloc),
     };
     run_program(&rt, alloc, &mut change)

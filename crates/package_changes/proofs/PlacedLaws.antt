@@ -16,9 +16,9 @@ use Rattle.package_changes.specs.SelectedNames.{place_beside, placed_name_at}
 
 -- ---- the first by its place
 
-slice_behind : {X : Type 0} (front : List X) (x : X) (xs : List X) → slice_get (front ++ x ∷ xs) (length front) ≡ Some x
-slice_behind [] x xs = refl
-slice_behind (y ∷ front) x xs = slice_behind front x xs
+slice_after : {X : Type 0} (front : List X) (x : X) (xs : List X) → slice_get (front ++ x ∷ xs) (length front) ≡ Some x
+slice_after [] x xs = refl
+slice_after (y ∷ front) x xs = slice_after front x xs
 
 joined_one : {X : Type 0} (front : List X) (x : X) (xs : List X) → front ++ x ∷ xs ≡ (front ++ x ∷ []) ++ xs
 joined_one [] x xs = refl
@@ -33,7 +33,7 @@ at_position p front (x ∷ xs) = go (p x) (at_position p (front ++ x ∷ []) xs)
   where
     go : (t : Bool) → option_and_then (slice_get ((front ++ x ∷ []) ++ xs)) (position_from p (length (front ++ x ∷ [])) xs) ≡ find p xs
         → option_and_then (slice_get (front ++ x ∷ xs)) (cond t (Some (length front)) (position_from p (length front + 1) xs)) ≡ cond t (Some x) (find p xs)
-    go true further = slice_behind front x xs
+    go true further = slice_after front x xs
     go false further =
         ap (λ z. option_and_then (slice_get z) (position_from p (length front + 1) xs)) (joined_one front x xs)
         ∙ (ap (λ n. option_and_then (slice_get ((front ++ x ∷ []) ++ xs)) (position_from p n xs)) (sym (one_longer front x)) ∙ further)

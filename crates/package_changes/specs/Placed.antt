@@ -1,5 +1,5 @@
 -- The changes of a selection, with the places of their packages.
--- The rules are those of *Changes*; *placed* is defined in `docs/names.md`, "What a change comes to".
+-- The rules are those of *Changes*.
 use Rattle.std.specs.Prelude.{ℕ, List, Option, bytes_eq, map, option_map, option_and_then, slice_get}
 use Rattle.std.specs.List.{filter_map, find, list_any, position_from}
 use Rattle.adb_view.specs.Plain.{Plain}

@@ -45,8 +45,8 @@ was_installed before name = list_any (is_package_named name) before
 -- The lines on the names that were to be removed, in byte order, each once: those that are kept. A name
 -- that was not installed has no line.
 abbrev pub stay_lines : List Plain → List Candidate → List (List ℕ) → List ℕ
-stay_lines before selected to_go =
-    flat_map (selected_stay_lines selected) (filter (was_installed before) (names_in_order to_go))
+stay_lines before selected to_remove =
+    flat_map (selected_stay_lines selected) (filter (was_installed before) (names_in_order to_remove))
 
 -- ---- the report
 
@@ -58,5 +58,6 @@ selected_sum_line selected = report_line (sum_text (sum_by candidate_size select
 -- the whole report of a simulated change: the change of each package, the kept ones of the names that
 -- were to be removed, and the sum
 unfoldable pub simulated_report : Replacement → List (List ℕ) → List ℕ
-simulated_report r to_go =
-    change_lines (changes_of r) ++ stay_lines r.before r.selected to_go ++ selected_sum_line r.selected
+simulated_report r to_remove =
+    change_lines (changes_of r) ++ stay_lines r.before r.selected to_remove ++ selected_sum_line
+    r.selected

@@ -1,7 +1,7 @@
 //! What happens to one package.
 //! The rules are in `docs/selection.md`, "What there is to choose from" (when a candidate is the
 //! installed package), in `docs/formats.md`, "Versions" (their order), and in `docs/names.md`,
-//! "What a change comes to" (*what becomes of a package*).
+//! "A change of what is installed".
 ghost use Rattle.adb_schema.specs.Views.{package_value};
 ghost use Rattle.db_core.specs.Seen.{packages_of};
 ghost use Rattle.file_owners.specs.Replaces.{version_text};

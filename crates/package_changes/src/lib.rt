@@ -8,7 +8,7 @@
 //!
 //! The rules are in `docs/commands.md`, "`add` and `del`" (a line for each package that changes, in
 //! byte order of the names; what is reported), and "`upgrade` and `fix`" (what is installed again);
-//! the terms in `docs/names.md`, "What a change comes to".
+//! the terms in `docs/names.md`, "A change of what is installed".
 #![tactic(auto)]
 
 mod change;

@@ -22,8 +22,8 @@ use report_core::Report;
 use solve_core::Trace;
 use std::alloc::{AllocError, Global};
 
-/// The report of a change that is only simulated: its changes, the installed packages among `to_go`
-/// that are kept, and the sum over the selected candidates.
+/// The report of a change that is only simulated: its changes, the installed packages among
+/// `to_remove` that are kept, and the sum over the selected candidates.
 #[tactic(auto, unfolding(crate::specs::Report::simulated_report))]
 pub fn simulated_report(
     alloc: Global,
@@ -31,17 +31,17 @@ pub fn simulated_report(
     pool: &Sealed<'_>,
     trace: &Trace,
     changes: &Changes<'_>,
-    to_go: &Words,
+    to_remove: &Words,
 ) -> Result<Report, AllocError>
     ensures { IfOk result (λ report. (again : List (List ℕ))
         → map (λ c. c.change) (changes_seen changes.now)
         ≡ changes_of (replacement_of (replacement_by db.now pool.now trace.now again))
         → report ≡ simulated_report
-        (replacement_of (replacement_by db.now pool.now trace.now again)) to_go.now) }
+        (replacement_of (replacement_by db.now pool.now trace.now again)) to_remove.now) }
 {
     let mut report = Report::new(alloc);
     push_change_lines(&mut report, changes)?;
-    push_stay_lines(alloc, &mut report, db, pool, trace, to_go)?;
+    push_stay_lines(alloc, &mut report, db, pool, trace, to_remove)?;
     push_selected_sum(&mut report, pool, trace)?;
     Ok(report)
 }

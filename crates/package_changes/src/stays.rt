@@ -8,7 +8,7 @@ ghost use Rattle.package_changes.specs.SelectedNames.{place_beside};
 ghost use Rattle.package_changes.specs.Report.{is_in_need, names_in_need, selected_stay_lines, stay_lines, was_installed};
 ghost use Rattle.candidate_core.specs.Candidates.{Candidate};
 ghost use Rattle.candidate_core.specs.Rank.{candidate_at};
-ghost use Rattle.report_core.specs.Reports.{report_line, spaced_behind, stays_text};
+ghost use Rattle.report_core.specs.Reports.{report_line, with_spaces_before, stays_text};
 ghost use Rattle.std.specs.List.{filter, flat_map};
 ghost use Rattle.std.specs.Prelude.{◌≡◌, ◌++◌, if◌then◌else◌, [], ◌∷◌, map, option_to_list, is_some, IfOk, OnOk};
 
@@ -30,12 +30,12 @@ pub fn push_stay_lines(
     db: &Db<'_>,
     pool: &Sealed<'_>,
     trace: &Trace,
-    to_go: &Words,
+    to_remove: &Words,
 ) -> Result<(), AllocError>
     ensures { OnOk result (report.new ≡ report.old ++ stay_lines (packages_of db.now)
-        (candidates_at pool.now trace.now) to_go.now) }
+        (candidates_at pool.now trace.now) to_remove.now) }
 {
-    let names = names_of_words(alloc, to_go)?;
+    let names = names_of_words(alloc, to_remove)?;
     let names = names_in_order(names)?;
     let selected = SelectedNames::of(alloc, pool, trace)?;
     let staying = selected_among(alloc, &names, &selected)?;
@@ -270,7 +270,7 @@ fn push_stay_text(report: &mut Report, name: &[u8], names: &[&[u8]]) -> Result<(
 /// Adds names, with a space before each.
 fn push_spaced(report: &mut Report, names: &[&[u8]]) -> Result<(), AllocError>
     ensures { OnOk result (report.new
-        ≡ report.old ++ spaced_behind (map (λ n. n.now) names.now)) }
+        ≡ report.old ++ with_spaces_before (map (λ n. n.now) names.now)) }
 {
     for name in names {
         report.push(b" ")?;

@@ -10,7 +10,7 @@ use Rattle.std.proofs.lemmas.List.Sorted.{IsPermutation-append_right, IsPermutat
 use Rattle.std.proofs.lemmas.List.Sums.{suffix_len_is}
 use Rattle.std.proofs.lemmas.Map.Text.{is_eq-slice_cmp}
 use Rattle.std.proofs.lemmas.Slice.Eq.{bytes_eq-Decides}
-use Rattle.package_files.specs.Folders.{FolderListing, before_slashes, folder_names, folder_of, folders_of, folders_over, is_slash, listing_of, names_in_folder, path_below, with_folder, with_folder_by, with_folders}
+use Rattle.package_files.specs.Folders.{FolderListing, before_slashes, folder_names, folder_of, folders_of, folders_above, is_slash, listing_of, names_in_folder, path_below, with_folder, with_folder_by, with_folders}
 use Rattle.package_files.proofs.FolderLemmas.{cmp, placed_sorted, turned}
 use Rattle.package_files.proofs.PlaceLemmas.{differs}
 
@@ -132,14 +132,14 @@ none_sorted = tt
 -- ---- the folders of paths
 
 pub rising : (paths : List (List ℕ)) → IsStrictlySortedBy cmp (folder_names paths)
-rising paths = all_sorted [] (flat_map folders_over paths) none_sorted
+rising paths = all_sorted [] (flat_map folders_above paths) none_sorted
 
-pub folder_there : (paths : List (List ℕ)) (path folder : List ℕ) → Contains paths path → Contains (folders_over path) folder → Contains (folder_names paths) folder
-folder_there paths path folder h g = all_there [] (flat_map folders_over paths) folder (inr (in_flat folders_over path folder paths h g))
+pub folder_there : (paths : List (List ℕ)) (path folder : List ℕ) → Contains paths path → Contains (folders_above path) folder → Contains (folder_names paths) folder
+folder_there paths path folder h g = all_there [] (flat_map folders_above paths) folder (inr (in_flat folders_above path folder paths h g))
 
-pub folder_over : (paths : List (List ℕ)) (folder : List ℕ) → Contains (folder_names paths) folder → Any (λ path. Contains (folders_over path) folder) paths
+pub folder_over : (paths : List (List ℕ)) (folder : List ℕ) → Contains (folder_names paths) folder → Any (λ path. Contains (folders_above path) folder) paths
 folder_over paths folder h =
-    ⊎_elim (λ g. absurd (none_in folder g)) (from_flat folders_over folder paths) (all_from [] (flat_map folders_over paths) folder h)
+    ⊎_elim (λ g. absurd (none_in folder g)) (from_flat folders_above folder paths) (all_from [] (flat_map folders_above paths) folder h)
 
 -- ---- a path stands in one of the folders over it
 
@@ -185,21 +185,21 @@ of_start path m s =
     let before : length path - suffix_len (λ b. not (is_slash b)) path - 1 ≡ m - 1 = omega arith in
     ap (λ n. take n path) before
 
-in_folder : (path : List ℕ) → Contains (folders_over path) (folder_of path)
+in_folder : (path : List ℕ) → Contains (folders_above path) (folder_of path)
 in_folder path = by start.0 start.1
   where
     start : (m : ℕ) × IsStart path m
     start = start_of path (length path) (omega arith) (λ k lo hi. absurd (omega arith))
 
-    by : (m : ℕ) → IsStart path m → Contains (folders_over path) (folder_of path)
-    by m s = subst (Contains (folders_over path)) (sym (of_start path m s)) (at m s.within s.stops)
+    by : (m : ℕ) → IsStart path m → Contains (folders_above path) (folder_of path)
+    by m s = subst (Contains (folders_above path)) (sym (of_start path m s)) (at m s.within s.stops)
       where
-        at : (m : ℕ) → m ≤ length path → (0 < m → is_slash (get_or path (m - 1) 0) ≡ true) → Contains (folders_over path) (take (m - 1) path)
+        at : (m : ℕ) → m ≤ length path → (0 < m → is_slash (get_or path (m - 1) 0) ≡ true) → Contains (folders_above path) (take (m - 1) path)
         at zero le stops = here [] (before_slashes path)
         at (suc n) le stops =
             let back : suc n - 1 ≡ n = omega arith in
             let here_is = subst (λ i. is_slash (get_or path i 0) ≡ true) back (stops (omega arith)) in
-            subst (λ i. Contains (folders_over path) (take i path)) (sym back) (there (take n path) [] (before_slashes path) (before_slash path n (omega arith) here_is))
+            subst (λ i. Contains (folders_above path) (take i path)) (sym back) (there (take n path) [] (before_slashes path) (before_slash path n (omega arith) here_is))
 
 -- ---- names parted by a key
 

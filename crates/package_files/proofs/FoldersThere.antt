@@ -11,7 +11,7 @@ use Rattle.std.proofs.lemmas.List.Concat.{flat_map-append}
 use Rattle.std.proofs.lemmas.Option.{get_or_from_slice_get, slice_get_within}
 use Rattle.std.proofs.lemmas.Slice.Eq.{bytes_eq-Decides}
 use borrow.Author.Tests.{eq-eqb}
-use Rattle.package_files.specs.Folders.{before_slashes, folder_names, folder_of, folders_over, is_slash, path_below, with_byte, with_folder, with_folders}
+use Rattle.package_files.specs.Folders.{before_slashes, folder_names, folder_of, folders_above, is_slash, path_below, with_byte, with_folder, with_folders}
 use Rattle.package_files.specs.BorrowedNames.{IsIndexOf}
 use Rattle.package_files.proofs.FolderLemmas.{all_placed_append, cmp, placed_as, turned}
 use Rattle.package_files.proofs.PlaceLemmas.{Tri, tri}
@@ -133,23 +133,23 @@ own_or_over path z h = by start.0 start.1 ends.0 ends.1 ends.2 ends.3
         place (inr (inr more)) = absurd (true≢false (sym (s.passes i (omega arith) lt) ∙ ap not e))
 
 -- a path that has the folder of another above it has all folders over that other above it
-over_both : (path other z : List ℕ) → Contains (folders_over other) (folder_of path) → Contains (folders_over path) z → Contains (folders_over other) z
+over_both : (path other z : List ℕ) → Contains (folders_above other) (folder_of path) → Contains (folders_above path) z → Contains (folders_above other) z
 over_both path other z h g = by (either z [] (before_slashes path) g)
   where
-    deeper : Contains (before_slashes (folder_of path)) z → ([] ≡ folder_of path) ⊎ Contains (before_slashes other) (folder_of path) → Contains (folders_over other) z
+    deeper : Contains (before_slashes (folder_of path)) z → ([] ≡ folder_of path) ⊎ Contains (before_slashes other) (folder_of path) → Contains (folders_above other) z
     deeper t (inl root) = absurd (none_in z (subst (λ f. Contains (before_slashes f) z) (sym root) t))
     deeper t (inr f) = there z [] (before_slashes other) (over_over other (folder_of path) z f t)
 
-    own : (folder_of path ≡ z) ⊎ Contains (before_slashes (folder_of path)) z → Contains (folders_over other) z
-    own (inl e) = subst (Contains (folders_over other)) e h
+    own : (folder_of path ≡ z) ⊎ Contains (before_slashes (folder_of path)) z → Contains (folders_above other) z
+    own (inl e) = subst (Contains (folders_above other)) e h
     own (inr t) = deeper t (either (folder_of path) [] (before_slashes other) h)
 
-    by : ([] ≡ z) ⊎ Contains (before_slashes path) z → Contains (folders_over other) z
-    by (inl root) = subst (Contains (folders_over other)) root (here [] (before_slashes other))
+    by : ([] ≡ z) ⊎ Contains (before_slashes path) z → Contains (folders_above other) z
+    by (inl root) = subst (Contains (folders_above other)) root (here [] (before_slashes other))
     by (inr t) = own (own_or_over path z t)
 
 -- where the folder of a path is a folder of the package, so is each folder over the path
-all_over_there : (paths : List (List ℕ)) (path z : List ℕ) → Contains (folder_names paths) (folder_of path) → Contains (folders_over path) z → Contains (folder_names paths) z
+all_over_there : (paths : List (List ℕ)) (path z : List ℕ) → Contains (folder_names paths) (folder_of path) → Contains (folders_above path) z → Contains (folder_names paths) z
 all_over_there paths path z h g =
     let (k, other, l, e, t) = folder_over paths (folder_of path) h in
     folder_there paths other z (k, l, e) (over_both path other z t g)
@@ -166,22 +166,22 @@ abbrev names_upto : List ℕ → List (List ℕ) → ℕ → List (List ℕ)
 names_upto dir names i = folder_names (map (path_below dir) (take i names))
 
 next_names : (dir : List ℕ) (names : List (List ℕ)) (i : ℕ) (name : List ℕ) → slice_get names i ≡ Some name
-    → names_upto dir names (i + 1) ≡ with_folders (names_upto dir names i) (folders_over (path_below dir name))
+    → names_upto dir names (i + 1) ≡ with_folders (names_upto dir names i) (folders_above (path_below dir name))
 next_names dir names i name at =
     let paths = map (path_below dir) (take i names) in
     let more : map (path_below dir) (take (i + 1) names) ≡ paths ++ path_below dir name ∷ [] =
     map_more (path_below dir) names i [] (slice_get_within names i name at)
     ∙ ap (λ n. paths ++ path_below dir n ∷ []) (get_or_from_slice_get names i name [] at) in
     ap folder_names more
-    ∙ ap (with_folders []) (flat_map-append folders_over paths (path_below dir name ∷ []))
-    ∙ all_placed_append [] (flat_map folders_over paths) (folders_over (path_below dir name) ++ [])
-    ∙ ap (with_folders (folder_names paths)) (append-nil (folders_over (path_below dir name)))
+    ∙ ap (with_folders []) (flat_map-append folders_above paths (path_below dir name ∷ []))
+    ∙ all_placed_append [] (flat_map folders_above paths) (folders_above (path_below dir name) ++ [])
+    ∙ ap (with_folders (folder_names paths)) (append-nil (folders_above (path_below dir name)))
 
 pub added_next : (dir : List ℕ) (names before later : List (List ℕ)) (i : ℕ) (name path : List ℕ) → slice_get names i ≡ Some name → path ≡ path_below dir name
-    → before ≡ names_upto dir names i → later ≡ with_folders before (folders_over path) → later ≡ names_upto dir names (i + 1)
+    → before ≡ names_upto dir names i → later ≡ with_folders before (folders_above path) → later ≡ names_upto dir names (i + 1)
 added_next dir names before later i name path at is so_far added =
-    added ∙ ap (λ l. with_folders l (folders_over path)) so_far
-    ∙ ap (λ p. with_folders (names_upto dir names i) (folders_over p)) is ∙ sym (next_names dir names i name at)
+    added ∙ ap (λ l. with_folders l (folders_above path)) so_far
+    ∙ ap (λ p. with_folders (names_upto dir names i) (folders_above p)) is ∙ sym (next_names dir names i name at)
 
 pub kept_next : (dir : List ℕ) (names before later : List (List ℕ)) (i : ℕ) (name path folder : List ℕ) (o : Option ℕ) → slice_get names i ≡ Some name → path ≡ path_below dir name
     → before ≡ names_upto dir names i → folder ≡ folder_of path → IsIndexOf folder before o → is_some o ≡ true → later ≡ before → later ≡ names_upto dir names (i + 1)
@@ -191,5 +191,5 @@ kept_next dir names before later i name path folder o at is so_far own index som
     let in_names : Contains (folder_names paths) folder = subst (λ l. Contains l folder) so_far found in
     let of_path : Contains (folder_names paths) (folder_of (path_below dir name)) = subst (Contains (folder_names paths)) (own ∙ ap folder_of is) in_names in
     same ∙ so_far
-    ∙ sym (folders_kept (folder_names paths) (folders_over (path_below dir name)) (rising paths) (λ z t. all_over_there paths (path_below dir name) z of_path t))
+    ∙ sym (folders_kept (folder_names paths) (folders_above (path_below dir name)) (rising paths) (λ z t. all_over_there paths (path_below dir name) z of_path t))
     ∙ sym (next_names dir names i name at)

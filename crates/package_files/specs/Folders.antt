@@ -32,8 +32,8 @@ before_slashes [] = []
 before_slashes (b ∷ bs) = with_byte b (before_slashes bs)
 
 -- the folders that contain a path, at any depth: the root, and the text before each slash
-abbrev pub folders_over : List ℕ → List (List ℕ)
-folders_over path = [] ∷ before_slashes path
+abbrev pub folders_above : List ℕ → List (List ℕ)
+folders_above path = [] ∷ before_slashes path
 
 -- ---- names in byte order, each once
 
@@ -75,7 +75,7 @@ path_below folder name = drop (length folder + 1) name
 -- the names of a package's folders, given the paths of its files: the root and each folder that
 -- contains a path at any depth, in byte order; no folder if there is no path
 abbrev pub folder_names : List (List ℕ) → List (List ℕ)
-folder_names paths = sorted_names (flat_map folders_over paths)
+folder_names paths = sorted_names (flat_map folders_above paths)
 
 -- the names listed below `dir` of the tree whose paths are in a folder of the package, in the listed
 -- order

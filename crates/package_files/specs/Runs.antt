@@ -23,7 +23,7 @@ pub record Explains (history : List TreeState) (P : Reads → Type 0) : Type 0 w
 -- may occur in any case
 abbrev pub IsAnswer :
     {A B : Type 0} → (A → B → Type 0) → Result A MakeFault → Result B MakeFault → Type 0
-IsAnswer {A} {B} StandsFor (Ok x) wanted = (y : B) × (wanted ≡ Ok y) × StandsFor x y
-IsAnswer StandsFor (Err Disk) wanted = Unit {0}
-IsAnswer StandsFor (Err Memory) wanted = Unit {0}
-IsAnswer StandsFor (Err fault) wanted = wanted ≡ Err fault
+IsAnswer {A} {B} Denotes (Ok x) wanted = (y : B) × (wanted ≡ Ok y) × Denotes x y
+IsAnswer Denotes (Err Disk) wanted = Unit {0}
+IsAnswer Denotes (Err Memory) wanted = Unit {0}
+IsAnswer Denotes (Err fault) wanted = wanted ≡ Err fault

@@ -20,7 +20,7 @@ ghost use Rattle.std.specs.Prelude.{◌≡◌, ◌++◌, ◌≤◌, ◌-◌, len
 use crate::file::{File, FileKind, Folder, Packing};
 use crate::folders::{FolderNames, folder_names, last_part_of, names_in_folders};
 use adb_block::{BlockKind, block_head};
-use base_core::{Name, Names, Tree, TreeFault, read_all, read_behind};
+use base_core::{Name, Names, Tree, TreeFault, append_file_to, read_all};
 use make_info::MakeFault;
 use std::alloc::{AllocError, Global};
 
@@ -275,7 +275,7 @@ fn read_in_block<T: Tree>(
     };
     begin_block(blocks, position, size)?;
     let at = blocks.len();
-    read_behind(tree, name, size, blocks)?;
+    append_file_to(tree, name, size, blocks)?;
     Ok(Some(at))
 }
 

@@ -4,17 +4,17 @@ use Rattle.std.specs.List.{find}
 use Rattle.base_core.specs.declared.cause.Cause.{Cause}
 use Rattle.adb_block.specs.Header.{header_of}
 use Rattle.adb_block.specs.Reading.{Reading, done, fault, more, reading_of}
-use Rattle.adb_block.specs.Standing.{start_of}
+use Rattle.adb_block.specs.ReaderPosition.{start_of}
 use Rattle.adb_view.specs.Plain.{Plain, plain_of}
 use Rattle.adb_view.specs.Schema.{shape_of}
 use Rattle.adb_view.specs.Values.{value_at}
 use Rattle.std.specs.Option.{option_or}
 use Rattle.adb_view.specs.declared.tables.Which.TheVariants.{Package}
-use Rattle.adb_schema.specs.Soundness.{blocks_fault, file_fault, first_payload, payload_behind, payload_fault, payload_in, root_value, schema_fault}
+use Rattle.adb_schema.specs.Soundness.{blocks_fault, file_fault, first_payload, payload_after_header, payload_fault, payload_in, root_value, schema_fault}
 use Rattle.pkg_core.specs.Contents.{Contents, Expected, bytes_of_file, bytes_or_none, contents_in, expected_contents, hash_fault, is_of_file}
 use Rattle.pkg_core.specs.GoodContents.{AreContentsOf, IsContentsOf}
 use Rattle.pkg_core.specs.Opened.{expected_with_positions, has_positions}
-use Rattle.pkg_core.specs.Whole.{behind_fault, files_behind, files_by_header, files_in_file, package_fault, whole_fault}
+use Rattle.pkg_core.specs.Whole.{fault_after_first, files_after_first, files_by_header, files_in_file, package_fault, whole_fault}
 use Rattle.pkg_core.proofs.Given.{files_right}
 use Rattle.pkg_core.specs.Seen.{HasAt}
 use Rattle.package_test.specs.Places.{AreAtPlaces, AreInFileOrder, is_place_of, offset_of_file}
@@ -31,12 +31,12 @@ nothing_expected : expected_contents (root_value Package []) ≡ []
 unfolding value_at plain_of shape_of
 nothing_expected = refl
 
-blocks_right : (r : Reading) → blocks_fault (behind_fault Package) Package r ≡ None → AreContentsOf (expected_contents (root_value Package (first_payload r))) (contents_in (files_behind r))
+blocks_right : (r : Reading) → blocks_fault (fault_after_first Package) Package r ≡ None → AreContentsOf (expected_contents (root_value Package (first_payload r))) (contents_in (files_after_first r))
 blocks_right done h = let A : List Expected → Type 0 = λ es. AreContentsOf es [] in subst A (sym nothing_expected) tt
 blocks_right (fault c) h = (cc)
 blocks_right (more b at r) h = files_right (expected_contents (root_value Package b.payload)) r (second_none (payload_fault Package b.payload) _ h)
 
-header_right : (file : List ℕ) (h : Result ℕ Cause) → file_fault (behind_fault Package) Package file h ≡ None → AreContentsOf (expected_contents (root_value Package (payload_behind file h))) (contents_in (files_by_header file h))
+header_right : (file : List ℕ) (h : Result ℕ Cause) → file_fault (fault_after_first Package) Package file h ≡ None → AreContentsOf (expected_contents (root_value Package (payload_after_header file h))) (contents_in (files_by_header file h))
 header_right file (Ok schema) e = blocks_right (reading_of (start_of schema file)) (second_none (schema_fault Package schema) _ e)
 header_right file (Err c) e = (cc)
 
@@ -55,7 +55,7 @@ record IsFoundThere (pkg : List ℕ) (folder file at : ℕ) (cs : List Contents)
   expected : Expected
   found : find (is_of_file folder file) cs ≡ Some contents
   due : expected_with_positions folder file es ≡ Some expected
-  stands : HasAt pkg at contents.bytes
+  located : HasAt pkg at contents.bytes
   of : IsContentsOf expected contents
 
 found_there : (pkg : List ℕ) (folder file at : ℕ) (ps : List FilePlace) (cs : List Contents) (es : List Expected) → AreAtPlaces pkg ps cs → AreContentsOf es cs → Some at ≡ offset_of_file folder file ps → IsFoundThere pkg folder file at cs es
@@ -74,7 +74,7 @@ found_there pkg folder file at (p ∷ ps) (c ∷ cs) (e ∷ es) stand are is =
           expected = e;
           found = ap (λ (b : Bool). cond b (Some c) (find (is_of_file folder file) cs)) t;
           due = ap (λ (b : Bool). cond b (Some e) (find (has_positions folder file) es)) u;
-          stands = subst (λ (n : ℕ). HasAt pkg n c.bytes) (sym same) stand.0.stands;
+          located = subst (λ (n : ℕ). HasAt pkg n c.bytes) (sym same) stand.0.located;
           of = are.0;
         }
     by_test false t u here others =
@@ -84,7 +84,7 @@ found_there pkg folder file at (p ∷ ps) (c ∷ cs) (e ∷ es) stand are is =
           expected = further.expected;
           found = ap (λ (b : Bool). cond b (Some c) (find (is_of_file folder file) cs)) t ∙ further.found;
           due = ap (λ (b : Bool). cond b (Some e) (find (has_positions folder file) es)) u ∙ further.due;
-          stands = further.stands;
+          located = further.located;
           of = further.of;
         }
 
@@ -132,7 +132,7 @@ gives_bytes Reads due len folder file at value pkg places sound same long stand 
     by : (o : Option ℕ) → at ≡ o → Reads pkg (bytes_of_file folder file cs)
     by (Some start) found =
         let f = found_there pkg folder file start places cs (expected_contents value) stand are (sym found ∙ offset order) in
-        subst (Reads pkg) (sym (ap bytes_or_none f.found)) (reads pkg f.contents.bytes f.expected start long found f.due f.stands f.of.size f.of.hash)
+        subst (Reads pkg) (sym (ap bytes_or_none f.found)) (reads pkg f.contents.bytes f.expected start long found f.due f.located f.of.size f.of.hash)
     by None found =
         let off = off_there pkg folder file places cs stand (sym found ∙ offset order) in
         subst (Reads pkg) (sym (ap bytes_or_none off)) (empty pkg (is ∙ none_due folder file cs (expected_contents value) are off))

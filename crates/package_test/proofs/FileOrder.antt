@@ -10,7 +10,7 @@ use Rattle.adb_schema.specs.Texts.{is_with_contents}
 use Rattle.adb_view.specs.Values.{entry_in, int_in, text_in}
 use Rattle.pkg_core.specs.Contents.{Contents, Expected, expected_at, expected_contents, expected_files, expected_folders}
 use Rattle.pkg_core.specs.GoodContents.{AreContentsOf, IsContentsOf}
-use Rattle.package_test.specs.Places.{AreAtPlaces, AreInFileOrder, ArePlacedBehind, IsBeforeFile, is_before_file, is_place_of, offset_of_file}
+use Rattle.package_test.specs.Places.{AreAtPlaces, AreInFileOrder, ArePlacedAfter, IsBeforeFile, is_before_file, is_place_of, offset_of_file}
 use Rattle.package_test.specs.declared.places.FilePlace.{FilePlace}
 
 -- ---- positions
@@ -62,7 +62,7 @@ there_is folder file place same too = ap (λ (x : Bool). x && (place.file == fil
 other_place : (folder file : ℕ) (place : FilePlace) → IsBeforeFile place.folder place.file folder file → is_place_of folder file place ≡ false
 other_place folder file place before = false_from_ne_true (is_place_of folder file place) (λ h. let p = is_there folder file place h in not_itself place.folder place.file folder file before p.0 p.1)
 
-behind_at : (a b : ℕ) (ps : List FilePlace) (k : ℕ) (d : FilePlace) → ArePlacedBehind a b ps → k < length ps → IsBeforeFile a b (get_or ps k d).folder (get_or ps k d).file
+behind_at : (a b : ℕ) (ps : List FilePlace) (k : ℕ) (d : FilePlace) → ArePlacedAfter a b ps → k < length ps → IsBeforeFile a b (get_or ps k d).folder (get_or ps k d).file
 behind_at a b [] k d behind within = absurd (omega (arith, within))
 behind_at a b (p ∷ ps) zero d behind within = behind.0
 behind_at a b (p ∷ ps) (suc k) d behind within = behind_at a b ps k d behind.1 (omega (arith, within))
@@ -145,48 +145,48 @@ other_file folder file place other = false_from_ne_true (is_place_of folder file
 
 -- ---- the files of a package are in this order
 
-abbrev AreExpectedBehind : ℕ → ℕ → List Expected → Type 0
-AreExpectedBehind folder file [] = Unit {0}
-AreExpectedBehind folder file (e ∷ es) = IsBeforeFile folder file e.folder e.file × AreExpectedBehind folder file es
+abbrev AreExpectedAfter : ℕ → ℕ → List Expected → Type 0
+AreExpectedAfter folder file [] = Unit {0}
+AreExpectedAfter folder file (e ∷ es) = IsBeforeFile folder file e.folder e.file × AreExpectedAfter folder file es
 
 abbrev pub AreExpectedInOrder : List Expected → Type 0
 AreExpectedInOrder [] = Unit {0}
-AreExpectedInOrder (e ∷ es) = AreExpectedBehind e.folder e.file es × AreExpectedInOrder es
+AreExpectedInOrder (e ∷ es) = AreExpectedAfter e.folder e.file es × AreExpectedInOrder es
 
-behind_joined : (a b : ℕ) (xs ys : List Expected) → AreExpectedBehind a b xs → AreExpectedBehind a b ys → AreExpectedBehind a b (xs ++ ys)
-behind_joined a b [] ys first second = second
-behind_joined a b (x ∷ xs) ys first second = (first.0, behind_joined a b xs ys first.1 second)
+after_joined : (a b : ℕ) (xs ys : List Expected) → AreExpectedAfter a b xs → AreExpectedAfter a b ys → AreExpectedAfter a b (xs ++ ys)
+after_joined a b [] ys first second = second
+after_joined a b (x ∷ xs) ys first second = (first.0, after_joined a b xs ys first.1 second)
 
 abbrev expected_file : ℕ → ℕ → Plain → Expected
 expected_file folder i f = record { folder = folder; file = i; size = int_in (entry_in f 2); hash = text_in (entry_in f 4) }
 
-one_behind : (x : Bool) (a b : ℕ) (e : Expected) → IsBeforeFile a b e.folder e.file → AreExpectedBehind a b (if x then e ∷ [] else [])
-one_behind true a b e before = (before, tt)
-one_behind false a b e before = tt
+one_after : (x : Bool) (a b : ℕ) (e : Expected) → IsBeforeFile a b e.folder e.file → AreExpectedAfter a b (if x then e ∷ [] else [])
+one_after true a b e before = (before, tt)
+one_after false a b e before = tt
 
-files_behind : (a b folder i : ℕ) (files : List Plain) → ((j : ℕ) → i ≤ j → IsBeforeFile a b folder j) → AreExpectedBehind a b (expected_files folder i files)
-files_behind a b folder i [] before = tt
-files_behind a b folder i (f ∷ fs) before =
-    behind_joined a b (expected_at folder i f) (expected_files folder (i + 1) fs) (one_behind (is_with_contents f) a b (expected_file folder i f) (before i (omega arith)))
-    (files_behind a b folder (i + 1) fs (λ j le. before j (omega (arith, le))))
+files_after_first : (a b folder i : ℕ) (files : List Plain) → ((j : ℕ) → i ≤ j → IsBeforeFile a b folder j) → AreExpectedAfter a b (expected_files folder i files)
+files_after_first a b folder i [] before = tt
+files_after_first a b folder i (f ∷ fs) before =
+    after_joined a b (expected_at folder i f) (expected_files folder (i + 1) fs) (one_after (is_with_contents f) a b (expected_file folder i f) (before i (omega arith)))
+    (files_after_first a b folder (i + 1) fs (λ j le. before j (omega (arith, le))))
 
-folders_behind : (a b i : ℕ) (folders : List Plain) → a < i → AreExpectedBehind a b (expected_folders i folders)
+folders_behind : (a b i : ℕ) (folders : List Plain) → a < i → AreExpectedAfter a b (expected_folders i folders)
 folders_behind a b i [] less = tt
 folders_behind a b i (d ∷ ds) less =
-    behind_joined a b (expected_files i 1 (files_in d)) (expected_folders (i + 1) ds) (files_behind a b i 1 (files_in d) (λ j le. inl less))
+    after_joined a b (expected_files i 1 (files_in d)) (expected_folders (i + 1) ds) (files_after_first a b i 1 (files_in d) (λ j le. inl less))
     (folders_behind a b (i + 1) ds (omega (arith, less)))
 
-one_in_order : (x : Bool) (e : Expected) (rest : List Expected) → AreExpectedBehind e.folder e.file rest → AreExpectedInOrder rest → AreExpectedInOrder ((if x then e ∷ [] else []) ++ rest)
+one_in_order : (x : Bool) (e : Expected) (rest : List Expected) → AreExpectedAfter e.folder e.file rest → AreExpectedInOrder rest → AreExpectedInOrder ((if x then e ∷ [] else []) ++ rest)
 one_in_order true e rest behind order = (behind, order)
 one_in_order false e rest behind order = order
 
-files_in_order : (folder i : ℕ) (files : List Plain) (rest : List Expected) → ((j : ℕ) → AreExpectedBehind folder j rest) → AreExpectedInOrder rest → AreExpectedInOrder (expected_files folder i files ++ rest)
+files_in_order : (folder i : ℕ) (files : List Plain) (rest : List Expected) → ((j : ℕ) → AreExpectedAfter folder j rest) → AreExpectedInOrder rest → AreExpectedInOrder (expected_files folder i files ++ rest)
 files_in_order folder i [] rest behind order = order
 files_in_order folder i (f ∷ fs) rest behind order =
     let others : List Expected = expected_files folder (i + 1) fs in
     subst AreExpectedInOrder (sym (append_assoc (expected_at folder i f) others rest))
     (one_in_order (is_with_contents f) (expected_file folder i f) (others ++ rest)
-    (behind_joined folder i others rest (files_behind folder i folder (i + 1) fs (λ j le. inr (refl, omega (arith, le)))) (behind i))
+    (after_joined folder i others rest (files_after_first folder i folder (i + 1) fs (λ j le. inr (refl, omega (arith, le)))) (behind i))
     (files_in_order folder (i + 1) fs rest behind order))
 
 folders_in_order : (i : ℕ) (folders : List Plain) → AreExpectedInOrder (expected_folders i folders)
@@ -198,13 +198,13 @@ expected_in_order v = folders_in_order 1 (folders_in v)
 
 -- ---- and so are their places
 
-placed_behind : (pkg : List ℕ) (a b : ℕ) (ps : List FilePlace) (cs : List Contents) (es : List Expected) → AreAtPlaces pkg ps cs → AreContentsOf es cs → AreExpectedBehind a b es → ArePlacedBehind a b ps
-placed_behind pkg a b [] cs es at are behind = tt
-placed_behind pkg a b (p ∷ ps) [] es at are behind = absurd at
-placed_behind pkg a b (p ∷ ps) (c ∷ cs) [] at are behind = absurd are
-placed_behind pkg a b (p ∷ ps) (c ∷ cs) (e ∷ es) at are behind = (
+placed_after : (pkg : List ℕ) (a b : ℕ) (ps : List FilePlace) (cs : List Contents) (es : List Expected) → AreAtPlaces pkg ps cs → AreContentsOf es cs → AreExpectedAfter a b es → ArePlacedAfter a b ps
+placed_after pkg a b [] cs es at are behind = tt
+placed_after pkg a b (p ∷ ps) [] es at are behind = absurd at
+placed_after pkg a b (p ∷ ps) (c ∷ cs) [] at are behind = absurd are
+placed_after pkg a b (p ∷ ps) (c ∷ cs) (e ∷ es) at are behind = (
   subst (λ (x : ℕ). IsBeforeFile a b x p.file) (sym (at.0.folder ∙ are.0.folder)) (subst (λ (x : ℕ). IsBeforeFile a b e.folder x) (sym (at.0.file ∙ are.0.file)) behind.0),
-  placed_behind pkg a b ps cs es at.1 are.1 behind.1,
+  placed_after pkg a b ps cs es at.1 are.1 behind.1,
 )
 
 pub placed_in_order : (pkg : List ℕ) (ps : List FilePlace) (cs : List Contents) (es : List Expected) → AreAtPlaces pkg ps cs → AreContentsOf es cs → AreExpectedInOrder es → AreInFileOrder ps
@@ -212,6 +212,6 @@ placed_in_order pkg [] cs es at are order = tt
 placed_in_order pkg (p ∷ ps) [] es at are order = absurd at
 placed_in_order pkg (p ∷ ps) (c ∷ cs) [] at are order = absurd are
 placed_in_order pkg (p ∷ ps) (c ∷ cs) (e ∷ es) at are order = (
-  subst (λ (x : ℕ). ArePlacedBehind x p.file ps) (sym (at.0.folder ∙ are.0.folder)) (subst (λ (x : ℕ). ArePlacedBehind e.folder x ps) (sym (at.0.file ∙ are.0.file)) (placed_behind pkg e.folder e.file ps cs es at.1 are.1 order.0)),
+  subst (λ (x : ℕ). ArePlacedAfter x p.file ps) (sym (at.0.folder ∙ are.0.folder)) (subst (λ (x : ℕ). ArePlacedAfter e.folder x ps) (sym (at.0.file ∙ are.0.file)) (placed_after pkg e.folder e.file ps cs es at.1 are.1 order.0)),
   placed_in_order pkg ps cs es at.1 are.1 order.1,
 )

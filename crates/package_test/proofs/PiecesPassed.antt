@@ -13,7 +13,7 @@ use Rattle.pkg_core.specs.Seen.{HasAt, IsSeenIn, IsSoLong, ReadsFile}
 use Rattle.pkg_core.proofs.SeenBytes.{file_with, has_rest}
 use Rattle.pkg_core.specs.Pieces.{PiecesRead, file_given, files_joined, no_piece, piece, refusal, refusal_in}
 use Rattle.pkg_core.specs.declared.file.Part.{Part}
-use Rattle.piece_reader.specs.Readers.{AnswersNext, HasPieceAt, IsOfFirstDue, IsReading, KeepsStart, due_files, handed_out, handed_out_from, name_in_tree, offset_of, package_len, start_of_file}
+use Rattle.piece_reader.specs.Readers.{AnswersNext, HasPieceAt, IsOfFirstExpected, IsReading, KeepsStart, files_to_read, returned_len, returned_len_from, name_in_tree, offset_of, package_len, start_of_file}
 use Rattle.piece_reader.specs.declared.piece.PieceFault.{PieceFault}
 use Rattle.piece_reader.specs.declared.piece.PieceFault.TheVariants.{Bad}
 use Rattle.piece_reader.specs.declared.open.OpenFile.{OpenFile}
@@ -48,9 +48,9 @@ proper_still (v ∷ earlier) name len n = λ long. refl
 pub reads_nothing : (name : List ℕ) (len : ℕ) (h : List TreeState) (a : Counts) → ReadsFile {A = Unit {0}} {E = TreeFault} name len DiskFault h h a a (Ok tt)
 reads_nothing name len h a = record {
   same = refl;
-  goes_on = record { faults = omega arith; misuses = omega arith; wants = omega arith; fallible = λ may. may };
+  goes_on = record { faults = omega arith; misuses = omega arith; memory_faults = omega arith; fallible = λ may. may };
   disk = λ failed. absurd (no_fault tt DiskFault failed);
-  kept = record { faults = refl; wants = refl };
+  kept = record { faults = refl; memory_faults = refl };
   others = tt;
   proper = proper_still h name len a.misuses;
 }
@@ -70,8 +70,8 @@ pub record IsLeft (now : PieceReader) (places : List FilePlace) (pkg : List ℕ)
   pub files : List Contents
   pub so_far : List ℕ
   pub at_places : AreAtPlaces pkg places files
-  pub stands : HasAt pkg (start_of_file now) so_far
-  pub long : length so_far ≡ handed_out now
+  pub located : HasAt pkg (start_of_file now) so_far
+  pub long : length so_far ≡ returned_len now
   pub joined : files_joined all [] ≡ with_files files (files_joined rest so_far)
 
 -- from where a reader began to where it stands now these bytes were seen
@@ -81,7 +81,7 @@ pub record IsPassedTo (h : List TreeState) (name : List ℕ) (len : ℕ) (begun 
   pub ends : offset_of begun + length seen ≡ offset_of now
   pub left : (pkg : List ℕ) → length pkg ≡ len → HasAt pkg (offset_of begun) seen → (all : PiecesRead) → IsReading begun pkg all → IsLeft now places pkg all
 
-pub none_passed : (h : List TreeState) (name : List ℕ) (len : ℕ) (begun : PieceReader) (places : List FilePlace) → offset_of begun ≤ len → handed_out begun ≡ 0 → places ≡ [] → IsPassedTo h name len begun begun places
+pub none_passed : (h : List TreeState) (name : List ℕ) (len : ℕ) (begun : PieceReader) (places : List FilePlace) → offset_of begun ≤ len → returned_len begun ≡ 0 → places ≡ [] → IsPassedTo h name len begun begun places
 none_passed h name len begun places within none_handed empty = record {
   seen = [];
   is_seen = nothing_seen h name len (offset_of begun) within;
@@ -94,7 +94,7 @@ none_passed h name len begun places within none_handed empty = record {
     files = [];
     so_far = [];
     at_places = subst (λ (ps : List FilePlace). AreAtPlaces pkg ps []) (sym empty) tt;
-    stands = refl;
+    located = refl;
     long = sym none_handed;
     joined = refl;
   };
@@ -127,7 +127,7 @@ both_seen h later name len begun now places seen same named long passed is_seen 
 -- ---- one piece more
 
 -- bytes that came before stand where their file begins, also after the next piece
-still_stand : (opened : Option OpenFile) (pkg so_far : List ℕ) (before after : ℕ) → IfSome opened (λ o. after ≡ before) → length so_far ≡ handed_out_from before opened → HasAt pkg before so_far → HasAt pkg after so_far
+still_stand : (opened : Option OpenFile) (pkg so_far : List ℕ) (before after : ℕ) → IfSome opened (λ o. after ≡ before) → length so_far ≡ returned_len_from before opened → HasAt pkg before so_far → HasAt pkg after so_far
 still_stand (Some o) pkg so_far before after same long has = subst (λ (n : ℕ). HasAt pkg n so_far) (sym same) has
 still_stand None pkg [] before after same long has = refl
 still_stand None pkg (b ∷ bytes) before after same long has = absurd (omega (arith, long))
@@ -158,19 +158,19 @@ at_one_more pkg (q ∷ ps) (d ∷ cs) p c are is = (are.0, at_one_more pkg ps cs
 abbrev pub kept_places : Part → ℕ → List FilePlace → List FilePlace
 kept_places part at places = if part.last then places ++ place_of_part part at ∷ [] else places
 
-left_then : (now new : PieceReader) (places : List FilePlace) (pkg : List ℕ) (all after : PiecesRead) (part : Part) (bytes : List ℕ) (l : IsLeft now places pkg all) → l.rest ≡ piece part bytes after → IsReading new pkg after → HasAt pkg (start_of_file new + handed_out now) bytes → KeepsStart part (length bytes) now new
+left_then : (now new : PieceReader) (places : List FilePlace) (pkg : List ℕ) (all after : PiecesRead) (part : Part) (bytes : List ℕ) (l : IsLeft now places pkg all) → l.rest ≡ piece part bytes after → IsReading new pkg after → HasAt pkg (start_of_file new + returned_len now) bytes → KeepsStart part (length bytes) now new
     → IsLeft new (kept_places part (start_of_file new) places) pkg all
 left_then now new places pkg all after part bytes l next reading has start = by_last part.last refl
   where
     so_far : List ℕ
     so_far = l.so_far ++ bytes
 
-    long : length so_far ≡ handed_out now + length bytes
+    long : length so_far ≡ returned_len now + length bytes
     long = length-append l.so_far bytes ∙ ap (λ (n : ℕ). n + length bytes) l.long
 
-    stands : HasAt pkg (start_of_file new) so_far
-    stands =
-        has_both pkg (start_of_file new) l.so_far bytes (still_stand now.opened pkg l.so_far (start_of_file now) (start_of_file new) start.same l.long l.stands)
+    located : HasAt pkg (start_of_file new) so_far
+    located =
+        has_both pkg (start_of_file new) l.so_far bytes (still_stand now.opened pkg l.so_far (start_of_file now) (start_of_file new) start.same l.long l.located)
         (subst (λ (n : ℕ). HasAt pkg (start_of_file new + n) bytes) (sym l.long) has)
 
     joined : files_joined all [] ≡ with_files l.files (file_given part so_far (files_joined after))
@@ -185,9 +185,9 @@ left_then now new places pkg all after part bytes l next reading has start = by_
           full = λ full. (subst AreFull next (l.full full)).1;
           files = l.files ++ c ∷ [];
           so_far = [];
-          at_places = subst (λ (b : Bool). AreAtPlaces pkg (if b then places ++ place_of_part part (start_of_file new) ∷ [] else places) (l.files ++ c ∷ [])) (sym is) (at_one_more pkg places l.files (place_of_part part (start_of_file new)) c l.at_places (record { folder = refl; file = refl; stands = stands }));
-          stands = refl;
-          long = sym (start.handed ∙ ap (λ (b : Bool). if b then 0 else handed_out now + length bytes) is);
+          at_places = subst (λ (b : Bool). AreAtPlaces pkg (if b then places ++ place_of_part part (start_of_file new) ∷ [] else places) (l.files ++ c ∷ [])) (sym is) (at_one_more pkg places l.files (place_of_part part (start_of_file new)) c l.at_places (record { folder = refl; file = refl; located = located }));
+          located = refl;
+          long = sym (start.handed ∙ ap (λ (b : Bool). if b then 0 else returned_len now + length bytes) is);
           joined = joined ∙ (ap (λ (b : Bool). with_files l.files (if b then given c (files_joined after []) else files_joined after so_far)) is ∙ with_one_more l.files c (files_joined after []));
         }
     by_last false is = record {
@@ -198,8 +198,8 @@ left_then now new places pkg all after part bytes l next reading has start = by_
       files = l.files;
       so_far = so_far;
       at_places = subst (λ (b : Bool). AreAtPlaces pkg (if b then places ++ place_of_part part (start_of_file new) ∷ [] else places) l.files) (sym is) l.at_places;
-      stands = stands;
-      long = long ∙ sym (start.handed ∙ ap (λ (b : Bool). if b then 0 else handed_out now + length bytes) is);
+      located = located;
+      long = long ∙ sym (start.handed ∙ ap (λ (b : Bool). if b then 0 else returned_len now + length bytes) is);
       joined = joined ∙ ap (λ (b : Bool). with_files l.files (if b then given (record { folder = part.path; file = part.file; bytes = so_far }) (files_joined after []) else files_joined after so_far)) is;
     }
 
@@ -213,9 +213,9 @@ one_passed h later name len begun now new places bytes part same named long pass
       ends = to.ends ∙ ends;
       left = λ pkg is has all reading.
           let l = passed.left pkg is (to.has_first pkg has) all reading in
-          let (answer, stands) = each pkg (is ∙ sym long) (to.has_second pkg has) l.rest l.reading in
+          let (answer, located) = each pkg (is ∙ sym long) (to.has_second pkg has) l.rest l.reading in
           let (after, next, later_reading) = answer in
-          left_then now new places pkg all after part bytes l next later_reading stands start;
+          left_then now new places pkg all after part bytes l next later_reading located start;
     }
 
 -- ---- what is told at the end
@@ -272,7 +272,7 @@ one_fails now places pkg all c fault l whole end = sym whole ∙ (l.same ∙ ap 
 
 -- files are left, and bytes
 abbrev pub steps_left : PieceReader → ℕ
-steps_left reader = length (due_files reader) * (package_len reader + 1) + (package_len reader - offset_of reader)
+steps_left reader = length (files_to_read reader) * (package_len reader + 1) + (package_len reader - offset_of reader)
 
 -- some package has the bytes that were seen
 some_package : (len at : ℕ) (seen : List ℕ) → at + length seen ≤ len → (pkg : List ℕ) × (length pkg ≡ len) × HasAt pkg at seen
@@ -312,11 +312,11 @@ nearer_by false len x y before after first others due left less within =
     (fewer_bytes (length after * (len + 1)) len x y (less refl) within)
 
 pub nearer : (h later : List TreeState) (name : List ℕ) (len : ℕ) (begun now new : PieceReader) (places : List FilePlace) (bytes : List ℕ) (part : Part) → later ≡ h → name_in_tree now ≡ name → package_len now ≡ len → package_len new ≡ package_len now → IsPassedTo h name len begun now places → IsReadBy later now bytes (Ok (Some part)) new
-    → ((pkg : List ℕ) → (all : PiecesRead) × IsReading begun pkg all × AreFull all) → IsOfFirstDue (due_files now) part (due_files new) → (part.last ≡ false → offset_of now + length bytes ≤ offset_of new)
+    → ((pkg : List ℕ) → (all : PiecesRead) × IsReading begun pkg all × AreFull all) → IsOfFirstExpected (files_to_read now) part (files_to_read new) → (part.last ≡ false → offset_of now + length bytes ≤ offset_of new)
     → steps_left new < steps_left now
 nearer h later name len begun now new places bytes part same named long kept passed read starts due further =
     let some = some_bytes h later name len begun now new places bytes part same named long passed read starts in
     let within = read.1.within in
     let ends = read.2 in
-    subst (λ (k : ℕ). length (due_files new) * (k + 1) + (k - offset_of new) < steps_left now) (sym kept)
-    (nearer_by part.last (package_len now) (offset_of new) (offset_of now) (due_files now) (due_files new) due.first due.others due.due due.left (λ more. omega (arith, some more, further more)) (omega (arith, within, ends)))
+    subst (λ (k : ℕ). length (files_to_read new) * (k + 1) + (k - offset_of new) < steps_left now) (sym kept)
+    (nearer_by part.last (package_len now) (offset_of new) (offset_of now) (files_to_read now) (files_to_read new) due.first due.others due.due due.left (λ more. omega (arith, some more, further more)) (omega (arith, within, ends)))

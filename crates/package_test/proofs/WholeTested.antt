@@ -12,14 +12,14 @@ use Rattle.base_core.specs.declared.cause.Cause.TheVariants.{WrongSchema}
 use Rattle.base_core.specs.declared.tree.TreeFault.{TreeFault}
 use Rattle.adb_block.specs.Header.{header_of}
 use Rattle.adb_block.specs.Reading.{Reading, reading_of}
-use Rattle.adb_block.specs.Standing.{start_of}
+use Rattle.adb_block.specs.ReaderPosition.{start_of}
 use Rattle.adb_view.specs.Plain.{Plain}
 use Rattle.adb_view.specs.declared.tables.Which.TheVariants.{Package}
 use Rattle.adb_schema.specs.Soundness.{blocks_fault, file_fault, payload_fault, payload_in, root_value}
 use Rattle.adb_schema.specs.declared.read.TheConstants.{PACKAGE_WORD}
 use Rattle.pkg_core.specs.Contents.{FilesRead, contents_in, expected_contents, fault_in, files_by_blocks}
 use Rattle.pkg_core.specs.Refusals.{IsFaultOf}
-use Rattle.pkg_core.specs.Whole.{behind_fault, container_fault, fault_by_header, files_behind, files_by_header, files_in_file, package_fault, whole_fault}
+use Rattle.pkg_core.specs.Whole.{fault_after_first, container_fault, fault_by_header, files_after_first, files_by_header, files_in_file, package_fault, whole_fault}
 use Rattle.pkg_core.specs.declared.pack.PackageFault.{PackageFault}
 use Rattle.pkg_core.specs.declared.pack.PackageFault.TheVariants as PackageFaults
 use Rattle.pkg_core.proofs.Steps.{package_steps, values_first}
@@ -49,7 +49,7 @@ package_by_front pkg front is = package_steps pkg ∙ ap (λ (o : Option Cause).
 
 files_by_front : (pkg : List ℕ) (front : Front) → IsFrontOf PACKAGE_WORD pkg front → files_in_file pkg ≡ files_by_blocks (expected_contents (root_value Package (front_payload front))) (reading_of (behind_front front pkg))
 unfolding files_in_file
-files_by_front pkg front is = ap (files_by_header pkg) is.header ∙ ap files_behind is.blocks
+files_by_front pkg front is = ap (files_by_header pkg) is.header ∙ ap files_after_first is.blocks
 
 whole_by_files : (pkg : List ℕ) (front : Front) (files : FilesRead) (test : FilesTest) → IsFrontOf PACKAGE_WORD pkg front → payload_fault Package (front_payload front) ≡ None → files_in_file pkg ≡ files → AreFilesTested files pkg test → IsWholeTested pkg test
 whole_by_files pkg front files (Tests.Sound places) is sound same tested = (
@@ -126,18 +126,18 @@ refused h name cause first why same is front =
 
 -- ---- a package as a container
 
-by_schema : (wanted : Bool) (schema : ℕ) (r : Reading) (fault : Option Cause) → ((found : ℕ) → fault ≢ Some (WrongSchema found)) → option_or (if wanted then None else Some (WrongSchema schema)) (blocks_fault (behind_fault Package) Package r) ≡ fault → wanted ≡ true
+by_schema : (wanted : Bool) (schema : ℕ) (r : Reading) (fault : Option Cause) → ((found : ℕ) → fault ≢ Some (WrongSchema found)) → option_or (if wanted then None else Some (WrongSchema schema)) (blocks_fault (fault_after_first Package) Package r) ≡ fault → wanted ≡ true
 by_schema true schema r fault other is = refl
 by_schema false schema r fault other is = absurd (other schema (sym is))
 
-container_by_header : (file : List ℕ) (header : Result ℕ Cause) (fault : Option Cause) → ((found : ℕ) → fault ≢ Some (WrongSchema found)) → header_of file ≡ header → file_fault (behind_fault Package) Package file header ≡ fault → fault_by_header file header ≡ fault
+container_by_header : (file : List ℕ) (header : Result ℕ Cause) (fault : Option Cause) → ((found : ℕ) → fault ≢ Some (WrongSchema found)) → header_of file ≡ header → file_fault (fault_after_first Package) Package file header ≡ fault → fault_by_header file header ≡ fault
 unfolding whole_fault
 container_by_header file (Err c) fault other is told = told
 container_by_header file (Ok schema) fault other is told =
     let same : PACKAGE_WORD ≡ schema = eqb-true PACKAGE_WORD schema (by_schema (PACKAGE_WORD == schema) schema (reading_of (start_of schema file)) fault other told) in
     ap (λ (n : ℕ). fault_by_header file (Ok n)) (sym same)
-    ∙ (ap (file_fault (behind_fault Package) Package file) (is ∙ ap (λ (n : ℕ). Ok n) (sym same))
-    ∙ subst (λ (n : ℕ). file_fault (behind_fault Package) Package file (Ok n) ≡ fault) (sym same) told)
+    ∙ (ap (file_fault (fault_after_first Package) Package file) (is ∙ ap (λ (n : ℕ). Ok n) (sym same))
+    ∙ subst (λ (n : ℕ). file_fault (fault_after_first Package) Package file (Ok n) ≡ fault) (sym same) told)
 
 pub as_container : (file : List ℕ) (fault : Option Cause) → ((found : ℕ) → fault ≢ Some (WrongSchema found)) → package_fault file ≡ fault → container_fault file ≡ fault
 unfolding container_fault whole_fault

@@ -20,7 +20,7 @@ use Rattle.package_test.specs.declared.places.FilePlace.{FilePlace}
 pub record IsAtPlace (pkg : List ℕ) (place : FilePlace) (contents : Contents) : Type 0 where
   pub folder : place.folder ≡ contents.folder
   pub file : place.file ≡ contents.file
-  pub stands : HasAt pkg place.at contents.bytes
+  pub located : HasAt pkg place.at contents.bytes
 
 -- there is a place for each file with contents, in order, and no other
 abbrev pub AreAtPlaces : List ℕ → List FilePlace → List Contents → Type 0
@@ -64,16 +64,16 @@ is_before_file folder file other_folder other_file =
     nat_lt folder other_folder || ((folder == other_folder) && nat_lt file other_file)
 
 -- each of these places is of a file after the one with these positions
-abbrev pub ArePlacedBehind : ℕ → ℕ → List FilePlace → Type 0
-ArePlacedBehind folder file [] = Unit {0}
-ArePlacedBehind folder file (place ∷ places) =
-    IsBeforeFile folder file place.folder place.file × ArePlacedBehind folder file places
+abbrev pub ArePlacedAfter : ℕ → ℕ → List FilePlace → Type 0
+ArePlacedAfter folder file [] = Unit {0}
+ArePlacedAfter folder file (place ∷ places) =
+    IsBeforeFile folder file place.folder place.file × ArePlacedAfter folder file places
 
 -- each of these places is of a file after those of all places before it
 abbrev pub AreInFileOrder : List FilePlace → Type 0
 AreInFileOrder [] = Unit {0}
 AreInFileOrder (place ∷ places) =
-    ArePlacedBehind place.folder place.file places × AreInFileOrder places
+    ArePlacedAfter place.folder place.file places × AreInFileOrder places
 
 -- whether a place is that of the file with these positions, which count from 1
 abbrev pub is_place_of : ℕ → ℕ → FilePlace → Bool

@@ -29,7 +29,7 @@ pub struct TestedPackage {
 impl TestedPackage {
     ghost use Rattle.std.specs.Prelude.{◌≡◌, [], ℕ, List};
     ghost use Rattle.package_test.specs.Tested.{IsTestedOf, tested_id, tested_len, tested_name, tested_payload, tested_value};
-    ghost use Rattle.piece_reader.specs.FileReading.{HaveCome, IsFileReading, file_due, len_around_file, package_of_file};
+    ghost use Rattle.piece_reader.specs.FileReading.{HaveBeenReturned, IsFileReading, expected_file_of, len_around_file, package_name_of_file};
     ghost use Rattle.pkg_core.specs.Contents.{bytes_of_file, contents_in, expected_contents};
     ghost use Rattle.pkg_core.specs.Opened.{expected_with_positions};
     ghost use Rattle.pkg_core.specs.Whole.{files_in_file};
@@ -55,13 +55,13 @@ impl TestedPackage {
     /// The contents of the file with these positions in pieces, from the first on. A file without
     /// contents has no pieces.
     pub fn file(&self, folder: u32, file: u32) -> FilePieces<'_>
-        ensures name { package_of_file result ≡ tested_name self.now }
+        ensures name { package_name_of_file result ≡ tested_name self.now }
         ensures len { len_around_file result ≡ tested_len self.now }
         // Whatever the tree has, its bytes are compared with the size and the digest that the
         // package's value lists for it.
-        ensures due { file_due result ≡ expected_with_positions folder file
+        ensures due { expected_file_of result ≡ expected_with_positions folder file
             (expected_contents (tested_value self.now)) }
-        ensures begun { HaveCome result [] }
+        ensures begun { HaveBeenReturned result [] }
         ensures reading { (name pkg : List ℕ) → IsTestedOf name pkg self.now → IsFileReading
             result pkg (bytes_of_file folder file (contents_in (files_in_file pkg))) }
     {

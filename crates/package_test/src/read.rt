@@ -75,7 +75,7 @@ fn read_named<T: Tree>(
 {
     match read_front(alloc, tree, name, PACKAGE_WORD) {
         Ok(Some(front)) => {
-            let test = read_behind(alloc, tree, name, &front)?;
+            let test = append_file_to(alloc, tree, name, &front)?;
             Ok(read_by(own_name, front, test))
         }
         Ok(None) => Ok(PackageRead::Absent),
@@ -102,7 +102,7 @@ fn read_by(name: Name, front: Front, test: FilesTest) -> PackageRead
 }
 
 /// Tests the values after a front and, if they are good, the blocks after them.
-fn read_behind<T: Tree>(
+fn append_file_to<T: Tree>(
     alloc: Global,
     tree: &mut T,
     name: &Name,

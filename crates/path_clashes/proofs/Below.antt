@@ -10,7 +10,7 @@ use Rattle.base_core.specs.Files.{IsFolderOf}
 use Rattle.base_core.specs.Listed.{IsListOf}
 use Rattle.base_core.specs.Tree.{File, TreeState, bytes_at, files_of}
 use Rattle.base_core.specs.ByteOrder.{bytes_cmp, precedes}
-use Rattle.path_clashes.specs.NearName.{IsNameFound, is_standing}
+use Rattle.path_clashes.specs.NearName.{IsNameFound, is_name_present}
 use Rattle.path_clashes.proofs.PairOrder.{precedes_itself, precedes_one_way}
 
 -- ---- what `find` finds
@@ -73,22 +73,22 @@ pub is_present : (files : ℕ → File) (o : Option ℕ) → is_some (bytes_at f
 is_present files None some = absurd (cc)
 is_present files (Some n) some = refl
 
-module _ (lets_go : List ℕ → Bool) (v : TreeState) (folder : List ℕ) (names : List (List ℕ)) (list : IsListOf folder v names) where
+module _ (does_release : List ℕ → Bool) (v : TreeState) (folder : List ℕ) (names : List (List ℕ)) (list : IsListOf folder v names) where
   abbrev stays : List ℕ → Bool
-  stays name = not (lets_go name)
+  stays name = not (does_release name)
 
-  listed : (other : List ℕ) → IsFolderOf folder other → is_standing lets_go (files_of v) other ≡ true → Contains names other × (stays other ≡ true)
-  listed other below standing =
-      let parts = and_parts (is_some (files_of v other)) (not (lets_go other)) standing in
+  listed : (other : List ℕ) → IsFolderOf folder other → is_name_present does_release (files_of v) other ≡ true → Contains names other × (stays other ≡ true)
+  listed other below present_files =
+      let parts = and_parts (is_some (files_of v other)) (not (does_release other)) present_files in
       ((list.each other).1 (is_present v.files (v.names other) parts.0, below), parts.1)
 
-  pub none_listed : find stays names ≡ None → IsNameFound lets_go (files_of v) folder None
-  none_listed none other below standing =
-      let at = listed other below standing in
+  pub none_listed : find stays names ≡ None → IsNameFound does_release (files_of v) folder None
+  none_listed none other below present_files =
+      let at = listed other below present_files in
       true≢false (sym at.1 ∙ (ap stays (sym at.0.2) ∙ find-None stays names none at.0.0 other at.0.1))
 
-  pub first_listed : (name : List ℕ) → find stays names ≡ Some name → IsNameFound lets_go (files_of v) folder (Some name)
-  first_listed name is = record { below = entry.1; standing = and_from (is_some (files_of v name)) (not (lets_go name)) (there v.files (v.names name) entry.0) f.passes; first = first }
+  pub first_listed : (name : List ℕ) → find stays names ≡ Some name → IsNameFound does_release (files_of v) folder (Some name)
+  first_listed name is = record { below = entry.1; present_files = and_from (is_some (files_of v name)) (not (does_release name)) (there v.files (v.names name) entry.0) f.passes; first = first }
     where
       f : IsFirstPassing stays names name
       f = find-Some stays names name is
@@ -96,8 +96,8 @@ module _ (lets_go : List ℕ → Bool) (v : TreeState) (folder : List ℕ) (name
       entry : IsSome (v.names name) × IsFolderOf folder name
       entry = (list.each name).0 (f.at, f.within, f.here)
 
-      first : (other : List ℕ) → IsFolderOf folder other → is_standing lets_go (files_of v) other ≡ true → precedes other name ≡ false
-      first other below standing = by (listed other below standing)
+      first : (other : List ℕ) → IsFolderOf folder other → is_name_present does_release (files_of v) other ≡ true → precedes other name ≡ false
+      first other below present_files = by (listed other below present_files)
         where
           by : Contains names other × (stays other ≡ true) → precedes other name ≡ false
           by ((k, within, here), stay) =
@@ -109,6 +109,6 @@ module _ (lets_go : List ℕ → Bool) (v : TreeState) (folder : List ℕ) (name
               at_name : (d : List ℕ) → get_or names f.at d ≡ name
               at_name d = get_or_default names f.at d name f.within ∙ f.here
 
-  pub found_listed : (found : Option (List ℕ)) → found ≡ find stays names → IsNameFound lets_go (files_of v) folder found
+  pub found_listed : (found : Option (List ℕ)) → found ≡ find stays names → IsNameFound does_release (files_of v) folder found
   found_listed None is = none_listed (sym is)
   found_listed (Some name) is = first_listed name (sym is)

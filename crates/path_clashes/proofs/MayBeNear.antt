@@ -30,10 +30,10 @@ module _ (change : NameChange) (before name : List ℕ) (len : ℕ) (within : le
         same_other other folder name (longer_folder folder other name found.above above (found.shortest other above long (counts_is_after change (files_with (Some folder)) other clash.path_after))));
   }
 
-  may_below : (other : List ℕ) → change.counts_as_written name ≡ true → IsFolderFound change (files_with None) name len None → IsNameFound change.lets_go (files_with (Some other)) name (Some other)
+  may_below : (other : List ℕ) → change.counts_as_written name ≡ true → IsFolderFound change (files_with None) name len None → IsNameFound change.does_release (files_with (Some other)) name (Some other)
       → MayBeClashNear change before name (Some (record { path = name; other = other }))
   may_below other counts none found = record {
-    one = record { files = files_with (Some other); is = clash_below change (files_with (Some other)) name other found.below found.standing counts; fresh = inl counts };
+    one = record { files = files_with (Some other); is = clash_below change (files_with (Some other)) name other found.below found.present_files counts; fresh = inl counts };
     above = λ folder above. by_len folder above (λ long clash. absurd (none folder above long clash.path_after));
   }
 
@@ -48,11 +48,11 @@ module _ (change : NameChange) (before name : List ℕ) (len : ℕ) (within : le
       (may_above folder counts (subst (λ (o : Option (List ℕ)). IsFolderFound change (files_with o) name len o) is at))
 
   pub below_may : (path other : List ℕ) (above found : Option (List ℕ)) → above ≡ None → found ≡ Some other → path ≡ name → change.counts_as_written name ≡ true
-      → IsFolderFound change (files_with above) name len above → IsNameFound change.lets_go (files_with found) path found → MayBeClashNear change before name (Some (record { path = path; other = other }))
+      → IsFolderFound change (files_with above) name len above → IsNameFound change.does_release (files_with found) path found → MayBeClashNear change before name (Some (record { path = path; other = other }))
   below_may path other above found none is named counts over under =
       subst (λ (l : List ℕ). MayBeClashNear change before name (Some (record { path = l; other = other }))) (sym named)
       (may_below other counts (subst (λ (o : Option (List ℕ)). IsFolderFound change (files_with o) name len o) none over)
-      (subst (λ (o : Option (List ℕ)). IsNameFound change.lets_go (files_with o) name o) is (subst (λ (l : List ℕ). IsNameFound change.lets_go (files_with found) l found) named under)))
+      (subst (λ (o : Option (List ℕ)). IsNameFound change.does_release (files_with o) name o) is (subst (λ (l : List ℕ). IsNameFound change.does_release (files_with found) l found) named under)))
 
   pub nothing_may : (above : Option (List ℕ)) → above ≡ None → IsFolderFound change (files_with above) name len above → MayBeClashNear change before name None
   nothing_may above none over = may_nothing (subst (λ (o : Option (List ℕ)). IsFolderFound change (files_with o) name len o) none over)

@@ -49,14 +49,14 @@ module _ (change : NameChange) (names : List (List ℕ)) where
         by zero = inr refl
         by (suc k) = inl (omega arith)
     not_before (suc i) name folder q within here apart above k inside at below =
-        ⊎_elim (λ less. absurd (apart (between_names folder q name (get_or names i []) below above (behind_q less) behind)))
+        ⊎_elim (λ less. absurd (apart (between_names folder q name (get_or names i []) below above (after_q less) behind)))
         (λ upto. (λ j. precedes (sym at j) (sym (here []) j)) ∙ in_order (suc i) k (more k upto) inside) (cases_lt k (suc i))
       where
         behind : precedes name (get_or names i []) ≡ false
         behind = ap (λ (l : List ℕ). precedes l (get_or names i [])) (sym (here [])) ∙ in_order i (suc i) (inl (omega arith)) within
 
-        behind_q : k < suc i → precedes (get_or names i []) q ≡ false
-        behind_q less = ap (precedes (get_or names i [])) (sym at) ∙ in_order k i (upto_i (cases_lt k i) less) (omega arith)
+        after_q : k < suc i → precedes (get_or names i []) q ≡ false
+        after_q less = ap (precedes (get_or names i [])) (sym at) ∙ in_order k i (upto_i (cases_lt k i) less) (omega arith)
           where
             upto_i : (k < i) ⊎ (i ≤ k) → k < suc i → (k < i) ⊎ (k ≡ i)
             upto_i (inl less) short = inl less
@@ -84,7 +84,7 @@ module _ (change : NameChange) (names : List (List ℕ)) where
     more_may i before name best found new within here last is so_far near =
         subst (MayBeFirstSoFar (i + 1)) (sym is) (record {
           one = one_of (IsFirstBelowFolder change) best found so_far.one (first_below i name found within here at.one);
-          none = none_of_more change no_names names are_names up (λ name any. counting name ∙ any) i name best found within here so_far.none at.above (λ other standing. absurd (cc));
+          none = none_of_more change no_names names are_names up (λ name any. counting name ∙ any) i name best found within here so_far.none at.above (λ other present_files. absurd (cc));
         })
       where
         at : MayBeClashNear change (name_before names i) name found

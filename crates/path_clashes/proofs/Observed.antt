@@ -2,7 +2,7 @@
 use Rattle.std.proofs.Common.{◌≡◌, List, [], ◌∷◌, subst, arith}
 use Rattle.std.specs.List.{All}
 use Rattle.base_core.specs.Calls.{IfObservable}
-use Rattle.base_core.specs.Tree.{IsWhole, TreeState}
+use Rattle.base_core.specs.Tree.{IsWellFormed, TreeState}
 
 pub observed_by : (h : List TreeState) (P Q : TreeState → Type 0) → ((v : TreeState) → P v → Q v) → IfObservable h P → IfObservable h Q
 observed_by [] P Q step p = tt
@@ -13,6 +13,6 @@ pub observed_by_two : (old h : List TreeState) (P Q R : TreeState → Type 0) �
 observed_by_two [] h P Q R same step p q = tt
 observed_by_two (v ∷ old) h P Q R same step p q = step v p (subst (λ (l : List TreeState). IfObservable l Q) same q)
 
-pub observed_whole : (h : List TreeState) → All IsWhole h → IfObservable h IsWhole
+pub observed_whole : (h : List TreeState) → All IsWellFormed h → IfObservable h IsWellFormed
 observed_whole [] all = tt
 observed_whole (v ∷ h) all = all 0 v (omega arith)

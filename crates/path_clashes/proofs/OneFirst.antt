@@ -49,6 +49,6 @@ one_first change files (Some a) (Some b) h g =
     (one_pair a b (false_from_ne_true (precedes_pair a b) (g.first a h.is_one)) (false_from_ne_true (precedes_pair b a) (h.first b g.is_one)))
 
 pub same_first : (one other : NameChange) (files : Files) (found : Option NamePair) → ((name : List ℕ) → one.counts_as_written name ≡ other.counts_as_written name)
-    → ((name : List ℕ) → one.lets_go name ≡ other.lets_go name) → IsClashOf one files found → IsClashOf other files found
+    → ((name : List ℕ) → one.does_release name ≡ other.does_release name) → IsClashOf one files found → IsClashOf other files found
 same_first one other files found counts goes =
-    subst (λ (c : NameChange). IsClashOf c files found) (λ i. record { counts_as_written = λ name. counts name i; lets_go = λ name. goes name i })
+    subst (λ (c : NameChange). IsClashOf c files found) (λ i. record { counts_as_written = λ name. counts name i; does_release = λ name. goes name i })

@@ -39,16 +39,16 @@ module _ (change : NameChange) where
   pub written_after : (q : List ℕ) → is_name_after change (files_with None) q ≡ true → change.counts_as_written q ≡ true
   written_after q after = after
 
-  pub after_alone : (name folder : List ℕ) → name ≡ folder → (change.counts_as_written folder ≡ true) ⊎ (change.lets_go folder ≡ false)
+  pub after_alone : (name folder : List ℕ) → name ≡ folder → (change.counts_as_written folder ≡ true) ⊎ (change.does_release folder ≡ false)
       → Some name ≡ name_if (is_name_after change (files_with (Some name)) folder) folder
   after_alone name folder is why =
       ap (λ (l : List ℕ). Some l) is ∙ sym (ap (λ b. name_if b folder) (subst (λ (l : List ℕ). is_name_after change (files_with (Some l)) folder ≡ true) (sym is) (by why)))
     where
-      by : (change.counts_as_written folder ≡ true) ⊎ (change.lets_go folder ≡ false) → is_name_after change (files_with (Some folder)) folder ≡ true
-      by (inl counts) = or_right (is_some (files_with (Some folder) folder) && not (change.lets_go folder)) (change.counts_as_written folder) counts
+      by : (change.counts_as_written folder ≡ true) ⊎ (change.does_release folder ≡ false) → is_name_after change (files_with (Some folder)) folder ≡ true
+      by (inl counts) = or_right (is_some (files_with (Some folder) folder) && not (change.does_release folder)) (change.counts_as_written folder) counts
       by (inr stays) =
-          or_left (is_some (files_with (Some folder) folder) && not (change.lets_go folder)) (change.counts_as_written folder)
-          (and_from (is_some (files_with (Some folder) folder)) (not (change.lets_go folder)) (present folder) (ap not stays))
+          or_left (is_some (files_with (Some folder) folder) && not (change.does_release folder)) (change.counts_as_written folder)
+          (and_from (is_some (files_with (Some folder) folder)) (not (change.does_release folder)) (present folder) (ap not stays))
 
   pub none_after : (folder : List ℕ) → change.counts_as_written folder ≡ false → None ≡ name_if (is_name_after change (files_with None) folder) folder
   none_after folder off = sym (ap (λ b. name_if b folder) off)
@@ -57,7 +57,7 @@ module _ (change : NameChange) where
 
   none_with : (name folder : List ℕ) (len i : ℕ) → length folder ≡ i → IsNoneUpto change (files_with None) name len i → IsNoneUpto change (files_with (Some folder)) name len i
   none_with name folder len i long none other above upto short after =
-      none other above upto short (sym (ap (λ b. (b && not (change.lets_go other)) || change.counts_as_written other) (absent_there folder other apart)) ∙ after)
+      none other above upto short (sym (ap (λ b. (b && not (change.does_release other)) || change.counts_as_written other) (absent_there folder other apart)) ∙ after)
     where
       apart : other ≡ folder → ⊥
       apart same = omega (arith, ap length same, long, short)
@@ -79,21 +79,21 @@ module _ (change : NameChange) where
       longer = ap length (named (is_name_after change (files_with (Some folder)) (take i name)) (sym is ∙ at_folder)) ∙ length-take-le i name (omega arith)
 
 -- what is no name is not written
-pub no_name_alone : (paths : List FilePath) (lets_go : List ℕ → Bool) (name : List ℕ) → All IsName (map joined_path paths) → is_name name ≡ false
-    → None ≡ name_if (is_name_after (change_by_paths paths lets_go) (files_with None) name) name
-no_name_alone paths lets_go name names off = none_after (change_by_paths paths lets_go) name (not_a_path paths name names off)
+pub no_name_alone : (paths : List FilePath) (does_release : List ℕ → Bool) (name : List ℕ) → All IsName (map joined_path paths) → is_name name ≡ false
+    → None ≡ name_if (is_name_after (change_by_paths paths does_release) (files_with None) name) name
+no_name_alone paths does_release name names off = none_after (change_by_paths paths does_release) name (not_a_path paths name names off)
 
 -- ---- a name below
 
-pub listed_alone : (lets_go : List ℕ → Bool) (folder : List ℕ) (names : List (List ℕ)) → AreNamesBelow folder names → (found : Option (List ℕ)) → found ≡ find (λ name. not (lets_go name)) names
-    → IsNameFound lets_go (files_with found) folder found
-listed_alone lets_go folder names below None is = λ other over standing. absurd (cc)
-listed_alone lets_go folder names below (Some name) is = record {
+pub listed_alone : (does_release : List ℕ → Bool) (folder : List ℕ) (names : List (List ℕ)) → AreNamesBelow folder names → (found : Option (List ℕ)) → found ≡ find (λ name. not (does_release name)) names
+    → IsNameFound does_release (files_with found) folder found
+listed_alone does_release folder names below None is = λ other over present_files. absurd (cc)
+listed_alone does_release folder names below (Some name) is = record {
   below = subst (IsFolderOf folder) f.here (below.each f.at name f.within).below;
-  standing = and_from (is_some (files_with (Some name) name)) (not (lets_go name)) (present name) f.passes;
-  first = λ other over standing.
-      ap (λ (l : List ℕ). precedes l name) (just_present name other (and_parts (is_some (files_with (Some name) other)) (not (lets_go other)) standing).0) ∙ precedes_itself name;
+  present_files = and_from (is_some (files_with (Some name) name)) (not (does_release name)) (present name) f.passes;
+  first = λ other over present_files.
+      ap (λ (l : List ℕ). precedes l name) (just_present name other (and_parts (is_some (files_with (Some name) other)) (not (does_release other)) present_files).0) ∙ precedes_itself name;
 }
   where
-    f : IsFirstPassing (λ n. not (lets_go n)) names name
-    f = find-Some (λ name. not (lets_go name)) names name (sym is)
+    f : IsFirstPassing (λ n. not (does_release n)) names name
+    f = find-Some (λ name. not (does_release name)) names name (sym is)

@@ -9,7 +9,7 @@ use Rattle.base_core.specs.Name.{IsName}
 use Rattle.base_core.specs.ByteOrder.{bytes_cmp, precedes}
 use Rattle.path_clashes.specs.Clash.{NameChange, NamePair, precedes_pair}
 use Rattle.path_clashes.specs.FirstClash.{IsClashOf}
-use Rattle.path_clashes.specs.NearName.{IsClashIfSome, IsClashNear, IsNoEarlierClash, IsNotBefore, earlier_pair, is_standing}
+use Rattle.path_clashes.specs.NearName.{IsClashIfSome, IsClashNear, IsNoEarlierClash, IsNotBefore, earlier_pair, is_name_present}
 use Rattle.path_clashes.proofs.Above.{nothing_above}
 use Rattle.path_clashes.proofs.NearClash.{clash_above}
 use Rattle.path_clashes.proofs.PairOrder.{pairs_chain, pairs_one_way, same_path}
@@ -61,7 +61,7 @@ module _ (change : NameChange) (files : Files) where
   -- of the clashes with the names so far none comes before the one that was found
   pub record IsNoneEarlier (names : List (List ℕ)) (i : ℕ) (found : Option NamePair) : Type 0 where
     pub above : (k : ℕ) (d : List ℕ) → k < i → (folder : List ℕ) → IsFolderOf folder (get_or names k d) → IsNoEarlierClash change files found (record { path = folder; other = get_or names k d })
-    pub below : (k : ℕ) (d : List ℕ) → k < i → (other : List ℕ) → is_standing change.lets_go files other ≡ true → IsNoEarlierClash change files found (record { path = get_or names k d; other = other })
+    pub below : (k : ℕ) (d : List ℕ) → k < i → (other : List ℕ) → is_name_present change.does_release files other ≡ true → IsNoEarlierClash change files found (record { path = get_or names k d; other = other })
 
   pub record IsFirstSoFar (names : List (List ℕ)) (i : ℕ) (found : Option NamePair) : Type 0 where
     pub is_one : IsClashIfSome change files found
@@ -93,16 +93,16 @@ module _ (change : NameChange) (files : Files) where
             ap (λ (l : List ℕ). precedes l (get_or names i [])) (sym (here []))
             ∙ (ap (λ n. precedes (get_or names n []) (get_or names i [])) e ∙ up i [] (omega arith) (omega arith))
 
-    below_before : (i : ℕ) (name other : List ℕ) (found : Option NamePair) → i < length names → ((d : List ℕ) → get_or names i d ≡ name) → IsNoneEarlier names i found → name_before names i ≡ name → is_standing change.lets_go files other ≡ true
+    below_before : (i : ℕ) (name other : List ℕ) (found : Option NamePair) → i < length names → ((d : List ℕ) → get_or names i d ≡ name) → IsNoneEarlier names i found → name_before names i ≡ name → is_name_present change.does_release files other ≡ true
         → IsNoEarlierClash change files found (record { path = name; other = other })
-    below_before zero name other found within here so_far same standing =
+    below_before zero name other found within here so_far same present_files =
         absurd (no_empty_name (subst IsName (here [] ∙ sym same) (are_names 0 [] within)))
-    below_before (suc i) name other found within here so_far same standing =
-        subst (λ (l : List ℕ). IsNoEarlierClash change files found (record { path = l; other = other })) same (so_far.below i [] (omega arith) other standing)
+    below_before (suc i) name other found within here so_far same present_files =
+        subst (λ (l : List ℕ). IsNoEarlierClash change files found (record { path = l; other = other })) same (so_far.below i [] (omega arith) other present_files)
 
     pub none_of_more : (i : ℕ) (name : List ℕ) (best found : Option NamePair) → i < length names → ((d : List ℕ) → get_or names i d ≡ name) → IsNoneEarlier names i best
         → ((folder : List ℕ) → IsFolderOf folder name → IsFolderOf folder (name_before names i) ⊎ IsNoEarlierClash change files found (record { path = folder; other = name }))
-        → ((other : List ℕ) → is_standing change.lets_go files other ≡ true → (name_before names i ≡ name) ⊎ IsNoEarlierClash change files found (record { path = name; other = other }))
+        → ((other : List ℕ) → is_name_present change.does_release files other ≡ true → (name_before names i ≡ name) ⊎ IsNoEarlierClash change files found (record { path = name; other = other }))
         → IsNoneEarlier names (i + 1) (earlier_pair best found)
     none_of_more i name best found within here so_far near_above near_below = record { above = above; below = below }
       where
@@ -111,10 +111,10 @@ module _ (change : NameChange) (files : Files) where
             ⊎_elim (λ before. not_before_first (record { path = folder; other = name }) best found (above_before i name folder best within here so_far before clash))
             (λ none. not_before_second (record { path = folder; other = name }) best found (none clash)) (near_above folder over)
 
-        below_here : (other : List ℕ) → is_standing change.lets_go files other ≡ true → IsNoEarlierClash change files (earlier_pair best found) (record { path = name; other = other })
-        below_here other standing clash =
-            ⊎_elim (λ same. not_before_first (record { path = name; other = other }) best found (below_before i name other best within here so_far same standing clash))
-            (λ none. not_before_second (record { path = name; other = other }) best found (none clash)) (near_below other standing)
+        below_here : (other : List ℕ) → is_name_present change.does_release files other ≡ true → IsNoEarlierClash change files (earlier_pair best found) (record { path = name; other = other })
+        below_here other present_files clash =
+            ⊎_elim (λ same. not_before_first (record { path = name; other = other }) best found (below_before i name other best within here so_far same present_files clash))
+            (λ none. not_before_second (record { path = name; other = other }) best found (none clash)) (near_below other present_files)
 
         at_here : (k : ℕ) (d : List ℕ) → k ≡ i → name ≡ get_or names k d
         at_here k d is = sym (here d) ∙ ap (λ n. get_or names n d) (sym is)
@@ -124,10 +124,10 @@ module _ (change : NameChange) (files : Files) where
             ⊎_elim (λ is. subst (λ (l : List ℕ). IsNoEarlierClash change files (earlier_pair best found) (record { path = folder; other = l })) (at_here k d is) (above_here folder (subst (IsFolderOf folder) (sym (at_here k d is)) over)))
             (λ apart clash. not_before_first (record { path = folder; other = get_or names k d }) best found (so_far.above k d (omega (arith, upto, apart)) folder over clash)) (cases_eq k i)
 
-        below : (k : ℕ) (d : List ℕ) → k < i + 1 → (other : List ℕ) → is_standing change.lets_go files other ≡ true → IsNoEarlierClash change files (earlier_pair best found) (record { path = get_or names k d; other = other })
-        below k d upto other standing =
-            ⊎_elim (λ is. subst (λ (l : List ℕ). IsNoEarlierClash change files (earlier_pair best found) (record { path = l; other = other })) (at_here k d is) (below_here other standing))
-            (λ apart clash. not_before_first (record { path = get_or names k d; other = other }) best found (so_far.below k d (omega (arith, upto, apart)) other standing clash)) (cases_eq k i)
+        below : (k : ℕ) (d : List ℕ) → k < i + 1 → (other : List ℕ) → is_name_present change.does_release files other ≡ true → IsNoEarlierClash change files (earlier_pair best found) (record { path = get_or names k d; other = other })
+        below k d upto other present_files =
+            ⊎_elim (λ is. subst (λ (l : List ℕ). IsNoEarlierClash change files (earlier_pair best found) (record { path = l; other = other })) (at_here k d is) (below_here other present_files))
+            (λ apart clash. not_before_first (record { path = get_or names k d; other = other }) best found (so_far.below k d (omega (arith, upto, apart)) other present_files clash)) (cases_eq k i)
 
     pub first_of_more : (i : ℕ) (name : List ℕ) (best found : Option NamePair) → i < length names → ((d : List ℕ) → get_or names i d ≡ name)
         → IsFirstSoFar names i best → IsClashNear change files (name_before names i) name found → IsFirstSoFar names (i + 1) (earlier_pair best found)
@@ -150,12 +150,12 @@ module _ (change : NameChange) (files : Files) where
         ⊎_elim (λ counts. let at = place_of names other (sym (counting other) ∙ counts) in
         subst (λ (l : List ℕ). IsNoEarlierClash change files found (record { path = path; other = l })) at.2 (so_far.above at.0 other at.1 path (subst (IsFolderOf path) (sym at.2) clash.folder)) clash)
         (λ off. ⊎_elim (λ counts. let at = place_of names path (sym (counting path) ∙ counts) in
-        subst (λ (l : List ℕ). IsNoEarlierClash change files found (record { path = l; other = other })) at.2 (so_far.below at.0 path at.1 other (standing off clash.other_after)) clash)
+        subst (λ (l : List ℕ). IsNoEarlierClash change files found (record { path = l; other = other })) at.2 (so_far.below at.0 path at.1 other (present_files off clash.other_after)) clash)
         (λ counts. absurd (true≢false (sym counts ∙ off))) (or_cases (change.counts_as_written path) (change.counts_as_written other) clash.written))
         (cases_Bool (change.counts_as_written other))
       where
-        standing : change.counts_as_written other ≡ false → (is_standing change.lets_go files other || change.counts_as_written other) ≡ true → is_standing change.lets_go files other ≡ true
-        standing off after = ⊎_elim (λ s. s) (λ counts. absurd (true≢false (sym counts ∙ off))) (or_cases (is_standing change.lets_go files other) (change.counts_as_written other) after)
+        present_files : change.counts_as_written other ≡ false → (is_name_present change.does_release files other || change.counts_as_written other) ≡ true → is_name_present change.does_release files other ≡ true
+        present_files off after = ⊎_elim (λ s. s) (λ counts. absurd (true≢false (sym counts ∙ off))) (or_cases (is_name_present change.does_release files other) (change.counts_as_written other) after)
 
     pub first_of_all : (found : Option NamePair) → IsFirstSoFar names (length names) found → IsClashOf change files found
     first_of_all None so_far = λ pair clash. in_all None so_far.none pair.path pair.other clash

@@ -40,14 +40,14 @@ module _ (change : NameChange) (pair : NamePair) (may : IsFirstBelowFolder chang
 
   after_still : (q : List ℕ) → (q ≡ pair.path) ⊎ (q ≡ pair.other) → is_name_after change may.files q ≡ true → is_name_after change (files_of_pair pair) q ≡ true
   after_still q either after =
-      ⊎_elim (λ standing. or_left (is_some (files_of_pair pair q) && not (change.lets_go q)) (change.counts_as_written q)
-      (and_from (is_some (files_of_pair pair q)) (not (change.lets_go q)) (there q either) (and_parts (is_some (may.files q)) (not (change.lets_go q)) standing).1))
-      (λ counts. counts_is_after change (files_of_pair pair) q counts) (or_cases (is_some (may.files q) && not (change.lets_go q)) (change.counts_as_written q) after)
+      ⊎_elim (λ present_files. or_left (is_some (files_of_pair pair q) && not (change.does_release q)) (change.counts_as_written q)
+      (and_from (is_some (files_of_pair pair q)) (not (change.does_release q)) (there q either) (and_parts (is_some (may.files q)) (not (change.does_release q)) present_files).1))
+      (λ counts. counts_is_after change (files_of_pair pair) q counts) (or_cases (is_some (may.files q) && not (change.does_release q)) (change.counts_as_written q) after)
 
   unwritten : (q : List ℕ) → is_name_after change (files_of_pair pair) q ≡ true → change.counts_as_written q ≡ false → (q ≡ pair.path) ⊎ (q ≡ pair.other)
   unwritten q after off =
-      ⊎_elim (λ standing. one_of_two q (and_parts (is_some (files_of_pair pair q)) (not (change.lets_go q)) standing).0) (λ counts. absurd (true≢false (sym counts ∙ off)))
-      (or_cases (is_some (files_of_pair pair q) && not (change.lets_go q)) (change.counts_as_written q) after)
+      ⊎_elim (λ present_files. one_of_two q (and_parts (is_some (files_of_pair pair q)) (not (change.does_release q)) present_files).0) (λ counts. absurd (true≢false (sym counts ∙ off)))
+      (or_cases (is_some (files_of_pair pair q) && not (change.does_release q)) (change.counts_as_written q) after)
 
   -- ---- none comes before it
 

@@ -7,12 +7,12 @@ use Rattle.base_core.specs.ByteOrder.{precedes}
 -- how a change treats names: which count as written, and under which a file is removed
 pub record NameChange : Type 0 where
   pub counts_as_written : List ℕ → Bool
-  pub lets_go : List ℕ → Bool
+  pub does_release : List ℕ → Bool
 
 -- whether a name is present after the change: a file is under it and is kept, or it counts as written
 abbrev pub is_name_after : NameChange → Files → List ℕ → Bool
 is_name_after change files name =
-    (is_some (files name) && not (change.lets_go name)) || change.counts_as_written name
+    (is_some (files name) && not (change.does_release name)) || change.counts_as_written name
 
 -- two names, of which the first would be a folder of the second
 pub record NamePair : Type 0 where

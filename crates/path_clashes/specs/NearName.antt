@@ -7,8 +7,8 @@ use Rattle.base_core.specs.ByteOrder.{precedes}
 use Rattle.path_clashes.specs.Clash.{IsClash, NameChange, NamePair, is_name_after, precedes_pair}
 
 -- whether a file is under the name and is kept
-abbrev pub is_standing : (List ℕ → Bool) → Files → List ℕ → Bool
-is_standing lets_go files name = is_some (files name) && not (lets_go name)
+abbrev pub is_name_present : (List ℕ → Bool) → Files → List ℕ → Bool
+is_name_present does_release files name = is_some (files name) && not (does_release name)
 
 -- the name, if a condition holds
 abbrev pub name_if : Bool → List ℕ → Option (List ℕ)
@@ -42,18 +42,18 @@ IsFolderFound change files name len (Some folder) =
 -- ---- below
 
 -- the first in byte order of the names below a folder whose file is kept
-pub record IsFirstBelow (lets_go : List ℕ → Bool) (files : Files) (folder name : List ℕ)
+pub record IsFirstBelow (does_release : List ℕ → Bool) (files : Files) (folder name : List ℕ)
     : Type 0 where
   pub below : IsFolderOf folder name
-  pub standing : is_standing lets_go files name ≡ true
+  pub present_files : is_name_present does_release files name ≡ true
   pub first : (other : List ℕ) → IsFolderOf folder other
-      → is_standing lets_go files other ≡ true → precedes other name ≡ false
+      → is_name_present does_release files other ≡ true → precedes other name ≡ false
 
 -- the first such name is found; if none is found, every file below the folder is removed
 abbrev pub IsNameFound : (List ℕ → Bool) → Files → List ℕ → Option (List ℕ) → Type 0
-IsNameFound lets_go files folder None =
-    (other : List ℕ) → IsFolderOf folder other → is_standing lets_go files other ≡ true → ⊥
-IsNameFound lets_go files folder (Some name) = IsFirstBelow lets_go files folder name
+IsNameFound does_release files folder None =
+    (other : List ℕ) → IsFolderOf folder other → is_name_present does_release files other ≡ true → ⊥
+IsNameFound does_release files folder (Some name) = IsFirstBelow does_release files folder name
 
 -- ---- pairs with the name
 
@@ -84,7 +84,7 @@ pub record IsClashNear (change : NameChange) (files : Files) (before name : List
   pub is_one : IsClashIfSome change files found
   pub above : (folder : List ℕ) → IsFolderOf folder name → IsFolderOf folder before
       ⊎ IsNoEarlierClash change files found (record { path = folder; other = name })
-  pub below : (other : List ℕ) → is_standing change.lets_go files other ≡ true
+  pub below : (other : List ℕ) → is_name_present change.does_release files other ≡ true
       → (before ≡ name)
       ⊎ IsNoEarlierClash change files found (record { path = name; other = other })
 

@@ -13,5 +13,5 @@ is_path_of paths name = list_any (bytes_eq name) (map joined_path paths)
 
 -- the change of names by which exactly these paths count as written
 abbrev pub change_by_paths : List FilePath → (List ℕ → Bool) → NameChange
-change_by_paths written lets_go =
-    record { counts_as_written = is_path_of written; lets_go = lets_go }
+change_by_paths written does_release =
+    record { counts_as_written = is_path_of written; does_release = does_release }

@@ -6,7 +6,7 @@ ghost use Rattle.std.specs.Prelude.{◌≡◌, ◌<◌, ◌≤◌, ℕ, List, tr
 ghost use Rattle.std.specs.List.Sorted.{IsSorted};
 ghost use Rattle.adb_fields.specs.JoinedPath.{joined_path};
 ghost use Rattle.base_core.specs.Calls.{IfObservable};
-ghost use Rattle.base_core.specs.Files.{IsFolderOf, Files, IsFolderLike, NameMap};
+ghost use Rattle.base_core.specs.Files.{IsFolderOf, Files, HasNoFileAsFolder, NameMap};
 ghost use Rattle.base_core.specs.Name.{IsName};
 ghost use Rattle.base_core.specs.Read.{OnlyReads};
 ghost use Rattle.base_core.specs.Tree.{files_of};
@@ -95,7 +95,7 @@ fn common_len(one: &[u8], other: &[u8]) -> usize
 /// The first clash of a written path (`bytes`) with the names above it and below it. The folders
 /// that are also above the path before it (`before`) were searched with that one; if both paths are
 /// the same, so was everything.
-fn clash_near<T: Tree, G: LetGo>(
+fn clash_near<T: Tree, G: IsReleased>(
     alloc: Global,
     tree: &mut T,
     written: &[FilePath<'_>],
@@ -108,11 +108,11 @@ fn clash_near<T: Tree, G: LetGo>(
     requires written { is_path_of written.now bytes.now ≡ true }
     // If the tree's files are observable.
     ensures near { IfOk result (λ found. IfObservable (T.history tree.old) (λ v.
-        IsClashNear (change_by_paths written.now (G.lets_go let_go.now)) (files_of v)
+        IsClashNear (change_by_paths written.now (G.does_release let_go.now)) (files_of v)
         before.now bytes.now (option_map clash_seen found))) }
     // Over any tree, even one whose files are not observable.
     ensures may { IfOk result (λ found. MayBeClashNear
-        (change_by_paths written.now (G.lets_go let_go.now))
+        (change_by_paths written.now (G.does_release let_go.now))
         before.now bytes.now (option_map clash_seen found)) }
     ensures tree { OnlyReads TreeFault.Disk (T.history tree.old) (T.history tree.new)
         (T.counts tree.old) (T.counts tree.new) result }
@@ -141,7 +141,7 @@ fn clash_near<T: Tree, G: LetGo>(
 /// # Errors
 ///
 /// `Disk` if the tree failed, `Memory` if out of memory.
-pub fn first_clash<T: Tree, G: LetGo>(
+pub fn first_clash<T: Tree, G: IsReleased>(
     alloc: Global,
     tree: &mut T,
     written: &[FilePath<'_>],
@@ -151,12 +151,12 @@ pub fn first_clash<T: Tree, G: LetGo>(
     requires names { All IsName (map joined_path written.now) }
     // If the tree's files are observable.
     ensures first { IfOk result (λ found. IfObservable (T.history tree.old) (λ v.
-        IsClashOf (change_by_paths written.now (G.lets_go let_go.now)) (files_of v)
+        IsClashOf (change_by_paths written.now (G.does_release let_go.now)) (files_of v)
         (option_map clash_seen found))) }
     // Over any tree, even one whose files are not observable: it is the first clash over some
     // files, or there is none over some.
     ensures may { IfOk result (λ found. MayBeClashOf
-        (change_by_paths written.now (G.lets_go let_go.now)) (option_map clash_seen found)) }
+        (change_by_paths written.now (G.does_release let_go.now)) (option_map clash_seen found)) }
     ensures tree { OnlyReads TreeFault.Disk (T.history tree.old) (T.history tree.new)
         (T.counts tree.old) (T.counts tree.new) result }
 {
@@ -172,26 +172,27 @@ pub fn first_clash<T: Tree, G: LetGo>(
 }
 
 /// Which files a change removes, by their names.
-pub trait LetGo {
+pub trait IsReleased {
     // Whether a file under a name is removed, as contracts say it.
-    ghost lets_go: { Self → List ℕ → Bool };
+    ghost does_release: { Self → List ℕ → Bool };
 
     /// Whether a file under this name is removed.
-    fn lets_go(&self, name: &[u8]) -> bool
-        ensures { result ≡ Self.lets_go self.now name.now };
+    fn does_release(&self, name: &[u8]) -> bool
+        ensures { result ≡ Self.does_release self.now name.now };
 }
 
 /// If a change has no clash, no name that is present after it is a folder of another: so a file
 /// system can have the files after it.
-pub fn files_without_a_clash_are_folder_like()
-    ensures files { (change : NameChange) (files after : Files) → IsFolderLike files
+pub fn files_without_a_clash_have_no_file_as_folder()
+    ensures files { (change : NameChange) (files after : Files) → HasNoFileAsFolder files
         → HasNoClash change files
         → ((name : List ℕ) → IsSome (after name) → is_name_after change files name ≡ true)
-        → IsFolderLike after }
-    ensures names { (change : NameChange) (files : Files) (after : NameMap) → IsFolderLike files
+        → HasNoFileAsFolder after }
+    ensures names { (change : NameChange) (files : Files) (after : NameMap)
+        → HasNoFileAsFolder files
         → HasNoClash change files
         → ((name : List ℕ) → IsSome (after name) → is_name_after change files name ≡ true)
-        → IsFolderLike after }
+        → HasNoFileAsFolder after }
 {}
 
 /// A change has one first clash, or none: so the refusal is a function of the change and the files.
@@ -205,6 +206,6 @@ pub fn a_change_has_one_first_clash()
 pub fn changes_that_agree_clash_alike()
     ensures { (one other : NameChange) (files : Files) (found : Option NamePair)
         → ((name : List ℕ) → one.counts_as_written name ≡ other.counts_as_written name)
-        → ((name : List ℕ) → one.lets_go name ≡ other.lets_go name)
+        → ((name : List ℕ) → one.does_release name ≡ other.does_release name)
         → IsClashOf one files found → IsClashOf other files found }
 {}

@@ -1,16 +1,16 @@
 //! Whether a change of names makes one name a folder of another.
 //!
-//! The change is given by the paths that it writes, and by a `LetGo`, which says under which names
-//! a file is removed. `first_clash` searches near the paths alone: the folders above them, and the
-//! names below them. The contracts cite `Clash`, `FirstClash` and `WrittenPaths` of `specs/`.
-//! The rule is in `docs/commands.md`, "What a change does with files", test 2; the terms *clash*
-//! and *counts as written* in `docs/names.md`, "The installed database and a change of it".
+//! The change is given by the paths that it writes, and by a `IsReleased`, which says under which
+//! names a file is removed. `first_clash` searches near the paths alone: the folders above them,
+//! and the names below them. The contracts cite `Clash`, `FirstClash` and `WrittenPaths` of
+//! `specs/`. The rule is in `docs/commands.md`, "What a change does with files", test 2; the terms
+//! *clash* and *counts as written* in `docs/names.md`, "The installed database and a change of it".
 #![tactic(auto)]
 
 mod clash;
 mod near;
 
 pub use clash::{
-    Clash, LetGo, a_change_has_one_first_clash, changes_that_agree_clash_alike,
-    files_without_a_clash_are_folder_like, first_clash, path_bytes,
+    Clash, IsReleased, a_change_has_one_first_clash, changes_that_agree_clash_alike,
+    files_without_a_clash_have_no_file_as_folder, first_clash, path_bytes,
 };

@@ -12,10 +12,10 @@ ghost use Rattle.base_core.specs.Read.{OnlyReads};
 ghost use Rattle.base_core.specs.Tree.{files_of};
 ghost use Rattle.base_core.specs.ByteOrder.{bytes_cmp};
 ghost use Rattle.path_clashes.specs.Clash.{is_name_after};
-ghost use Rattle.path_clashes.specs.NearName.{IsFolderFound, IsNameFound, files_with, is_standing, name_if};
+ghost use Rattle.path_clashes.specs.NearName.{IsFolderFound, IsNameFound, files_with, is_name_present, name_if};
 ghost use Rattle.path_clashes.specs.WrittenPaths.{change_by_paths, is_path_of};
 
-use crate::clash::LetGo;
+use crate::clash::IsReleased;
 use adb_fields::FilePath;
 use base_core::{Name, Names, Tree, TreeFault};
 use std::alloc::{AllocError, Global};
@@ -31,15 +31,19 @@ fn is_path_of(paths: &[FilePath<'_>], name: &[u8]) -> bool
 
 /// Whether a file is under a name and is kept. The tree is not asked if the change removes the
 /// file.
-fn is_standing<T: Tree, G: LetGo>(tree: &mut T, let_go: &G, name: &Name) -> Result<bool, TreeFault>
-    ensures answer { IfOk result (λ standing. IfObservable (T.history tree.old) (λ v.
-        standing ≡ is_standing (G.lets_go let_go.now) (files_of v) name.now)) }
-    ensures stays { IfOk result (λ standing.
-        standing ≡ true → G.lets_go let_go.now name.now ≡ false) }
+fn is_name_present<T: Tree, G: IsReleased>(
+    tree: &mut T,
+    let_go: &G,
+    name: &Name,
+) -> Result<bool, TreeFault>
+    ensures answer { IfOk result (λ present_files. IfObservable (T.history tree.old) (λ v.
+        present_files ≡ is_name_present (G.does_release let_go.now) (files_of v) name.now)) }
+    ensures stays { IfOk result (λ present_files.
+        present_files ≡ true → G.does_release let_go.now name.now ≡ false) }
     ensures tree { OnlyReads TreeFault.Disk (T.history tree.old) (T.history tree.new)
         (T.counts tree.old) (T.counts tree.new) result }
 {
-    if let_go.lets_go(name.as_bytes()) {
+    if let_go.does_release(name.as_bytes()) {
         return Ok(false);
     }
     let size = tree.size(name)?;
@@ -48,7 +52,7 @@ fn is_standing<T: Tree, G: LetGo>(tree: &mut T, let_go: &G, name: &Name) -> Resu
 
 /// The name of a folder, if it is present after the change: it is written, or a file is under it
 /// and is kept.
-fn folder_after<T: Tree, G: LetGo>(
+fn folder_after<T: Tree, G: IsReleased>(
     alloc: Global,
     tree: &mut T,
     written: &[FilePath<'_>],
@@ -58,10 +62,10 @@ fn folder_after<T: Tree, G: LetGo>(
     requires sorted { IsSorted bytes_cmp (map joined_path written.now) }
     requires names { All IsName (map joined_path written.now) }
     ensures found { IfOk result (λ found. IfObservable (T.history tree.old) (λ v.
-        found ≡ name_if (is_name_after (change_by_paths written.now (G.lets_go let_go.now))
+        found ≡ name_if (is_name_after (change_by_paths written.now (G.does_release let_go.now))
         (files_of v) folder.now) folder.now)) }
     ensures may { IfOk result (λ found.
-        found ≡ name_if (is_name_after (change_by_paths written.now (G.lets_go let_go.now))
+        found ≡ name_if (is_name_after (change_by_paths written.now (G.does_release let_go.now))
         (files_with found) folder.now) folder.now) }
     ensures tree { OnlyReads TreeFault.Disk (T.history tree.old) (T.history tree.new)
         (T.counts tree.old) (T.counts tree.new) result }
@@ -69,7 +73,7 @@ fn folder_after<T: Tree, G: LetGo>(
     let Some(name) = Name::read(alloc, folder)? else {
         return Ok(None);
     };
-    if is_path_of(written, folder) || is_standing(tree, let_go, &name)? {
+    if is_path_of(written, folder) || is_name_present(tree, let_go, &name)? {
         return Ok(Some(name));
     }
     Ok(None)
@@ -77,7 +81,7 @@ fn folder_after<T: Tree, G: LetGo>(
 
 /// The shortest folder above a name that is present after the change, of those with at least this
 /// length.
-pub(crate) fn first_folder<T: Tree, G: LetGo>(
+pub(crate) fn first_folder<T: Tree, G: IsReleased>(
     alloc: Global,
     tree: &mut T,
     written: &[FilePath<'_>],
@@ -88,10 +92,10 @@ pub(crate) fn first_folder<T: Tree, G: LetGo>(
     requires sorted { IsSorted bytes_cmp (map joined_path written.now) }
     requires names { All IsName (map joined_path written.now) }
     ensures found { IfOk result (λ found. IfObservable (T.history tree.old) (λ v.
-        IsFolderFound (change_by_paths written.now (G.lets_go let_go.now)) (files_of v)
+        IsFolderFound (change_by_paths written.now (G.does_release let_go.now)) (files_of v)
         name.now len found)) }
     ensures may { IfOk result (λ found.
-        IsFolderFound (change_by_paths written.now (G.lets_go let_go.now)) (files_with found)
+        IsFolderFound (change_by_paths written.now (G.does_release let_go.now)) (files_with found)
         name.now len found) }
     ensures tree { OnlyReads TreeFault.Disk (T.history tree.old) (T.history tree.new)
         (T.counts tree.old) (T.counts tree.new) result }
@@ -107,17 +111,17 @@ pub(crate) fn first_folder<T: Tree, G: LetGo>(
 }
 
 /// The first of several names whose file is kept; none if all are removed.
-fn first_to_stay<G: LetGo>(
+fn first_to_stay<G: IsReleased>(
     alloc: Global,
     names: &Names,
     let_go: &G,
 ) -> Result<Option<Name>, AllocError>
     ensures { IfOk result (λ found.
-        found ≡ find (λ name. not (G.lets_go let_go.now name)) names.now) }
+        found ≡ find (λ name. not (G.does_release let_go.now name)) names.now) }
 {
     for i in 0..names.len() {
         let name = names.get(i);
-        if !let_go.lets_go(name.as_bytes()) {
+        if !let_go.does_release(name.as_bytes()) {
             return Ok(Some(name.copy(alloc)?));
         }
     }
@@ -125,16 +129,16 @@ fn first_to_stay<G: LetGo>(
 }
 
 /// The first name in byte order below a folder whose file is kept.
-pub(crate) fn first_below<T: Tree, G: LetGo>(
+pub(crate) fn first_below<T: Tree, G: IsReleased>(
     alloc: Global,
     tree: &mut T,
     let_go: &G,
     folder: &Name,
 ) -> Result<Option<Name>, TreeFault>
     ensures found { IfOk result (λ found. IfObservable (T.history tree.old) (λ v.
-        IsNameFound (G.lets_go let_go.now) (files_of v) folder.now found)) }
+        IsNameFound (G.does_release let_go.now) (files_of v) folder.now found)) }
     ensures may { IfOk result (λ found.
-        IsNameFound (G.lets_go let_go.now) (files_with found) folder.now found) }
+        IsNameFound (G.does_release let_go.now) (files_with found) folder.now found) }
     ensures tree { OnlyReads TreeFault.Disk (T.history tree.old) (T.history tree.new)
         (T.counts tree.old) (T.counts tree.new) result }
 {

@@ -6,13 +6,13 @@ use Rattle.base_core.specs.Calls.{IfObservable}
 use Rattle.base_core.specs.Tree.{TreeState, files_of}
 use Rattle.base_core.specs.declared.cause.Cause.{Cause}
 use Rattle.adb_block.specs.Framing.{failed}
-use Rattle.adb_block.specs.Frames.{HoldsHead, head_len, raw_size}
+use Rattle.adb_block.specs.Frames.{IsHeadPrefix, head_len, raw_size}
 use Rattle.adb_block.specs.declared.block.Frame.{Frame}
 use Rattle.pkg_core.specs.Opened.{left_in}
 use Rattle.pkg_core.specs.Seen.{HasAt, IsSeen, IsSeenIn}
 use Rattle.pkg_core.proofs.SeenBytes.{has_rest, seen_by_read, seen_then}
 use Rattle.pkg_core.specs.Pieces.{pieces_by_blocks, refusal}
-use Rattle.pkg_core.specs.Places.{HasPositions, pieces_at, standing_at_place, step_at}
+use Rattle.pkg_core.specs.Places.{HasPositions, pieces_at, reader_at_place, step_at}
 use Rattle.pkg_core.specs.declared.place.BlockPlace.{BlockPlace}
 use Rattle.adb_block.proofs.Runs.{reading_failed}
 use Rattle.piece_reader.specs.Blocks.{IsBlockRead, IsInBlock, SeesPositions, head_size}
@@ -35,15 +35,15 @@ fits_in (Some frame) at len le h = omega (arith, le, h.1)
 -- ---- the bytes
 
 -- a header that frames a block is there whole
-pub head_whole : (head : List ℕ) (frame : Frame) (left : ℕ) → HoldsHead head left → length head ≤ head_len head → frame.head_len ≡ head_len head → raw_size frame ≤ left → frame.head_len ≡ length head
+pub head_whole : (head : List ℕ) (frame : Frame) (left : ℕ) → IsHeadPrefix head left → length head ≤ head_len head → frame.head_len ≡ head_len head → raw_size frame ≤ left → frame.head_len ≡ length head
 head_whole head frame left holds short same fits =
     let whole = holds.whole (omega (arith, same, fits)) in
     omega (arith, whole, short, same)
 
-pub head_in : (h : List TreeState) (name head : List ℕ) (len at : ℕ) → at ≤ len → HoldsHead head (len - at) → IsSeen h name len at head → IsSeenIn h name len at head
+pub head_in : (h : List TreeState) (name head : List ℕ) (len at : ℕ) → at ≤ len → IsHeadPrefix head (len - at) → IsSeen h name len at head → IsSeenIn h name len at head
 head_in h name head len at le holds seen = record { seen = seen; within = omega (arith, le, holds.within) }
 
-pub block_seen : (h later : List TreeState) (name head positions seen : List ℕ) (len at : ℕ) (framing : Option Frame) → later ≡ h → at ≤ len → HoldsHead head (len - at) → length head ≤ head_len head → IfSome framing (λ frame. frame.head_len ≡ head_len head) → IfSome framing (λ frame. (0 < len - at) × (raw_size frame ≤ len - at)) → IsSeen h name len at head → SeesPositions framing positions seen → ((file_len : ℕ) → IsSeen later name file_len (at + head_size framing) seen)
+pub block_seen : (h later : List TreeState) (name head positions seen : List ℕ) (len at : ℕ) (framing : Option Frame) → later ≡ h → at ≤ len → IsHeadPrefix head (len - at) → length head ≤ head_len head → IfSome framing (λ frame. frame.head_len ≡ head_len head) → IfSome framing (λ frame. (0 < len - at) × (raw_size frame ≤ len - at)) → IsSeen h name len at head → SeesPositions framing positions seen → ((file_len : ℕ) → IsSeen later name file_len (at + head_size framing) seen)
     → IsSeenIn h name len at (head ++ seen)
 block_seen h later name head positions seen len at None same le holds short is fits first sees further =
     subst (λ (xs : List ℕ). IsSeenIn h name len at xs) (sym (ap (λ (ys : List ℕ). head ++ ys) sees ∙ append-nil head)) (head_in h name head len at le holds first)
@@ -57,7 +57,7 @@ block_seen h later name head positions seen len at (Some frame) same le holds sh
 
 -- ---- a file
 
-pub positions_in : (place : BlockPlace) (file head positions seen : List ℕ) (left : ℕ) (framing : Option Frame) → HoldsHead head left → length head ≤ head_len head → IfSome framing (λ frame. frame.head_len ≡ head_len head) → IfSome framing (λ frame. (0 < left) × (raw_size frame ≤ left)) → length positions ≡ 8 → SeesPositions framing positions seen → HasAt file place.at (head ++ seen)
+pub positions_in : (place : BlockPlace) (file head positions seen : List ℕ) (left : ℕ) (framing : Option Frame) → IsHeadPrefix head left → length head ≤ head_len head → IfSome framing (λ frame. frame.head_len ≡ head_len head) → IfSome framing (λ frame. (0 < left) × (raw_size frame ≤ left)) → length positions ≡ 8 → SeesPositions framing positions seen → HasAt file place.at (head ++ seen)
     → HasPositions framing positions place file
 positions_in place file head positions seen left None holds short is fits eight sees has = tt
 positions_in place file head positions seen left (Some frame) holds short is fits eight sees has = λ enough.
@@ -76,7 +76,7 @@ positions_len false n positions seen e eight few same =
     let less : n < 8 = grind arith in
     omega (arith, less, few)
 
-pub in_block : (head positions seen : List ℕ) (left : ℕ) (framing : Option Frame) → HoldsHead head left → length head ≤ head_len head → IfSome framing (λ frame. frame.head_len ≡ head_len head) → IfSome framing (λ frame. (0 < left) × (raw_size frame ≤ left)) → length positions ≡ 8 → SeesPositions framing positions seen → IsInBlock framing (length (head ++ seen))
+pub in_block : (head positions seen : List ℕ) (left : ℕ) (framing : Option Frame) → IsHeadPrefix head left → length head ≤ head_len head → IfSome framing (λ frame. frame.head_len ≡ head_len head) → IfSome framing (λ frame. (0 < left) × (raw_size frame ≤ left)) → length positions ≡ 8 → SeesPositions framing positions seen → IsInBlock framing (length (head ++ seen))
 in_block head positions seen left None holds short is fits eight sees = tt
 in_block head positions seen left (Some frame) holds short is fits eight sees =
     let whole = head_whole head frame left holds short is fits.1 in
@@ -97,7 +97,7 @@ nothing_seen (v ∷ earlier) name len at le = record { seen = nothing_in (files_
 
 pub block_failed : (place : BlockPlace) (file : List ℕ) (c : Cause) → step_at place file ≡ failed c → pieces_at place file ≡ refusal c
 unfolding pieces_by_blocks
-block_failed place file c step = ap (pieces_by_blocks (left_in place.walk)) (reading_failed (standing_at_place place file) c step)
+block_failed place file c step = ap (pieces_by_blocks (left_in place.walk)) (reading_failed (reader_at_place place file) c step)
 
 pub not_ok : {A : Type 0} (P : A → Type 0) (r : Result A PieceFault) (fault : PieceFault) → IsErrAnd r (λ other. other ≡ fault) → IfOk r P
 not_ok P (Ok value) fault is = absurd is

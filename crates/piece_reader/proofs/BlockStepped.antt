@@ -17,13 +17,13 @@ use Rattle.pkg_core.specs.Contents.{Expected}
 use Rattle.pkg_core.specs.Opened.{expected_of, left_in}
 use Rattle.pkg_core.specs.declared.walk.Walk.{Walk}
 use Rattle.pkg_core.specs.Pieces.{no_piece, pieces_by_blocks}
-use Rattle.pkg_core.specs.Places.{HasAllLeft, IsOfContents, IsStepped, WalksOn, payload_at, pieces_at, standing_at_place, step_at, whole_size}
+use Rattle.pkg_core.specs.Places.{HasAllLeft, IsOfContents, IsStepped, WalksOn, payload_at, pieces_at, reader_at_place, step_at, whole_size}
 use Rattle.pkg_core.specs.Taking.{HasTaken, file_bytes_left, pieces_in}
 use Rattle.pkg_core.specs.declared.file.FileCheck.{FileCheck}
 use Rattle.pkg_core.specs.declared.place.BlockPlace.{BlockPlace}
 use Rattle.pkg_core.specs.declared.place.Step.TheVariants.{End as EndStep, Opened as OpenedStep, Passed as PassedStep}
 use Rattle.piece_reader.specs.Blocks.{IsInBlock, head_size}
-use Rattle.piece_reader.specs.Opened.{IsOpenFile, bytes_to_come}
+use Rattle.piece_reader.specs.Opened.{IsOpenFile, unread_bytes}
 use Rattle.piece_reader.specs.declared.open.OpenFile.{OpenFile}
 
 -- the payload's bytes after the positions
@@ -40,11 +40,11 @@ opens before after (Some frame) file o f is at left step = by_file o is at
   where
     by_file : (o : OpenFile) → o.file ≡ f → o.at ≡ before.at + frame.head_len + 8 → IsOpenFile o [] file (pieces_at after file) (pieces_at before file)
     by_file o is at =
-        let come : contents_bytes (payload_at frame before file) ≡ bytes_to_come o file = contents_at before frame file (file_bytes_left f) left ∙ (ap (λ (n : ℕ). take (file_bytes_left f) (drop n file)) (sym at) ∙ ap (λ g. take (file_bytes_left g) (drop o.at file)) (sym is)) in
+        let come : contents_bytes (payload_at frame before file) ≡ unread_bytes o file = contents_at before frame file (file_bytes_left f) left ∙ (ap (λ (n : ℕ). take (file_bytes_left f) (drop n file)) (sym at) ∙ ap (λ g. take (file_bytes_left g) (drop o.at file)) (sym is)) in
         record {
           taken = subst (λ g. HasTaken g []) (sym is) step.1;
           long = ap length (sym come) ∙ (step.2 ∙ ap (λ g. g.wanted.size) (sym is));
-          come = step.0 ∙ (ap (λ (xs : List ℕ). pieces_in f [] xs (pieces_at after file)) come ∙ ap (λ g. pieces_in g [] (bytes_to_come o file) (pieces_at after file)) (sym is));
+          come = step.0 ∙ (ap (λ (xs : List ℕ). pieces_in f [] xs (pieces_at after file)) come ∙ ap (λ g. pieces_in g [] (unread_bytes o file) (pieces_at after file)) (sym is));
         }
 
 -- an offset in a file fits in 64 bits, and so does that of the contents' own bytes
@@ -59,8 +59,8 @@ passed_ends None at to seen left ended within behind = absurd (let e : PassedSte
 passed_ends (Some frame) at to seen left ended within behind = omega (arith, within, behind)
 
 pub opened_ends : (framing : Option Frame) (f : FileCheck) (at to seen : ℕ) → (framing ≡ None → OpenedStep f ≡ EndStep) → IsInBlock framing seen → to ≡ at + head_size framing + 8 → at + seen ≤ to
-opened_ends None f at to seen ended within stands = absurd (let e : OpenedStep f ≡ EndStep = ended refl in (cc))
-opened_ends (Some frame) f at to seen ended within stands = omega (arith, within, stands)
+opened_ends None f at to seen ended within located = absurd (let e : OpenedStep f ≡ EndStep = ended refl in (cc))
+opened_ends (Some frame) f at to seen ended within located = omega (arith, within, located)
 
 -- ---- the other answers
 

@@ -12,8 +12,8 @@ use Rattle.pkg_core.specs.Seen.{HasAt, IsSeen}
 use Rattle.pkg_core.specs.Pieces.{PiecesRead, no_piece, pieces_from, refusal, whole_pieces}
 use Rattle.pkg_core.specs.Taking.{file_bytes_left, pieces_in}
 use Rattle.pkg_core.specs.declared.file.Part.{Part}
-use Rattle.piece_reader.specs.FileReading.{GivesBytes, IsFileReading, package_of_file}
-use Rattle.piece_reader.specs.Opened.{AreLeftOf, AreToCome, IsNextPiece, IsOpenFile, IsPieceOf, NotDisk, bytes_to_come, open_end}
+use Rattle.piece_reader.specs.FileReading.{GivesBytes, IsFileReading, package_name_of_file}
+use Rattle.piece_reader.specs.Opened.{AreLeftOf, AreUnreadBytes, IsNextPiece, IsOpenFile, IsPieceOf, NotDisk, unread_bytes, open_end}
 use Rattle.piece_reader.specs.declared.piece.PieceFault.{PieceFault}
 use Rattle.piece_reader.specs.declared.piece.PieceFault.TheVariants.{Bad, Disk}
 use Rattle.piece_reader.specs.declared.one_file.FilePieces.{FilePieces}
@@ -76,18 +76,18 @@ abbrev pub IsAnswerOf : OpenFile → List ℕ → Result (Part × Option OpenFil
 IsAnswerOf o bytes result = (file so_far : List ℕ) (further before : PiecesRead) → HasAt file o.at bytes → o.at + file_bytes_left o.file ≤ length file → IsOpenFile o so_far file further before → IsNextPiece so_far file bytes further before result
 
 abbrev GivesBytesOf : List TreeState → FilePieces → (List ℕ → List ℕ → Type 0) → List ℕ → Result Bool PieceFault → Type 0
-GivesBytesOf h old Then bytes r = IfObservable h (λ v. (pkg left : List ℕ) → files_of v (package_of_file old) ≡ Some pkg → IsFileReading old pkg left → GivesBytes (Then pkg) left bytes r)
+GivesBytesOf h old Then bytes r = IfObservable h (λ v. (pkg left : List ℕ) → files_of v (package_name_of_file old) ≡ Some pkg → IsFileReading old pkg left → GivesBytes (Then pkg) left bytes r)
 
 last_given : (o : OpenFile) (pkg left bytes : List ℕ) → AreLeftOf o pkg left → HasAt pkg o.at bytes → length bytes ≡ file_bytes_left o.file → left ≡ bytes ++ []
 last_given o pkg left bytes is has all = is.come ∙ (ap (λ (n : ℕ). take n (drop o.at pkg)) (sym all) ∙ (has ∙ sym (append-nil bytes)))
 
-more_given : (o f : OpenFile) (pkg left bytes : List ℕ) → AreLeftOf o pkg left → HasAt pkg o.at bytes → f.at ≡ o.at + length bytes → f.at + file_bytes_left f.file ≡ o.at + file_bytes_left o.file → left ≡ bytes ++ bytes_to_come f pkg
+more_given : (o f : OpenFile) (pkg left bytes : List ℕ) → AreLeftOf o pkg left → HasAt pkg o.at bytes → f.at ≡ o.at + length bytes → f.at + file_bytes_left f.file ≡ o.at + file_bytes_left o.file → left ≡ bytes ++ unread_bytes f pkg
 more_given o f pkg left bytes is has at room =
     let n : ℕ = length bytes in
     let l : ℕ = file_bytes_left o.file in
     let fewer : file_bytes_left f.file ≡ l - n = omega (arith, at, room) in
     let few : n ≤ l = omega (arith, at, room) in
-    let rest : bytes_to_come f pkg ≡ take (l - n) (drop n (drop o.at pkg)) = (λ k. take (fewer k) (drop (at k) pkg)) ∙ ap (take (l - n)) (sym (drop-drop n o.at pkg)) in
+    let rest : unread_bytes f pkg ≡ take (l - n) (drop n (drop o.at pkg)) = (λ k. take (fewer k) (drop (at k) pkg)) ∙ ap (take (l - n)) (sym (drop-drop n o.at pkg)) in
     is.come ∙ (split_at n l (drop o.at pkg) few ∙ (λ k. has k ++ (sym rest) k))
 
 good_further : (o f : OpenFile) (so_far left bytes rest : List ℕ) → f.file.wanted ≡ o.file.wanted → left ≡ bytes ++ rest → hash_fault o.file.wanted.hash.now (so_far ++ left) ≡ None → hash_fault f.file.wanted.hash.now ((so_far ++ bytes) ++ rest) ≡ None
@@ -97,41 +97,41 @@ good_further o f so_far left bytes rest same whole good =
     ∙ good)
 
 given : (o : OpenFile) (rest : Option OpenFile) (pkg left bytes : List ℕ) (part : Part) → (is : AreLeftOf o pkg left) → HasAt pkg o.at bytes → IsNextPiece is.so_far pkg bytes no_piece (pieces_in o.file is.so_far left no_piece) (Ok (part, rest)) → IfNone rest (length bytes ≡ file_bytes_left o.file) → IsPieceOf o (length bytes) (part, rest)
-    → IfSome rest (λ further. further.at + file_bytes_left further.file ≡ o.at + file_bytes_left o.file) → (further : List ℕ) × (left ≡ bytes ++ further) × AreToCome rest pkg further
+    → IfSome rest (λ further. further.at + file_bytes_left further.file ≡ o.at + file_bytes_left o.file) → (further : List ℕ) × (left ≡ bytes ++ further) × AreUnreadBytes rest pkg further
 given o None pkg left bytes part is has this all of room = ([], last_given o pkg left bytes is has all, refl)
 given o (Some f) pkg left bytes part is has this all of room =
     let whole = more_given o f pkg left bytes is has of.2 room in
     let file = this.2 in (
-      bytes_to_come f pkg,
+      unread_bytes f pkg,
       whole,
       record {
         so_far = is.so_far ++ bytes;
         taken = file.taken;
         long = file.long;
         come = refl;
-        good = good_further o f is.so_far left bytes (bytes_to_come f pkg) of.1 whole is.good;
+        good = good_further o f is.so_far left bytes (unread_bytes f pkg) of.1 whole is.good;
       },
     )
 
-pub gives_piece : (h : List TreeState) (old : FilePieces) (Then : List ℕ → List ℕ → Type 0) (o : OpenFile) (rest : Option OpenFile) (bytes : List ℕ) (part : Part) → old.opened ≡ Some o → 0 < file_bytes_left o.file → ((pkg further : List ℕ) → AreToCome rest pkg further → Then pkg further) → ((len : ℕ) → IsSeen h (package_of_file old) len o.at bytes) → IsAnswerOf o bytes (Ok (part, rest))
+pub gives_piece : (h : List TreeState) (old : FilePieces) (Then : List ℕ → List ℕ → Type 0) (o : OpenFile) (rest : Option OpenFile) (bytes : List ℕ) (part : Part) → old.opened ≡ Some o → 0 < file_bytes_left o.file → ((pkg further : List ℕ) → AreUnreadBytes rest pkg further → Then pkg further) → ((len : ℕ) → IsSeen h (package_name_of_file old) len o.at bytes) → IsAnswerOf o bytes (Ok (part, rest))
     → IfNone rest (length bytes ≡ file_bytes_left o.file) → IsPieceOf o (length bytes) (part, rest) → IfSome rest (λ further. further.at + file_bytes_left further.file ≡ o.at + file_bytes_left o.file) → GivesBytesOf h old Then bytes (Ok true)
 gives_piece [] old Then o rest bytes part is some then seen next all of room = tt
 gives_piece (v ∷ earlier) old Then o rest bytes part is some then seen next all of room = λ pkg left there reading.
-    let left_of : AreLeftOf o pkg left = subst (λ (x : Option OpenFile). AreToCome x pkg left) is reading.1 in
-    let has : HasAt pkg o.at bytes = there_by (files_of v (package_of_file old)) pkg bytes o.at there (seen (length pkg)) in
+    let left_of : AreLeftOf o pkg left = subst (λ (x : Option OpenFile). AreUnreadBytes x pkg left) is reading.1 in
+    let has : HasAt pkg o.at bytes = there_by (files_of v (package_name_of_file old)) pkg bytes o.at there (seen (length pkg)) in
     let this = next pkg left_of.so_far no_piece _ has (room_for o pkg left some left_of) (as_open o pkg left left_of) in
     let (further, is_split, come) = given o rest pkg left bytes part left_of has this all of room in
     (further, is_split, then pkg further come)
 
-pub gives_fault : (h : List TreeState) (old : FilePieces) (Then : List ℕ → List ℕ → Type 0) (o : OpenFile) (bytes : List ℕ) (fault : PieceFault) (r : Result Bool PieceFault) → old.opened ≡ Some o → 0 < file_bytes_left o.file → IsErrAnd r (λ other. other ≡ fault) → (NotDisk {A = Part × Option OpenFile} (Err fault) → (len : ℕ) → IsSeen h (package_of_file old) len o.at bytes)
+pub gives_fault : (h : List TreeState) (old : FilePieces) (Then : List ℕ → List ℕ → Type 0) (o : OpenFile) (bytes : List ℕ) (fault : PieceFault) (r : Result Bool PieceFault) → old.opened ≡ Some o → 0 < file_bytes_left o.file → IsErrAnd r (λ other. other ≡ fault) → (NotDisk {A = Part × Option OpenFile} (Err fault) → (len : ℕ) → IsSeen h (package_name_of_file old) len o.at bytes)
     → IsAnswerOf o bytes (Err fault) → GivesBytesOf h old Then bytes r
 gives_fault [] old Then o bytes fault r is some answer seen next = tt
 gives_fault (v ∷ earlier) old Then o bytes fault (Ok came) is some answer seen next = absurd answer
 gives_fault (v ∷ earlier) old Then o bytes fault (Err Disk) is some answer seen next = λ pkg left there reading. tt
 gives_fault (v ∷ earlier) old Then o bytes Disk (Err (Bad c)) is some answer seen next = absurd (let e : Bad c ≡ Disk = answer in (cc))
 gives_fault (v ∷ earlier) old Then o bytes (Bad d) (Err (Bad c)) is some answer seen next = λ pkg left there reading.
-    let left_of : AreLeftOf o pkg left = subst (λ (x : Option OpenFile). AreToCome x pkg left) is reading.1 in
-    let has : HasAt pkg o.at bytes = there_by (files_of v (package_of_file old)) pkg bytes o.at there (seen tt (length pkg)) in
+    let left_of : AreLeftOf o pkg left = subst (λ (x : Option OpenFile). AreUnreadBytes x pkg left) is reading.1 in
+    let has : HasAt pkg o.at bytes = there_by (files_of v (package_name_of_file old)) pkg bytes o.at there (seen tt (length pkg)) in
     let this = next pkg left_of.so_far no_piece _ has (room_for o pkg left some left_of) (as_open o pkg left left_of) in
     never_refused (whole_pieces (length left)) (expected_of o.file.wanted) left no_piece d
     (ap (λ (x : Option Cause). pieces_from (whole_pieces (length left)) (expected_of o.file.wanted) x left no_piece) (sym left_of.good) ∙ this)

@@ -32,7 +32,7 @@ pub record IsSeenUpTo (h : List TreeState) (name : List ℕ) (len at to mid : �
   pub has_second : (pkg : List ℕ) → HasAt pkg at all → HasAt pkg mid second
 
 pub seen_up_to : (h later : List TreeState) (name : List ℕ) (len at to mid : ℕ) (first second : List ℕ) → later ≡ h → at + length first ≡ mid → mid + length second ≤ to → to ≤ len → IsSeenIn h name len at first → IsSeenIn later name len mid second → IsSeenUpTo h name len at to mid first second
-seen_up_to h later name len at to mid first second same stands ends room seen then =
+seen_up_to h later name len at to mid first second same located ends room seen then =
     let n : ℕ = to - (mid + length second) in
     let here : IsSeenIn h name len mid second = subst (λ (g : List TreeState). IsSeenIn g name len mid second) same then in
     let fill = filled h name len mid n second here.seen (omega (arith, ends, room)) in
@@ -41,12 +41,12 @@ seen_up_to h later name len at to mid first second same stands ends room seen th
     record {
       all = first ++ (second ++ fill.further);
       is_seen = record {
-        seen = seen_then h name len at mid first (second ++ fill.further) (sym stands) seen.seen fill.seen;
-        within = omega (arith, long, all, fill.long, stands, ends, room);
+        seen = seen_then h name len at mid first (second ++ fill.further) (sym located) seen.seen fill.seen;
+        within = omega (arith, long, all, fill.long, located, ends, room);
       };
-      ends = omega (arith, long, all, fill.long, stands, ends);
+      ends = omega (arith, long, all, fill.long, located, ends);
       has_first = λ pkg has. has_front pkg at first (second ++ fill.further) has;
-      has_second = λ pkg has. has_front pkg mid second fill.further (subst (λ (k : ℕ). HasAt pkg k (second ++ fill.further)) stands (has_rest pkg at first (second ++ fill.further) has));
+      has_second = λ pkg has. has_front pkg mid second fill.further (subst (λ (k : ℕ). HasAt pkg k (second ++ fill.further)) located (has_rest pkg at first (second ++ fill.further) has));
     }
 
 -- ---- blocks that were passed

@@ -8,7 +8,7 @@ use Rattle.pkg_core.specs.Pieces.{PiecesRead}
 use Rattle.pkg_core.specs.Taking.{IsTaken, file_bytes_left, pieces_in}
 use Rattle.pkg_core.specs.declared.file.FileCheck.{FileCheck}
 use Rattle.pkg_core.specs.declared.file.Part.{Part}
-use Rattle.piece_reader.specs.Opened.{IsNextPiece, IsOpenFile, NotDisk, bytes_to_come}
+use Rattle.piece_reader.specs.Opened.{IsNextPiece, IsOpenFile, NotDisk, unread_bytes}
 use Rattle.piece_reader.specs.declared.piece.PieceFault.{PieceFault}
 use Rattle.piece_reader.specs.declared.piece.PieceFault.TheVariants.{Bad, Disk}
 use Rattle.piece_reader.specs.declared.open.OpenFile.{OpenFile}
@@ -31,7 +31,7 @@ disk_piece so_far file bytes further before (Err Disk) fault is disk = tt
 abbrev pub behind_piece : OpenFile → List ℕ → List ℕ → List ℕ
 behind_piece o bytes file = take (file_bytes_left o.file - length bytes) (drop (o.at + length bytes) file)
 
-pub piece_first : (o : OpenFile) (file bytes : List ℕ) → length bytes ≤ file_bytes_left o.file → HasAt file o.at bytes → bytes_to_come o file ≡ bytes ++ behind_piece o bytes file
+pub piece_first : (o : OpenFile) (file bytes : List ℕ) → length bytes ≤ file_bytes_left o.file → HasAt file o.at bytes → unread_bytes o file ≡ bytes ++ behind_piece o bytes file
 piece_first o file bytes few has =
     let n = file_bytes_left o.file in
     let both : n ≡ length bytes + (n - length bytes) = omega (arith, few) in
@@ -59,8 +59,8 @@ append_assoc xs ys zs =
 -- a piece after which more is left
 pub next_further : (o : OpenFile) (g : FileCheck) (at : ℕ) (so_far file bytes : List ℕ) (part : Part) (further before : PiecesRead) → length bytes ≤ file_bytes_left o.file → HasAt file o.at bytes → IsOpenFile o so_far file further before → IsTaken o.file so_far bytes (behind_piece o bytes file) further (Ok (part, Some g)) → at ≡ o.at + length bytes → file_bytes_left g ≡ file_bytes_left o.file - length bytes
     → IsNextPiece so_far file bytes further before (Ok (part, Some (record { file = g; at = at })))
-next_further o g at so_far file bytes part further before few has is taken stands left =
-    let come : behind_piece o bytes file ≡ take (file_bytes_left g) (drop at file) = ap (λ (n : ℕ). take n (drop (o.at + length bytes) file)) (sym left) ∙ ap (λ (n : ℕ). take (file_bytes_left g) (drop n file)) (sym stands) in
+next_further o g at so_far file bytes part further before few has is taken located left =
+    let come : behind_piece o bytes file ≡ take (file_bytes_left g) (drop at file) = ap (λ (n : ℕ). take n (drop (o.at + length bytes) file)) (sym left) ∙ ap (λ (n : ℕ). take (file_bytes_left g) (drop n file)) (sym located) in
     let size : g.wanted.size ≡ o.file.wanted.size = ap (λ w. w.size) taken.2 in (
       pieces_in g (so_far ++ bytes) (behind_piece o bytes file) further,
       before_is o so_far file bytes further before few has is ∙ taken.0,

@@ -49,11 +49,11 @@ pub record IsSeenUnlessDisk (h : List TreeState) (name : List ℕ) (len at file_
 
 pub seen_unless_disk : (h later : List TreeState) (name : List ℕ) (len at file_at left : ℕ) (first bytes : List ℕ) (fault : PieceFault) → later ≡ h → at + length first ≡ file_at → file_at + left ≤ len → IsSeenIn h name len at first → (NotDisk {A = Part × Option OpenFile} (Err fault) → length bytes ≤ left) → (NotDisk {A = Part × Option OpenFile} (Err fault) → IsSeen later name len file_at bytes)
     → IsSeenUnlessDisk h name len at file_at first bytes fault
-seen_unless_disk h later name len at file_at left first bytes (Bad d) same stands room seen few then =
+seen_unless_disk h later name len at file_at left first bytes (Bad d) same located room seen few then =
     let few_bytes = few tt in
-    let to = seen_up_to h later name len at (file_at + length bytes) file_at first bytes same stands (omega arith) (omega (arith, few_bytes, room)) seen (record { seen = then tt; within = omega (arith, few_bytes, room) }) in
+    let to = seen_up_to h later name len at (file_at + length bytes) file_at first bytes same located (omega arith) (omega (arith, few_bytes, room)) seen (record { seen = then tt; within = omega (arith, few_bytes, room) }) in
     record { all = to.all; is_seen = to.is_seen; has_first = to.has_first; has_bytes = λ c is pkg has. to.has_second pkg has }
-seen_unless_disk h later name len at file_at left first bytes Disk same stands room seen few then =
+seen_unless_disk h later name len at file_at left first bytes Disk same located room seen few then =
     record { all = first; is_seen = seen; has_first = λ pkg has. has; has_bytes = λ c is pkg has. absurd (let e : Disk ≡ Bad c = is in (cc)) }
 
 -- where a reader follows a piece
@@ -61,9 +61,9 @@ pub behind : (place : BlockPlace) (o : OpenFile) (rest : Option OpenFile) (part 
 behind place o None part n room few is = omega (arith, room, few)
 behind place o (Some further) part n room few is = omega (arith, is.2)
 
-pub behind_within : (place : BlockPlace) (o : OpenFile) (rest : Option OpenFile) (part : Part) (n : ℕ) → o.at + file_bytes_left o.file ≤ place.at → place.at ≤ place.len → n ≤ file_bytes_left o.file → IsPieceOf o n (part, rest) → offset_in place rest ≤ place.len
-behind_within place o None part n room within few is = within
-behind_within place o (Some further) part n room within few is = omega (arith, is.2, room, within, few)
+pub after_within : (place : BlockPlace) (o : OpenFile) (rest : Option OpenFile) (part : Part) (n : ℕ) → o.at + file_bytes_left o.file ≤ place.at → place.at ≤ place.len → n ≤ file_bytes_left o.file → IsPieceOf o n (part, rest) → offset_in place rest ≤ place.len
+after_within place o None part n room within few is = within
+after_within place o (Some further) part n room within few is = omega (arith, is.2, room, within, few)
 
 -- after a piece that is not the last one of its file
 pub behind_part : (place : BlockPlace) (o : OpenFile) (rest : Option OpenFile) (part : Part) (n at : ℕ) → at ≤ o.at → IsPieceOf o n (part, rest) → part.last ≡ false → at + n ≤ offset_in place rest

@@ -5,7 +5,7 @@ use Rattle.base_core.specs.declared.cause.Cause.{Cause}
 use Rattle.pkg_core.specs.Contents.{Expected, hash_fault}
 use Rattle.pkg_core.specs.Opened.{expected_of}
 use Rattle.pkg_core.specs.Taking.{HasTaken, file_bytes_left}
-use Rattle.piece_reader.specs.Opened.{AreToCome}
+use Rattle.piece_reader.specs.Opened.{AreUnreadBytes}
 use Rattle.piece_reader.specs.declared.piece.PieceFault.{PieceFault}
 use Rattle.piece_reader.specs.declared.piece.PieceFault.TheVariants.{Bad, Disk}
 use Rattle.piece_reader.specs.declared.one_file.FilePieces.{FilePieces}
@@ -14,8 +14,8 @@ use Rattle.piece_reader.specs.declared.open.OpenFile.{OpenFile}
 -- ---- the fields of a reader of one file
 
 -- the name of the package that a file is read from
-abbrev pub package_of_file : FilePieces → List ℕ
-package_of_file file = file.name.now
+abbrev pub package_name_of_file : FilePieces → List ℕ
+package_name_of_file file = file.name.now
 
 -- how many bytes the package has that a file is read from
 abbrev pub len_around_file : FilePieces → ℕ
@@ -32,8 +32,8 @@ bytes_left_of file = bytes_left_in file.opened
 
 -- the positions, the size and the digest that the package lists for the file; None if it has no
 -- contents
-abbrev pub file_due : FilePieces → Option Expected
-file_due file = option_map expected_of file.due
+abbrev pub expected_file_of : FilePieces → Option Expected
+expected_file_of file = option_map expected_of file.due
 
 -- the fault of the test that failed in the reading of a file, if one did
 abbrev pub kept_fault : FilePieces → Option Cause
@@ -44,25 +44,25 @@ kept_fault file = file.refused
 -- no test of a file failed, and from a package of these bytes the bytes `left` of the file are still to
 -- be read
 abbrev pub IsFileReading : FilePieces → List ℕ → List ℕ → Type 0
-IsFileReading file pkg left = (file.refused ≡ None) × AreToCome file.opened pkg left
+IsFileReading file pkg left = (file.refused ≡ None) × AreUnreadBytes file.opened pkg left
 
 -- ---- the results
 
 -- the result of a call for the next piece if the tree has the package: these bytes are the next of
 -- those that are left, and the rest is still to be read; or none is left
 abbrev pub GivesBytes : (List ℕ → Type 0) → List ℕ → List ℕ → Result Bool PieceFault → Type 0
-GivesBytes AreToComeThen left bytes (Ok true) =
-    (rest : List ℕ) × (left ≡ bytes ++ rest) × AreToComeThen rest
-GivesBytes AreToComeThen left bytes (Ok false) = (left ≡ []) × AreToComeThen []
-GivesBytes AreToComeThen left bytes (Err (Bad c)) = ⊥
-GivesBytes AreToComeThen left bytes (Err Disk) = Unit {0}
+GivesBytes AreUnreadBytesThen left bytes (Ok true) =
+    (rest : List ℕ) × (left ≡ bytes ++ rest) × AreUnreadBytesThen rest
+GivesBytes AreUnreadBytesThen left bytes (Ok false) = (left ≡ []) × AreUnreadBytesThen []
+GivesBytes AreUnreadBytesThen left bytes (Err (Bad c)) = ⊥
+GivesBytes AreUnreadBytesThen left bytes (Err Disk) = Unit {0}
 
 -- ---- the tests of the bytes, whatever the tree has
 
 -- the bytes have the expected size and digest; a file without contents has none
-abbrev pub AreAsDue : Option Expected → List ℕ → Type 0
-AreAsDue None bytes = bytes ≡ []
-AreAsDue (Some e) bytes = (length bytes ≡ e.size) × (hash_fault e.hash bytes ≡ None)
+abbrev pub AreAsExpected : Option Expected → List ℕ → Type 0
+AreAsExpected None bytes = bytes ≡ []
+AreAsExpected (Some e) bytes = (length bytes ≡ e.size) × (hash_fault e.hash bytes ≡ None)
 
 -- the bytes have the expected size, and another digest
 abbrev pub HaveOtherDigest : Option Expected → List ℕ → Cause → Type 0
@@ -71,35 +71,36 @@ HaveOtherDigest (Some e) bytes c = (length bytes ≡ e.size) × (hash_fault e.ha
 
 -- exactly these bytes were returned, by the state of a reader: more are to be read, or the bytes are as
 -- expected; after a failed test nothing is promised
-abbrev pub HaveComeBy : Option Cause → Option OpenFile → Option Expected → List ℕ → Type 0
-HaveComeBy (Some c) opened due bytes = Unit {0}
-HaveComeBy None None due bytes = AreAsDue due bytes
-HaveComeBy None (Some o) due bytes = HasTaken o.file bytes
+abbrev pub HaveBeenReturnedBy : Option Cause → Option OpenFile → Option Expected → List ℕ → Type 0
+HaveBeenReturnedBy (Some c) opened due bytes = Unit {0}
+HaveBeenReturnedBy None None due bytes = AreAsExpected due bytes
+HaveBeenReturnedBy None (Some o) due bytes = HasTaken o.file bytes
 
 -- exactly these bytes of the file were returned so far
-abbrev pub HaveCome : FilePieces → List ℕ → Type 0
-HaveCome file bytes = HaveComeBy (kept_fault file) file.opened (file_due file) bytes
+abbrev pub HaveBeenReturned : FilePieces → List ℕ → Type 0
+HaveBeenReturned file bytes = HaveBeenReturnedBy (kept_fault file) file.opened (expected_file_of file)
+    bytes
 
 -- The result of a call after these bytes (`so_far`) were returned. Without an error, no test has
 -- failed: the piece follows the bytes; or they are complete, and as expected. With an error, the bytes
 -- and the piece are complete and have another digest; or a test had failed before.
-abbrev pub ComesBehind : FilePieces → List ℕ → List ℕ → Result Bool PieceFault → FilePieces → Type 0
-ComesBehind old so_far bytes (Ok true) new =
-    (kept_fault new ≡ None) × HaveCome new (so_far ++ bytes)
-ComesBehind old so_far bytes (Ok false) new =
-    (kept_fault new ≡ None) × AreAsDue (file_due old) so_far × HaveCome new so_far
-ComesBehind old so_far bytes (Err (Bad c)) new =
-    (kept_fault old ≡ Some c) ⊎ HaveOtherDigest (file_due old) (so_far ++ bytes) c
-ComesBehind old so_far bytes (Err Disk) new = Unit {0}
+abbrev pub IsTestedReturn : FilePieces → List ℕ → List ℕ → Result Bool PieceFault → FilePieces → Type 0
+IsTestedReturn old so_far bytes (Ok true) new =
+    (kept_fault new ≡ None) × HaveBeenReturned new (so_far ++ bytes)
+IsTestedReturn old so_far bytes (Ok false) new =
+    (kept_fault new ≡ None) × AreAsExpected (expected_file_of old) so_far × HaveBeenReturned new so_far
+IsTestedReturn old so_far bytes (Err (Bad c)) new =
+    (kept_fault old ≡ Some c) ⊎ HaveOtherDigest (expected_file_of old) (so_far ++ bytes) c
+IsTestedReturn old so_far bytes (Err Disk) new = Unit {0}
 
--- the piece has this many bytes, at least one, and so many fewer are to be read; or there was no piece
--- and none was left
+-- if a piece was returned, it has `len` bytes, at least one, and that many fewer are left to be read; if
+-- none was, no byte was left
 abbrev pub HasFewerLeft : FilePieces → ℕ → FilePieces → Bool → Type 0
 HasFewerLeft old len new true =
     (0 < len) × (bytes_left_of old ≡ len + bytes_left_of new)
 HasFewerLeft old len new false = bytes_left_of old ≡ 0
 
 -- a failed test is remembered by the reader of a file
-abbrev pub HasRefusedFile : PieceFault → FilePieces → Type 0
-HasRefusedFile (Bad c) file = file.refused ≡ Some c
-HasRefusedFile Disk file = Unit {0}
+abbrev pub RemembersFileFault : PieceFault → FilePieces → Type 0
+RemembersFileFault (Bad c) file = file.refused ≡ Some c
+RemembersFileFault Disk file = Unit {0}

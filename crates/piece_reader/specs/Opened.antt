@@ -14,16 +14,16 @@ use Rattle.piece_reader.specs.declared.piece.PieceFault.TheVariants.{Bad, Disk}
 use Rattle.piece_reader.specs.declared.open.OpenFile.{OpenFile}
 
 -- the bytes of an open file that are still to be read, in a package of these bytes
-abbrev pub bytes_to_come : OpenFile → List ℕ → List ℕ
-bytes_to_come o pkg = take (file_bytes_left o.file) (drop o.at pkg)
+abbrev pub unread_bytes : OpenFile → List ℕ → List ℕ
+unread_bytes o pkg = take (file_bytes_left o.file) (drop o.at pkg)
 
 -- the state of an open file in a package of these bytes: `so_far` were taken, and the pieces to be read
 -- are those of its unread bytes, and then further ones
 pub record IsOpenFile (o : OpenFile) (so_far pkg : List ℕ)
     (further pieces : PiecesRead) : Type 0 where
   pub taken : HasTaken o.file so_far
-  pub long : length (so_far ++ bytes_to_come o pkg) ≡ o.file.wanted.size
-  pub come : pieces ≡ pieces_in o.file so_far (bytes_to_come o pkg) further
+  pub long : length (so_far ++ unread_bytes o pkg) ≡ o.file.wanted.size
+  pub come : pieces ≡ pieces_in o.file so_far (unread_bytes o pkg) further
 
 -- the bytes `left` are the unread ones of an open file, and with those returned before they have its
 -- size and its digest
@@ -31,13 +31,13 @@ pub record AreLeftOf (o : OpenFile) (pkg left : List ℕ) : Type 0 where
   pub so_far : List ℕ
   pub taken : HasTaken o.file so_far
   pub long : length (so_far ++ left) ≡ o.file.wanted.size
-  pub come : left ≡ bytes_to_come o pkg
+  pub come : left ≡ unread_bytes o pkg
   pub good : hash_fault o.file.wanted.hash.now (so_far ++ left) ≡ None
 
 -- the bytes `left` are the unread ones of the open file; if none is open there are none
-abbrev pub AreToCome : Option OpenFile → List ℕ → List ℕ → Type 0
-AreToCome None pkg left = left ≡ []
-AreToCome (Some o) pkg left = AreLeftOf o pkg left
+abbrev pub AreUnreadBytes : Option OpenFile → List ℕ → List ℕ → Type 0
+AreUnreadBytes None pkg left = left ≡ []
+AreUnreadBytes (Some o) pkg left = AreLeftOf o pkg left
 
 -- the bytes of a file up to this piece: unless more are to be read, they have its size and its digest;
 -- or its size, and another digest

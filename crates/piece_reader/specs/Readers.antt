@@ -39,27 +39,27 @@ abbrev pub offset_of : PieceReader → ℕ
 offset_of reader = offset_in reader.place reader.opened
 
 -- the expected files: those whose last piece is still to be read
-abbrev pub due_in : BlockPlace → Option OpenFile → List Expected
-due_in place None = left_in place.walk
-due_in place (Some o) = expected_of o.file.wanted ∷ left_in place.walk
+abbrev pub files_to_read_in : BlockPlace → Option OpenFile → List Expected
+files_to_read_in place None = left_in place.walk
+files_to_read_in place (Some o) = expected_of o.file.wanted ∷ left_in place.walk
 
 -- the expected files, by what is left of a reader: none after the last block, or after a failed test
-abbrev pub due_by : Due → BlockPlace → Option OpenFile → List Expected
-due_by Files place opened = due_in place opened
-due_by Nothing place opened = []
-due_by (Refused c) place opened = []
+abbrev pub files_to_read_by : Due → BlockPlace → Option OpenFile → List Expected
+files_to_read_by Files place opened = files_to_read_in place opened
+files_to_read_by Nothing place opened = []
+files_to_read_by (Refused c) place opened = []
 
 -- the files of a reader whose last piece is still to be read
-abbrev pub due_files : PieceReader → List Expected
-due_files reader = due_by reader.due reader.place reader.opened
+abbrev pub files_to_read : PieceReader → List Expected
+files_to_read reader = files_to_read_by reader.due reader.place reader.opened
 
 -- a reader can continue: no test failed, and the last block was not passed
-abbrev pub IsGoingOn : PieceReader → Type 0
-IsGoingOn reader = reader.due ≡ Files
+abbrev pub CanContinue : PieceReader → Type 0
+CanContinue reader = reader.due ≡ Files
 
 -- a reader can continue, and is between two files: none is open
-abbrev pub StandsBetween : PieceReader → Type 0
-StandsBetween reader = IsGoingOn reader × (reader.opened ≡ None)
+abbrev pub IsBetweenFiles : PieceReader → Type 0
+IsBetweenFiles reader = CanContinue reader × (reader.opened ≡ None)
 
 -- ---- the pieces to be read, of a package of these bytes
 
@@ -86,14 +86,15 @@ IsReading reader pkg pieces = AreLeft reader.due reader.place reader.opened pkg 
 -- piece is left; or the first failed test, which each later call returns again
 abbrev pub AnswersNext : (PiecesRead → Type 0) → PiecesRead → List ℕ
     → Result (Option Part) PieceFault → Type 0
-AnswersNext AreToCome before bytes (Ok (Some part)) =
-    (after : PiecesRead) × (before ≡ piece part bytes after) × AreToCome after
-AnswersNext AreToCome before bytes (Ok None) = (before ≡ no_piece) × AreToCome no_piece
-AnswersNext AreToCome before bytes (Err (Bad c)) = (before ≡ refusal c) × AreToCome (refusal c)
-AnswersNext AreToCome before bytes (Err Disk) = Unit {0}
+AnswersNext AreUnreadBytes before bytes (Ok (Some part)) =
+    (after : PiecesRead) × (before ≡ piece part bytes after) × AreUnreadBytes after
+AnswersNext AreUnreadBytes before bytes (Ok None) = (before ≡ no_piece) × AreUnreadBytes no_piece
+AnswersNext AreUnreadBytes before bytes (Err (Bad c)) = (before ≡ refusal c)
+    × AreUnreadBytes (refusal c)
+AnswersNext AreUnreadBytes before bytes (Err Disk) = Unit {0}
 
 -- the piece is one of the first expected file, which is expected until its last piece was read
-pub record IsOfFirstDue (before : List Expected) (part : Part)
+pub record IsOfFirstExpected (before : List Expected) (part : Part)
     (after : List Expected) : Type 0 where
   pub first : Expected
   pub others : List Expected
@@ -103,20 +104,20 @@ pub record IsOfFirstDue (before : List Expected) (part : Part)
 
 -- the expected files before and after a call: the pieces are in the order of the files, and at the end
 -- no file is expected
-abbrev pub ComesInOrder : List Expected → Option Part → List Expected → Type 0
-ComesInOrder before None after = before ≡ []
-ComesInOrder before (Some part) after = IsOfFirstDue before part after
+abbrev pub IsReturnedInOrder : List Expected → Option Part → List Expected → Type 0
+IsReturnedInOrder before None after = before ≡ []
+IsReturnedInOrder before (Some part) after = IsOfFirstExpected before part after
 
 -- after a piece a reader can continue, and the file is open unless the piece is its last one
-pub record GoesOnBehind (part : Part) (old new : PieceReader) : Type 0 where
-  pub before : IsGoingOn old
-  pub after : IsGoingOn new
+pub record CanContinueAfter (part : Part) (old new : PieceReader) : Type 0 where
+  pub before : CanContinue old
+  pub after : CanContinue new
   pub open_file : is_none new.opened ≡ part.last
 
 -- a failed test is remembered by the reader of a package
-abbrev pub HasRefused : PieceFault → PieceReader → Type 0
-HasRefused (Bad c) reader = reader.due ≡ Refused c
-HasRefused Disk reader = Unit {0}
+abbrev pub RemembersFault : PieceFault → PieceReader → Type 0
+RemembersFault (Bad c) reader = reader.due ≡ Refused c
+RemembersFault Disk reader = Unit {0}
 
 -- ---- the place of a file
 
@@ -125,24 +126,24 @@ abbrev pub start_of_file : PieceReader → ℕ
 start_of_file reader = reader.start
 
 -- how many bytes were returned of the open file, which begins at `start`; 0 if none is open
-abbrev pub handed_out_from : ℕ → Option OpenFile → ℕ
-handed_out_from start None = 0
-handed_out_from start (Some o) = o.at - start
+abbrev pub returned_len_from : ℕ → Option OpenFile → ℕ
+returned_len_from start None = 0
+returned_len_from start (Some o) = o.at - start
 
 -- how many bytes of the open file a reader has returned
-abbrev pub handed_out : PieceReader → ℕ
-handed_out reader = handed_out_from reader.start reader.opened
+abbrev pub returned_len : PieceReader → ℕ
+returned_len reader = returned_len_from reader.start reader.opened
 
 -- the bytes of a piece are in the package, after those of its file that were returned before
 abbrev pub HasPieceAt : PieceReader → List ℕ → List ℕ → Option Part → PieceReader → Type 0
 HasPieceAt old pkg bytes None new = Unit {0}
-HasPieceAt old pkg bytes (Some part) new = HasAt pkg (start_of_file new + handed_out old) bytes
+HasPieceAt old pkg bytes (Some part) new = HasAt pkg (start_of_file new + returned_len old) bytes
 
 -- a piece of this length was returned of the open file, whose offset is unchanged; after the last piece
 -- none is open, and 0 bytes of it count as returned
 pub record KeepsStart (part : Part) (len : ℕ) (old new : PieceReader) : Type 0 where
   pub same : IfSome old.opened (λ o. start_of_file new ≡ start_of_file old)
-  pub handed : handed_out new ≡ (if part.last then 0 else handed_out old + len)
+  pub handed : returned_len new ≡ (if part.last then 0 else returned_len old + len)
 
 -- ---- inside
 
@@ -175,7 +176,7 @@ IsFileOpened old pkg before (Err Disk) new = Unit {0}
 -- an open file begins at `start`: its unread bytes follow those that were returned, and if it was open
 -- before, it began there too
 pub record IsStartOf (old : PieceReader) (o : OpenFile) (start : ℕ) : Type 0 where
-  pub stands : o.at ≡ start + handed_out old
+  pub located : o.at ≡ start + returned_len old
   pub same : IfSome old.opened (λ o. start ≡ start_of_file old)
 
 -- the result of reading the next piece, as *AnswersNext*, without a promise after a failed test
@@ -189,7 +190,7 @@ IsPieceRead new pkg before bytes (Err Disk) = Unit {0}
 
 -- the expected files before a file was opened: this file, and those that the walk has left; none if
 -- none was opened
-abbrev pub OpensDue : List Expected → Option OpenFile → BlockPlace → Type 0
-OpensDue before None place = before ≡ []
-OpensDue before (Some o) place =
+abbrev pub OpensExpected : List Expected → Option OpenFile → BlockPlace → Type 0
+OpensExpected before None place = before ≡ []
+OpensExpected before (Some o) place =
     before ≡ expected_of o.file.wanted ∷ left_in place.walk

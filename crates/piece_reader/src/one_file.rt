@@ -41,7 +41,7 @@ impl<'a> FilePieces<'a> {
     ghost use Rattle.pkg_core.specs.Opened.{expected_of, expected_with_positions};
     ghost use Rattle.pkg_core.specs.Seen.{HasAt, ReadsFile};
     ghost use Rattle.pkg_core.specs.Values.{value_of_contents};
-    ghost use Rattle.piece_reader.specs.FileReading.{ComesBehind, GivesBytes, HasFewerLeft, HasRefusedFile, HaveCome, IsFileReading, bytes_left_of, file_due, kept_fault, len_around_file, package_of_file};
+    ghost use Rattle.piece_reader.specs.FileReading.{IsTestedReturn, GivesBytes, HasFewerLeft, RemembersFileFault, HaveBeenReturned, IsFileReading, bytes_left_of, expected_file_of, kept_fault, len_around_file, package_name_of_file};
     ghost use Rattle.piece_reader.specs.Opened.{place_fault};
     ghost use Rattle.piece_reader.specs.declared.piece.PieceFault.TheVariants.{Bad, Disk as DiskFault};
 
@@ -56,19 +56,20 @@ impl<'a> FilePieces<'a> {
         file: u32,
         at: Option<u64>,
     ) -> FilePieces<'a>
-        ensures name { package_of_file result ≡ name.entry.now }
+        ensures name { package_name_of_file result ≡ name.entry.now }
         ensures len { len_around_file result ≡ len }
         // The size and the digest that are compared are those that the values list for the file.
-        ensures due { file_due result ≡ expected_with_positions folder file
+        ensures due { expected_file_of result ≡ expected_with_positions folder file
             (expected_contents (value_of_contents contents.entry)) }
-        ensures begun { HaveCome result [] }
-        ensures fault { kept_fault result ≡ place_fault (file_due result) at len }
+        ensures begun { HaveBeenReturned result [] }
+        ensures fault { kept_fault result ≡ place_fault (expected_file_of result) at len }
         ensures reading { (pkg bytes : List ℕ) (e : Expected) (start : ℕ) → length pkg ≡ len
             → at ≡ Some start → expected_with_positions folder file
             (expected_contents (value_of_contents contents.entry)) ≡ Some e
             → HasAt pkg start bytes → length bytes ≡ e.size → hash_fault e.hash bytes ≡ None
             → IsFileReading result pkg bytes }
-        ensures empty { (pkg : List ℕ) → file_due result ≡ None → IsFileReading result pkg [] }
+        ensures empty { (pkg : List ℕ) → expected_file_of result ≡ None
+            → IsFileReading result pkg [] }
     {
         let view = contents.view();
         match wanted_file(&view, folder, file) {
@@ -94,11 +95,11 @@ impl<'a> FilePieces<'a> {
         at: Option<u64>,
     ) -> FilePieces<'a>
         requires { 0 < wanted.size }
-        ensures name { package_of_file result ≡ name.entry.now }
+        ensures name { package_name_of_file result ≡ name.entry.now }
         ensures len { len_around_file result ≡ len }
-        ensures due { file_due result ≡ Some (expected_of wanted.entry) }
-        ensures begun { HaveCome result [] }
-        ensures fault { kept_fault result ≡ place_fault (file_due result) at len }
+        ensures due { expected_file_of result ≡ Some (expected_of wanted.entry) }
+        ensures begun { HaveBeenReturned result [] }
+        ensures fault { kept_fault result ≡ place_fault (expected_file_of result) at len }
         ensures reading { (pkg bytes : List ℕ) (start : ℕ) → length pkg ≡ len → at ≡ Some start
             → HasAt pkg start bytes → length bytes ≡ wanted.entry.size
             → hash_fault wanted.entry.hash.now bytes ≡ None → IsFileReading result pkg bytes }
@@ -140,22 +141,24 @@ impl<'a> FilePieces<'a> {
     ) -> Result<bool, PieceFault>
         // If the tree has the package.
         ensures piece { IfObservable (T.history tree.old) (λ v. (pkg left : List ℕ)
-            → files_of v (package_of_file self.old) ≡ Some pkg → IsFileReading self.old pkg left
+            → files_of v (package_name_of_file self.old) ≡ Some pkg
+            → IsFileReading self.old pkg left
             → GivesBytes (IsFileReading self.new pkg) left piece.new result) }
         // For each package, also one that was changed since: the last piece and the end are
         // returned only if all bytes together have the expected size and digest.
-        ensures tested { (so_far : List ℕ) → HaveCome self.old so_far
-            → ComesBehind self.old so_far piece.new result self.new }
-        ensures due { file_due self.new ≡ file_due self.old }
+        ensures tested { (so_far : List ℕ) → HaveBeenReturned self.old so_far
+            → IsTestedReturn self.old so_far piece.new result self.new }
+        ensures due { expected_file_of self.new ≡ expected_file_of self.old }
         ensures left { IfOk result (HasFewerLeft self.old (length piece.new) self.new) }
-        ensures refused { IfErr result (λ fault. HasRefusedFile fault self.new) }
+        ensures refused { IfErr result (λ fault. RemembersFileFault fault self.new) }
         // Each later call returns a test that failed.
         ensures again { IfSome (kept_fault self.old) (λ cause. result ≡ Err (Bad cause)) }
-        ensures name { package_of_file self.new ≡ package_of_file self.old }
+        ensures name { package_name_of_file self.new ≡ package_name_of_file self.old }
         ensures len { len_around_file self.new ≡ len_around_file self.old }
         // The tree is unchanged. `Disk` is returned only if the tree failed, and no call is a
         // misuse if the file still has its length.
-        ensures tree { ReadsFile (package_of_file self.old) (len_around_file self.old) DiskFault
+        ensures tree { ReadsFile (package_name_of_file self.old) (len_around_file self.old)
+            DiskFault
             (T.history tree.old) (T.history tree.new) (T.counts tree.old) (T.counts tree.new)
             result }
     {
@@ -176,17 +179,19 @@ impl<'a> FilePieces<'a> {
     fn read_next<T: Tree>(&mut self, tree: &mut T, piece: &mut Piece) -> Result<bool, PieceFault>
         requires { kept_fault self.old ≡ None }
         ensures piece { IfObservable (T.history tree.old) (λ v. (pkg left : List ℕ)
-            → files_of v (package_of_file self.old) ≡ Some pkg → IsFileReading self.old pkg left
+            → files_of v (package_name_of_file self.old) ≡ Some pkg
+            → IsFileReading self.old pkg left
             → GivesBytes (IsFileReading self.new pkg) left piece.new result) }
-        ensures tested { (so_far : List ℕ) → HaveCome self.old so_far
-            → ComesBehind self.old so_far piece.new result self.new }
-        ensures due { file_due self.new ≡ file_due self.old }
+        ensures tested { (so_far : List ℕ) → HaveBeenReturned self.old so_far
+            → IsTestedReturn self.old so_far piece.new result self.new }
+        ensures due { expected_file_of self.new ≡ expected_file_of self.old }
         ensures left { IfOk result (HasFewerLeft self.old (length piece.new) self.new) }
-        ensures name { package_of_file self.new ≡ package_of_file self.old }
+        ensures name { package_name_of_file self.new ≡ package_name_of_file self.old }
         ensures len { len_around_file self.new ≡ len_around_file self.old }
         // The tree is unchanged. `Disk` is returned only if the tree failed, and no call is a
         // misuse if the file still has its length.
-        ensures tree { ReadsFile (package_of_file self.old) (len_around_file self.old) DiskFault
+        ensures tree { ReadsFile (package_name_of_file self.old) (len_around_file self.old)
+            DiskFault
             (T.history tree.old) (T.history tree.new) (T.counts tree.old) (T.counts tree.new)
             result }
     {

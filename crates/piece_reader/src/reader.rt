@@ -57,7 +57,7 @@ impl<'a> PieceReader<'a> {
     ghost use Rattle.pkg_core.specs.Front.{behind_front, front_end, front_file_len};
     ghost use Rattle.pkg_core.specs.Seen.{HasAt, IsSeenIn, ReadsFile};
     ghost use Rattle.pkg_core.specs.Values.{value_of_contents};
-    ghost use Rattle.piece_reader.specs.Readers.{AnswersNext, ArePiecesFrom, ComesInOrder, GoesOnBehind, HasRefused, IsFileOpened, IsGoingOn, IsPieceRead, IsReading, IsStartOf, KeepsStart, OpensDue, HasPieceAt, StandsBetween, due_files, due_in, name_in_tree, offset_of, package_len, start_of_file};
+    ghost use Rattle.piece_reader.specs.Readers.{AnswersNext, ArePiecesFrom, IsReturnedInOrder, CanContinueAfter, RemembersFault, IsFileOpened, CanContinue, IsPieceRead, IsReading, IsStartOf, KeepsStart, OpensExpected, HasPieceAt, IsBetweenFiles, files_to_read, files_to_read_in, name_in_tree, offset_of, package_len, start_of_file};
     ghost use Rattle.piece_reader.specs.declared.reader.Due.TheVariants.{Files};
     ghost use Rattle.piece_reader.specs.declared.piece.PieceFault.TheVariants.{Disk as DiskFault};
 
@@ -67,9 +67,9 @@ impl<'a> PieceReader<'a> {
         ensures name { name_in_tree result ≡ name.entry.now }
         ensures len { package_len result ≡ front_file_len front.now }
         ensures offset { offset_of result ≡ front_end front.now }
-        ensures files { due_files result
+        ensures files { files_to_read result
             ≡ expected_contents (value_of_contents contents.entry.now) }
-        ensures start { StandsBetween result }
+        ensures start { IsBetweenFiles result }
         // The pieces to read are those of the blocks after the front.
         ensures pieces { (pkg : List ℕ) → IsReading result pkg
             (pieces_by_blocks (expected_contents (value_of_contents contents.entry.now))
@@ -137,9 +137,9 @@ impl<'a> PieceReader<'a> {
         // The pieces are in the order of the files in the package; after a piece the reader can
         // continue.
         ensures order { IfOk result (λ found.
-            ComesInOrder (due_files self.old) found (due_files self.new)) }
+            IsReturnedInOrder (files_to_read self.old) found (files_to_read self.new)) }
         ensures goes_on { IfOk result (λ found. IfSome found (λ part.
-            GoesOnBehind part self.old self.new)) }
+            CanContinueAfter part self.old self.new)) }
         // A piece that is not the last one is completely before the next read.
         ensures bytes { IfOk result (λ found. IfSome found (λ part. part.last ≡ false
             → offset_of self.old + length piece.new ≤ offset_of self.new)) }
@@ -148,7 +148,7 @@ impl<'a> PieceReader<'a> {
         ensures start { IfOk result (λ found. IfSome found (λ part.
             KeepsStart part (length piece.new) self.old self.new)) }
         // A failed test is remembered, and each later call returns it.
-        ensures refused { IfErr result (λ fault. HasRefused fault self.new) }
+        ensures refused { IfErr result (λ fault. RemembersFault fault self.new) }
         ensures name { name_in_tree self.new ≡ name_in_tree self.old }
         ensures len { package_len self.new ≡ package_len self.old }
         // The tree is unchanged. `Disk` is returned only if the tree failed, and no call is a
@@ -171,7 +171,7 @@ impl<'a> PieceReader<'a> {
         tree: &mut T,
         piece: &mut Piece,
     ) -> Result<Option<Part>, PieceFault>
-        requires { IsGoingOn self.old }
+        requires { CanContinue self.old }
         ensures piece { (seen : List ℕ)
             × IsSeenIn (T.history tree.old) (name_in_tree self.old) (package_len self.old)
             (offset_of self.old) seen
@@ -183,14 +183,14 @@ impl<'a> PieceReader<'a> {
             → AnswersNext (IsReading self.new pkg) before piece.new result
             × IfOk result (λ found. HasPieceAt self.old pkg piece.new found self.new)) }
         ensures order { IfOk result (λ found.
-            ComesInOrder (due_files self.old) found (due_files self.new)) }
+            IsReturnedInOrder (files_to_read self.old) found (files_to_read self.new)) }
         ensures goes_on { IfOk result (λ found. IfSome found (λ part.
-            GoesOnBehind part self.old self.new)) }
+            CanContinueAfter part self.old self.new)) }
         ensures bytes { IfOk result (λ found. IfSome found (λ part. part.last ≡ false
             → offset_of self.old + length piece.new ≤ offset_of self.new)) }
         ensures start { IfOk result (λ found. IfSome found (λ part.
             KeepsStart part (length piece.new) self.old self.new)) }
-        ensures refused { IfErr result (λ fault. HasRefused fault self.new) }
+        ensures refused { IfErr result (λ fault. RemembersFault fault self.new) }
         ensures name { name_in_tree self.new ≡ name_in_tree self.old }
         ensures len { package_len self.new ≡ package_len self.old }
         // The tree is unchanged. `Disk` is returned only if the tree failed, and no call is a
@@ -230,8 +230,9 @@ impl<'a> PieceReader<'a> {
             → (before : PiecesRead) → ArePiecesFrom self.old.place self.old.opened pkg before
             → IsPieceRead self.new pkg before piece.new result
             × IfOk result (λ found. HasPieceAt self.old pkg piece.new found self.new)) }
-        ensures order { IfOk result (λ found. ComesInOrder
-            (due_in self.old.place self.old.opened) found (due_in self.new.place self.new.opened)) }
+        ensures order { IfOk result (λ found. IsReturnedInOrder
+            (files_to_read_in self.old.place self.old.opened) found (files_to_read_in
+            self.new.place self.new.opened)) }
         ensures bytes { IfOk result (λ found. IfSome found (λ part. part.last ≡ false
             → offset_of self.old + length piece.new ≤ offset_of self.new)) }
         ensures start { IfOk result (λ found. IfSome found (λ part.
@@ -269,7 +270,7 @@ impl<'a> PieceReader<'a> {
             → (before : PiecesRead) → ArePiecesFrom self.old.place self.old.opened pkg before
             → IsFileOpened self.old pkg before result self.new) }
         ensures opens { IfOk result (λ found.
-            OpensDue (due_in self.old.place self.old.opened) found self.new.place) }
+            OpensExpected (files_to_read_in self.old.place self.old.opened) found self.new.place) }
         ensures room { IfOk result (λ found. IfSome found (λ file.
             file.at + file_bytes_left file.file ≤ self.new.place.at)) }
         ensures start { IfOk result (λ found. IfSome found (λ file.

@@ -22,9 +22,9 @@ pub(crate) enum Asked {
     Read,
     /// Its pieces if a byte of the last file differs: `spoil AT SIZES`.
     Spoil,
-    /// The same if the last block of contents is replaced by the first: `repeat SIZES`.
+    /// Its pieces if the last block of contents is replaced by the first: `repeat SIZES`.
     Repeat,
-    /// The same if the last block of contents has this length: `shorten LEN SIZES`.
+    /// Its pieces if the last block of contents has this length: `shorten LEN SIZES`.
     Shorten,
     /// Its pieces, and then the lengths of those of each file read again, from one that does not
     /// exist to the first: `back SIZES`.
@@ -214,7 +214,7 @@ fn add_readings(
     answer: &mut Vec<u8>,
 ) -> Result<(), AllocError> {
     match read_front(alloc, tree, name, PACKAGE_WORD) {
-        Ok(Some(front)) => add_behind_front(alloc, tree, name, &front, reading, answer),
+        Ok(Some(front)) => add_after_front(alloc, tree, name, &front, reading, answer),
         Ok(None) => add_word(answer, b"no file"),
         Err(FrontFault::Bad(cause)) => add_cause(alloc, cause, answer),
         Err(FrontFault::Disk) => add_word(answer, b"a fault"),
@@ -223,7 +223,7 @@ fn add_readings(
 }
 
 /// Adds the pieces after a front, and those of files read again.
-fn add_behind_front(
+fn add_after_front(
     alloc: Global,
     tree: &mut MemoryTree,
     name: &Name,

@@ -28,8 +28,8 @@ use Rattle.pkg_core.specs.GoodContents.{AreContentsOf, AreTrueTo, HaveDigests, I
 -- ---- if nothing is told, each text and number keeps its rule
 
 -- what is told of texts, as adb_schema's law says
-abbrev pub TellsFirst : Type 0
-TellsFirst = (which : Which) (v : Plain) → IsFirstBadOf (leaves_of which v) (text_fault which v)
+abbrev pub HasFirstValue : Type 0
+HasFirstValue = (which : Which) (v : Plain) → IsFirstBadOf (leaves_of which v) (text_fault which v)
 
 abbrev Keep : List Leaf → Type 0
 Keep all = list_all keeps_rule all ≡ true
@@ -115,7 +115,7 @@ texts_keep v h =
     let folders = field_keeps (shapes_of (table Tables.Package)) 1 701 (inside_of 7 (at_root Tables.Package) v) (entries_in v) (array (shape_of (Obj Tables.Dir))) refl h in
     folders_digests 1 702 (inside_of 7 (at_root Tables.Package) v) (entries_in (entry_in v 1)) refl folders
 
-pub texts_give_digests : TellsFirst → (v : Plain) → text_fault Tables.Package v ≡ None → HaveDigests (expected_contents v)
+pub texts_give_digests : HasFirstValue → (v : Plain) → text_fault Tables.Package v ≡ None → HaveDigests (expected_contents v)
 texts_give_digests told v h = texts_keep v (none_told (leaves_of Tables.Package v) (text_fault Tables.Package v) (told Tables.Package v) h)
 
 -- ---- what a good digest says

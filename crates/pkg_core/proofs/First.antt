@@ -52,16 +52,16 @@ at_block Kinds.Adb payload at further blocks framing es c ih h = ih es h
 at_block Kinds.Signature payload at further blocks framing es c ih h = ih es h
 at_block Kinds.Contents payload at further blocks framing es c ih h = at_contents payload at further blocks framing es c ih (C.contents_block_fault payload at es) refl h
 
-framed_behind : (b : Piece) (r : Result (List Piece) Cause) → result_err r ≡ result_err (with_block b r)
-framed_behind b (Ok bs) = refl
-framed_behind b (Err c) = refl
+framed_after : (b : Piece) (r : Result (List Piece) Cause) → result_err r ≡ result_err (with_block b r)
+framed_after b (Ok bs) = refl
+framed_after b (Err c) = refl
 
 first_of : (es : List Expected) (r : Reading) (c : Cause) → contents_fault es r ≡ Some c → IsFirst (blocks_of_contents r) (result_err (pieces_of r)) es c
 unfolding files_by_blocks
 first_of es done c h = record { k = 0; reached = omega arith; fault = end_fault es c h; before = λ j lt. absurd (omega arith) }
 first_of es (fault d) c h = record { k = 0; reached = omega arith; fault = h; before = λ j lt. absurd (omega arith) }
 first_of es (more b at r) c h =
-    subst (λ (f : Option Cause). IsFirst (blocks_of_contents (more b at r)) f es c) (framed_behind b (pieces_of r))
+    subst (λ (f : Option Cause). IsFirst (blocks_of_contents (more b at r)) f es c) (framed_after b (pieces_of r))
     (at_block b.kind b.payload at (λ left. files_by_blocks left r) (blocks_of_contents r) (result_err (pieces_of r)) es c (λ left g. first_of left r c g) h)
 
 pub first_told : (es : List Expected) (r : Reading) (c : Cause) → contents_fault es r ≡ Some c → IsFirstContentsFault es r c

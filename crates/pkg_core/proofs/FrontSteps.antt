@@ -10,7 +10,7 @@ use Rattle.adb_block.specs.Frames.{framed_piece, raw_size}
 use Rattle.adb_block.specs.Header.{header_of, is_compressed, word_at}
 use Rattle.adb_block.specs.Piece.{comes_after, padding_of}
 use Rattle.adb_block.specs.Reading.{more, reading_of}
-use Rattle.adb_block.specs.Standing.{start_of}
+use Rattle.adb_block.specs.ReaderPosition.{start_of}
 use Rattle.adb_block.specs.declared.block.BlockKind.{BlockKind}
 use Rattle.adb_block.specs.declared.block.BlockKind.TheVariants.{Adb, Signature, Contents}
 use Rattle.adb_view.specs.Head.{head_fault}

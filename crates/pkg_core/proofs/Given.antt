@@ -5,7 +5,7 @@ use Rattle.base_core.specs.declared.cause.Cause.{Cause}
 use Rattle.base_core.specs.declared.cause.Cause.TheVariants.{Truncated, DataOrder, DataSize}
 use Rattle.adb_block.specs.Header.{header_of}
 use Rattle.adb_block.specs.Reading.{Reading, done, fault, more, reading_of}
-use Rattle.adb_block.specs.Standing.{start_of}
+use Rattle.adb_block.specs.ReaderPosition.{start_of}
 use Rattle.adb_block.specs.declared.block.BlockKind.{BlockKind}
 use Rattle.adb_block.specs.declared.block.BlockKind.TheVariants as Kinds
 use Rattle.adb_view.specs.Head.{head_fault, root_of}
@@ -16,13 +16,13 @@ use Rattle.std.specs.Option.{option_or}
 use Rattle.adb_view.specs.Walk.{shape_fault}
 use Rattle.adb_schema.specs.Texts.{text_fault}
 use Rattle.adb_view.specs.declared.tables.Kind.TheVariants.{Obj}
-use Rattle.adb_schema.specs.Soundness.{blocks_fault, file_fault, file_pair, first_payload, payload_behind, payload_fault, payload_in, root_value, schema_fault}
+use Rattle.adb_schema.specs.Soundness.{blocks_fault, file_fault, file_pair, first_payload, payload_after_header, payload_fault, payload_in, root_value, schema_fault}
 use Rattle.adb_view.specs.declared.tables.Which.TheVariants.{Package}
 use Rattle.pkg_core.specs.Contents as C
 use Rattle.pkg_core.specs.Contents.{Expected, FilesRead, contents_bytes, contents_by, contents_fault, contents_in, expected_contents, fault_in, files_by_blocks, hash_fault}
 use Rattle.pkg_core.specs.GoodContents.{AreContentsOf, AreTrueTo, IsContentsOf}
-use Rattle.pkg_core.proofs.Digests.{texts_give_digests, true_contents, TellsFirst}
-use Rattle.pkg_core.specs.Whole.{behind_fault, files_behind, files_by_header, files_in_file, package_fault, package_with_contents, whole_fault}
+use Rattle.pkg_core.proofs.Digests.{texts_give_digests, true_contents, HasFirstValue}
+use Rattle.pkg_core.specs.Whole.{fault_after_first, files_after_first, files_by_header, files_in_file, package_fault, package_with_contents, whole_fault}
 
 -- the sizes agree, and then the digests
 size_right : (b : Bool) (d : Cause) (o : Option Cause) → (if not b then Some d else o) ≡ None → (b ≡ true) × (o ≡ None)
@@ -93,17 +93,17 @@ texts_good payload h =
     let texts = second_none (shape_fault payload (shape_of (Obj Package)) (root_of payload)) _ shape in
     first_none (text_fault Package (root_value Package payload)) _ texts
 
-blocks_true : TellsFirst → (r : Reading) → blocks_fault (behind_fault Package) Package r ≡ None → AreTrueTo (expected_contents (root_value Package (first_payload r))) (contents_in (files_behind r))
+blocks_true : HasFirstValue → (r : Reading) → blocks_fault (fault_after_first Package) Package r ≡ None → AreTrueTo (expected_contents (root_value Package (first_payload r))) (contents_in (files_after_first r))
 blocks_true told done h = let A : List Expected → Type 0 = λ es. AreTrueTo es [] in subst A (sym nothing_expected) tt
 blocks_true told (fault c) h = (cc)
 blocks_true told (more b at r) h =
     let v : Plain = root_value Package b.payload in
     true_contents (expected_contents v) (contents_in (files_by_blocks (expected_contents v) r)) (texts_give_digests told v (texts_good b.payload (first_none (payload_fault Package b.payload) _ h))) (files_right (expected_contents v) r (second_none (payload_fault Package b.payload) _ h))
 
-header_true : TellsFirst → (file : List ℕ) (h : Result ℕ Cause) → file_fault (behind_fault Package) Package file h ≡ None → AreTrueTo (expected_contents (root_value Package (payload_behind file h))) (contents_in (files_by_header file h))
+header_true : HasFirstValue → (file : List ℕ) (h : Result ℕ Cause) → file_fault (fault_after_first Package) Package file h ≡ None → AreTrueTo (expected_contents (root_value Package (payload_after_header file h))) (contents_in (files_by_header file h))
 header_true told file (Ok schema) e = blocks_true told (reading_of (start_of schema file)) (second_none (schema_fault Package schema) _ e)
 header_true told file (Err c) e = (cc)
 
-pub package_true : TellsFirst → (file : List ℕ) → package_fault file ≡ None → AreTrueTo (expected_contents (package_with_contents file).value) (package_with_contents file).contents
+pub package_true : HasFirstValue → (file : List ℕ) → package_fault file ≡ None → AreTrueTo (expected_contents (package_with_contents file).value) (package_with_contents file).contents
 unfolding whole_fault files_in_file payload_in
 package_true told file h = header_true told file (header_of file) h

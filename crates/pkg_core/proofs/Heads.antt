@@ -7,19 +7,19 @@ use Rattle.std.proofs.lemmas.Slice.{take-put_mid}
 use Rattle.std.proofs.lemmas.Grind.{common_steps}
 use borrow.Rule.Slice.PartMut.{put_mid}
 use Rattle.adb_block.specs.Header.{word_at}
-use Rattle.adb_block.specs.Frames.{HoldsHead, head_len}
+use Rattle.adb_block.specs.Frames.{IsHeadPrefix, head_len}
 
 pub eq_false : (a b : ℕ) → (a ≡ b → ⊥) → (a == b) ≡ false
 eq_false a b h = grind arith
 
-pub holds_none : (left : ℕ) → left < 4 → HoldsHead [] left
+pub holds_none : (left : ℕ) → left < 4 → IsHeadPrefix [] left
 holds_none left few = record { within = omega arith; whole = λ room. absurd (omega (arith, room)) }
 
-pub holds_short : (first : List ℕ) (left : ℕ) → length first ≡ 4 → 4 ≤ left → head_len first ≡ 4 → HoldsHead first left
+pub holds_short : (first : List ℕ) (left : ℕ) → length first ≡ 4 → 4 ≤ left → head_len first ≡ 4 → IsHeadPrefix first left
 holds_short first left four some short = record { within = omega arith; whole = λ room. omega arith }
 
 -- of a header that is not whole four bytes are enough
-pub holds_cut : (first : List ℕ) (left : ℕ) → length first ≡ 4 → 4 ≤ left → left < head_len first → HoldsHead first left
+pub holds_cut : (first : List ℕ) (left : ℕ) → length first ≡ 4 → 4 ≤ left → left < head_len first → IsHeadPrefix first left
 holds_cut first left four some cut = record { within = omega arith; whole = λ room. absurd (omega (arith, room)) }
 
 -- ---- sixteen bytes
@@ -43,7 +43,7 @@ head_len_more first rest four =
     all_of : (xs : List ℕ) → length xs ≡ 4 → take 4 xs ≡ xs
     all_of xs e = grind (arith, common_steps)
 
-pub holds_both : (first rest : List ℕ) (left : ℕ) → length first ≡ 4 → length rest ≡ 12 → head_len first ≡ 16 → 16 ≤ left → HoldsHead (first ++ rest) left
+pub holds_both : (first rest : List ℕ) (left : ℕ) → length first ≡ 4 → length rest ≡ 12 → head_len first ≡ 16 → 16 ≤ left → IsHeadPrefix (first ++ rest) left
 holds_both first rest left four twelve long room =
     let all = length-append first rest in
     let same = head_len_more first rest four in

@@ -14,7 +14,7 @@ use Rattle.adb_block.specs.declared.block.Frame.{Frame}
 use Rattle.pkg_core.specs.Contents.{Expected, missing_fault}
 use Rattle.pkg_core.specs.Opened.{left_in}
 use Rattle.pkg_core.specs.Pieces.{PiecesRead, no_piece, refusal, pieces_at_block, pieces_by_blocks, pieces_of_payload, unless_refusal}
-use Rattle.pkg_core.specs.Places.{payload_at, pieces_at, place_behind, standing_at_place, step_at, whole_size}
+use Rattle.pkg_core.specs.Places.{payload_at, pieces_at, place_after, reader_at_place, step_at, whole_size}
 use Rattle.pkg_core.specs.declared.place.BlockPlace.{BlockPlace}
 use Rattle.adb_block.proofs.Runs.{reading_ended, reading_more}
 use Rattle.pkg_core.proofs.BlockRuns.{reading_cut}
@@ -24,7 +24,7 @@ use Rattle.pkg_core.proofs.BlockRuns.{reading_cut}
 at_end : (place : BlockPlace) (file : List ℕ) (d : Option Cause) → step_at place file ≡ ended → d ≡ missing_fault (left_in place.walk) → pieces_at place file ≡ unless_refusal d no_piece
 unfolding pieces_by_blocks
 at_end place file d step same =
-    ap (pieces_by_blocks (left_in place.walk)) (reading_ended (standing_at_place place file) step) ∙ ap (λ (c : Option Cause). unless_refusal c no_piece) (sym same)
+    ap (pieces_by_blocks (left_in place.walk)) (reading_ended (reader_at_place place file) step) ∙ ap (λ (c : Option Cause). unless_refusal c no_piece) (sym same)
 
 pub end_good : (place : BlockPlace) (file : List ℕ) → step_at place file ≡ ended → None ≡ missing_fault (left_in place.walk) → pieces_at place file ≡ no_piece
 end_good place file step same = at_end place file None step same
@@ -35,17 +35,17 @@ end_bad place file c step same = at_end place file (Some c) step same
 -- ---- a block
 
 abbrev pub further : BlockPlace → Frame → List ℕ → List Expected → PiecesRead
-further place frame file es = pieces_by_blocks es (reading_of (standing_at_place (place_behind place frame) file))
+further place frame file es = pieces_by_blocks es (reading_of (reader_at_place (place_after place frame) file))
 
 behind_block : (place : BlockPlace) (frame : Frame) (file : List ℕ) → length file ≡ place.len → raw_size frame ≤ place.len - place.at → step_at place file ≡ block (framed_piece frame (drop place.at file)) (raw_size frame + padding_of (raw_size frame))
-    → reading_of (standing_at_place place file) ≡ more (framed_piece frame (drop place.at file)) place.at (reading_of (standing_at_place (place_behind place frame) file))
+    → reading_of (reader_at_place place file) ≡ more (framed_piece frame (drop place.at file)) place.at (reading_of (reader_at_place (place_after place frame) file))
 behind_block place frame file long fits step =
     let left : length (drop place.at file) ≡ place.len - place.at = length-drop place.at file ∙ ap (λ (n : ℕ). n - place.at) long in
     let room : raw_size frame ≤ length (drop place.at file) = subst (λ (n : ℕ). raw_size frame ≤ n) (sym left) fits in
     let size : raw_size frame + min (padding_of (raw_size frame)) (length (drop place.at file) - raw_size frame) ≡ whole_size frame (place.len - place.at) = ap (λ (n : ℕ). whole_size frame n) left in
     let rest : drop (whole_size frame (place.len - place.at)) (drop place.at file) ≡ drop (place.at + whole_size frame (place.len - place.at)) file = drop-drop (whole_size frame (place.len - place.at)) place.at file ∙ ap (λ (n : ℕ). drop n file) (omega arith) in
-    reading_more (standing_at_place place file) (framed_piece frame (drop place.at file)) (raw_size frame + padding_of (raw_size frame)) step
-    ∙ (ap (more (framed_piece frame (drop place.at file)) place.at) (reading_cut (standing_at_place place file) frame.kind (raw_size frame) (padding_of (raw_size frame)) room)
+    reading_more (reader_at_place place file) (framed_piece frame (drop place.at file)) (raw_size frame + padding_of (raw_size frame)) step
+    ∙ (ap (more (framed_piece frame (drop place.at file)) place.at) (reading_cut (reader_at_place place file) frame.kind (raw_size frame) (padding_of (raw_size frame)) room)
     ∙ (ap (λ (n : ℕ). more (framed_piece frame (drop place.at file)) place.at (reading_of (record { schema = 0; last = Some frame.kind; at = place.at + n; left = drop n (drop place.at file) }))) size
     ∙ ap (λ (xs : List ℕ). more (framed_piece frame (drop place.at file)) place.at (reading_of (record { schema = 0; last = Some frame.kind; at = place.at + whole_size frame (place.len - place.at); left = xs }))) rest))
 
@@ -64,7 +64,7 @@ other_kind kind (inl is) = λ same. let e : Kinds.Adb ≡ Kinds.Contents = sym i
 other_kind kind (inr is) = λ same. let e : Kinds.Signature ≡ Kinds.Contents = sym is ∙ same in (cc)
 
 pub passed : (place : BlockPlace) (frame : Frame) (file : List ℕ) → length file ≡ place.len → raw_size frame ≤ place.len - place.at → step_at place file ≡ block (framed_piece frame (drop place.at file)) (raw_size frame + padding_of (raw_size frame)) → frame.kind ≢ Kinds.Contents
-    → pieces_at place file ≡ pieces_at (place_behind place frame) file
+    → pieces_at place file ≡ pieces_at (place_after place frame) file
 passed place frame file long fits step other =
     at_block place frame file long fits step ∙ no_contents frame.kind (payload_at frame place file) place.at (further place frame file) (left_in place.walk) other
 

@@ -6,7 +6,7 @@ use Rattle.std.proofs.lemmas.List.{length-append, drop-drop, drop-take, take-tak
 use Rattle.std.proofs.lemmas.Bool.{eqb-true}
 use Rattle.std.proofs.lemmas.Grind.{common_steps}
 use Rattle.base_core.specs.Calls.{IfObservable}
-use Rattle.base_core.specs.Faults.{Counts, GoesOn, HasCause, IsNoFault}
+use Rattle.base_core.specs.Faults.{Counts, CountsOnlyRise, HasCause, IsNoFault}
 use Rattle.base_core.specs.Tree.{TreeState, CanRead, files_of}
 use Rattle.pkg_core.specs.Seen.{HasAt, IsSeen, IsSeenIn, IsSoLong, ReadsFile}
 
@@ -164,13 +164,13 @@ proper_both [] name len a b c h g = h
 proper_both (v ∷ earlier) name len a b c h g = λ long. g long ∙ h long
 
 no_fault_both : (a b c : Counts) → IsNoFault a b → IsNoFault b c → IsNoFault a c
-no_fault_both a b c h g = record { faults = g.faults ∙ h.faults; wants = g.wants ∙ h.wants }
+no_fault_both a b c h g = record { faults = g.faults ∙ h.faults; memory_faults = g.memory_faults ∙ h.memory_faults }
 
-pub goes_on_both : (a b c : Counts) → GoesOn a b → GoesOn b c → GoesOn a c
+pub goes_on_both : (a b c : Counts) → CountsOnlyRise a b → CountsOnlyRise b c → CountsOnlyRise a c
 goes_on_both a b c h g = grind arith
 
-pub cause_behind : (a b c : Counts) → GoesOn a b → HasCause b c → HasCause a c
-cause_behind a b c h g = grind arith
+pub cause_after : (a b c : Counts) → CountsOnlyRise a b → HasCause b c → HasCause a c
+cause_after a b c h g = grind arith
 
 pub others_both : {B F : Type 0} (e : F) (a b c : Counts) (then : Result B F) → IsNoFault a b → IfErr then (λ fault. (fault ≡ e → ⊥) → IsNoFault b c) → IfErr then (λ fault. (fault ≡ e → ⊥) → IsNoFault a c)
 others_both e a b c (Ok value) h g = g
@@ -184,7 +184,7 @@ pub reads_in_a_row : {A B E F : Type 0} (name : List ℕ) (len : ℕ) (d : E) (e
 reads_in_a_row name len d e h0 h1 h2 a b c value then first second = record {
   same = second.same ∙ first.same;
   goes_on = goes_on_both a b c first.goes_on second.goes_on;
-  disk = λ failed. cause_behind a b c first.goes_on (second.disk failed);
+  disk = λ failed. cause_after a b c first.goes_on (second.disk failed);
   kept = kept_both a b c then first.kept second.kept;
   others = others_both e a b c then first.kept second.others;
   proper = proper_both h0 name len a.misuses b.misuses c.misuses first.proper (subst (λ (h : List TreeState). IfObservable h (λ v. IsSoLong name len v → c.misuses ≡ b.misuses)) first.same second.proper);

@@ -3,13 +3,13 @@ use Rattle.std.proofs.Common.{◌≡◌, ◌≢◌, ℕ, List, Option, Some, Non
 use Rattle.base_core.specs.declared.cause.Cause.{Cause}
 use Rattle.adb_block.specs.Header.{header_of}
 use Rattle.adb_block.specs.Reading.{Reading, done, fault, more, reading_of}
-use Rattle.adb_block.specs.Standing.{start_of}
+use Rattle.adb_block.specs.ReaderPosition.{start_of}
 use Rattle.std.specs.Option.{option_or}
 use Rattle.adb_schema.specs.Soundness.{blocks_fault, file_fault, first_fault, payload_fault, rest_fault, schema_fault}
 use Rattle.adb_view.specs.declared.tables.Which.{Which}
 use Rattle.adb_view.specs.declared.tables.Which.TheVariants.{Dep, Acl, PkgInfo, File, Dir, Scripts, Package, Index, Idb, Intent}
 use Rattle.pkg_core.specs.Contents.{FilesRead, fault_in}
-use Rattle.pkg_core.specs.Whole.{behind_fault, files_behind, files_by_header, files_in_file, package_fault, whole_fault}
+use Rattle.pkg_core.specs.Whole.{fault_after_first, files_after_first, files_by_header, files_in_file, package_fault, whole_fault}
 
 -- a container without contents is tested whole as its values are read
 pub other_fault : (which : Which) (file : List ℕ) → which ≢ Package → whole_fault which file ≡ first_fault which file
@@ -30,16 +30,16 @@ tests_then : (payload : Option Cause) (files : FilesRead) → option_or payload 
 tests_then None files h = refl
 tests_then (Some c) files h = (cc)
 
-blocks_then : (r : Reading) → blocks_fault (λ v r. rest_fault Package r) Package r ≡ None → blocks_fault (behind_fault Package) Package r ≡ fault_in (files_behind r)
+blocks_then : (r : Reading) → blocks_fault (λ v r. rest_fault Package r) Package r ≡ None → blocks_fault (fault_after_first Package) Package r ≡ fault_in (files_after_first r)
 blocks_then done h = refl
 blocks_then (fault c) h = refl
-blocks_then (more b at r) h = tests_then (payload_fault Package b.payload) (files_behind (more b at r)) h
+blocks_then (more b at r) h = tests_then (payload_fault Package b.payload) (files_after_first (more b at r)) h
 
-schema_then : (s : Option Cause) (r : Reading) → option_or s (blocks_fault (λ v r. rest_fault Package r) Package r) ≡ None → option_or s (blocks_fault (behind_fault Package) Package r) ≡ fault_in (files_behind r)
+schema_then : (s : Option Cause) (r : Reading) → option_or s (blocks_fault (λ v r. rest_fault Package r) Package r) ≡ None → option_or s (blocks_fault (fault_after_first Package) Package r) ≡ fault_in (files_after_first r)
 schema_then None r h = blocks_then r h
 schema_then (Some c) r h = (cc)
 
-header_then : (file : List ℕ) (h : Result ℕ Cause) → file_fault (λ v r. rest_fault Package r) Package file h ≡ None → file_fault (behind_fault Package) Package file h ≡ fault_in (files_by_header file h)
+header_then : (file : List ℕ) (h : Result ℕ Cause) → file_fault (λ v r. rest_fault Package r) Package file h ≡ None → file_fault (fault_after_first Package) Package file h ≡ fault_in (files_by_header file h)
 header_then file (Ok schema) e = schema_then (schema_fault Package schema) (reading_of (start_of schema file)) e
 header_then file (Err c) e = refl
 
@@ -52,16 +52,16 @@ tests_first : (payload : Option Cause) (c : Cause) (o : Option Cause) → option
 tests_first None c o h = (cc)
 tests_first (Some d) c o h = h
 
-blocks_first : (r : Reading) (c : Cause) → blocks_fault (λ v r. rest_fault Package r) Package r ≡ Some c → blocks_fault (behind_fault Package) Package r ≡ Some c
+blocks_first : (r : Reading) (c : Cause) → blocks_fault (λ v r. rest_fault Package r) Package r ≡ Some c → blocks_fault (fault_after_first Package) Package r ≡ Some c
 blocks_first done c h = h
 blocks_first (fault d) c h = h
-blocks_first (more b at r) c h = tests_first (payload_fault Package b.payload) c (fault_in (files_behind (more b at r))) h
+blocks_first (more b at r) c h = tests_first (payload_fault Package b.payload) c (fault_in (files_after_first (more b at r))) h
 
-schema_first : (s : Option Cause) (r : Reading) (c : Cause) → option_or s (blocks_fault (λ v r. rest_fault Package r) Package r) ≡ Some c → option_or s (blocks_fault (behind_fault Package) Package r) ≡ Some c
+schema_first : (s : Option Cause) (r : Reading) (c : Cause) → option_or s (blocks_fault (λ v r. rest_fault Package r) Package r) ≡ Some c → option_or s (blocks_fault (fault_after_first Package) Package r) ≡ Some c
 schema_first None r c h = blocks_first r c h
 schema_first (Some d) r c h = h
 
-header_first : (file : List ℕ) (h : Result ℕ Cause) (c : Cause) → file_fault (λ v r. rest_fault Package r) Package file h ≡ Some c → file_fault (behind_fault Package) Package file h ≡ Some c
+header_first : (file : List ℕ) (h : Result ℕ Cause) (c : Cause) → file_fault (λ v r. rest_fault Package r) Package file h ≡ Some c → file_fault (fault_after_first Package) Package file h ≡ Some c
 header_first file (Ok schema) c e = schema_first (schema_fault Package schema) (reading_of (start_of schema file)) c e
 header_first file (Err d) c e = e
 

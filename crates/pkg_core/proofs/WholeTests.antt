@@ -5,14 +5,14 @@ use Rattle.base_core.specs.declared.cause.Cause.{Cause}
 use Rattle.base_core.specs.declared.cause.Cause.TheVariants.{WrongSchema}
 use Rattle.adb_block.specs.Header.{header_of}
 use Rattle.adb_block.specs.Reading.{Reading, done, fault, more, reading_of}
-use Rattle.adb_block.specs.Standing.{start_of}
+use Rattle.adb_block.specs.ReaderPosition.{start_of}
 use Rattle.adb_view.specs.Head.{head_fault}
 use Rattle.std.specs.Option.{option_or}
 use Rattle.adb_view.specs.declared.tables.Which.TheVariants.{Package}
-use Rattle.adb_schema.specs.Soundness.{blocks_fault, fault_with, file_fault, first_fault, first_payload, payload_behind, payload_fault, payload_in, rest_fault, root_value}
+use Rattle.adb_schema.specs.Soundness.{blocks_fault, fault_with, file_fault, first_fault, first_payload, payload_after_header, payload_fault, payload_in, rest_fault, root_value}
 use Rattle.adb_schema.specs.declared.read.TheConstants.{PACKAGE_WORD}
 use Rattle.pkg_core.specs.Contents.{contents_fault, expected_contents}
-use Rattle.pkg_core.specs.Whole.{behind_fault, container_fault, fault_by_header, whole_fault}
+use Rattle.pkg_core.specs.Whole.{fault_after_first, container_fault, fault_by_header, whole_fault}
 use Rattle.pkg_core.specs.Front.{IsFrontOf, behind_front, front_block_fault, front_fault, front_fault_by, front_payload}
 use Rattle.pkg_core.specs.declared.front.Front.{Front}
 
@@ -52,7 +52,7 @@ values_alike file front is =
 
 pub same_payload : (file : List ℕ) (front : Front) → IsFrontOf PACKAGE_WORD file front → payload_in file ≡ front_payload front
 unfolding payload_in
-same_payload file front is = ap (payload_behind file) is.header ∙ ap first_payload is.blocks
+same_payload file front is = ap (payload_after_header file) is.header ∙ ap first_payload is.blocks
 
 -- ---- a container
 
@@ -60,19 +60,19 @@ pub whole_by_front : (file : List ℕ) (front : Front) → IsFrontOf PACKAGE_WOR
 unfolding container_fault whole_fault
 whole_by_front file front is =
     ap (fault_by_header file) is.header
-    ∙ (ap (file_fault (behind_fault Package) Package file) is.header
-    ∙ ap (blocks_fault (behind_fault Package) Package) is.blocks)
+    ∙ (ap (file_fault (fault_after_first Package) Package file) is.header
+    ∙ ap (blocks_fault (fault_after_first Package) Package) is.blocks)
 
 told_before : (x y : Option Cause) (c : Cause) → x ≡ Some c → option_or x y ≡ Some c
 told_before None y c h = (cc)
 told_before (Some d) y c h = h
 
-front_first : (r : Reading) (c : Cause) → front_block_fault r ≡ Some c → blocks_fault (behind_fault Package) Package r ≡ Some c
+front_first : (r : Reading) (c : Cause) → front_block_fault r ≡ Some c → blocks_fault (fault_after_first Package) Package r ≡ Some c
 front_first done c h = (cc)
 front_first (fault d) c h = h
 front_first (more b at r) c h = told_before _ _ c (told_before (head_fault b.payload) _ c h)
 
-package_by_schema : (wanted : Bool) (file : List ℕ) (found : ℕ) (r : Reading) (c : Cause) → (if wanted then front_block_fault r else Some (WrongSchema found)) ≡ Some c → ((other : ℕ) → c ≢ WrongSchema other) → (wanted ≡ true) × (blocks_fault (behind_fault Package) Package r ≡ Some c)
+package_by_schema : (wanted : Bool) (file : List ℕ) (found : ℕ) (r : Reading) (c : Cause) → (if wanted then front_block_fault r else Some (WrongSchema found)) ≡ Some c → ((other : ℕ) → c ≢ WrongSchema other) → (wanted ≡ true) × (blocks_fault (fault_after_first Package) Package r ≡ Some c)
 package_by_schema true file found r c h other = (refl, front_first r c h)
 package_by_schema false file found r c h other = absurd (other found (let e : Some (WrongSchema found) ≡ Some c = h in (cc)))
 
@@ -84,8 +84,8 @@ whole_by_header file (Ok found) c is h other =
     let same : PACKAGE_WORD ≡ found = eqb-true PACKAGE_WORD found wanted in
     let header : header_of file ≡ Ok PACKAGE_WORD = is ∙ ap (λ (n : ℕ). Ok n) (sym same) in
     ap (λ (n : ℕ). fault_by_header file (Ok n)) (sym same)
-    ∙ (ap (file_fault (behind_fault Package) Package file) header
-    ∙ subst (λ (n : ℕ). blocks_fault (behind_fault Package) Package (reading_of (start_of n file)) ≡ Some c) (sym same) first)
+    ∙ (ap (file_fault (fault_after_first Package) Package file) header
+    ∙ subst (λ (n : ℕ). blocks_fault (fault_after_first Package) Package (reading_of (start_of n file)) ≡ Some c) (sym same) first)
 
 pub front_is_first : (file : List ℕ) (c : Cause) → front_fault PACKAGE_WORD file ≡ Some c → ((other : ℕ) → c ≢ WrongSchema other) → container_fault file ≡ Some c
 unfolding front_fault container_fault

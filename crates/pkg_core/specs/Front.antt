@@ -6,7 +6,7 @@ use Rattle.base_core.specs.declared.cause.Cause.{Cause}
 use Rattle.base_core.specs.declared.cause.Cause.TheVariants.{WrongSchema}
 use Rattle.adb_block.specs.Header.{header_of}
 use Rattle.adb_block.specs.Reading.{Reading, done, fault, more, reading_of}
-use Rattle.adb_block.specs.Standing.{Standing, start_of}
+use Rattle.adb_block.specs.ReaderPosition.{ReaderPosition, start_of}
 use Rattle.adb_block.specs.declared.block.BlockKind.TheVariants.{Adb}
 use Rattle.adb_view.specs.Head.{head_fault}
 use Rattle.pkg_core.specs.declared.front.Front.{Front}
@@ -47,7 +47,7 @@ abbrev pub front_end : Front → ℕ
 front_end front = front.at
 
 -- the position of a reader of blocks after a front, in this file
-abbrev pub behind_front : Front → List ℕ → Standing
+abbrev pub behind_front : Front → List ℕ → ReaderPosition
 behind_front front file = record {
   schema = front.schema;
   last = Some Adb;
@@ -83,7 +83,7 @@ IsFrontRead schema (Some file) (Err Memory) = Unit {0}
 -- ---- part by part
 
 -- the position of a reader of blocks after the first block of a file, which ends at this offset
-abbrev pub behind_first : ℕ → ℕ → List ℕ → Standing
+abbrev pub behind_first : ℕ → ℕ → List ℕ → ReaderPosition
 behind_first schema at file =
     record { schema = schema; last = Some Adb; at = at; left = drop at file }
 

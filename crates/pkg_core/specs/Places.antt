@@ -7,7 +7,7 @@ use Rattle.adb_block.specs.Framing.{Step as BlockStep, next_step}
 use Rattle.adb_block.specs.Frames.{framed_piece, raw_size}
 use Rattle.adb_block.specs.Piece.{padding_of}
 use Rattle.adb_block.specs.Reading.{reading_of}
-use Rattle.adb_block.specs.Standing.{Standing}
+use Rattle.adb_block.specs.ReaderPosition.{ReaderPosition}
 use Rattle.adb_block.specs.declared.block.BlockKind.TheVariants as Kinds
 use Rattle.adb_block.specs.declared.block.Frame.{Frame}
 use Rattle.pkg_core.specs.Contents.{POSITIONS_LEN, contents_bytes}
@@ -23,8 +23,8 @@ use Rattle.pkg_core.specs.declared.place.Step.TheVariants.{End, Passed, Opened}
 
 -- the position of a reader of blocks at a place of this file; its schema does not matter there, so it
 -- is 0
-abbrev pub standing_at_place : BlockPlace → List ℕ → Standing
-standing_at_place place file =
+abbrev pub reader_at_place : BlockPlace → List ℕ → ReaderPosition
+reader_at_place place file =
     record { schema = 0; last = Some place.last; at = place.at; left = drop place.at file }
 
 -- the result at a place of this file: a block, the end or a fault
@@ -34,7 +34,7 @@ step_at place file = next_step (Some place.last) place.at (drop place.at file)
 -- the pieces of the blocks of this file from a place on
 abbrev pub pieces_at : BlockPlace → List ℕ → PiecesRead
 pieces_at place file =
-    pieces_by_blocks (left_in place.walk) (reading_of (standing_at_place place file))
+    pieces_by_blocks (left_in place.walk) (reading_of (reader_at_place place file))
 
 -- the payload of the block of this frame that is at a place of this file
 abbrev pub payload_at : Frame → BlockPlace → List ℕ → List ℕ
@@ -53,8 +53,8 @@ abbrev pub whole_size : Frame → ℕ → ℕ
 whole_size frame left = raw_size frame + min (padding_of (raw_size frame)) (left - raw_size frame)
 
 -- the place after a block and its padding; the padding of the last block may be cut
-abbrev pub place_behind : BlockPlace → Frame → BlockPlace
-place_behind place frame = record {
+abbrev pub place_after : BlockPlace → Frame → BlockPlace
+place_after place frame = record {
   len = place.len;
   walk = place.walk;
   last = frame.kind;

@@ -3,7 +3,7 @@
 -- were read is stated in `docs/formats.md`, "The other blocks", the paragraph of a front.
 use Rattle.std.specs.Prelude.{◌≡◌, ◌≤◌, ℕ, ◌+◌, List, length, take, drop, Some, IfSome, Result, OnOk, IfErr, IsErrOf}
 use Rattle.base_core.specs.Calls.{IfObservable}
-use Rattle.base_core.specs.Faults.{Counts, GoesOn, HasCause, IsNoFault}
+use Rattle.base_core.specs.Faults.{Counts, CountsOnlyRise, HasCause, IsNoFault}
 use Rattle.base_core.specs.Tree.{TreeState, files_of}
 use Rattle.base_core.specs.declared.tree.Disk.{Disk}
 
@@ -41,7 +41,7 @@ pub record ReadsFile {A E : Type 0} (name : List ℕ) (len : ℕ) (disk_fault : 
   -- the states are unchanged
   pub same : new ≡ old
   -- no count falls
-  pub goes_on : GoesOn before now
+  pub goes_on : CountsOnlyRise before now
   -- it reports a failure of the tree only if there was one
   pub disk : IsErrOf result disk_fault → HasCause before now
   -- a result that is no failure of the tree raised neither the count of faults nor that of wants

@@ -5,7 +5,7 @@ use Rattle.sha2.specs.Sha256.{sha256}
 use Rattle.base_core.specs.declared.cause.Cause.{Cause}
 use Rattle.base_core.specs.declared.cause.Cause.TheVariants.{WrongSchema}
 use Rattle.adb_block.specs.Header.{header_of}
-use Rattle.adb_block.specs.Standing.{start_of}
+use Rattle.adb_block.specs.ReaderPosition.{start_of}
 use Rattle.adb_block.specs.Reading.{Reading, done, fault, more, reading_of}
 use Rattle.adb_view.specs.Plain.{Plain}
 use Rattle.adb_schema.specs.Soundness.{fault_with, rest_fault, payload_in, root_value}
@@ -27,13 +27,13 @@ root_of_schema schema =
 
 -- the first failed test of the blocks after the first: for a package the contents of its files, for
 -- another container that it has no contents
-abbrev pub behind_fault : Which → Plain → Reading → Option Cause
-behind_fault Package value r = contents_fault (expected_contents value) r
-behind_fault which value r = rest_fault which r
+abbrev pub fault_after_first : Which → Plain → Reading → Option Cause
+fault_after_first Package value r = contents_fault (expected_contents value) r
+fault_after_first which value r = rest_fault which r
 
 -- the first failed test of a file that is to be a container with this table at its root
 unfoldable pub whole_fault : Which → List ℕ → Option Cause
-whole_fault which file = fault_with (behind_fault which) which file
+whole_fault which file = fault_with (fault_after_first which) which file
 
 -- the first failed test of a file of this schema, which has to be one of the four
 abbrev pub fault_by_schema : List ℕ → ℕ → Option Which → Option Cause
@@ -61,14 +61,14 @@ package_id file = sha256 (payload_in file)
 
 -- the files of a package's blocks: the value of the first block has the expected files, and the blocks
 -- after it their contents
-abbrev pub files_behind : Reading → FilesRead
-files_behind done = no_more
-files_behind (fault c) = refused c
-files_behind (more b at r) = files_by_blocks (expected_contents (root_value Package b.payload)) r
+abbrev pub files_after_first : Reading → FilesRead
+files_after_first done = no_more
+files_after_first (fault c) = refused c
+files_after_first (more b at r) = files_by_blocks (expected_contents (root_value Package b.payload)) r
 
 -- the files of a package, by its header
 abbrev pub files_by_header : List ℕ → Result ℕ Cause → FilesRead
-files_by_header file (Ok schema) = files_behind (reading_of (start_of schema file))
+files_by_header file (Ok schema) = files_after_first (reading_of (start_of schema file))
 files_by_header file (Err c) = refused c
 
 -- the files of a package with their contents

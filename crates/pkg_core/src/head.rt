@@ -2,7 +2,7 @@
 //! paragraph of a block.
 
 ghost use Rattle.std.specs.Prelude.{◌≡◌, ◌≤◌, ◌<◌, ◌+◌, ◌^◌, ℕ, [], ◌++◌, length, IfOk};
-ghost use Rattle.adb_block.specs.Frames.{HoldsHead, head_len};
+ghost use Rattle.adb_block.specs.Frames.{IsHeadPrefix, head_len};
 ghost use Rattle.pkg_core.specs.Seen.{IsSeen, ReadsFile, tree_fault};
 
 use adb_block::head_len;
@@ -50,7 +50,7 @@ impl HeadBytes {
         requires { at + left < 2 ^ 64 }
         ensures seen { IfOk result (λ head. (file_len : ℕ)
             → IsSeen (T.history tree.old) name.now file_len at head) }
-        ensures holds { IfOk result (λ head. HoldsHead head left) }
+        ensures holds { IfOk result (λ head. IsHeadPrefix head left) }
         ensures short { IfOk result (λ head. length head ≤ head_len head) }
         // The tree is unchanged. `Disk` is returned only if the tree failed, and no call is a
         // misuse if the file still has its length.

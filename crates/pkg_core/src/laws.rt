@@ -16,7 +16,7 @@ ghost use Rattle.pkg_core.specs.Whole.{container_fault};
 ghost use Rattle.pkg_core.specs.Front.{IsFrontOf, behind_front, front_fault, front_payload};
 ghost use Rattle.pkg_core.specs.declared.front.Front.{Front};
 
-use adb_fields::no_name_is_repeated_where_each_stands_once;
+use adb_fields::no_repeated_name_is_reported_if_there_is_none;
 use adb_schema::no_text_is_bad_where_each_keeps_its_rule;
 use adb_view::{values_are_normal, values_have_their_shape, values_of_few_visits_have_no_fault};
 
@@ -61,7 +61,7 @@ pub fn tested_payloads_hold_sound_values()
     values_have_their_shape();
     values_are_normal();
     no_text_is_bad_where_each_keeps_its_rule();
-    no_name_is_repeated_where_each_stands_once();
+    no_repeated_name_is_reported_if_there_is_none();
 }
 
 /// Each byte is below 256.

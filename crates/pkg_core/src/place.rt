@@ -5,7 +5,7 @@ ghost use Rattle.std.specs.Prelude.{◌≡◌, ◌≤◌, ◌+◌, ◌-◌, ℕ,
 ghost use Rattle.adb_block.specs.Framing.{ended};
 ghost use Rattle.adb_block.specs.Frames.{IsFramed, raw_size};
 ghost use Rattle.adb_block.specs.declared.block.BlockKind.TheVariants as Kinds;
-ghost use Rattle.pkg_core.specs.Places.{HasAllLeft, HasPositions, IsOfContents, IsStepped, WalksOn, place_behind, step_at, whole_size};
+ghost use Rattle.pkg_core.specs.Places.{HasAllLeft, HasPositions, IsOfContents, IsStepped, WalksOn, place_after, step_at, whole_size};
 ghost use Rattle.pkg_core.specs.declared.place.Step.TheVariants.{End as Ended};
 
 use crate::file::{FileCheck, open_file};
@@ -159,7 +159,7 @@ impl<'a> BlockPlace<'a> {
     fn pass(&mut self, frame: Frame)
         requires at { self.old.at ≤ self.old.len }
         requires fits { raw_size frame ≤ self.old.len - self.old.at }
-        ensures { self.new ≡ place_behind self.old frame }
+        ensures { self.new ≡ place_after self.old frame }
     {
         let left = self.len - self.at;
         let raw = frame.head_len + frame.payload_len;

@@ -3,7 +3,7 @@
 
 ghost use Rattle.std.specs.Prelude.{◌≡◌, ◌≤◌, ◌+◌, ◌-◌, ℕ, List, Option, None, true, length, min, take, IfOk, IfErr, IfSome};
 ghost use Rattle.adb_block.specs.Framing.{next_step};
-ghost use Rattle.adb_block.specs.Frames.{HoldsHead, IsFramedBy, head_len, raw_size};
+ghost use Rattle.adb_block.specs.Frames.{IsHeadPrefix, IsFramedBy, head_len, raw_size};
 ghost use Rattle.adb_block.specs.Header.{header_of};
 ghost use Rattle.adb_block.specs.Piece.{comes_after, padding_of};
 ghost use Rattle.base_core.specs.Calls.{IfObservable};
@@ -154,7 +154,7 @@ fn read_present<T: Tree>(
     // The file's header has eight bytes, and the first block follows it.
     let head = HeadBytes::read(tree, name, 8, len - 8)?;
     let framed = first_framed(len - 8, &head)?;
-    let padding = padding_behind(framed, len - 8);
+    let padding = padding_after(framed, len - 8);
     let start = 8 + framed.head_len;
     let payload = read_payload(alloc, tree, name, start, framed.payload_len)?;
     Adb::new(&payload)?;
@@ -169,7 +169,7 @@ fn read_present<T: Tree>(
 /// The frame of a file's first block by its header, with this many bytes left after the file's own
 /// header of eight bytes.
 fn first_framed(left: u64, head: &HeadBytes) -> Result<Frame, Cause>
-    requires holds { HoldsHead head.now left }
+    requires holds { IsHeadPrefix head.now left }
     requires short { length head.now ≤ head_len head.now }
     ensures exact { (bytes : List ℕ) → length bytes ≡ left → take (length head.now) bytes ≡ head.now
         → IsFramedBy result bytes (next_step None 8 bytes) }
@@ -186,7 +186,7 @@ fn first_framed(left: u64, head: &HeadBytes) -> Result<Frame, Cause>
 
 /// How many bytes of padding follow a block, as far as the file has them, with this many bytes left
 /// from its header on.
-fn padding_behind(framed: Frame, left: u64) -> u64
+fn padding_after(framed: Frame, left: u64) -> u64
     requires { raw_size framed ≤ left }
     ensures { result ≡ min (padding_of (raw_size framed)) (left - raw_size framed) }
 {

@@ -98,7 +98,7 @@ fn database_after(
 // ---- the added packages
 
 /// Whether the package of a row stays.
-fn does_stay(row: &Words) -> bool {
+fn is_file_kept(row: &Words) -> bool {
     word_at(row, 0) == b"stays".as_slice()
 }
 
@@ -106,7 +106,7 @@ fn does_stay(row: &Words) -> bool {
 fn fronts_of(alloc: Global, rows: &[Words]) -> Result<Vec<Front>, AllocError> {
     let mut fronts = Vec::new(alloc);
     for row in rows {
-        if !does_stay(row) {
+        if !is_file_kept(row) {
             let file = package_file(alloc, row)?;
             if let Some(front) = front_of(alloc, &file)? {
                 fronts.push(front)?;
@@ -129,7 +129,7 @@ fn members_of<'a>(
     let mut members = Members::new(alloc, db);
     let mut left = fronts.iter();
     for row in rows {
-        let added = if does_stay(row) {
+        let added = if is_file_kept(row) {
             add_named(&mut members, db, word_at(row, 1))?
         } else {
             add_next(alloc, &mut members, left.next())?

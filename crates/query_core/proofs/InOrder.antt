@@ -22,7 +22,7 @@ use Rattle.dep_core.specs.Repositories.{Repository}
 use Rattle.option_ranks.proofs.MovedMembers.{moved_member}
 use Rattle.option_ranks.proofs.RankOrder.{versions_back}
 use Rattle.report_core.specs.QueryReports.{policy_heading}
-use Rattle.query_core.specs.Asked.{ComeInOrder, IsVersionOfName}
+use Rattle.query_core.specs.Asked.{AreInOrderBy, IsVersionOfName}
 use Rattle.query_core.specs.Order.{query_cmp, selected_candidates, selected_places}
 use Rattle.query_core.specs.Policy.{has_own_name, name_policy, version_policy, versions_of_name, versions_once}
 use Rattle.query_core.proofs.AskedFor.{any_in}
@@ -113,14 +113,14 @@ module _ (cmp : ℕ → ℕ → Ordering) (total : IsTotalOrder cmp) (one : (a b
       let bad : true ≡ false = sym (ap is_lt back) ∙ h in
       absurd (cc)
 
-  in_order : (xs : List ℕ) → Rises (λ a b. is_lt (cmp a b)) (ranks cmp total) xs → AreDistinct xs → ComeInOrder cmp xs
+  in_order : (xs : List ℕ) → Rises (λ a b. is_lt (cmp a b)) (ranks cmp total) xs → AreDistinct xs → AreInOrderBy cmp xs
   in_order [] up d = tt
   in_order (x ∷ xs) up d = (
     (λ y h. first_of x y (cmp x y) refl (each_in (λ (z : ℕ). is_lt (cmp z x) ≡ false) xs y up.0 h) (λ e. d.0 (subst (λ (z : ℕ). IsIn z xs) (sym e) h))),
     in_order xs up.1 d.1,
   )
 
-pub selected_in_order : IsTotalOrder version_cmp → (test : Candidate → Bool) (cs : List Candidate) → ComeInOrder (query_cmp cs) (selected_places test cs)
+pub selected_in_order : IsTotalOrder version_cmp → (test : Candidate → Bool) (cs : List Candidate) → AreInOrderBy (query_cmp cs) (selected_places test cs)
 selected_in_order versions test cs =
     let total = query_total versions cs in
     in_order (query_cmp cs) total (one_place cs) (selected_places test cs) (rises_in_order (query_cmp cs) total (places_from 0 test cs)) (sorted_distinct (query_cmp cs) (places_from 0 test cs) (places_apart 0 test cs))
@@ -200,7 +200,7 @@ abbrev NeverBefore : List (Option (List ℕ)) → Type 0
 NeverBefore [] = Unit {0}
 NeverBefore (v ∷ vs) = ((w : Option (List ℕ)) → IsIn w vs → (version_text_cmp v w ≡ Less) ⊎ (v ≡ w)) × NeverBefore vs
 
-once_in_order : (vs : List (Option (List ℕ))) → NeverBefore vs → ComeInOrder version_text_cmp (versions_once vs)
+once_in_order : (vs : List (Option (List ℕ))) → NeverBefore vs → AreInOrderBy version_text_cmp (versions_once vs)
 once_in_order [] h = tt
 once_in_order (v ∷ vs) h = elim (bool_cases (list_any (is_same_version v) vs)) [
   | inl e ↦ rw e (once_in_order vs h.1)
@@ -225,7 +225,7 @@ module _ (versions : IsTotalOrder version_cmp) (cs : List Candidate) (name : Lis
       by Equal f = inr (texts_same v w (last_decides (greater_version v w) (option_cmp bytes_cmp v w) (sym f)))
       by Greater f = let bad : Greater ≡ Less = rw (e, sym f) at h in absurd (cc)
 
-  never_before : (places : List ℕ) → ComeInOrder (query_cmp cs) places → ((p : ℕ) (c : Candidate) → IsIn p places → slice_get cs p ≡ Some c → c.name ≡ name) → NeverBefore (map (λ (c : Candidate). c.version) (filter_map (slice_get cs) places))
+  never_before : (places : List ℕ) → AreInOrderBy (query_cmp cs) places → ((p : ℕ) (c : Candidate) → IsIn p places → slice_get cs p ≡ Some c → c.name ≡ name) → NeverBefore (map (λ (c : Candidate). c.version) (filter_map (slice_get cs) places))
   never_before [] up own = tt
   never_before (p ∷ places) up own = next (slice_get cs p) refl (never_before places up.1 (λ q c m e. own q c (inr m) e))
     where
@@ -244,7 +244,7 @@ module _ (versions : IsTotalOrder version_cmp) (cs : List Candidate) (name : Lis
         rest,
       )
 
-  pub versions_in_order : ComeInOrder version_text_cmp (versions_of_name cs name)
+  pub versions_in_order : AreInOrderBy version_text_cmp (versions_of_name cs name)
   versions_in_order =
       let places : List ℕ = selected_places (has_own_name name) cs in
       once_in_order (map (λ (c : Candidate). c.version) (selected_candidates (has_own_name name) cs))

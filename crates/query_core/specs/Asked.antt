@@ -46,6 +46,6 @@ pub record IsVersionOfName (candidates : List Candidate) (name : List ℕ) (vers
   pub version_is : candidate.version ≡ version
 
 -- each element of a list comes before all that follow it
-abbrev pub ComeInOrder : {X : Type 0} → (X → X → Ordering) → List X → Type 0
-ComeInOrder cmp [] = Unit {0}
-ComeInOrder {X} cmp (x ∷ xs) = ((y : X) → IsIn y xs → cmp x y ≡ Less) × ComeInOrder cmp xs
+abbrev pub AreInOrderBy : {X : Type 0} → (X → X → Ordering) → List X → Type 0
+AreInOrderBy cmp [] = Unit {0}
+AreInOrderBy {X} cmp (x ∷ xs) = ((y : X) → IsIn y xs → cmp x y ≡ Less) × AreInOrderBy cmp xs

@@ -72,7 +72,7 @@ pub(crate) fn report(
     let mut report = Vec::with_capacity(alloc, length.bytes)?;
     put_lines(&mut report, pool, &ordered.rankings, form)?;
     let is_exact = report.len() == length.bytes;
-    // Memory was taken for just so many bytes as were put.
+    // Memory was taken for exactly the bytes that were written.
     prove!(is_exact);
     Ok(Text::from_vec(report))
 }

@@ -7,7 +7,7 @@ ghost use Rattle.command_core.specs.Command.{CommandLine};
 ghost use Rattle.command_core.specs.declared.operands.Operand.{Operand};
 ghost use Rattle.dep_core.specs.Dependency.{Dependency};
 ghost use Rattle.dep_core.specs.Repositories.{Repository};
-ghost use Rattle.query_core.specs.Asked.{ComeInOrder, IsNameOf, IsNameAsked, IsPartAsked, IsVersionOfName};
+ghost use Rattle.query_core.specs.Asked.{AreInOrderBy, IsNameOf, IsNameAsked, IsPartAsked, IsVersionOfName};
 ghost use Rattle.query_core.specs.List.{is_list_candidate};
 ghost use Rattle.query_core.specs.Order.{query_cmp, selected_places};
 ghost use Rattle.query_core.specs.Policy.{name_policy, versions_of_name};
@@ -60,13 +60,13 @@ pub fn a_query_selects_what_passes_its_test()
         → option_map_or test (slice_get cs place) false ≡ true →
         IsIn place (selected_places test cs) }
     ensures order { (test : Candidate → Bool) (cs : List Candidate)
-        → ComeInOrder (query_cmp cs) (selected_places test cs) }
+        → AreInOrderBy (query_cmp cs) (selected_places test cs) }
 {
     order_is_total();
 }
 
-/// `list` prints a candidate if no pattern is given, or the stars of one can be replaced by bytes so
-/// that it reads as the candidate's name; and, with `--installed`, if it is installed too.
+/// `list` prints a candidate if no pattern is given, or the stars of one can be replaced by bytes
+/// so that it reads as the candidate's name; and, with `--installed`, if it is installed too.
 pub fn list_prints_what_is_asked_for()
     ensures { (patterns : List Operand) (installed_only : Bool) (c : Candidate)
         → (is_list_candidate patterns installed_only c ≡ true)
@@ -96,7 +96,7 @@ pub fn policy_prints_each_version_once()
         → IsVersionOfName cs name version → IsIn version (versions_of_name cs name) }
     // The greater version comes first, and of equal ones the byte-lesser text.
     ensures order { (cs : List Candidate) (name : List ℕ)
-        → ComeInOrder (then_cmp greater_version (option_cmp bytes_cmp)) (versions_of_name cs name) }
+        → AreInOrderBy (then_cmp greater_version (option_cmp bytes_cmp)) (versions_of_name cs name) }
     ensures unknown { (cs : List Candidate) (repositories : List Repository) (name : List ℕ)
         → ((version : Option (List ℕ)) → IsVersionOfName cs name version → ⊥)
         → name_policy cs repositories name ≡ policy_heading name }

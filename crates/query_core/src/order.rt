@@ -90,7 +90,7 @@ fn ranking<'a>(pool: &Sealed<'a>, packages: &Packages<'a>, id: CandId) -> Ranked
     }
 }
 
-// A version that is none, for a key that is the same of all candidates.
+// A missing version, for a key in which all candidates are equal.
 fn no_version<'a>() -> RankedVersion<'a>
     ensures { result.version ≡ None }
 {

@@ -107,7 +107,7 @@ trigger_err wishes change files true refusal asked e = absurd (true_err change.m
 trigger_err wishes change files false refusal asked e =
     let due = trigger_of (touched_paths change files) change.members refusal e in
     let is = watches change files due.0.pkg due.2 in
-    (member_name due.0, record { asked = asked; member = due.0; stands = due.1; named = refl; has = is.0; watches = is.1 }, due.3)
+    (member_name due.0, record { asked = asked; member = due.0; located = due.1; named = refl; has = is.0; watches = is.1 }, due.3)
 
 -- ---- what it would leave
 
@@ -155,16 +155,16 @@ module _ (inputs : Inputs) (r : Replacement) (wishes : ChangeWishes) (files : Fi
         | inr next ↦ large_fault refusal next.2
       ]
 
-  abbrev behind_owners : Result ChangeDone Refusal
-  behind_owners = and_then (unless_trigger wishes.no_scripts (touched_paths change files) change.members) (λ is_allowed. unless_too_large inputs r wishes found files)
+  abbrev after_owners : Result ChangeDone Refusal
+  after_owners = and_then (unless_trigger wishes.no_scripts (touched_paths change files) change.members) (λ is_allowed. unless_too_large inputs r wishes found files)
 
-  owned_fault : (o : Option ContestedPath) (refusal : Refusal) → contested_of change.members ≡ o → unless_contested change.members o behind_owners ≡ Err refusal → IsSo refusal
+  owned_fault : (o : Option ContestedPath) (refusal : Refusal) → contested_of change.members ≡ o → unless_contested change.members o after_owners ≡ Err refusal → IsSo refusal
   owned_fault None refusal is e = trigger_fault refusal e
   owned_fault (Some c) refusal is e =
       let same : Owned c.path (name_at_place change.members c.rivals.first) (name_at_place change.members c.rivals.second) ≡ refusal = cc in
       subst IsSo same (contested_is change.members c is)
 
-  clash_fault : (o : Option NamePair) (refusal : Refusal) → IsClashFound inputs wishes files (Ok found) o → unless_clash o (unless_contested change.members (contested_of change.members) behind_owners) ≡ Err refusal → IsSo refusal
+  clash_fault : (o : Option NamePair) (refusal : Refusal) → IsClashFound inputs wishes files (Ok found) o → unless_clash o (unless_contested change.members (contested_of change.members) after_owners) ≡ Err refusal → IsSo refusal
   clash_fault None refusal is e = owned_fault (contested_of change.members) refusal refl e
   clash_fault (Some pair) refusal is e =
       let same : PathClash pair.path pair.other ≡ refusal = cc in
@@ -173,7 +173,7 @@ module _ (inputs : Inputs) (r : Replacement) (wishes : ChangeWishes) (files : Fi
   pub files_fault : (clash : Option NamePair) (refusal : Refusal) → IsClashFound inputs wishes files (Ok found) clash → change_with_members inputs r wishes clash files found ≡ Err refusal → IsFaultOfFiles inputs wishes files found refusal
   files_fault clash refusal is e = by_path (first_reserved change.members) refl e
     where
-      by_path : (o : Option (List ℕ)) → first_reserved change.members ≡ o → unless_reserved_path o (unless_clash clash (unless_contested change.members (contested_of change.members) behind_owners)) ≡ Err refusal → IsSo refusal
+      by_path : (o : Option (List ℕ)) → first_reserved change.members ≡ o → unless_reserved_path o (unless_clash clash (unless_contested change.members (contested_of change.members) after_owners)) ≡ Err refusal → IsSo refusal
       by_path None none e = clash_fault clash refusal is e
       by_path (Some path) first e =
           let same : Reserved path ≡ refusal = cc in

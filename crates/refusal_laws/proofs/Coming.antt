@@ -8,8 +8,8 @@ use Rattle.adb_view.specs.Plain.{Plain}
 use Rattle.base_core.specs.declared.cause.Cause.{Cause}
 use Rattle.change_inputs.specs.Inputs.{Inputs, first_index_read}
 use Rattle.change_outcome.specs.ChangeOutcome.{ChangeWishes}
-use Rattle.change_outcome.specs.MembersAfter.{coming_by_path}
-use Rattle.change_outcome.specs.PackageFiles.{ComingPackage, first_script_of, has_script_of, package_file_of, package_found, package_in_file, scripts_of_change, unless_different, unless_number, unless_package_bad, unless_script}
+use Rattle.change_outcome.specs.MembersAfter.{added_package_by_path}
+use Rattle.change_outcome.specs.PackageFiles.{AddedPackage, first_script_of, has_script_of, package_file_of, package_found, package_in_file, scripts_of_change, unless_different, unless_script_number, unless_package_bad, unless_script}
 use Rattle.file_owners.specs.Replaces.{version_text}
 use Rattle.make_info.specs.Reads.{Reads}
 use Rattle.package_changes.specs.Changes.{Replacement, change_of_name, is_selected_named, names_on_both_sides, selected_version}
@@ -19,8 +19,8 @@ use Rattle.report_core.specs.Numbers.{HASHES_FIELD, NAME_FIELD, VERSION_FIELD}
 use Rattle.report_core.specs.Reports.{Change}
 use Rattle.report_core.specs.declared.refusal.Refusal.{Refusal}
 use Rattle.report_core.specs.declared.refusal.Refusal.TheVariants.{PackageBad, PackageDiffers, PackageMissing, ScriptNeeded}
-use Rattle.refusal_laws.specs.ComingPackages.{IsAsSelected, IsBrought, IsReadFor, package_file_read, selected_of_name}
-use Rattle.refusal_laws.specs.PackageFaults.{IsComingOrGoing, IsOtherPackage}
+use Rattle.refusal_laws.specs.AddedPackages.{IsAsSelected, IsAddedAsSelected, IsReadFor, package_file_read, selected_of_name}
+use Rattle.refusal_laws.specs.PackageFaults.{IsAddedOrRemoved, IsOtherPackage}
 use Rattle.refusal_laws.specs.ChangeFaults.{IsFaultOfPackage}
 use Rattle.refusal_laws.proofs.Lists.{found_in}
 
@@ -29,17 +29,17 @@ use Rattle.refusal_laws.proofs.Lists.{found_in}
 abbrev pub differs : Candidate → ℕ → List ℕ → List ℕ → Refusal
 differs c field wanted found = PackageDiffers c.name (selected_version c) field wanted found
 
-abbrev pub IsTold : Candidate → ComingPackage → Refusal → Type 0
+abbrev pub IsTold : Candidate → AddedPackage → Refusal → Type 0
 IsTold c pkg refusal = (field : ℕ) × (wanted : List ℕ) × (found : List ℕ) × IsOtherPackage c pkg field wanted found × (differs c field wanted found ≡ refusal)
 
-abbrev kept_package : Result ComingPackage Refusal → Result ComingPackage Refusal
+abbrev kept_package : Result AddedPackage Refusal → Result AddedPackage Refusal
 kept_package r = r
 
 not_same : (a b : List ℕ) → bytes_eq a b ≡ false → a ≡ b → ⊥
 not_same a b apart is = true≢false (sym ((bytes_eq-Decides a b).1 is) ∙ apart)
 
-module _ (c : Candidate) (pkg : ComingPackage) where
-  abbrev pub by_fields : Bool → Bool → Bool → Result ComingPackage Refusal
+module _ (c : Candidate) (pkg : AddedPackage) where
+  abbrev pub by_fields : Bool → Bool → Bool → Result AddedPackage Refusal
   by_fields a b v =
       if not a then Err (differs c HASHES_FIELD c.id pkg.id) else if not b then Err (differs c NAME_FIELD c.name (package_name pkg.value))
       else if not v then Err (differs c VERSION_FIELD (selected_version c) (version_text pkg.value)) else Ok pkg
@@ -66,7 +66,7 @@ module _ (c : Candidate) (pkg : ComingPackage) where
       )
       by_tests true i true n true w e = absurd (cc (e))
 
-  different_ok : (p : ComingPackage) → unless_different c pkg ≡ Ok p → (p ≡ pkg) × (is_same_id c.id pkg.id ≡ true) × (package_name pkg.value ≡ c.name) × (version_text pkg.value ≡ selected_version c)
+  different_ok : (p : AddedPackage) → unless_different c pkg ≡ Ok p → (p ≡ pkg) × (is_same_id c.id pkg.id ≡ true) × (package_name pkg.value ≡ c.name) × (version_text pkg.value ≡ selected_version c)
   different_ok p e = by_tests (is_same_id c.id pkg.id) refl (bytes_eq c.name (package_name pkg.value)) refl (bytes_eq (selected_version c) (version_text pkg.value)) refl e
     where
       by_tests : (a : Bool) → is_same_id c.id pkg.id ≡ a → (b : Bool) → bytes_eq c.name (package_name pkg.value) ≡ b → (v : Bool) → bytes_eq (selected_version c) (version_text pkg.value) ≡ v
@@ -81,7 +81,7 @@ module _ (c : Candidate) (pkg : ComingPackage) where
         sym ((bytes_eq-Decides (selected_version c) (version_text pkg.value)).0 w),
       )
 
-pub found_ok : (c : Candidate) (file : List ℕ) (pkg : ComingPackage) → package_found c (Some file) ≡ Ok pkg → IsAsSelected c file × (pkg ≡ package_in_file file)
+pub found_ok : (c : Candidate) (file : List ℕ) (pkg : AddedPackage) → package_found c (Some file) ≡ Ok pkg → IsAsSelected c file × (pkg ≡ package_in_file file)
 found_ok c file pkg e = by_fault (package_fault file) refl e
   where
     by_fault : (fault : Option Cause) → package_fault file ≡ fault → unless_package_bad c fault (package_in_file file) ≡ Ok pkg → IsAsSelected c file × (pkg ≡ package_in_file file)
@@ -90,7 +90,7 @@ found_ok c file pkg e = by_fault (package_fault file) refl e
         (record { sound = sound; id = ok.1; name = ok.2; version = ok.3 }, ok.0)
     by_fault (Some cause) sound e = absurd (cc (e))
 
-pub path_is : (read : Reads) (n : ℕ) (c : Candidate) (path : Option (List ℕ)) → coming_by_path read n c path ≡ package_found c (option_and_then (read n) path)
+pub path_is : (read : Reads) (n : ℕ) (c : Candidate) (path : Option (List ℕ)) → added_package_by_path read n c path ≡ package_found c (option_and_then (read n) path)
 path_is read n c None = refl
 path_is read n c (Some path) = refl
 
@@ -100,7 +100,7 @@ pub script_ok : {A : Type 0} (no_scripts : Bool) (name : List ℕ) (pkg : Plain)
 script_ok true name pkg numbers a b e = (cc (e))
 script_ok false name pkg numbers a b e = by_number (first_script_of pkg numbers) e
   where
-    by_number : (o : Option ℕ) → unless_number name o a ≡ Ok b → a ≡ b
+    by_number : (o : Option ℕ) → unless_script_number name o a ≡ Ok b → a ≡ b
     by_number None e = (cc (e))
     by_number (Some number) e = absurd (cc (e))
 
@@ -112,7 +112,7 @@ pub script_err : {A : Type 0} (no_scripts : Bool) (name : List ℕ) (pkg : Plain
 script_err true name pkg numbers a refusal e = absurd (cc (e))
 script_err false name pkg numbers a refusal e = by_number (first_script_of pkg numbers) refl e
   where
-    by_number : (o : Option ℕ) → first_script_of pkg numbers ≡ o → unless_number name o a ≡ Err refusal → IsScriptTold false name pkg numbers refusal
+    by_number : (o : Option ℕ) → first_script_of pkg numbers ≡ o → unless_script_number name o a ≡ Err refusal → IsScriptTold false name pkg numbers refusal
     by_number None is e = absurd (cc (e))
     by_number (Some number) is e = (number, refl, is, (let same : ScriptNeeded name number ≡ refusal = cc in same))
 
@@ -137,7 +137,7 @@ module _ (inputs : Inputs) (r : Replacement) (wishes : ChangeWishes) (read : Rea
   abbrev pub IsTrue : Refusal → Type 0
   IsTrue refusal = IsFaultOfPackage inputs r wishes read refusal
 
-  pub script_fault : {A : Type 0} (name : List ℕ) (pkg : Plain) (change : Change) (a : A) (refusal : Refusal) → IsComingOrGoing inputs r read name pkg → change_of_name r name ≡ Some change
+  pub script_fault : {A : Type 0} (name : List ℕ) (pkg : Plain) (change : Change) (a : A) (refusal : Refusal) → IsAddedOrRemoved inputs r read name pkg → change_of_name r name ≡ Some change
       → unless_script wishes.no_scripts name pkg (scripts_of_change change) a ≡ Err refusal → IsTrue refusal
   script_fault name pkg change a refusal is becomes e =
       let told = script_err wishes.no_scripts name pkg (scripts_of_change change) a refusal e in
@@ -180,14 +180,14 @@ module _ (inputs : Inputs) (r : Replacement) (wishes : ChangeWishes) (read : Rea
             let same : PackageBad name (selected_version c) cause ≡ refusal = ap (λ q. PackageBad q (selected_version c) cause) (sym named) ∙ told in
             subst IsTrue same (record { file = file; is_read = read_for (Some file) is; fault = fault })
 
-    pub coming_fault : (refusal : Refusal) → coming_by_path read n c (package_file_of inputs.root.repositories c) ≡ Err refusal → IsTrue refusal
+    pub coming_fault : (refusal : Refusal) → added_package_by_path read n c (package_file_of inputs.root.repositories c) ≡ Err refusal → IsTrue refusal
     coming_fault refusal e =
         file_fault (package_file_read read n inputs.root.repositories c) refusal refl (sym (path_is read n c (package_file_of inputs.root.repositories c)) ∙ e)
 
-    pub brought : (pkg : ComingPackage) → coming_by_path read n c (package_file_of inputs.root.repositories c) ≡ Ok pkg → IsBrought inputs r read name pkg
+    pub brought : (pkg : AddedPackage) → added_package_by_path read n c (package_file_of inputs.root.repositories c) ≡ Ok pkg → IsAddedAsSelected inputs r read name pkg
     brought pkg e = by_file (package_file_read read n inputs.root.repositories c) refl (sym (path_is read n c (package_file_of inputs.root.repositories c)) ∙ e)
       where
-        by_file : (file : Option (List ℕ)) → package_file_read read n inputs.root.repositories c ≡ file → package_found c file ≡ Ok pkg → IsBrought inputs r read name pkg
+        by_file : (file : Option (List ℕ)) → package_file_read read n inputs.root.repositories c ≡ file → package_found c file ≡ Ok pkg → IsAddedAsSelected inputs r read name pkg
         by_file None is e = absurd (cc (e))
         by_file (Some file) is e =
             let ok = found_ok c file pkg e in

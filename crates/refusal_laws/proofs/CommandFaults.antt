@@ -16,7 +16,7 @@ use Rattle.dep_core.specs.World.{has_name}
 use Rattle.engine_core.specs.Changed.{IsClashFor, IsClashOfSelected, IsClashUnlessSimulated, Selected, change_of_selected, change_of_command, selected_by, selected_for, selected_of_inputs, simulated_change}
 use Rattle.engine_core.specs.Choice.{IsChoiceFrom}
 use Rattle.engine_core.specs.Selecting.{pool_by, pool_for}
-use Rattle.engine_core.specs.Wishes.{first_unknown, is_installed_name, is_known_name, names_to_upgrade, unknown_place, unless_place, wishes_of}
+use Rattle.engine_core.specs.Wishes.{first_unknown, is_installed_name, is_known_name, names_to_upgrade, unknown_operand_place, unless_unknown_operand, wishes_of}
 use Rattle.make_info.specs.Reads.{Reads}
 use Rattle.path_clashes.specs.Clash.{NamePair}
 use Rattle.candidate_core.specs.Rank.{SealedPool, UpgradedNames, sealed_pool_by}
@@ -62,7 +62,7 @@ neither : (a b : Bool) → (a || b) ≡ false → (a ≡ false) × (b ≡ false)
 neither true b e = absurd (true≢false e)
 neither false b e = (refl, e)
 
-unknown_fault : (applet : Applet) (inputs : Inputs) (operands : List Operand) (place : ℕ) → unknown_place applet inputs operands ≡ Some place
+unknown_fault : (applet : Applet) (inputs : Inputs) (operands : List Operand) (place : ℕ) → unknown_operand_place applet inputs operands ≡ Some place
     → (o : Operand) × IsIn o operands × (o.place ≡ place) × IsUnknownTo applet inputs o.text
 unknown_fault Del inputs operands place e =
     let found = unknown_in (is_known_name inputs) operands place e in
@@ -83,8 +83,8 @@ module _ (command : CommandLine) (read : Reads) (chosen : Option (List ℕ)) (ch
       subst (IsSo inputs) same (record { pool = pool; is_pool = is; none = none })
   none_chosen inputs pool (Some trace) refusal is none e = absurd (cc (e))
 
-  place_fault : (inputs : Inputs) (pool : SealedPool) (o : Option ℕ) (refusal : Refusal) → pool_by command inputs ≡ Ok pool → IsChoiceFrom (Ok pool) chosen → unknown_place command.applet inputs command.operands ≡ o
-      → unless_place o (selected_by command inputs pool chosen) ≡ Err refusal → IsSo inputs refusal
+  place_fault : (inputs : Inputs) (pool : SealedPool) (o : Option ℕ) (refusal : Refusal) → pool_by command inputs ≡ Ok pool → IsChoiceFrom (Ok pool) chosen → unknown_operand_place command.applet inputs command.operands ≡ o
+      → unless_unknown_operand o (selected_by command inputs pool chosen) ≡ Err refusal → IsSo inputs refusal
   place_fault inputs pool None refusal is from known e = none_chosen inputs pool chosen refusal is from e
   place_fault inputs pool (Some place) refusal is from unknown e =
       let found = unknown_fault command.applet inputs command.operands place unknown in
@@ -98,9 +98,9 @@ module _ (command : CommandLine) (read : Reads) (chosen : Option (List ℕ)) (ch
 
   selection_fault : (inputs : Inputs) (refusal : Refusal) → inputs_of command read ≡ Ok inputs → selected_of_inputs command chosen inputs ≡ Err refusal → IsSo inputs refusal
   selection_fault inputs refusal is e =
-      elim (and_then_err (pool_by command inputs) (λ pool. unless_place (unknown_place command.applet inputs command.operands) (selected_by command inputs pool chosen)) refusal e) [
+      elim (and_then_err (pool_by command inputs) (λ pool. unless_unknown_operand (unknown_operand_place command.applet inputs command.operands) (selected_by command inputs pool chosen)) refusal e) [
         | inl first ↦ (let many = pool_fault inputs (names_to_upgrade command.applet command.operands) refusal first in subst (IsSo inputs) many.2 many.1)
-        | inr next ↦ place_fault inputs next.0 (unknown_place command.applet inputs command.operands) refusal next.1 (choice_of inputs next.0 is next.1) refl next.2
+        | inr next ↦ place_fault inputs next.0 (unknown_operand_place command.applet inputs command.operands) refusal next.1 (choice_of inputs next.0 is next.1) refl next.2
       ]
 
   -- ---- the change

@@ -14,8 +14,8 @@ use Rattle.change_files.proofs.InOrder.{in_left, in_order, order_rises}
 use Rattle.change_inputs.specs.Chains.{and_then}
 use Rattle.change_inputs.specs.Inputs.{Inputs, first_index_read}
 use Rattle.change_outcome.specs.ChangeOutcome.{ChangeWishes, change_members}
-use Rattle.change_outcome.specs.MembersAfter.{MemberFound, coming_by_path, coming_found, members_after, name_after, name_by_change, name_by_selected, name_that_comes, name_that_goes, names_after}
-use Rattle.change_outcome.specs.PackageFiles.{ComingPackage, first_script_of, package_file_of, package_found, package_in_file, scripts_of_change, unless_number, unless_package_bad, unless_script}
+use Rattle.change_outcome.specs.MembersAfter.{MemberFound, added_package_by_path, added_member_found, members_after, name_after, name_by_change, name_by_selected, member_of_added_name, member_of_removed_name, names_after}
+use Rattle.change_outcome.specs.PackageFiles.{AddedPackage, first_script_of, package_file_of, package_found, package_in_file, scripts_of_change, unless_script_number, unless_package_bad, unless_script}
 use Rattle.db_core.specs.Packages.{is_package_named}
 use Rattle.file_owners.specs.Replaces.{version_text}
 use Rattle.base_core.specs.ByteOrder.{precedes}
@@ -28,9 +28,9 @@ use Rattle.report_core.specs.Reports.{Change}
 use Rattle.report_core.specs.declared.refusal.Refusal.{Refusal}
 use Rattle.report_core.specs.declared.refusal.Refusal.TheVariants.{PackageBad, PackageDiffers, PackageMissing, ScriptNeeded}
 use Rattle.refusal_laws.specs.ChangeFaults.{IsFaultOfPackage}
-use Rattle.refusal_laws.specs.ComingPackages.{IsAsSelected, IsReadFor, selected_of_name}
+use Rattle.refusal_laws.specs.AddedPackages.{IsAsSelected, IsReadFor, selected_of_name}
 use Rattle.refusal_laws.specs.FirstPackage.{IsFirstRefused, refused_name}
-use Rattle.refusal_laws.specs.PackageFaults.{IsComingOrGoing, IsOtherPackage}
+use Rattle.refusal_laws.specs.PackageFaults.{IsAddedOrRemoved, IsOtherPackage}
 use Rattle.refusal_laws.proofs.Coming.{by_fields, different_err, path_is, script_err}
 use Rattle.refusal_laws.proofs.FoundPackages.{name_at_place}
 use Rattle.refusal_laws.proofs.Lists.{and_then_err, found_in, in_mapped}
@@ -53,7 +53,7 @@ script_name no_scripts name pkg numbers a refusal e = ap refused_name (sym (scri
 
 script_is : {A : Type 0} (no_scripts : Bool) (name : List ℕ) (pkg : Plain) (numbers : List ℕ) (a : A) (script : ℕ) → no_scripts ≡ false → first_script_of pkg numbers ≡ Some script
     → unless_script no_scripts name pkg numbers a ≡ Err (ScriptNeeded name script)
-script_is no_scripts name pkg numbers a script asked first = ap (λ b. unless_script b name pkg numbers a) asked ∙ ap (λ o. unless_number name o a) first
+script_is no_scripts name pkg numbers a script asked first = ap (λ b. unless_script b name pkg numbers a) asked ∙ ap (λ o. unless_script_number name o a) first
 
 -- what passes all tests is found
 found_so : (c : Candidate) (file : List ℕ) → IsAsSelected c file → package_found c (Some file) ≡ Ok (package_in_file file)
@@ -73,22 +73,22 @@ module _ (inputs : Inputs) (r : Replacement) (wishes : ChangeWishes) (read : Rea
   abbrev of_name : ℕ → List ℕ → Result (Option MemberFound) Refusal
   of_name n name = name_after r read inputs.root.repositories wishes.no_scripts n name
 
-  abbrev with_scripts : List ℕ → Change → ComingPackage → Result (Option MemberFound) Refusal
-  with_scripts name change pkg = unless_script wishes.no_scripts name pkg.value (scripts_of_change change) (Some (coming_found pkg))
+  abbrev with_scripts : List ℕ → Change → AddedPackage → Result (Option MemberFound) Refusal
+  with_scripts name change pkg = unless_script wishes.no_scripts name pkg.value (scripts_of_change change) (Some (added_member_found pkg))
 
   -- ---- of the name that is refused
 
   told_name : (n : ℕ) (name : List ℕ) (refusal : Refusal) → of_name n name ≡ Err refusal → refused_name refusal ≡ name
   told_name n name refusal e = by_change (change_of_name r name) (find (is_package_named name) r.before) (find (is_selected_named name) r.selected) (λ c is. candidate_named name r.selected c is) e
     where
-      comes : (change : Change) (c : Candidate) → c.name ≡ name → name_that_comes read inputs.root.repositories wishes.no_scripts n name change c ≡ Err refusal → refused_name refusal ≡ name
+      comes : (change : Change) (c : Candidate) → c.name ≡ name → member_of_added_name read inputs.root.repositories wishes.no_scripts n name change c ≡ Err refusal → refused_name refusal ≡ name
       comes change c named e =
-          elim (and_then_err (coming_by_path read n c (package_file_of inputs.root.repositories c)) (with_scripts name change) refusal e) [
+          elim (and_then_err (added_package_by_path read n c (package_file_of inputs.root.repositories c)) (with_scripts name change) refusal e) [
             | inl first ↦ found_name c _ refusal (sym (path_is read n c (package_file_of inputs.root.repositories c)) ∙ first) ∙ named
-            | inr next ↦ script_name wishes.no_scripts name next.0.value (scripts_of_change change) (Some (coming_found next.0)) refusal next.2
+            | inr next ↦ script_name wishes.no_scripts name next.0.value (scripts_of_change change) (Some (added_member_found next.0)) refusal next.2
           ]
 
-      goes : (change : Change) (before : Option Plain) → name_that_goes wishes.no_scripts name change before ≡ Err refusal → refused_name refusal ≡ name
+      goes : (change : Change) (before : Option Plain) → member_of_removed_name wishes.no_scripts name change before ≡ Err refusal → refused_name refusal ≡ name
       goes change None e = absurd (cc (e))
       goes change (Some pkg) e = script_name wishes.no_scripts name pkg (scripts_of_change change) None refusal e
 
@@ -147,7 +147,7 @@ module _ (inputs : Inputs) (r : Replacement) (wishes : ChangeWishes) (read : Rea
     pub told : of_name (first_read + place) (refused_name refusal) ≡ Err refusal
 
   comes_is : (n : ℕ) (name : List ℕ) (change : Change) (c : Candidate) → change_of_name r name ≡ Some change → selected_of_name r name ≡ Some c
-      → of_name n name ≡ name_that_comes read inputs.root.repositories wishes.no_scripts n name change c
+      → of_name n name ≡ member_of_added_name read inputs.root.repositories wishes.no_scripts n name change c
   comes_is n name change c becomes selected =
       ap (λ ch. name_by_change read inputs.root.repositories wishes.no_scripts n name ch (find (is_package_named name) r.before) (find (is_selected_named name) r.selected)) becomes
       ∙ ap (λ s. name_by_selected read inputs.root.repositories wishes.no_scripts n name change (find (is_package_named name) r.before) s) selected
@@ -177,11 +177,11 @@ module _ (inputs : Inputs) (r : Replacement) (wishes : ChangeWishes) (read : Rea
           (apart_bytes (selected_version is.candidate) (version_text (package_in_file file).value) wanted found wanted_is found_is differ i))
           ∙ (λ i. Err (PackageDiffers (named name version (Some file) is i) (is.has_version i) (sym field_is i) (sym wanted_is i) (sym found_is i)))
 
-  script_told : (name : List ℕ) (script : ℕ) (pkg : Plain) (change : Change) → wishes.no_scripts ≡ false → IsComingOrGoing inputs r read name pkg → change_of_name r name ≡ Some change
+  script_told : (name : List ℕ) (script : ℕ) (pkg : Plain) (change : Change) → wishes.no_scripts ≡ false → IsAddedOrRemoved inputs r read name pkg → change_of_name r name ≡ Some change
       → first_script_of pkg (scripts_of_change change) ≡ Some script → IsToldAt (ScriptNeeded name script)
   script_told name script pkg change asked (inl (coming, brought, value)) becomes first =
       let is = brought.is_read in
-      let same : (package_in_file brought.file).value ≡ pkg = sym (value ∙ ap (λ (p : ComingPackage). p.value) brought.is_package) in
+      let same : (package_in_file brought.file).value ≡ pkg = sym (value ∙ ap (λ (p : AddedPackage). p.value) brought.is_package) in
       let one : is.change ≡ change = (let both = sym is.becomes ∙ becomes in cc) in
       record {
         place = is.place;
@@ -189,7 +189,7 @@ module _ (inputs : Inputs) (r : Replacement) (wishes : ChangeWishes) (read : Rea
         told =
             file_is name brought.version (Some brought.file) is
             ∙ (ap (λ p. and_then p (with_scripts name is.change)) (found_so is.candidate brought.file brought.as_selected)
-            ∙ script_is wishes.no_scripts name (package_in_file brought.file).value (scripts_of_change is.change) (Some (coming_found (package_in_file brought.file))) script asked
+            ∙ script_is wishes.no_scripts name (package_in_file brought.file).value (scripts_of_change is.change) (Some (added_member_found (package_in_file brought.file))) script asked
             ((λ i. first_script_of (same i) (scripts_of_change (one i))) ∙ first));
       }
   script_told name script pkg change asked (inr going) becomes first =
@@ -204,7 +204,7 @@ module _ (inputs : Inputs) (r : Replacement) (wishes : ChangeWishes) (read : Rea
         told =
             ap (λ ch. name_by_change read inputs.root.repositories wishes.no_scripts (first_read + place.0) name ch (find (is_package_named name) r.before) (find (is_selected_named name) r.selected)) becomes
             ∙ (ap (λ s. name_by_selected read inputs.root.repositories wishes.no_scripts (first_read + place.0) name change (find (is_package_named name) r.before) s) going.unselected
-            ∙ (ap (λ b. name_that_goes wishes.no_scripts name change b) going.before
+            ∙ (ap (λ b. member_of_removed_name wishes.no_scripts name change b) going.before
             ∙ script_is wishes.no_scripts name pkg (scripts_of_change change) None script asked first));
       }
 

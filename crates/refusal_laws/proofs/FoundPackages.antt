@@ -11,8 +11,8 @@ use Rattle.change_files.proofs.InOrder.{in_left, in_order}
 use Rattle.change_inputs.specs.Chains.{and_then}
 use Rattle.change_inputs.specs.Inputs.{Inputs, first_index_read}
 use Rattle.change_outcome.specs.ChangeOutcome.{ChangeWishes, change_members}
-use Rattle.change_outcome.specs.MembersAfter.{MemberFound, coming_by_path, coming_found, members_after, name_after, name_by_change, name_by_selected, name_that_comes, name_that_goes, names_after}
-use Rattle.change_outcome.specs.PackageFiles.{ComingPackage, first_script_of, package_file_of, package_found, package_in_file, scripts_of_change, unless_number, unless_package_bad, unless_script}
+use Rattle.change_outcome.specs.MembersAfter.{MemberFound, added_package_by_path, added_member_found, members_after, name_after, name_by_change, name_by_selected, member_of_added_name, member_of_removed_name, names_after}
+use Rattle.change_outcome.specs.PackageFiles.{AddedPackage, first_script_of, package_file_of, package_found, package_in_file, scripts_of_change, unless_script_number, unless_package_bad, unless_script}
 use Rattle.db_core.specs.Packages.{is_package_named}
 use Rattle.make_info.specs.Reads.{Reads}
 use Rattle.package_changes.specs.Changes.{Replacement, change_of_name, is_selected_named, names_on_both_sides}
@@ -22,8 +22,8 @@ use Rattle.report_core.specs.Reports.{Change}
 use Rattle.report_core.specs.declared.refusal.Refusal.{Refusal}
 use Rattle.report_core.specs.declared.refusal.Refusal.TheVariants.{PackageBad, PackageDiffers, PackageMissing, ScriptNeeded}
 use Rattle.refusal_laws.specs.ChangeFaults.{IsFaultOfPackage}
-use Rattle.refusal_laws.specs.ComingPackages.{IsAsSelected, IsReadFor, selected_of_name}
-use Rattle.refusal_laws.specs.PackageFaults.{IsComingOrGoing, IsOtherPackage}
+use Rattle.refusal_laws.specs.AddedPackages.{IsAsSelected, IsReadFor, selected_of_name}
+use Rattle.refusal_laws.specs.PackageFaults.{IsAddedOrRemoved, IsOtherPackage}
 use Rattle.refusal_laws.proofs.Coming.{found_ok, path_is}
 use Rattle.refusal_laws.proofs.Lists.{and_then_ok, found_in, in_mapped}
 
@@ -42,7 +42,7 @@ not_other c file field wanted found agrees (inl other) =
 not_other c file field wanted found agrees (inr (inl other)) = other.2.2 (other.2.0 ∙ (sym agrees.name ∙ sym other.2.1))
 not_other c file field wanted found agrees (inr (inr other)) = other.3.2 (other.3.0 ∙ (sym agrees.version ∙ sym other.3.1))
 
-no_bad_file : (c : Candidate) (file : List ℕ) (cause : Cause) (pkg : ComingPackage) → package_fault file ≡ Some cause → package_found c (Some file) ≡ Ok pkg → ⊥
+no_bad_file : (c : Candidate) (file : List ℕ) (cause : Cause) (pkg : AddedPackage) → package_fault file ≡ Some cause → package_found c (Some file) ≡ Ok pkg → ⊥
 no_bad_file c file cause pkg fault e = refused (ap (λ o. unless_package_bad c o (package_in_file file)) (sym fault) ∙ e)
   where
     refused : unless_package_bad c (Some cause) (package_in_file file) ≡ Ok pkg → ⊥
@@ -52,7 +52,7 @@ no_script : {A : Type 0} (no_scripts : Bool) (name : List ℕ) (pkg : Plain) (nu
 no_script true name pkg numbers a b script asked first e = true≢false asked
 no_script false name pkg numbers a b script asked first e = refused (first_script_of pkg numbers) first e
   where
-    refused : (o : Option ℕ) → o ≡ Some script → unless_number name o a ≡ Ok b → ⊥
+    refused : (o : Option ℕ) → o ≡ Some script → unless_script_number name o a ≡ Ok b → ⊥
     refused None is e = cc (is)
     refused (Some number) is e = cc (e)
 
@@ -91,7 +91,7 @@ module _ (inputs : Inputs) (r : Replacement) (wishes : ChangeWishes) (read : Rea
   -- ---- one that comes
 
   comes_so : (place : ℕ) (name : List ℕ) (change : Change) (c : Candidate) → slice_get (names_on_both_sides r) place ≡ Some name → change_of_name r name ≡ Some change → selected_of_name r name ≡ Some c
-      → (o : Option MemberFound) × (name_that_comes read inputs.root.repositories wishes.no_scripts (first_read + place) name change c ≡ Ok o)
+      → (o : Option MemberFound) × (member_of_added_name read inputs.root.repositories wishes.no_scripts (first_read + place) name change c ≡ Ok o)
   comes_so place name change c at becomes selected =
       let o = found_at place name at in (
         o.0,
@@ -101,16 +101,16 @@ module _ (inputs : Inputs) (r : Replacement) (wishes : ChangeWishes) (read : Rea
 
   -- the package in its file is found, and none of its scripts would run
   pub record IsFine (name : List ℕ) (change : Change) (c : Candidate) (file : Option (List ℕ)) : Type 0 where
-    pub pkg : ComingPackage
+    pub pkg : AddedPackage
     pub is : package_found c file ≡ Ok pkg
     pub after : Option MemberFound
-    pub scripts : unless_script wishes.no_scripts name pkg.value (scripts_of_change change) (Some (coming_found pkg)) ≡ Ok after
+    pub scripts : unless_script wishes.no_scripts name pkg.value (scripts_of_change change) (Some (added_member_found pkg)) ≡ Ok after
 
   fine : (name version : List ℕ) (file : Option (List ℕ)) (is : IsReadFor inputs r read name version file) → IsFine name is.change is.candidate file
   fine name version file is =
       let comes = comes_so is.place name is.change is.candidate is.is_place is.becomes is.selected in
-      let pkg = and_then_ok (coming_by_path read (first_read + is.place) is.candidate (package_file_of inputs.root.repositories is.candidate)) (λ pkg.
-      unless_script wishes.no_scripts name pkg.value (scripts_of_change is.change) (Some (coming_found pkg))) comes.0 comes.1 in
+      let pkg = and_then_ok (added_package_by_path read (first_read + is.place) is.candidate (package_file_of inputs.root.repositories is.candidate)) (λ pkg.
+      unless_script wishes.no_scripts name pkg.value (scripts_of_change is.change) (Some (added_member_found pkg))) comes.0 comes.1 in
       record {
         pkg = pkg.0;
         is = ap (package_found is.candidate) (sym is.is_file) ∙ (sym (path_is read (first_read + is.place) is.candidate (package_file_of inputs.root.repositories is.candidate)) ∙ pkg.1);
@@ -120,14 +120,14 @@ module _ (inputs : Inputs) (r : Replacement) (wishes : ChangeWishes) (read : Rea
 
   -- ---- scripts
 
-  no_script_of : (name : List ℕ) (script : ℕ) (pkg : Plain) (change : Change) → wishes.no_scripts ≡ false → IsComingOrGoing inputs r read name pkg → change_of_name r name ≡ Some change
+  no_script_of : (name : List ℕ) (script : ℕ) (pkg : Plain) (change : Change) → wishes.no_scripts ≡ false → IsAddedOrRemoved inputs r read name pkg → change_of_name r name ≡ Some change
       → first_script_of pkg (scripts_of_change change) ≡ Some script → ⊥
   no_script_of name script pkg change asked (inl (coming, brought, value)) becomes first =
       let is = fine name brought.version (Some brought.file) brought.is_read in
       let ok = found_ok brought.is_read.candidate brought.file is.pkg is.is in
-      let same : pkg ≡ is.pkg.value = value ∙ ap (λ (p : ComingPackage). p.value) (brought.is_package ∙ sym ok.1) in
+      let same : pkg ≡ is.pkg.value = value ∙ ap (λ (p : AddedPackage). p.value) (brought.is_package ∙ sym ok.1) in
       let one : change ≡ brought.is_read.change = (let both = sym becomes ∙ brought.is_read.becomes in cc) in
-      no_script wishes.no_scripts name is.pkg.value (scripts_of_change brought.is_read.change) (Some (coming_found is.pkg)) is.after script asked
+      no_script wishes.no_scripts name is.pkg.value (scripts_of_change brought.is_read.change) (Some (added_member_found is.pkg)) is.after script asked
       (ap (λ p. first_script_of p (scripts_of_change brought.is_read.change)) (sym same) ∙ (ap (λ (ch : Change). first_script_of pkg (scripts_of_change ch)) (sym one) ∙ first)) is.scripts
   no_script_of name script pkg change asked (inr going) becomes first =
       let here = found_in (is_package_named name) r.before pkg going.before in
@@ -137,7 +137,7 @@ module _ (inputs : Inputs) (r : Replacement) (wishes : ChangeWishes) (read : Rea
       let place = name_at_place (names_on_both_sides r) (package_name pkg) among in
       let o = found_at place.0 name (place.1 ∙ ap (λ (q : List ℕ). Some q) named) in
       no_script wishes.no_scripts name pkg (scripts_of_change change) None o.0 script asked first
-      (ap (λ b. name_that_goes wishes.no_scripts name change b) (sym going.before)
+      (ap (λ b. member_of_removed_name wishes.no_scripts name change b) (sym going.before)
       ∙ (ap (λ s. name_by_selected read inputs.root.repositories wishes.no_scripts (first_read + place.0) name change (find (is_package_named name) r.before) s) (sym going.unselected)
       ∙ (ap (λ ch. name_by_change read inputs.root.repositories wishes.no_scripts (first_read + place.0) name ch (find (is_package_named name) r.before) (find (is_selected_named name) r.selected)) (sym becomes) ∙ o.1)))
 

@@ -5,9 +5,9 @@ use Rattle.adb_view.specs.declared.tables.Which.TheVariants.{Idb}
 use Rattle.change_inputs.specs.Database.{payload_database, root_database}
 use Rattle.change_inputs.specs.Inputs.{database_for, database_read, text_database_read}
 use Rattle.command_core.specs.Command.{CommandLine}
-use Rattle.tell_core.specs.InfoTold.{info_told}
+use Rattle.tell_core.specs.InfoResult.{info_result}
 use Rattle.installed_info.specs.Info.{info_of}
-use Rattle.installed_info.specs.declared.telling.InfoDone.{InfoDone}
+use Rattle.installed_info.specs.declared.telling.ReportAndRefusal.{ReportAndRefusal}
 use Rattle.make_info.specs.Reads.{Reads}
 use Rattle.report_core.specs.declared.refusal.Refusal.{Refusal}
 use Rattle.report_core.specs.declared.refusal.Refusal.TheVariants.{DatabaseBad, NoDatabase, ResultTooLarge}
@@ -50,20 +50,20 @@ module _ (command : CommandLine) (read : Reads) where
   database_fault None (Some text) refusal is other e = text_fault text refusal is other (payload_of_text text) refl e
   database_fault None None refusal is other e = none_fault command.flags.initdb refusal refl is other e
 
-  pub info_fault : (refusal : Refusal) → info_told command read ≡ Err refusal → IsFaultOfInfo command read refusal
+  pub info_fault : (refusal : Refusal) → info_result command read ≡ Err refusal → IsFaultOfInfo command read refusal
   info_fault refusal e =
       elim (and_then_err (database_for command read) (λ database. info_of command database.packages) refusal e) [
         | inl first ↦ inl (database_fault (read database_read database_name) (read text_database_read text_database_name) refusal refl refl first)
         | inr next ↦ inr (record { database = next.0; is_database = next.1; first = operand_refused command next.0.packages refusal next.2 })
       ]
 
-  pub info_late : (done : InfoDone) (refusal : Refusal) → info_told command read ≡ Ok done → done.late ≡ Some refusal → (command.flags.installed ≡ true) × IsFaultOfOperand command read refusal
-  info_late done refusal e late =
+  pub info_late : (done : ReportAndRefusal) (refusal : Refusal) → info_result command read ≡ Ok done → done.following_refusal ≡ Some refusal → (command.flags.installed ≡ true) × IsFaultOfOperand command read refusal
+  info_late done refusal e following_refusal =
       let found = and_then_ok (database_for command read) (λ database. info_of command database.packages) done e in
-      let is = operand_late command found.0.packages done refusal found.2 late in
+      let is = operand_late command found.0.packages done refusal found.2 following_refusal in
       (is.0, record { database = found.0; is_database = found.1; first = is.1 })
 
-  pub info_tells : (done : InfoDone) → info_told command read ≡ Ok done → done.late ≡ None → AreOperandsFound command read
-  info_tells done e late =
+  pub info_tells : (done : ReportAndRefusal) → info_result command read ≡ Ok done → done.following_refusal ≡ None → AreOperandsFound command read
+  info_tells done e following_refusal =
       let found = and_then_ok (database_for command read) (λ database. info_of command database.packages) done e in
-      record { database = found.0; is_database = found.1; installed = operands_told command found.0.packages done found.2 late }
+      record { database = found.0; is_database = found.1; installed = operands_told command found.0.packages done found.2 following_refusal }

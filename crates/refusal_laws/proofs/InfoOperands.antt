@@ -15,7 +15,7 @@ use Rattle.report_core.specs.declared.refusal.Refusal.TheVariants.{NotInstalled}
 use Rattle.installed_info.specs.Form.{form_of}
 use Rattle.installed_info.specs.Info.{form_info, info_of, info_refusal, info_unless, operands_info}
 use Rattle.installed_info.specs.Packages.{package_asked, package_named, path_owner}
-use Rattle.installed_info.specs.declared.telling.InfoDone.{InfoDone}
+use Rattle.installed_info.specs.declared.telling.ReportAndRefusal.{ReportAndRefusal}
 use Rattle.refusal_laws.specs.InfoFaults.{AreFoundInstalled, IsAskedFor, IsFirstNotInstalled, IsFoundInstalled}
 use Rattle.refusal_laws.proofs.Lists.{any_in, found_in, in_any, none_found}
 
@@ -90,7 +90,7 @@ unless_err : (refused : Option Refusal) (report : List ℕ) (refusal : Refusal) 
 unless_err None report refusal e = absurd (cc (e))
 unless_err (Some r) report refusal e = let same : r ≡ refusal = cc in ap Some same
 
-unless_ok : (refused : Option Refusal) (report : List ℕ) (done : InfoDone) → info_unless refused report ≡ Ok done → (refused ≡ None) × (done.late ≡ None)
+unless_ok : (refused : Option Refusal) (report : List ℕ) (done : ReportAndRefusal) → info_unless refused report ≡ Ok done → (refused ≡ None) × (done.following_refusal ≡ None)
 unless_ok None report done e = (refl, cc)
 unless_ok (Some r) report done e = absurd (cc (e))
 
@@ -110,22 +110,22 @@ module _ (flags : Flags) (packages : List Plain) where
 
   -- a report has the refusal of `-e` behind it, or there is none
   abbrev IsLate : Bool → Option Refusal → List Operand → Option Refusal → Type 0
-  IsLate installed refused operands late = ((installed ≡ true) × (refused ≡ late)) ⊎ ((late ≡ None) × ((refused ≡ None) ⊎ (operands ≡ [])))
+  IsLate installed refused operands following_refusal = ((installed ≡ true) × (refused ≡ following_refusal)) ⊎ ((following_refusal ≡ None) × ((refused ≡ None) ⊎ (operands ≡ [])))
 
-  not_late : (installed : Bool) (refused : Option Refusal) (report : List ℕ) (operands : List Operand) (done : InfoDone) → info_unless refused report ≡ Ok done → IsLate installed refused operands done.late
+  not_late : (installed : Bool) (refused : Option Refusal) (report : List ℕ) (operands : List Operand) (done : ReportAndRefusal) → info_unless refused report ≡ Ok done → IsLate installed refused operands done.following_refusal
   not_late installed refused report operands done e = let none = unless_ok refused report done e in inr (none.1, inl none.0)
 
-  form_ok : (owner installed contents depends : Bool) (operands : List Operand) (done : InfoDone) → form_info (form_of (flags_by flags owner installed contents depends)) packages operands ≡ Ok done
-      → IsLate installed (info_refusal (form_of (flags_by flags owner installed contents depends)) packages operands) operands done.late
+  form_ok : (owner installed contents depends : Bool) (operands : List Operand) (done : ReportAndRefusal) → form_info (form_of (flags_by flags owner installed contents depends)) packages operands ≡ Ok done
+      → IsLate installed (info_refusal (form_of (flags_by flags owner installed contents depends)) packages operands) operands done.following_refusal
   form_ok true installed contents depends operands done e =
       not_late installed (info_refusal (form_of (flags_by flags true installed contents depends)) packages operands) (operands_info (form_of (flags_by flags true installed contents depends)) packages operands) operands done e
   form_ok false true contents depends operands done e =
-      let same : info_refusal (form_of (flags_by flags false true contents depends)) packages operands ≡ done.late = cc in inl (refl, same)
+      let same : info_refusal (form_of (flags_by flags false true contents depends)) packages operands ≡ done.following_refusal = cc in inl (refl, same)
   form_ok false false true depends operands done e =
       not_late false (info_refusal (form_of (flags_by flags false false true depends)) packages operands) (operands_info (form_of (flags_by flags false false true depends)) packages operands) operands done e
   form_ok false false false true operands done e =
       not_late false (info_refusal (form_of (flags_by flags false false false true)) packages operands) (operands_info (form_of (flags_by flags false false false true)) packages operands) operands done e
-  form_ok false false false false [] done e = let none : done.late ≡ None = cc in inr (none, inr refl)
+  form_ok false false false false [] done e = let none : done.following_refusal ≡ None = cc in inr (none, inr refl)
   form_ok false false false false (o ∷ operands) done e =
       not_late false (info_refusal (form_of (flags_by flags false false false false)) packages (o ∷ operands)) (operands_info (form_of (flags_by flags false false false false)) packages (o ∷ operands)) (o ∷ operands) done e
 
@@ -212,22 +212,22 @@ module _ (command : CommandLine) (packages : List Plain) where
   operand_refused refusal e =
       first_in refusal (form_err command.flags packages command.flags.who_owns command.flags.installed command.flags.contents command.flags.depends command.operands refusal e)
 
-  late_by : (late : Option Refusal) (refusal : Refusal) → IsLate command.flags packages command.flags.installed refused command.operands late → late ≡ Some refusal
+  late_by : (following_refusal : Option Refusal) (refusal : Refusal) → IsLate command.flags packages command.flags.installed refused command.operands following_refusal → following_refusal ≡ Some refusal
       → (command.flags.installed ≡ true) × IsFirstNotInstalled command packages refusal
-  late_by late refusal (inl is) e = (is.0, first_in refusal (is.1 ∙ e))
-  late_by late refusal (inr no_one) e = let both : None ≡ Some refusal = sym no_one.0 ∙ e in absurd (cc (both))
+  late_by following_refusal refusal (inl is) e = (is.0, first_in refusal (is.1 ∙ e))
+  late_by following_refusal refusal (inr no_one) e = let both : None ≡ Some refusal = sym no_one.0 ∙ e in absurd (cc (both))
 
-  pub operand_late : (done : InfoDone) (refusal : Refusal) → info_of command packages ≡ Ok done → done.late ≡ Some refusal → (command.flags.installed ≡ true) × IsFirstNotInstalled command packages refusal
+  pub operand_late : (done : ReportAndRefusal) (refusal : Refusal) → info_of command packages ≡ Ok done → done.following_refusal ≡ Some refusal → (command.flags.installed ≡ true) × IsFirstNotInstalled command packages refusal
   unfolding info_of
-  operand_late done refusal e late =
-      late_by done.late refusal (form_ok command.flags packages command.flags.who_owns command.flags.installed command.flags.contents command.flags.depends command.operands done e) late
+  operand_late done refusal e following_refusal =
+      late_by done.following_refusal refusal (form_ok command.flags packages command.flags.who_owns command.flags.installed command.flags.contents command.flags.depends command.operands done e) following_refusal
 
-  all_by : (late : Option Refusal) → IsLate command.flags packages command.flags.installed refused command.operands late → late ≡ None → AreFoundInstalled command packages command.operands
-  all_by late (inl is) e = all command.operands (is.1 ∙ e)
-  all_by late (inr (gone, inl is)) e = all command.operands is
-  all_by late (inr (gone, inr is)) e = subst (AreFoundInstalled command packages) (sym is) (λ p inside. absurd inside)
+  all_by : (following_refusal : Option Refusal) → IsLate command.flags packages command.flags.installed refused command.operands following_refusal → following_refusal ≡ None → AreFoundInstalled command packages command.operands
+  all_by following_refusal (inl is) e = all command.operands (is.1 ∙ e)
+  all_by following_refusal (inr (gone, inl is)) e = all command.operands is
+  all_by following_refusal (inr (gone, inr is)) e = subst (AreFoundInstalled command packages) (sym is) (λ p inside. absurd inside)
 
-  pub operands_told : (done : InfoDone) → info_of command packages ≡ Ok done → done.late ≡ None → AreFoundInstalled command packages command.operands
+  pub operands_told : (done : ReportAndRefusal) → info_of command packages ≡ Ok done → done.following_refusal ≡ None → AreFoundInstalled command packages command.operands
   unfolding info_of
-  operands_told done e late =
-      all_by done.late (form_ok command.flags packages command.flags.who_owns command.flags.installed command.flags.contents command.flags.depends command.operands done e) late
+  operands_told done e following_refusal =
+      all_by done.following_refusal (form_ok command.flags packages command.flags.who_owns command.flags.installed command.flags.contents command.flags.depends command.operands done e) following_refusal

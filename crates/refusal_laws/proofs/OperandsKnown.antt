@@ -9,7 +9,7 @@ use Rattle.command_core.specs.declared.command.Applet.TheVariants.{Del, Fix, Upg
 use Rattle.command_core.specs.declared.operands.Operand.{Operand}
 use Rattle.engine_core.specs.Changed.{selected_by, selected_of_inputs}
 use Rattle.engine_core.specs.Selecting.{pool_by}
-use Rattle.engine_core.specs.Wishes.{first_unknown, is_installed_name, is_known_name, names_to_upgrade, unknown_place, unless_place}
+use Rattle.engine_core.specs.Wishes.{first_unknown, is_installed_name, is_known_name, names_to_upgrade, unknown_operand_place, unless_unknown_operand}
 use Rattle.candidate_core.specs.Rank.{SealedPool}
 use Rattle.report_core.specs.declared.refusal.Refusal.{Refusal}
 use Rattle.report_core.specs.declared.refusal.Refusal.TheVariants.{NotInstalled, Unsatisfied}
@@ -79,21 +79,21 @@ module _ (command : CommandLine) (inputs : Inputs) where
       let f = first_failing is_known command.operands place e in
       record { before = f.before; operand = f.operand; after = f.after; are = f.are; at = f.at; known = known_to command inputs applet is_known known same f.before f.known }
 
-  first_place : (applet : Applet) (place : ℕ) → applet ≡ command.applet → unknown_place applet inputs command.operands ≡ Some place → IsFirstUnknown command inputs place
+  first_place : (applet : Applet) (place : ℕ) → applet ≡ command.applet → unknown_operand_place applet inputs command.operands ≡ Some place → IsFirstUnknown command inputs place
   first_place Del place same e = first_by Del (is_known_name inputs) place (del_knows inputs) same e
   first_place Upgrade place same e = first_by Upgrade (is_installed_name inputs) place (λ name known off. true≢false (sym known ∙ off)) same e
   first_place Fix place same e = first_by Fix (is_installed_name inputs) place (λ name known off. true≢false (sym known ∙ off)) same e
   first_place applet place same e = absurd (cc (e))
 
-  no_place : (applet : Applet) → applet ≡ command.applet → unknown_place applet inputs command.operands ≡ None → AreKnown command inputs command.operands
+  no_place : (applet : Applet) → applet ≡ command.applet → unknown_operand_place applet inputs command.operands ≡ None → AreKnown command inputs command.operands
   no_place Del same e = known_to command inputs Del (is_known_name inputs) (del_knows inputs) same command.operands (all_passing (is_known_name inputs) command.operands e)
   no_place Upgrade same e =
       known_to command inputs Upgrade (is_installed_name inputs) (λ name known off. true≢false (sym known ∙ off)) same command.operands (all_passing (is_installed_name inputs) command.operands e)
   no_place Fix same e = known_to command inputs Fix (is_installed_name inputs) (λ name known off. true≢false (sym known ∙ off)) same command.operands (all_passing (is_installed_name inputs) command.operands e)
   no_place applet same e = λ o inside unknown. subst (λ (a : Applet). IsUnknownTo a inputs o.text) (sym same) unknown
 
-  passed : (pool : SealedPool) → pool_by command inputs ≡ Ok pool → (place : Option ℕ) → unknown_place command.applet inputs command.operands ≡ place → (chosen : Option (List ℕ)) (refusal : Refusal)
-      → unless_place place (selected_by command inputs pool chosen) ≡ Err refusal → HasPassedBeforeSelection command inputs refusal
+  passed : (pool : SealedPool) → pool_by command inputs ≡ Ok pool → (place : Option ℕ) → unknown_operand_place command.applet inputs command.operands ≡ place → (chosen : Option (List ℕ)) (refusal : Refusal)
+      → unless_unknown_operand place (selected_by command inputs pool chosen) ≡ Err refusal → HasPassedBeforeSelection command inputs refusal
   passed pool is (Some place) at chosen refusal e =
       let same : NotInstalled place ≡ refusal = cc in
       subst (HasPassedBeforeSelection command inputs) same ((pool, is), first_place command.applet place refl at)
@@ -104,7 +104,7 @@ module _ (command : CommandLine) (inputs : Inputs) where
 
   pub selection_passed : (chosen : Option (List ℕ)) (refusal : Refusal) → selected_of_inputs command chosen inputs ≡ Err refusal → HasPassedBeforeSelection command inputs refusal
   selection_passed chosen refusal e =
-      elim (and_then_err (pool_by command inputs) (λ pool. unless_place (unknown_place command.applet inputs command.operands) (selected_by command inputs pool chosen)) refusal e) [
+      elim (and_then_err (pool_by command inputs) (λ pool. unless_unknown_operand (unknown_operand_place command.applet inputs command.operands) (selected_by command inputs pool chosen)) refusal e) [
         | inl first ↦ (let many = pool_fault inputs (names_to_upgrade command.applet command.operands) refusal first in subst (HasPassedBeforeSelection command inputs) many.2 tt)
-        | inr next ↦ passed next.0 next.1 (unknown_place command.applet inputs command.operands) refl chosen refusal next.2
+        | inr next ↦ passed next.0 next.1 (unknown_operand_place command.applet inputs command.operands) refl chosen refusal next.2
       ]

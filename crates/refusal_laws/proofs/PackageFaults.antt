@@ -6,7 +6,7 @@ use Rattle.adb_view.specs.Plain.{Plain}
 use Rattle.change_inputs.specs.Chains.{and_then}
 use Rattle.change_inputs.specs.Inputs.{Inputs, first_index_read}
 use Rattle.change_outcome.specs.ChangeOutcome.{ChangeWishes, change_members}
-use Rattle.change_outcome.specs.MembersAfter.{MemberFound, coming_by_path, coming_found, members_after, name_after, name_by_change, name_by_selected, name_that_comes, name_that_goes, names_after}
+use Rattle.change_outcome.specs.MembersAfter.{MemberFound, added_package_by_path, added_member_found, members_after, name_after, name_by_change, name_by_selected, member_of_added_name, member_of_removed_name, names_after}
 use Rattle.change_outcome.specs.PackageFiles.{package_file_of, scripts_of_change, unless_script}
 use Rattle.db_core.specs.Packages.{is_package_named}
 use Rattle.make_info.specs.Reads.{Reads}
@@ -14,7 +14,7 @@ use Rattle.package_changes.specs.Changes.{Replacement, change_of_name, is_select
 use Rattle.candidate_core.specs.Candidates.{Candidate}
 use Rattle.report_core.specs.Reports.{Change}
 use Rattle.report_core.specs.declared.refusal.Refusal.{Refusal}
-use Rattle.refusal_laws.specs.ComingPackages.{selected_of_name}
+use Rattle.refusal_laws.specs.AddedPackages.{selected_of_name}
 use Rattle.refusal_laws.specs.ChangeFaults.{IsFaultOfPackage}
 use Rattle.refusal_laws.proofs.Coming.{IsNameAt, brought, coming_fault, script_fault}
 use Rattle.refusal_laws.proofs.Lists.{and_then_err}
@@ -41,18 +41,18 @@ module _ (inputs : Inputs) (r : Replacement) (wishes : ChangeWishes) (read : Rea
   -- ---- one name
 
   goes_fault : (name : List ℕ) (change : Change) (before : Option Plain) (refusal : Refusal) → find (is_package_named name) r.before ≡ before → selected_of_name r name ≡ None → change_of_name r name ≡ Some change
-      → name_that_goes wishes.no_scripts name change before ≡ Err refusal → IsSo refusal
+      → member_of_removed_name wishes.no_scripts name change before ≡ Err refusal → IsSo refusal
   goes_fault name change None refusal is unselected becomes e = absurd (cc (e))
   goes_fault name change (Some pkg) refusal is unselected becomes e =
       script_fault inputs r wishes read name pkg change None refusal (inr (record { before = is; unselected = unselected })) becomes e
 
   comes_fault : (n : ℕ) (name : List ℕ) (change : Change) (c : Candidate) (refusal : Refusal) → IsNameAt inputs r n name → selected_of_name r name ≡ Some c → change_of_name r name ≡ Some change
-      → name_that_comes read inputs.root.repositories wishes.no_scripts n name change c ≡ Err refusal → IsSo refusal
+      → member_of_added_name read inputs.root.repositories wishes.no_scripts n name change c ≡ Err refusal → IsSo refusal
   comes_fault n name change c refusal at selected becomes e =
-      elim (and_then_err (coming_by_path read n c (package_file_of inputs.root.repositories c)) (λ pkg.
-      unless_script wishes.no_scripts name pkg.value (scripts_of_change change) (Some (coming_found pkg))) refusal e) [
+      elim (and_then_err (added_package_by_path read n c (package_file_of inputs.root.repositories c)) (λ pkg.
+      unless_script wishes.no_scripts name pkg.value (scripts_of_change change) (Some (added_member_found pkg))) refusal e) [
         | inl first ↦ coming_fault inputs r wishes read n name at change becomes c selected refusal first
-        | inr next ↦ script_fault inputs r wishes read name next.0.value change (Some (coming_found next.0)) refusal
+        | inr next ↦ script_fault inputs r wishes read name next.0.value change (Some (added_member_found next.0)) refusal
             (inl (next.0, brought inputs r wishes read n name at change becomes c selected next.0 next.1, refl)) becomes next.2
       ]
 

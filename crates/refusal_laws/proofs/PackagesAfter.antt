@@ -11,8 +11,8 @@ use Rattle.change_files.proofs.InOrder.{in_order, in_right, order_rises}
 use Rattle.change_inputs.specs.Chains.{and_then}
 use Rattle.change_inputs.specs.Inputs.{Inputs, first_index_read}
 use Rattle.change_outcome.specs.ChangeOutcome.{ChangeWishes, change_members}
-use Rattle.change_outcome.specs.MembersAfter.{MemberFound, coming_by_path, coming_found, members_after, members_found, name_after, name_by_change, name_by_selected, name_that_comes, name_that_goes, names_after, staying_found}
-use Rattle.change_outcome.specs.PackageFiles.{ComingPackage, package_file_of, scripts_of_change, unless_script}
+use Rattle.change_outcome.specs.MembersAfter.{MemberFound, added_package_by_path, added_member_found, members_after, found_members, name_after, name_by_change, name_by_selected, member_of_added_name, member_of_removed_name, names_after, kept_member_found}
+use Rattle.change_outcome.specs.PackageFiles.{AddedPackage, package_file_of, scripts_of_change, unless_script}
 use Rattle.db_core.specs.Members.{member_name}
 use Rattle.db_core.specs.Packages.{is_package_named}
 use Rattle.make_info.specs.Reads.{Reads}
@@ -20,8 +20,8 @@ use Rattle.package_changes.specs.Changes.{Replacement, change_between, change_of
 use Rattle.candidate_core.specs.Candidates.{Candidate}
 use Rattle.report_core.specs.Reports.{Change}
 use Rattle.report_core.specs.declared.refusal.Refusal.{Refusal}
-use Rattle.refusal_laws.specs.ComingPackages.{selected_of_name}
-use Rattle.refusal_laws.specs.PackagesAfter.{AreSelectedOnes, HasCome, IsSelectedMember, IsUnchanged}
+use Rattle.refusal_laws.specs.AddedPackages.{selected_of_name}
+use Rattle.refusal_laws.specs.PackagesAfter.{AreSelectedOnes, IsAddedMember, IsSelectedMember, IsUnchanged}
 use Rattle.refusal_laws.proofs.Coming.{IsNameAt, brought, script_ok}
 use Rattle.refusal_laws.proofs.Lists.{and_then_ok, found_in, in_found, in_mapped}
 use Rattle.refusal_laws.proofs.PackageFaults.{AreNamesFrom, all_names, first_name, other_names}
@@ -56,7 +56,7 @@ module _ (inputs : Inputs) (r : Replacement) (wishes : ChangeWishes) (read : Rea
     pub named : member_name f.member ≡ name
     pub candidate : Candidate
     pub selected : selected_of_name r name ≡ Some candidate
-    pub is : IsUnchanged r name candidate f ⊎ HasCome inputs r read name f
+    pub is : IsUnchanged r name candidate f ⊎ IsAddedMember inputs r read name f
 
   abbrev IfFound : List ℕ → Option MemberFound → Type 0
   IfFound name None = selected_of_name r name ≡ None
@@ -66,12 +66,12 @@ module _ (inputs : Inputs) (r : Replacement) (wishes : ChangeWishes) (read : Rea
   kept_found o = Ok o
 
   stays : (name : List ℕ) (before : Option Plain) (selected : Option Candidate) (o : Option MemberFound) → find (is_package_named name) r.before ≡ before → selected_of_name r name ≡ selected
-      → change_of_name r name ≡ None → AreSame before selected → kept_found (option_map staying_found before) ≡ kept_found o → IfFound name o
+      → change_of_name r name ≡ None → AreSame before selected → kept_found (option_map kept_member_found before) ≡ kept_found o → IfFound name o
   stays name None None o is chosen none same e = let nothing : None ≡ o = cc in subst (IfFound name) nothing chosen
   stays name None (Some c) o is chosen none same e = absurd same
   stays name (Some pkg) None o is chosen none same e = absurd same
   stays name (Some pkg) (Some c) o is chosen none same e =
-      let found : Some (staying_found pkg) ≡ o = cc in
+      let found : Some (kept_member_found pkg) ≡ o = cc in
       subst (IfFound name) found (record {
         named = (bytes_eq-Decides (package_name pkg) name).0 (found_in (is_package_named name) r.before pkg is).1;
         candidate = c;
@@ -80,22 +80,22 @@ module _ (inputs : Inputs) (r : Replacement) (wishes : ChangeWishes) (read : Rea
       })
 
   comes : (n : ℕ) (name : List ℕ) (change : Change) (c : Candidate) (o : Option MemberFound) → IsNameAt inputs r n name → selected_of_name r name ≡ Some c → change_of_name r name ≡ Some change
-      → name_that_comes read inputs.root.repositories wishes.no_scripts n name change c ≡ Ok o → IfFound name o
+      → member_of_added_name read inputs.root.repositories wishes.no_scripts n name change c ≡ Ok o → IfFound name o
   comes n name change c o at selected becomes e =
-      let pkg = and_then_ok (coming_by_path read n c (package_file_of inputs.root.repositories c)) (λ pkg.
-      unless_script wishes.no_scripts name pkg.value (scripts_of_change change) (Some (coming_found pkg))) o e in
+      let pkg = and_then_ok (added_package_by_path read n c (package_file_of inputs.root.repositories c)) (λ pkg.
+      unless_script wishes.no_scripts name pkg.value (scripts_of_change change) (Some (added_member_found pkg))) o e in
       let is = brought inputs r wishes read n name at change becomes c selected pkg.0 pkg.1 in
       let named : c.name ≡ name = (bytes_eq-Decides c.name name).0 (found_in (is_selected_named name) r.selected c selected).1 in
       let one : is.is_read.candidate ≡ c = (let both = is.is_read.selected in cc) in
-      subst (IfFound name) (script_ok wishes.no_scripts name pkg.0.value (scripts_of_change change) (Some (coming_found pkg.0)) o pkg.2)
+      subst (IfFound name) (script_ok wishes.no_scripts name pkg.0.value (scripts_of_change change) (Some (added_member_found pkg.0)) o pkg.2)
       (record {
-        named = ap (λ (p : ComingPackage). package_name p.value) is.is_package ∙ (is.as_selected.name ∙ (ap (λ (d : Candidate). d.name) one ∙ named));
+        named = ap (λ (p : AddedPackage). package_name p.value) is.is_package ∙ (is.as_selected.name ∙ (ap (λ (d : Candidate). d.name) one ∙ named));
         candidate = c;
         selected = selected;
         is = inr (record { pkg = pkg.0; brought = is; is = refl });
       })
 
-  goes : (name : List ℕ) (change : Change) (before : Option Plain) (o : Option MemberFound) → selected_of_name r name ≡ None → name_that_goes wishes.no_scripts name change before ≡ Ok o → IfFound name o
+  goes : (name : List ℕ) (change : Change) (before : Option Plain) (o : Option MemberFound) → selected_of_name r name ≡ None → member_of_removed_name wishes.no_scripts name change before ≡ Ok o → IfFound name o
   goes name change None o none e = let same : None ≡ o = cc in subst (IfFound name) same none
   goes name change (Some pkg) o none e = subst (IfFound name) (script_ok wishes.no_scripts name pkg (scripts_of_change change) None o e) none
 
@@ -116,8 +116,8 @@ module _ (inputs : Inputs) (r : Replacement) (wishes : ChangeWishes) (read : Rea
 
   -- of these names, in their order
   pub record AreFoundFor (names : List (List ℕ)) (fs : List MemberFound) : Type 0 where
-    pub rises : Names.Rises (map member_name (members_found fs))
-    pub within : (q : List ℕ) → Names.IsIn q (map member_name (members_found fs)) → Names.IsIn q names
+    pub rises : Names.Rises (map member_name (found_members fs))
+    pub within : (q : List ℕ) → Names.IsIn q (map member_name (found_members fs)) → Names.IsIn q names
     pub each : (f : MemberFound) → IsIn f fs → IsSelectedMember inputs r read f
     pub all : (q : List ℕ) (c : Candidate) → Names.IsIn q names → selected_of_name r q ≡ Some c → (f : MemberFound) × IsIn f fs × (member_name f.member ≡ q)
 
@@ -126,7 +126,7 @@ module _ (inputs : Inputs) (r : Replacement) (wishes : ChangeWishes) (read : Rea
 
   member_of : (name : List ℕ) (f : MemberFound) → IsFoundFor name f → IsSelectedMember inputs r read f
   member_of name f found =
-      let P : List ℕ → Type 0 = λ q. (c : Candidate) × (selected_of_name r q ≡ Some c) × (IsUnchanged r q c f ⊎ HasCome inputs r read q f) in
+      let P : List ℕ → Type 0 = λ q. (c : Candidate) × (selected_of_name r q ≡ Some c) × (IsUnchanged r q c f ⊎ IsAddedMember inputs r read q f) in
       let is = subst P (sym found.named) (found.candidate, found.selected, found.is) in
       record { candidate = is.0; selected = is.1; is = is.2 }
 
@@ -178,7 +178,7 @@ module _ (inputs : Inputs) (r : Replacement) (wishes : ChangeWishes) (read : Rea
   selected_ones fs e =
       let are = all_found fs e in
       record {
-        in_order = Names.pairs_from_rises (map member_name (members_found fs)) are.rises;
+        in_order = Names.pairs_from_rises (map member_name (found_members fs)) are.rises;
         each = are.each;
         all = λ c here.
             (let some = in_found (is_selected_named c.name) r.selected c here ((bytes_eq-Decides c.name c.name).1 refl) in

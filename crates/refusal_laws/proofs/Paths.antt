@@ -11,7 +11,7 @@ use Rattle.adb_fields.specs.FirstPair.{IsIn}
 use Rattle.adb_schema.specs.Reserved.{is_reserved}
 use Rattle.base_core.proofs.Rising as Names
 use Rattle.change_files.proofs.InOrder.{from_filter, in_filter}
-use Rattle.change_files.specs.NamesAfter.{coming_paths}
+use Rattle.change_files.specs.NamesAfter.{added_paths}
 use Rattle.change_files.specs.PlanLists.{first_reserved}
 use Rattle.change_outcome.specs.ChangeOutcome.{name_at_place}
 use Rattle.db_core.specs.Members.{Listing, Member, member_listings, member_name}
@@ -64,12 +64,12 @@ smallest_is xs x e = by_list (sorted_by bytes_cmp xs) refl (sym (smallest_first 
 pub first_reserved_is : (members : List Member) (path : List ℕ) → first_reserved members ≡ Some path → IsFirstReserved members path
 unfolding first_reserved
 first_reserved_is members path e =
-    let is = smallest_is (filter is_reserved (coming_paths members)) path e in
-    let passes = from_filter is_reserved (coming_paths members) path is.0 in
+    let is = smallest_is (filter is_reserved (added_paths members)) path e in
+    let passes = from_filter is_reserved (added_paths members) path is.0 in
     record {
-      comes = name_in path (coming_paths members) passes.0;
+      comes = name_in path (added_paths members) passes.0;
       reserved = passes.1;
-      first = λ other here reserved. is.1 other (in_filter is_reserved (coming_paths members) other (in_names other (coming_paths members) here) reserved);
+      first = λ other here reserved. is.1 other (in_filter is_reserved (added_paths members) other (in_names other (added_paths members) here) reserved);
     }
 
 none_smallest : (xs : List (List ℕ)) (q : List ℕ) → smallest_text xs ≡ None → Names.IsIn q xs → ⊥
@@ -85,7 +85,7 @@ are_unreserved members none path here = by_test (is_reserved path) refl
   where
     by_test : (b : Bool) → is_reserved path ≡ b → b ≡ false
     by_test false e = refl
-    by_test true e = absurd (none_smallest (filter is_reserved (coming_paths members)) path none (in_filter is_reserved (coming_paths members) path (in_names path (coming_paths members) here) e))
+    by_test true e = absurd (none_smallest (filter is_reserved (added_paths members)) path none (in_filter is_reserved (added_paths members) path (in_names path (added_paths members) here) e))
 
 -- ---- two packages of one path
 
@@ -117,7 +117,7 @@ record AreRivals (beats : ℕ → ℕ → Bool) (ms : List ℕ) (rivals : Rivals
   first : IsIn rivals.first ms
   second : IsIn rivals.second ms
   apart : rivals.first ≡ rivals.second → ⊥
-  stands : beats rivals.first rivals.second ≡ false
+  located : beats rivals.first rivals.second ≡ false
 
 rivals_are : (beats : ℕ → ℕ → Bool) (ms : List ℕ) (rivals : Rivals) → first_rivals beats ms ≡ Some rivals → AreRivals beats ms rivals
 unfolding first_rivals
@@ -134,7 +134,7 @@ rivals_are beats (x ∷ ms) rivals e = by_found (find (λ y. not ((x == y) || be
           first = inl refl;
           second = found.0;
           apart = λ is. true≢false (sym (ap (λ z. x == z) (sym is) ∙ eq_itself x) ∙ both.0);
-          stands = both.1;
+          located = both.1;
         })
 
 -- ---- the first contested path
@@ -216,7 +216,7 @@ module _ (members : List Member) where
               | inl is ↦ inr (third.3 ∙ (is ∙ sym one.3))
               | inr is ↦ inl (third.3 ∙ (is ∙ sym other.3))
             ]))));
-        stands = sym (beats_is one.0 other.0 one.1 other.1) ∙ (sym (ap₂ (member_beats members) one.3 other.3) ∙ are.stands);
+        located = sym (beats_is one.0 other.0 one.1 other.1) ∙ (sym (ap₂ (member_beats members) one.3 other.3) ∙ are.located);
       }
 
   -- ---- no contested path

@@ -21,7 +21,7 @@ use Rattle.v2_core.specs.Payload.{payload_of_text}
 use Rattle.v2_core.specs.declared.read.V2Fault.{V2Fault}
 use Rattle.v2_core.specs.declared.read.V2Fault.TheVariants.{Bad, Memory, TooLarge}
 use Rattle.refusal_laws.specs.InputFaults.{IsIndexRead, repositories_found}
-use Rattle.refusal_laws.specs.ReadBefore.{ArePassedBefore, HasBoth, HasDatabase, HasIndexes, HasIndexesBefore, HasLeave, HasReadBefore}
+use Rattle.refusal_laws.specs.ReadBefore.{ArePassedBefore, HasDatabaseAndWorld, HasDatabase, HasIndexes, HasIndexesBefore, AllowsUntrusted, HasReadBefore}
 use Rattle.refusal_laws.proofs.InputFaults.{as_err, cause_err, no_refusal, root_listed, world_then}
 use Rattle.refusal_laws.proofs.Lists.{and_then_err, and_then_ok}
 
@@ -44,12 +44,12 @@ module _ (command : CommandLine) (read : Reads) where
   world_told : (refusal : Refusal) → HasDatabase command read → root_world (text_found (read world_read world_name)) ≡ Err refusal → IsSo refusal
   world_told refusal has e = let why = as_err WorldBad (world_of (text_found (read world_read world_name))) refusal e in subst IsSo why.2 has
 
-  trusted_told : (is_allowed : Bool) (repositories : List Repository) (refusal : Refusal) → HasBoth command read → if_trusted is_allowed repositories ≡ Err refusal → IsSo refusal
+  trusted_told : (is_allowed : Bool) (repositories : List Repository) (refusal : Refusal) → HasDatabaseAndWorld command read → if_trusted is_allowed repositories ≡ Err refusal → IsSo refusal
   trusted_told is_allowed [] refusal has e = absurd (cc (e))
   trusted_told true (repository ∷ others) refusal has e = absurd (cc (e))
   trusted_told false (repository ∷ others) refusal has e = let same : Untrusted ≡ refusal = cc in subst IsSo same has
 
-  repositories_told : (refusal : Refusal) → HasBoth command read → root_repositories command.flags.allow_untrusted (repositories_found read) ≡ Err refusal → IsSo refusal
+  repositories_told : (refusal : Refusal) → HasDatabaseAndWorld command read → root_repositories command.flags.allow_untrusted (repositories_found read) ≡ Err refusal → IsSo refusal
   repositories_told refusal has e =
       elim (and_then_err (refused_as RepositoriesBad (repositories_of (repositories_found read))) (if_trusted command.flags.allow_untrusted) refusal e) [
         | inl first ↦ (let why = as_err RepositoriesBad (repositories_of (repositories_found read)) refusal first in subst IsSo why.2 has)
@@ -71,7 +71,7 @@ module _ (command : CommandLine) (read : Reads) where
         ]
       ]
 
-  has_both : (root : Root) → root_for command read ≡ Ok root → HasBoth command read
+  has_both : (root : Root) → root_for command read ≡ Ok root → HasDatabaseAndWorld command read
   has_both root e =
       let database = and_then_ok (root_database command.flags.initdb (read database_read database_name) (read text_database_read text_database_name)) (λ database.
       and_then (root_world (text_found (read world_read world_name))) (world_then command read database)) root e in
@@ -110,8 +110,8 @@ module _ (command : CommandLine) (read : Reads) where
   abbrev IsFoundAt : ℕ → List Repository → ℕ → Option (List ℕ) → Type 0
   IsFoundAt n rs i file = (x : Repository) × (slice_get rs i ≡ Some x) × (read (n + i) x.path ≡ file)
 
-  found_behind : (n i : ℕ) (x : Repository) (rs : List Repository) (file : Option (List ℕ)) → IsFoundAt n (x ∷ rs) (suc i) file → IsFoundAt (suc n) rs i file
-  found_behind n i x rs file (y, at, is) = let k : suc n + i ≡ n + suc i = omega arith in (y, at, ap (λ m. read m y.path) k ∙ is)
+  found_after : (n i : ℕ) (x : Repository) (rs : List Repository) (file : Option (List ℕ)) → IsFoundAt n (x ∷ rs) (suc i) file → IsFoundAt (suc n) rs i file
+  found_after n i x rs file (y, at, is) = let k : suc n + i ≡ n + suc i = omega arith in (y, at, ap (λ m. read m y.path) k ∙ is)
 
   found_first : (n : ℕ) (x : Repository) (rs : List Repository) (file other : Option (List ℕ)) → IsFoundAt n (x ∷ rs) 0 file → read n x.path ≡ other → file ≡ other
   found_first n x rs file other (y, at, is) here =
@@ -126,7 +126,7 @@ module _ (command : CommandLine) (read : Reads) where
     where
       by_place : (file : List ℕ) → read n x.path ≡ Some file → ((j : ℕ) → IsFoundAt (suc n) rs j None → ⊥) → (j : ℕ) → IsFoundAt n (x ∷ rs) j None → ⊥
       by_place file here more zero none = let both : None ≡ Some file = found_first n x rs None (Some file) none here in cc
-      by_place file here more (suc j) none = more j (found_behind n j x rs None none)
+      by_place file here more (suc j) none = more j (found_after n j x rs None none)
 
       by_read : (file : Option (List ℕ)) → read n x.path ≡ file
           → ((others : List (List ℕ)) → index_files_from (number + 1) (index_reads_from read (suc n) rs) ≡ Ok others → (j : ℕ) → IsFoundAt (suc n) rs j None → ⊥)
@@ -141,7 +141,7 @@ module _ (command : CommandLine) (read : Reads) where
     pub place : ℕ
     pub told : refusal ≡ IndexMissing (number + place)
     pub first : Repository
-    pub stands : slice_get rs place ≡ Some first
+    pub located : slice_get rs place ≡ Some first
     pub before : (i : ℕ) → i < place → IsFoundAt n rs i None → ⊥
 
   first_missing : (n number : ℕ) (rs : List Repository) (refusal : Refusal) → index_files_from number (index_reads_from read n rs) ≡ Err refusal → IsFirstMissing n number rs refusal
@@ -150,19 +150,19 @@ module _ (command : CommandLine) (read : Reads) where
     where
       behind : (file : List ℕ) → read n x.path ≡ Some file → (place : ℕ) → ((i : ℕ) → i < place → IsFoundAt (suc n) rs i None → ⊥) → (i : ℕ) → i < suc place → IsFoundAt n (x ∷ rs) i None → ⊥
       behind file here place more zero h none = let both : None ≡ Some file = found_first n x rs None (Some file) none here in cc
-      behind file here place more (suc i) h none = more i (omega (arith, h)) (found_behind n i x rs None none)
+      behind file here place more (suc i) h none = more i (omega (arith, h)) (found_after n i x rs None none)
 
       later : (file : List ℕ) → read n x.path ≡ Some file → IsFirstMissing (suc n) (number + 1) rs refusal → IsFirstMissing n number (x ∷ rs) refusal
       later file here f =
           let k : (number + 1) + f.place ≡ number + suc f.place = omega arith in
-          record { place = suc f.place; told = f.told ∙ ap IndexMissing k; first = f.first; stands = f.stands; before = behind file here f.place f.before }
+          record { place = suc f.place; told = f.told ∙ ap IndexMissing k; first = f.first; located = f.located; before = behind file here f.place f.before }
 
       by_read : (file : Option (List ℕ)) → read n x.path ≡ file → (index_files_from (number + 1) (index_reads_from read (suc n) rs) ≡ Err refusal → IsFirstMissing (suc n) (number + 1) rs refusal)
           → and_then (index_file number file) (λ file. and_then (index_files_from (number + 1) (index_reads_from read (suc n) rs)) (λ files. Ok (file ∷ files))) ≡ Err refusal → IsFirstMissing n number (x ∷ rs) refusal
       by_read None here more e =
           let same : IndexMissing number ≡ refusal = cc in
           let k : number ≡ number + 0 = omega arith in
-          record { place = 0; told = sym same ∙ ap IndexMissing k; first = x; stands = refl; before = λ i h none. absurd (omega (arith, h)) }
+          record { place = 0; told = sym same ∙ ap IndexMissing k; first = x; located = refl; before = λ i h none. absurd (omega (arith, h)) }
       by_read (Some file) here more e =
           elim (and_then_err (index_files_from (number + 1) (index_reads_from read (suc n) rs)) (λ files. Ok (file ∷ files)) refusal e) [
             | inl others ↦ later file here (more others)
@@ -175,7 +175,7 @@ module _ (command : CommandLine) (read : Reads) where
     pub cause : Cause
     pub told : refusal ≡ IndexBad (number + place) cause
     pub first : Repository
-    pub stands : slice_get rs place ≡ Some first
+    pub located : slice_get rs place ≡ Some first
     pub before : (i : ℕ) (file : List ℕ) → i < place → IsFoundAt n rs i (Some file) → first_fault Index file ≡ None
 
   passed : {A : Type 0} (refused : Cause → Refusal) (fault : Option Cause) (a b : A) → unless_cause refused fault a ≡ Ok b → fault ≡ None
@@ -198,12 +198,12 @@ module _ (command : CommandLine) (read : Reads) where
       behind : (file : List ℕ) → read n x.path ≡ Some file → first_fault Index file ≡ None → (place : ℕ) → ((i : ℕ) (other : List ℕ) → i < place → IsFoundAt (suc n) rs i (Some other) → first_fault Index other ≡ None)
           → (i : ℕ) (other : List ℕ) → i < suc place → IsFoundAt n (x ∷ rs) i (Some other) → first_fault Index other ≡ None
       behind file here none place more zero other h is = one_passed file other none (found_first n x rs (Some other) (Some file) is here)
-      behind file here none place more (suc i) other h is = more i other (omega (arith, h)) (found_behind n i x rs (Some other) is)
+      behind file here none place more (suc i) other h is = more i other (omega (arith, h)) (found_after n i x rs (Some other) is)
 
       later : (file : List ℕ) → read n x.path ≡ Some file → first_fault Index file ≡ None → IsFirstBad (suc n) (number + 1) rs refusal → IsFirstBad n number (x ∷ rs) refusal
       later file here none f =
           let k : (number + 1) + f.place ≡ number + suc f.place = omega arith in
-          record { place = suc f.place; cause = f.cause; told = f.told ∙ ap (λ m. IndexBad m f.cause) k; first = f.first; stands = f.stands; before = behind file here none f.place f.before }
+          record { place = suc f.place; cause = f.cause; told = f.told ∙ ap (λ m. IndexBad m f.cause) k; first = f.first; located = f.located; before = behind file here none f.place f.before }
 
       by_index : (file : List ℕ) (others : List (List ℕ)) → read n x.path ≡ Some file → (indexes_in_files (number + 1) others ≡ Err refusal → IsFirstBad (suc n) (number + 1) rs refusal) → indexes_in_files number (file ∷ others) ≡ Err refusal
           → IsFirstBad n number (x ∷ rs) refusal
@@ -211,7 +211,7 @@ module _ (command : CommandLine) (read : Reads) where
           elim (and_then_err (index_in_file number file) (λ index. and_then (indexes_in_files (number + 1) others) (λ indexes. Ok (index ∷ indexes))) refusal e) [
             | inl bad ↦ (let why = cause_err (IndexBad number) (first_fault Index file) _ refusal bad in
                 let k : number ≡ number + 0 = omega arith in
-                record { place = 0; cause = why.0; told = sym why.2 ∙ ap (λ m. IndexBad m why.0) k; first = x; stands = refl; before = λ i other h is. absurd (omega (arith, h)) })
+                record { place = 0; cause = why.0; told = sym why.2 ∙ ap (λ m. IndexBad m why.0) k; first = x; located = refl; before = λ i other h is. absurd (omega (arith, h)) })
             | inr next ↦ elim (and_then_err (indexes_in_files (number + 1) others) (λ indexes. Ok (next.0 ∷ indexes)) refusal next.2) [
               | inl rest ↦ later file here (passed (IndexBad number) (first_fault Index file) _ next.0 next.1) (more rest)
               | inr last ↦ absurd (no_refusal (next.0 ∷ last.0) refusal last.2)
@@ -240,7 +240,7 @@ module _ (command : CommandLine) (read : Reads) where
           ap (λ m. read (first_index_read + m) is.repository.path) (sym at) ∙ is.is_file,
         )
 
-    has_leave : (place : ℕ) (x : Repository) → slice_get root.repositories place ≡ Some x → HasLeave command read
+    has_leave : (place : ℕ) (x : Repository) → slice_get root.repositories place ≡ Some x → AllowsUntrusted command read
     has_leave place x at = (has_both root is_root, (root.repositories, root_listed command read root is_root), by_list root.repositories refl at)
       where
         by_list : (rs : List Repository) → root.repositories ≡ rs → slice_get rs place ≡ Some x → command.flags.allow_untrusted ≡ true
@@ -251,7 +251,7 @@ module _ (command : CommandLine) (read : Reads) where
     missing_told refusal f =
         let before : HasIndexesBefore read (1 + f.place) = λ earlier h is.
         (let less : is.place < f.place = (let number = is.is_number in omega (arith, h, number)) in f.before is.place less (found_at earlier is.place None is refl)) in
-        subst IsSo (sym f.told) (has_leave f.place f.first f.stands, before)
+        subst IsSo (sym f.told) (has_leave f.place f.first f.located, before)
 
     bad_told : (files : List (List ℕ)) (refusal : Refusal) → index_files_from 1 (index_reads_from read first_index_read root.repositories) ≡ Ok files
         → IsFirstBad first_index_read 1 root.repositories refusal → IsSo refusal
@@ -261,7 +261,7 @@ module _ (command : CommandLine) (read : Reads) where
         (let less : is.is_read.place < f.place = (let number = is.is_read.is_number in omega (arith, h, number)) in
         let none = f.before is.is_read.place is.file less (found_at earlier is.is_read.place (Some is.file) is.is_read refl) in
         let both : Some cause ≡ None = sym is.fault ∙ none in cc) in
-        subst IsSo (sym f.told) (has_leave f.place f.first f.stands, there, before)
+        subst IsSo (sym f.told) (has_leave f.place f.first f.located, there, before)
 
     indexes_told : (refusal : Refusal) → indexes_of read root.repositories ≡ Err refusal → IsSo refusal
     indexes_told refusal e =

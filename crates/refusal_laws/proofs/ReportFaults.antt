@@ -11,14 +11,14 @@ use Rattle.change_inputs.specs.Database.{Database}
 use Rattle.change_inputs.specs.Inputs.{Inputs, database_for, database_read, inputs_of, text_database_read}
 use Rattle.command_core.specs.Command.{CommandLine}
 use Rattle.command_core.specs.declared.operands.Operand.{Operand}
-use Rattle.installed_info.specs.Info.{info_done}
+use Rattle.installed_info.specs.Info.{report_and_refusal}
 use Rattle.make_info.specs.Reads.{Reads}
 use Rattle.query_core.specs.Queries.{queried}
 use Rattle.report_core.specs.declared.refusal.Refusal.{Refusal}
 use Rattle.report_core.specs.declared.refusal.Refusal.TheVariants.{NotInstalled}
 use Rattle.root_names.specs.RootNames.{database_name, text_database_name}
-use Rattle.tell_core.specs.AuditTold.{audit_of, audit_told, manifest_report, manifest_told}
-use Rattle.tell_core.specs.QueryTold.{query_report, query_told}
+use Rattle.tell_core.specs.AuditResult.{audit_of, audit_result, manifest_report, manifest_result}
+use Rattle.tell_core.specs.QueryResult.{query_report, query_result}
 use Rattle.refusal_laws.specs.InfoFaults.{IsAskedFor, IsFaultOfDatabase, IsFaultOfInfo, IsFirstNotInstalled, IsFoundInstalled}
 use Rattle.refusal_laws.specs.QueryFaults.{HasTooManyCandidates, IsFaultOfQuery}
 use Rattle.refusal_laws.proofs.CommandFaults.{pool_fault}
@@ -107,22 +107,22 @@ module _ (command : CommandLine) (named : command.flags.who_owns ≡ false) (pac
 
 manifest_err : (command : CommandLine) (database : Database) (refusal : Refusal) → manifest_report command database ≡ Err refusal → manifest_of database.packages command.operands ≡ Err refusal
 manifest_err command database refusal e =
-    elim (and_then_err (manifest_of database.packages command.operands) (λ report. Ok (info_done report None)) refusal e) [
+    elim (and_then_err (manifest_of database.packages command.operands) (λ report. Ok (report_and_refusal report None)) refusal e) [
       | inl first ↦ first
-      | inr next ↦ absurd (no_refusal (info_done next.0 None) refusal next.2)
+      | inr next ↦ absurd (no_refusal (report_and_refusal next.0 None) refusal next.2)
     ]
 
 -- ---- by what is read
 
 module _ (command : CommandLine) (read : Reads) where
-  pub audit_fault : (refusal : Refusal) → audit_told command read ≡ Err refusal → IsFaultOfDatabase command read refusal
+  pub audit_fault : (refusal : Refusal) → audit_result command read ≡ Err refusal → IsFaultOfDatabase command read refusal
   audit_fault refusal e =
       elim (and_then_err (database_for command read) (audit_of read) refusal e) [
         | inl first ↦ database_fault command read (read database_read database_name) (read text_database_read text_database_name) refusal refl refl first
         | inr next ↦ absurd (no_refusal _ refusal next.2)
       ]
 
-  pub manifest_fault : (refusal : Refusal) → command.flags.who_owns ≡ false → manifest_told command read ≡ Err refusal → IsFaultOfInfo command read refusal
+  pub manifest_fault : (refusal : Refusal) → command.flags.who_owns ≡ false → manifest_result command read ≡ Err refusal → IsFaultOfInfo command read refusal
   manifest_fault refusal named e =
       elim (and_then_err (database_for command read) (manifest_report command) refusal e) [
         | inl first ↦ inl (database_fault command read (read database_read database_name) (read text_database_read text_database_name) refusal refl refl first)
@@ -131,12 +131,12 @@ module _ (command : CommandLine) (read : Reads) where
 
   too_many : (inputs : Inputs) (refusal : Refusal) → inputs_of command read ≡ Ok inputs → query_report command inputs ≡ Err refusal → HasTooManyCandidates command read refusal
   too_many inputs refusal are e =
-      elim (and_then_err (root_pool inputs no_names) (λ (pool : SealedPool). Ok (info_done (queried command pool inputs.root.repositories) None)) refusal e) [
+      elim (and_then_err (root_pool inputs no_names) (λ (pool : SealedPool). Ok (report_and_refusal (queried command pool inputs.root.repositories) None)) refusal e) [
         | inl first ↦ (let fault = pool_fault inputs no_names refusal first in record { inputs = inputs; are_inputs = are; count = fault.0; too_many = fault.1; is = sym fault.2 })
         | inr next ↦ absurd (no_refusal _ refusal next.2)
       ]
 
-  pub query_fault : (refusal : Refusal) → query_told command read ≡ Err refusal → IsFaultOfQuery command read refusal
+  pub query_fault : (refusal : Refusal) → query_result command read ≡ Err refusal → IsFaultOfQuery command read refusal
   query_fault refusal e =
       elim (and_then_err (inputs_of command read) (query_report command) refusal e) [
         | inl first ↦ inl (input_fault command read refusal first)

@@ -10,7 +10,7 @@ use Rattle.engine_core.specs.Selecting.{pool_for}
 use Rattle.journal_core.specs.Recovery.{intent_name}
 use Rattle.journal_core.specs.Staged.{unstaged_files}
 use Rattle.outcome.specs.Changing.{change_outcome}
-use Rattle.outcome.specs.Commands.{IsOutcomeOver, reads_in}
+use Rattle.outcome.specs.Commands.{IsOutcomeOn, reads_in}
 use Rattle.outcome.specs.Effect.{Changes, Effect, effect_of}
 use Rattle.outcome.specs.Given.{IsChosenFor, IsClashBy}
 use Rattle.outcome.specs.Outcome.{Outcome, just_refusal}
@@ -29,7 +29,7 @@ refused_is : (files : Files) (c : Result ChangeDone Refusal) (refusal : Refusal)
 refused_is files (Ok done) refusal e = absurd (cc (e))
 refused_is files (Err first) refusal e = ap (λ (r : Refusal). Err r) (some_same first refusal e)
 
-pub over_fault : (command : CommandLine) (files : Files) (o : Outcome) (refusal : Refusal) → effect_of command.applet ≡ Changes → IsOutcomeOver command files o → o.refusal ≡ Some refusal → IsFaultOver command files refusal
+pub over_fault : (command : CommandLine) (files : Files) (o : Outcome) (refusal : Refusal) → effect_of command.applet ≡ Changes → IsOutcomeOn command files o → o.refusal ≡ Some refusal → IsFaultOver command files refusal
 over_fault command files o refusal changes (given, is, outcome) e =
     let choice : IsChoiceFrom (pool_for command (reads_in files)) given.chosen = subst (λ (x : Effect). IsChosenFor x command (reads_in files) given.chosen) changes is.chosen in
     let clash : IsClashFor command (reads_in files) files given.chosen given.clash = subst (λ (x : Effect). IsClashBy x command (reads_in files) files given.chosen given.clash) changes is.clash in
@@ -44,7 +44,7 @@ over_fault command files o refusal changes (given, is, outcome) e =
 -- by whether the intent is bad
 pub run_fault : (command : CommandLine) (files : Files) (o : Outcome) (refusal : Refusal) → effect_of command.applet ≡ Changes
     → ((cause : Cause) → fault_of_intent (files intent_name) ≡ Some cause → o ≡ just_refusal files (IntentBad cause))
-    → (fault_of_intent (files intent_name) ≡ None → IsOutcomeOver command (unstaged_files files) o)
+    → (fault_of_intent (files intent_name) ≡ None → IsOutcomeOn command (unstaged_files files) o)
     → o.refusal ≡ Some refusal → IsFaultOfRun command files refusal
 run_fault command files o refusal changes bad works e = by_intent (fault_of_intent (files intent_name)) refl
   where

@@ -24,7 +24,7 @@ use Rattle.path_clashes.specs.Clash.{NamePair}
 use Rattle.report_core.specs.declared.refusal.Refusal.{Refusal}
 use Rattle.report_core.specs.declared.refusal.Refusal.TheVariants.{Owned, PathClash, Reserved, TriggerNeeded}
 use Rattle.refusal_laws.specs.ChangeFaults.{IsWatchedFor}
-use Rattle.refusal_laws.specs.TestsPassed.{AreUnreserved, HasNoFault, HasNoTrigger, HasNamesOfItsOwn, HasOwners, HasPassedBefore}
+use Rattle.refusal_laws.specs.TestsPassed.{AreUnreserved, HasNoFault, HasNoTrigger, PassesNameTests, PassesFileTests, HasPassedBefore}
 use Rattle.refusal_laws.proofs.ChangeFaults.{kept_test, large_told, trigger_of}
 use Rattle.refusal_laws.proofs.Lists.{and_then_err, and_then_ok, in_any, in_mapped, name_in}
 use Rattle.refusal_laws.proofs.Paths.{are_unreserved, have_owners}
@@ -71,7 +71,7 @@ module _ (inputs : Inputs) (r : Replacement) (wishes : ChangeWishes) (files : Fi
 
   -- ---- refused
 
-  trigger_passed : (no_scripts : Bool) (refusal : Refusal) → HasOwners change files → unless_trigger no_scripts (touched_paths change files) change.members ≡ Err refusal → IsSo refusal
+  trigger_passed : (no_scripts : Bool) (refusal : Refusal) → PassesFileTests change files → unless_trigger no_scripts (touched_paths change files) change.members ≡ Err refusal → IsSo refusal
   trigger_passed true refusal owners e = absurd (none change.members e)
     where
       none : (members : List Member) → unless_trigger true (touched_paths change files) members ≡ Err refusal → ⊥
@@ -79,7 +79,7 @@ module _ (inputs : Inputs) (r : Replacement) (wishes : ChangeWishes) (files : Fi
       none (m ∷ members) e = cc (e)
   trigger_passed false refusal owners e = let due = trigger_of (touched_paths change files) change.members refusal e in subst IsSo due.3 owners
 
-  triggers_passed : (refusal : Refusal) → HasOwners change files → with_triggers ≡ Err refusal → IsSo refusal
+  triggers_passed : (refusal : Refusal) → PassesFileTests change files → with_triggers ≡ Err refusal → IsSo refusal
   triggers_passed refusal owners e =
       elim (and_then_err (unless_trigger wishes.no_scripts (touched_paths change files) change.members) (λ is_allowed. unless_too_large inputs r wishes found files) refusal e) [
         | inl first ↦ trigger_passed wishes.no_scripts refusal owners first
@@ -87,7 +87,7 @@ module _ (inputs : Inputs) (r : Replacement) (wishes : ChangeWishes) (files : Fi
             subst IsSo told.2 (owners, no_trigger wishes change files next.0 next.1))
       ]
 
-  owners_passed : (o : Option ContestedPath) (refusal : Refusal) → contested_of change.members ≡ o → HasNamesOfItsOwn change files → unless_contested change.members o with_triggers ≡ Err refusal → IsSo refusal
+  owners_passed : (o : Option ContestedPath) (refusal : Refusal) → contested_of change.members ≡ o → PassesNameTests change files → unless_contested change.members o with_triggers ≡ Err refusal → IsSo refusal
   owners_passed None refusal is names e = triggers_passed refusal (names, have_owners change.members is) e
   owners_passed (Some c) refusal is names e =
       let same : Owned c.path (name_at_place change.members c.rivals.first) (name_at_place change.members c.rivals.second) ≡ refusal = cc in
@@ -107,7 +107,7 @@ module _ (inputs : Inputs) (r : Replacement) (wishes : ChangeWishes) (files : Fi
 
   -- ---- made
 
-  owners_made : (o : Option ContestedPath) (done : ChangeDone) → contested_of change.members ≡ o → HasNamesOfItsOwn change files → unless_contested change.members o with_triggers ≡ Ok done → HasNoFault wishes change files
+  owners_made : (o : Option ContestedPath) (done : ChangeDone) → contested_of change.members ≡ o → PassesNameTests change files → unless_contested change.members o with_triggers ≡ Ok done → HasNoFault wishes change files
   owners_made None done is names e =
       let triggers = and_then_ok (unless_trigger wishes.no_scripts (touched_paths change files) change.members) (λ is_allowed. unless_too_large inputs r wishes found files) done e in
       ((names, have_owners change.members is), no_trigger wishes change files triggers.0 triggers.1)

@@ -8,10 +8,10 @@ use Rattle.adb_view.specs.Plain.{Plain}
 use Rattle.adb_write.specs.Canonical.{overflow_of, passes}
 use Rattle.base_core.specs.Files.{Files}
 use Rattle.change_files.specs.FileChange.{FileChange}
-use Rattle.change_files.specs.NamesAfter.{coming_paths, name_change}
+use Rattle.change_files.specs.NamesAfter.{added_paths, name_change}
 use Rattle.change_inputs.specs.Inputs.{Inputs}
 use Rattle.change_outcome.specs.ChangeOutcome.{ChangeWishes, actions_of, change_members, file_change, new_records, touched_paths}
-use Rattle.change_outcome.specs.MembersAfter.{MemberFound, members_found}
+use Rattle.change_outcome.specs.MembersAfter.{MemberFound, found_members}
 use Rattle.change_outcome.specs.PackageFiles.{has_script_of}
 use Rattle.report_core.specs.Numbers.{TRIGGER_SCRIPT}
 use Rattle.change_outcome.specs.Triggers.{is_folder_matched, patterns_of}
@@ -33,9 +33,9 @@ use Rattle.refusal_laws.specs.PackageFaults.{IsFileBad, IsPackageMissing, IsPack
 
 -- a path is the first that an added package lists and that apk keeps for itself
 pub record IsFirstReserved (members : List Member) (path : List ℕ) : Type 0 where
-  pub comes : IsIn path (coming_paths members)
+  pub comes : IsIn path (added_paths members)
   pub reserved : is_reserved path ≡ true
-  pub first : (other : List ℕ) → IsIn other (coming_paths members) → is_reserved other ≡ true
+  pub first : (other : List ℕ) → IsIn other (added_paths members) → is_reserved other ≡ true
       → precedes other path ≡ false
 
 -- a package of this name lists the path, by this listing
@@ -45,8 +45,8 @@ pub record IsListedBy (members : List Member) (path name : List ℕ) (l : Listin
   pub by : member_name l.member ≡ name
 
 -- A path is contested: no package takes it over from all others that list it, and it is the first such
--- path. These two list it, and the one does not take over the files of the other; nor does the other
--- take over those of the one, if no third package lists it.
+-- path. These two list it, and the first does not take over files of the second. If only these two list
+-- it, neither takes over the other's.
 pub record IsContested (members : List Member) (path one other : List ℕ) : Type 0 where
   pub unowned : owner_of_path members path ≡ None
   pub first : (l : Listing) → IsIn l (member_listings members) → precedes l.path path ≡ true
@@ -56,7 +56,7 @@ pub record IsContested (members : List Member) (path one other : List ℕ) : Typ
   pub by_other : Listing
   pub lists_other : IsListedBy members path other by_other
   pub apart : by_one.place ≡ by_other.place → ⊥
-  pub stands : takes_over by_one.member.pkg by_other.member.pkg ≡ false
+  pub located : takes_over by_one.member.pkg by_other.member.pkg ≡ false
   pub neither : ((l : Listing) → IsIn l (member_listings members) → l.path ≡ path
       → (l.place ≡ by_one.place) ⊎ (l.place ≡ by_other.place))
       → takes_over by_other.member.pkg by_one.member.pkg ≡ false
@@ -77,7 +77,7 @@ pub record IsTriggerNeeded (wishes : ChangeWishes) (change : FileChange) (files 
     (name : List ℕ) : Type 0 where
   pub asked : wishes.no_scripts ≡ false
   pub member : Member
-  pub stands : IsIn member change.members
+  pub located : IsIn member change.members
   pub named : member_name member ≡ name
   pub has : has_script_of member.pkg TRIGGER_SCRIPT ≡ true
   pub watches : IsWatchedFor change files member.pkg
@@ -113,12 +113,12 @@ IsResultTooLarge inputs change files bytes values =
 -- a refusal is true of the files that the packages after a change would leave
 abbrev pub IsFaultOfFiles : Inputs → ChangeWishes → Files → List MemberFound → Refusal → Type 0
 IsFaultOfFiles inputs wishes files found (Reserved path) =
-    IsFirstReserved (members_found found) path
+    IsFirstReserved (found_members found) path
 IsFaultOfFiles inputs wishes files found (PathClash path other) =
     IsFirstClash (name_change (file_change inputs wishes found) files) files
     (record { path = path; other = other })
 IsFaultOfFiles inputs wishes files found (Owned path first second) =
-    IsContested (members_found found) path first second
+    IsContested (found_members found) path first second
 IsFaultOfFiles inputs wishes files found (TriggerNeeded name) =
     IsTriggerNeeded wishes (file_change inputs wishes found) files name
 IsFaultOfFiles inputs wishes files found (ResultTooLarge bytes values) =

@@ -3,7 +3,7 @@ pub mod InputFaults
 pub mod ReadBefore
 pub mod InfoFaults
 pub mod QueryFaults
-pub mod ComingPackages
+pub mod AddedPackages
 pub mod PackageFaults
 pub mod ChangeFaults
 pub mod FirstPackage

@@ -8,7 +8,7 @@ use Rattle.adb_view.specs.Plain.{Plain}
 use Rattle.base_core.specs.declared.cause.Cause.{Cause}
 use Rattle.change_inputs.specs.Inputs.{Inputs}
 use Rattle.change_outcome.specs.ChangeOutcome.{ChangeWishes}
-use Rattle.change_outcome.specs.PackageFiles.{ComingPackage, first_script_of, has_script_of, package_in_file, scripts_of_change}
+use Rattle.change_outcome.specs.PackageFiles.{AddedPackage, first_script_of, has_script_of, package_in_file, scripts_of_change}
 use Rattle.db_core.specs.Packages.{is_package_named}
 use Rattle.file_owners.specs.Replaces.{version_text}
 use Rattle.make_info.specs.Reads.{Reads}
@@ -17,7 +17,7 @@ use Rattle.pkg_core.specs.Whole.{package_fault}
 use Rattle.candidate_core.specs.Candidates.{Candidate, is_same_id}
 use Rattle.report_core.specs.Numbers.{HASHES_FIELD, NAME_FIELD, VERSION_FIELD}
 use Rattle.report_core.specs.Reports.{Change}
-use Rattle.refusal_laws.specs.ComingPackages.{IsBrought, IsReadFor, selected_of_name}
+use Rattle.refusal_laws.specs.AddedPackages.{IsAddedAsSelected, IsReadFor, selected_of_name}
 
 -- ---- its file
 
@@ -35,23 +35,23 @@ pub record IsFileBad (inputs : Inputs) (r : Replacement) (read : Reads) (name ve
 -- ---- another package
 
 -- the wanted id is the index's, the other that of the package's file, and they differ
-abbrev pub HasOtherId : Candidate → ComingPackage → List ℕ → List ℕ → Type 0
+abbrev pub HasOtherId : Candidate → AddedPackage → List ℕ → List ℕ → Type 0
 HasOtherId c pkg wanted found =
     (wanted ≡ c.id) × (found ≡ pkg.id) × (is_same_id wanted found ≡ false)
 
 -- the wanted name is the index's, the other that of the package's file
-abbrev pub HasOtherName : Candidate → ComingPackage → List ℕ → List ℕ → Type 0
+abbrev pub HasOtherName : Candidate → AddedPackage → List ℕ → List ℕ → Type 0
 HasOtherName c pkg wanted found =
     (wanted ≡ c.name) × (found ≡ package_name pkg.value) × (wanted ≡ found → ⊥)
 
 -- the wanted version is the index's, the other that of the package's file
-abbrev pub HasOtherVersion : Candidate → ComingPackage → List ℕ → List ℕ → Type 0
+abbrev pub HasOtherVersion : Candidate → AddedPackage → List ℕ → List ℕ → Type 0
 HasOtherVersion c pkg wanted found =
     (wanted ≡ selected_version c) × (found ≡ version_text pkg.value) × (wanted ≡ found → ⊥)
 
 -- the package in a file is not the candidate's: the id is another; or it is the same, and the name is
 -- another; or both are the same, and the version is another
-abbrev pub IsOtherPackage : Candidate → ComingPackage → ℕ → List ℕ → List ℕ → Type 0
+abbrev pub IsOtherPackage : Candidate → AddedPackage → ℕ → List ℕ → List ℕ → Type 0
 IsOtherPackage c pkg field wanted found =
     ((field ≡ HASHES_FIELD) × HasOtherId c pkg wanted found)
     ⊎ (((field ≡ NAME_FIELD) × (is_same_id c.id pkg.id ≡ true) × HasOtherName c pkg wanted found)
@@ -70,15 +70,15 @@ pub record IsPackageOther (inputs : Inputs) (r : Replacement) (read : Reads)
 -- ---- scripts
 
 -- a package before is removed: none of its name is selected
-pub record IsGoing (r : Replacement) (name : List ℕ) (pkg : Plain) : Type 0 where
+pub record IsRemovedPackage (r : Replacement) (name : List ℕ) (pkg : Plain) : Type 0 where
   pub before : find (is_package_named name) r.before ≡ Some pkg
   pub unselected : selected_of_name r name ≡ None
 
 -- a package of this name is added or removed
-abbrev pub IsComingOrGoing : Inputs → Replacement → Reads → List ℕ → Plain → Type 0
-IsComingOrGoing inputs r read name pkg =
-    ((coming : ComingPackage) × IsBrought inputs r read name coming × (pkg ≡ coming.value))
-    ⊎ IsGoing r name pkg
+abbrev pub IsAddedOrRemoved : Inputs → Replacement → Reads → List ℕ → Plain → Type 0
+IsAddedOrRemoved inputs r read name pkg =
+    ((coming : AddedPackage) × IsAddedAsSelected inputs r read name coming × (pkg ≡ coming.value))
+    ⊎ IsRemovedPackage r name pkg
 
 -- The change of the package of this name would run this script, the first that the package has of those
 -- that would run; and scripts are not skipped. `script` is its number in table 6 of `docs/formats.md`,
@@ -87,7 +87,7 @@ pub record IsScriptNeeded (inputs : Inputs) (r : Replacement) (wishes : ChangeWi
     (read : Reads) (name : List ℕ) (script : ℕ) : Type 0 where
   pub asked : wishes.no_scripts ≡ false
   pub pkg : Plain
-  pub is_package : IsComingOrGoing inputs r read name pkg
+  pub is_package : IsAddedOrRemoved inputs r read name pkg
   pub change : Change
   pub becomes : change_of_name r name ≡ Some change
   pub runs : IsIn script (scripts_of_change change)

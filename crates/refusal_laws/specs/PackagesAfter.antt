@@ -5,14 +5,14 @@ use Rattle.std.specs.List.{find}
 use Rattle.adb_fields.specs.FirstPair.{IsIn}
 use Rattle.adb_view.specs.Plain.{Plain}
 use Rattle.change_inputs.specs.Inputs.{Inputs}
-use Rattle.change_outcome.specs.MembersAfter.{MemberFound, coming_found, members_found, staying_found}
-use Rattle.change_outcome.specs.PackageFiles.{ComingPackage}
+use Rattle.change_outcome.specs.MembersAfter.{MemberFound, added_member_found, found_members, kept_member_found}
+use Rattle.change_outcome.specs.PackageFiles.{AddedPackage}
 use Rattle.db_core.specs.Members.{AreInOrder, member_name}
 use Rattle.db_core.specs.Packages.{is_package_named}
 use Rattle.make_info.specs.Reads.{Reads}
 use Rattle.package_changes.specs.Changes.{Replacement, change_of_name, is_same_selected}
 use Rattle.candidate_core.specs.Candidates.{Candidate}
-use Rattle.refusal_laws.specs.ComingPackages.{IsBrought, selected_of_name}
+use Rattle.refusal_laws.specs.AddedPackages.{IsAddedAsSelected, selected_of_name}
 
 -- a member is the package of its name before, to the letter, which is the selected candidate and does
 -- not change
@@ -22,14 +22,14 @@ pub record IsUnchanged (r : Replacement) (name : List ℕ) (c : Candidate) (f : 
   pub before : find (is_package_named name) r.before ≡ Some pkg
   pub same : is_same_selected pkg c ≡ true
   pub becomes : change_of_name r name ≡ None
-  pub is : f ≡ staying_found pkg
+  pub is : f ≡ kept_member_found pkg
 
 -- a member is added, as the selected candidate says, with the contents of its files
-pub record HasCome (inputs : Inputs) (r : Replacement) (read : Reads) (name : List ℕ)
+pub record IsAddedMember (inputs : Inputs) (r : Replacement) (read : Reads) (name : List ℕ)
     (f : MemberFound) : Type 0 where
-  pub pkg : ComingPackage
-  pub brought : IsBrought inputs r read name pkg
-  pub is : f ≡ coming_found pkg
+  pub pkg : AddedPackage
+  pub brought : IsAddedAsSelected inputs r read name pkg
+  pub is : f ≡ added_member_found pkg
 
 -- the selected candidate of a member's name is the package before, or is added
 pub record IsSelectedMember (inputs : Inputs) (r : Replacement) (read : Reads) (f : MemberFound) :
@@ -37,13 +37,13 @@ pub record IsSelectedMember (inputs : Inputs) (r : Replacement) (read : Reads) (
   pub candidate : Candidate
   pub selected : selected_of_name r (member_name f.member) ≡ Some candidate
   pub is : IsUnchanged r (member_name f.member) candidate f
-      ⊎ HasCome inputs r read (member_name f.member) f
+      ⊎ IsAddedMember inputs r read (member_name f.member) f
 
 -- The packages after a change are the selected ones: in byte order of names, each once, and one for
 -- each selected candidate.
 pub record AreSelectedOnes (inputs : Inputs) (r : Replacement) (read : Reads)
     (found : List MemberFound) : Type 0 where
-  pub in_order : AreInOrder (members_found found)
+  pub in_order : AreInOrder (found_members found)
   pub each : (f : MemberFound) → IsIn f found → IsSelectedMember inputs r read f
   pub all : (c : Candidate) → IsIn c r.selected
       → (f : MemberFound) × IsIn f found × (member_name f.member ≡ c.name)

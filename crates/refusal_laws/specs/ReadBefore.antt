@@ -30,13 +30,13 @@ HasRepositories read =
     (repositories : List Repository) × (repositories_of (repositories_found read) ≡ Ok repositories)
 
 -- the database and world were read without a refusal
-abbrev pub HasBoth : CommandLine → Reads → Type 0
-HasBoth command read = HasDatabase command read × HasWorld read
+abbrev pub HasDatabaseAndWorld : CommandLine → Reads → Type 0
+HasDatabaseAndWorld command read = HasDatabase command read × HasWorld read
 
 -- no line of the list of repositories is bad either, and reading them is allowed
-abbrev pub HasLeave : CommandLine → Reads → Type 0
-HasLeave command read =
-    HasBoth command read × HasRepositories read × (command.flags.allow_untrusted ≡ true)
+abbrev pub AllowsUntrusted : CommandLine → Reads → Type 0
+AllowsUntrusted command read =
+    HasDatabaseAndWorld command read × HasRepositories read × (command.flags.allow_untrusted ≡ true)
 
 -- the index of each repository with a lesser number is there
 abbrev pub HasIndexesBefore : Reads → ℕ → Type 0
@@ -57,10 +57,10 @@ ArePassedBefore read number =
 -- numbers, before the first of them is tested.
 abbrev pub HasReadBefore : CommandLine → Reads → Refusal → Type 0
 HasReadBefore command read (WorldBad line) = HasDatabase command read
-HasReadBefore command read (RepositoriesBad line) = HasBoth command read
-HasReadBefore command read Untrusted = HasBoth command read
+HasReadBefore command read (RepositoriesBad line) = HasDatabaseAndWorld command read
+HasReadBefore command read Untrusted = HasDatabaseAndWorld command read
 HasReadBefore command read (IndexMissing number) =
-    HasLeave command read × HasIndexesBefore read number
+    AllowsUntrusted command read × HasIndexesBefore read number
 HasReadBefore command read (IndexBad number cause) =
-    HasLeave command read × HasIndexes read × ArePassedBefore read number
+    AllowsUntrusted command read × HasIndexes read × ArePassedBefore read number
 HasReadBefore command read other = Unit {0}

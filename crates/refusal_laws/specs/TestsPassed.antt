@@ -5,7 +5,7 @@ use Rattle.adb_fields.specs.FirstPair.{IsIn}
 use Rattle.adb_schema.specs.Reserved.{is_reserved}
 use Rattle.base_core.specs.Files.{Files}
 use Rattle.change_files.specs.FileChange.{FileChange}
-use Rattle.change_files.specs.NamesAfter.{coming_paths, name_change}
+use Rattle.change_files.specs.NamesAfter.{added_paths, name_change}
 use Rattle.change_outcome.specs.ChangeOutcome.{ChangeWishes}
 use Rattle.change_outcome.specs.PackageFiles.{has_script_of}
 use Rattle.report_core.specs.Numbers.{TRIGGER_SCRIPT}
@@ -19,7 +19,7 @@ use Rattle.refusal_laws.specs.ChangeFaults.{IsWatchedFor}
 -- no added package lists a path that apk keeps for itself
 abbrev pub AreUnreserved : List Member → Type 0
 AreUnreserved members =
-    (path : List ℕ) → IsIn path (coming_paths members) → is_reserved path ≡ false
+    (path : List ℕ) → IsIn path (added_paths members) → is_reserved path ≡ false
 
 -- each path that a package lists has an owner
 abbrev pub HaveOwners : List Member → Type 0
@@ -34,23 +34,23 @@ HasNoTrigger wishes change files =
     → has_script_of m.pkg TRIGGER_SCRIPT ≡ true → IsWatchedFor change files m.pkg → ⊥
 
 -- the first two tests of files passed: no path is reserved and no name clashes
-abbrev pub HasNamesOfItsOwn : FileChange → Files → Type 0
-HasNamesOfItsOwn change files =
+abbrev pub PassesNameTests : FileChange → Files → Type 0
+PassesNameTests change files =
     AreUnreserved change.members × HasNoClash (name_change change files) files
 
 -- all three tests of files passed: nor is a path contested
-abbrev pub HasOwners : FileChange → Files → Type 0
-HasOwners change files = HasNamesOfItsOwn change files × HaveOwners change.members
+abbrev pub PassesFileTests : FileChange → Files → Type 0
+PassesFileTests change files = PassesNameTests change files × HaveOwners change.members
 
 -- a change has none of the faults for which its files would be refused, except for the limits of what
 -- is written
 abbrev pub HasNoFault : ChangeWishes → FileChange → Files → Type 0
-HasNoFault wishes change files = HasOwners change files × HasNoTrigger wishes change files
+HasNoFault wishes change files = PassesFileTests change files × HasNoTrigger wishes change files
 
 -- what is tested before this refusal of a change's files
 abbrev pub HasPassedBefore : ChangeWishes → FileChange → Files → Refusal → Type 0
 HasPassedBefore wishes change files (PathClash path other) = AreUnreserved change.members
-HasPassedBefore wishes change files (Owned path first second) = HasNamesOfItsOwn change files
-HasPassedBefore wishes change files (TriggerNeeded name) = HasOwners change files
+HasPassedBefore wishes change files (Owned path first second) = PassesNameTests change files
+HasPassedBefore wishes change files (TriggerNeeded name) = PassesFileTests change files
 HasPassedBefore wishes change files (ResultTooLarge bytes values) = HasNoFault wishes change files
 HasPassedBefore wishes change files other = Unit {0}

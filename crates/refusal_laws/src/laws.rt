@@ -11,11 +11,11 @@ ghost use Rattle.command_core.specs.Command.{CommandLine};
 ghost use Rattle.engine_core.specs.Changed.{IsClashFor, change_of_command, selected_of_inputs};
 ghost use Rattle.engine_core.specs.Choice.{IsChoiceFrom};
 ghost use Rattle.engine_core.specs.Selecting.{pool_for};
-ghost use Rattle.installed_info.specs.declared.telling.InfoDone.{InfoDone};
+ghost use Rattle.installed_info.specs.declared.telling.ReportAndRefusal.{ReportAndRefusal};
 ghost use Rattle.make_info.specs.Reads.{Reads};
 ghost use Rattle.make_info.specs.declared.fault.MakeFault.TheVariants.{TooLarge};
 ghost use Rattle.make_package.specs.Making.{made_package};
-ghost use Rattle.outcome.specs.Commands.{IsOutcomeOver};
+ghost use Rattle.outcome.specs.Commands.{IsOutcomeOn};
 ghost use Rattle.outcome.specs.Effect.{Changes, effect_of};
 ghost use Rattle.outcome.specs.Outcome.{Outcome};
 ghost use Rattle.outcome.specs.Words.{IsOutcome};
@@ -35,9 +35,9 @@ ghost use Rattle.refusal_laws.specs.ReadBefore.{HasReadBefore};
 ghost use Rattle.refusal_laws.specs.RunFaults.{IsFaultOfRun, IsFaultOver};
 ghost use Rattle.refusal_laws.specs.RunMade.{HasFirstSelection};
 ghost use Rattle.refusal_laws.specs.TestsPassed.{HasNoFault, HasPassedBefore};
-ghost use Rattle.tell_core.specs.AuditTold.{audit_told, manifest_told};
-ghost use Rattle.tell_core.specs.InfoTold.{info_told};
-ghost use Rattle.tell_core.specs.QueryTold.{query_told};
+ghost use Rattle.tell_core.specs.AuditResult.{audit_result, manifest_result};
+ghost use Rattle.tell_core.specs.InfoResult.{info_result};
+ghost use Rattle.tell_core.specs.QueryResult.{query_result};
 ghost use Rattle.words_core.specs.Grammar.{command_of};
 
 use outcome::{a_change_takes_the_first_selection_or_is_refused, a_command_recovers};
@@ -59,27 +59,29 @@ pub fn a_refused_input_has_its_fault()
 pub fn a_refused_info_has_its_fault()
     // The refusal replaces the report.
     ensures fault { (command : CommandLine) (read : Reads) (refusal : Refusal)
-        → info_told command read ≡ Err refusal → IsFaultOfInfo command read refusal }
+        → info_result command read ≡ Err refusal → IsFaultOfInfo command read refusal }
     // The refusal follows the report.
-    ensures late { (command : CommandLine) (read : Reads) (done : InfoDone) (refusal : Refusal)
-        → info_told command read ≡ Ok done → done.late ≡ Some refusal
+    ensures following_refusal { (command : CommandLine) (read : Reads) (done : ReportAndRefusal)
+        (refusal : Refusal)
+        → info_result command read ≡ Ok done → done.following_refusal ≡ Some refusal
         → (command.flags.installed ≡ true) × IsFaultOfOperand command read refusal }
     // No refusal.
-    ensures told { (command : CommandLine) (read : Reads) (done : InfoDone)
-        → info_told command read ≡ Ok done → done.late ≡ None → AreOperandsFound command read }
+    ensures told { (command : CommandLine) (read : Reads) (done : ReportAndRefusal)
+        → info_result command read ≡ Ok done → done.following_refusal ≡ None
+        → AreOperandsFound command read }
 {}
 
 /// If an `audit` is refused, it is for a fault of the database. A difference is no refusal.
 pub fn a_refused_audit_has_its_fault()
     ensures { (command : CommandLine) (read : Reads) (refusal : Refusal)
-        → audit_told command read ≡ Err refusal → IsFaultOfDatabase command read refusal }
+        → audit_result command read ≡ Err refusal → IsFaultOfDatabase command read refusal }
 {}
 
 /// If a `manifest` is refused, it is for a fault of the database, or for the first operand that
 /// names no installed package. A `manifest` has no flag `--who-owns`.
 pub fn a_refused_manifest_has_its_fault()
     ensures { (command : CommandLine) (read : Reads) (refusal : Refusal)
-        → command.flags.who_owns ≡ false → manifest_told command read ≡ Err refusal
+        → command.flags.who_owns ≡ false → manifest_result command read ≡ Err refusal
         → IsFaultOfInfo command read refusal }
 {}
 
@@ -87,7 +89,7 @@ pub fn a_refused_manifest_has_its_fault()
 /// for more candidates than a pool holds.
 pub fn a_refused_query_has_its_fault()
     ensures { (command : CommandLine) (read : Reads) (refusal : Refusal)
-        → query_told command read ≡ Err refusal → IsFaultOfQuery command read refusal }
+        → query_result command read ≡ Err refusal → IsFaultOfQuery command read refusal }
 {}
 
 /// If a change is refused, the refusal is true: of an added or removed package, or of the files
@@ -105,12 +107,12 @@ pub fn a_refused_change_has_its_fault()
 pub fn a_refused_run_has_its_fault()
     // Of a command over the files on which it works.
     ensures over { (command : CommandLine) (files : Files) (o : Outcome) (refusal : Refusal)
-        → effect_of command.applet ≡ Changes → IsOutcomeOver command files o
+        → effect_of command.applet ≡ Changes → IsOutcomeOn command files o
         → o.refusal ≡ Some refusal → IsFaultOver command files refusal }
     // Of a run, over the files in which it begins.
     ensures words { (words : List (List ℕ)) (command : CommandLine) (files : Files) (o : Outcome)
         (refusal : Refusal) → command_of words ≡ Ok command
-        → effect_of command.applet ≡ Changes → IsOutcome words files o
+        → effect_of command.applet ≡ Changes → IsOutcome (command_of words) files o
         → o.refusal ≡ Some refusal → IsFaultOfRun command files refusal }
 {
     a_command_recovers();
@@ -187,7 +189,7 @@ pub fn the_packages_after_a_change_are_the_selected_ones()
 /// selection (the preferred solution).
 pub fn the_packages_after_a_run_are_those_of_the_first_selection()
     ensures { (command : CommandLine) (files : Files) (o : Outcome)
-        → effect_of command.applet ≡ Changes → IsOutcomeOver command files o → o.refusal ≡ None
+        → effect_of command.applet ≡ Changes → IsOutcomeOn command files o → o.refusal ≡ None
         → command.flags.simulate ≡ false → HasFirstSelection command files }
 {
     a_change_takes_the_first_selection_or_is_refused();

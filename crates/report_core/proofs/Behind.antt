@@ -1,6 +1,6 @@
 -- A text behind another on a sink.
 use Rattle.std.proofs.Common.{◌≡◌, ◌∙◌, ℕ, List, ◌++◌, Option, Result, Ok, Err, subst, refl, sym, codes, append_assoc}
-use Rattle.base_core.specs.Faults.{Counts, GoesOn, IsNoFault}
+use Rattle.base_core.specs.Faults.{Counts, CountsOnlyRise, IsNoFault}
 use Rattle.base_core.specs.Sink.{Adds, SinkChange}
 use Rattle.base_core.specs.Write.{Writes}
 use Rattle.report_core.specs.Texts.{package_text}
@@ -14,7 +14,7 @@ Between told before told_then after = record { bytes_before = told; bytes_after 
 -- the first text was written, and nothing failed
 pub record IsDone (text : List ℕ) (sink : SinkChange) : Type 0 where
   pub added : Adds sink.bytes_before sink.bytes_after text
-  pub goes_on : GoesOn sink.before sink.after
+  pub goes_on : CountsOnlyRise sink.before sink.after
   pub kept : IsNoFault sink.before sink.after
   pub proper : sink.after.misuses ≡ sink.before.misuses
 

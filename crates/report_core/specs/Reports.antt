@@ -65,16 +65,16 @@ change_lines changes = change_lines_from 1 (length changes) changes
 -- ---- further lines on a change
 
 -- each text with a space before it
-abbrev pub spaced_behind : List (List ℕ) → List ℕ
-spaced_behind [] = []
-spaced_behind (text ∷ texts) = codes " " ++ text ++ spaced_behind texts
+abbrev pub with_spaces_before : List (List ℕ) → List ℕ
+with_spaces_before [] = []
+with_spaces_before (text ∷ texts) = codes " " ++ text ++ with_spaces_before texts
 
 -- the report on a package that was to be removed and is kept, with the names of those that need it, if
 -- there are any
 abbrev pub stays_text : List ℕ → List (List ℕ) → List ℕ
 stays_text name [] = name ++ codes " stays"
 stays_text name (first ∷ others) =
-    name ++ codes " stays; required by:" ++ spaced_behind (first ∷ others)
+    name ++ codes " stays; required by:" ++ with_spaces_before (first ∷ others)
 
 -- the folder of a due trigger as a path from the root on: a folder without a name is the root
 abbrev pub folder_text : List ℕ → List ℕ

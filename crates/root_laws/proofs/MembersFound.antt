@@ -18,8 +18,8 @@ use Rattle.change_files.proofs.InOrder.{order_rises}
 use Rattle.change_inputs.specs.Chains.{and_then}
 use Rattle.change_inputs.specs.Inputs.{first_index_read}
 use Rattle.change_outcome.proofs.Made.{and_then_ok}
-use Rattle.change_outcome.specs.MembersAfter.{MemberFound, coming_by_path, coming_found, members_after, members_found, name_after, name_by_change, name_by_selected, name_that_comes, name_that_goes, names_after, staying_found}
-use Rattle.change_outcome.specs.PackageFiles.{ComingPackage, package_file_of, package_found, package_in_file, scripts_of_change, unless_different, unless_number, unless_package_bad, unless_script, first_script_of}
+use Rattle.change_outcome.specs.MembersAfter.{MemberFound, added_package_by_path, added_member_found, members_after, found_members, name_after, name_by_change, name_by_selected, member_of_added_name, member_of_removed_name, names_after, kept_member_found}
+use Rattle.change_outcome.specs.PackageFiles.{AddedPackage, package_file_of, package_found, package_in_file, scripts_of_change, unless_different, unless_script_number, unless_package_bad, unless_script, first_script_of}
 use Rattle.db_core.specs.Members.{AreInOrder, Member, member_name}
 use Rattle.db_core.specs.Packages.{is_package_named}
 use Rattle.db_core.specs.SoundMembers.{AreOfSoundContainers, IsOfSoundContainer}
@@ -68,7 +68,7 @@ first_none (Some cause) b e = absurd (cc (e))
 some_same : {X : Type 0} (x y : X) → Some x ≡ Some y → x ≡ y
 some_same x y e = (cc)
 
-abbrev kept_package : Result ComingPackage Refusal → Result ComingPackage Refusal
+abbrev kept_package : Result AddedPackage Refusal → Result AddedPackage Refusal
 kept_package r = r
 
 abbrev kept_found : Option MemberFound → Result (Option MemberFound) Refusal
@@ -76,7 +76,7 @@ kept_found o = Ok o
 
 module _ (come : FilesMayCome) (tested : PackagesAreTested) (read : Reads) (bytes : FindBytes read) where
   -- its name and its version are the candidate's
-  different_ok : (c : Candidate) (pkg p : ComingPackage) → unless_different c pkg ≡ Ok p → (p ≡ pkg) × (package_name pkg.value ≡ c.name)
+  different_ok : (c : Candidate) (pkg p : AddedPackage) → unless_different c pkg ≡ Ok p → (p ≡ pkg) × (package_name pkg.value ≡ c.name)
   different_ok c pkg p e = by_tests _ _ _ (is_same_id c.id pkg.id) (bytes_eq c.name (package_name pkg.value)) (bytes_eq (selected_version c) (version_text pkg.value)) refl e
     where
       by_tests : (x y z : Refusal) (a b v : Bool) → bytes_eq c.name (package_name pkg.value) ≡ b
@@ -86,13 +86,13 @@ module _ (come : FilesMayCome) (tested : PackagesAreTested) (read : Reads) (byte
       by_tests x y z true false v is e = absurd (cc (e))
       by_tests x y z false b v is e = absurd (cc (e))
 
-  file_ok : (c : Candidate) (file : List ℕ) (pkg : ComingPackage) → All (λ b. b < 256) file → package_found c (Some file) ≡ Ok pkg → IsFoundAs c.name (coming_found pkg).member
+  file_ok : (c : Candidate) (file : List ℕ) (pkg : AddedPackage) → All (λ b. b < 256) file → package_found c (Some file) ≡ Ok pkg → IsFoundAs c.name (added_member_found pkg).member
   file_ok c file pkg small e = by_fault (package_fault file) refl e
     where
-      by_fault : (fault : Option Cause) → package_fault file ≡ fault → unless_package_bad c fault (package_in_file file) ≡ Ok pkg → IsFoundAs c.name (coming_found pkg).member
+      by_fault : (fault : Option Cause) → package_fault file ≡ fault → unless_package_bad c fault (package_in_file file) ≡ Ok pkg → IsFoundAs c.name (added_member_found pkg).member
       by_fault None sound e =
           let is = different_ok c (package_in_file file) pkg e in
-          subst (λ (p : ComingPackage). IsFoundAs c.name (coming_found p).member) (sym is.0)
+          subst (λ (p : AddedPackage). IsFoundAs c.name (added_member_found p).member) (sym is.0)
           (record {
             sound = come file (package_id file) (first_none (first_fault Package file) (fault_in (files_in_file file)) (sym (tested file) ∙ sound))
                 (payload_all (λ b. b < 256) file small) (ap is_digest_length (length-sha256 (payload_in file)));
@@ -100,11 +100,11 @@ module _ (come : FilesMayCome) (tested : PackagesAreTested) (read : Reads) (byte
           })
       by_fault (Some cause) sound e = absurd (cc (e))
 
-  path_ok : (n : ℕ) (c : Candidate) (path : Option (List ℕ)) (pkg : ComingPackage) → coming_by_path read n c path ≡ Ok pkg → IsFoundAs c.name (coming_found pkg).member
+  path_ok : (n : ℕ) (c : Candidate) (path : Option (List ℕ)) (pkg : AddedPackage) → added_package_by_path read n c path ≡ Ok pkg → IsFoundAs c.name (added_member_found pkg).member
   path_ok n c None pkg e = absurd (cc (e))
   path_ok n c (Some path) pkg e = by_read (read n path) refl e
     where
-      by_read : (o : Option (List ℕ)) → read n path ≡ o → package_found c o ≡ Ok pkg → IsFoundAs c.name (coming_found pkg).member
+      by_read : (o : Option (List ℕ)) → read n path ≡ o → package_found c o ≡ Ok pkg → IsFoundAs c.name (added_member_found pkg).member
       by_read None is e = absurd (cc (e))
       by_read (Some file) is e = file_ok c file pkg (bytes n path file is) e
 
@@ -112,27 +112,27 @@ module _ (come : FilesMayCome) (tested : PackagesAreTested) (read : Reads) (byte
   script_ok true name pkg numbers a b e = (cc (e))
   script_ok false name pkg numbers a b e = by_number (first_script_of pkg numbers) e
     where
-      by_number : (o : Option ℕ) → unless_number name o a ≡ Ok b → a ≡ b
+      by_number : (o : Option ℕ) → unless_script_number name o a ≡ Ok b → a ≡ b
       by_number None e = (cc (e))
       by_number (Some number) e = absurd (cc (e))
 
   comes_ok : (repositories : List Repository) (no_scripts : Bool) (n : ℕ) (name : List ℕ) (change : Change) (c : Candidate) (o : Option MemberFound) → c.name ≡ name
-      → name_that_comes read repositories no_scripts n name change c ≡ Ok o → IfFound name o
+      → member_of_added_name read repositories no_scripts n name change c ≡ Ok o → IfFound name o
   comes_ok repositories no_scripts n name change c o named e =
-      let pkg = and_then_ok (coming_by_path read n c (package_file_of repositories c)) (λ pkg.
-      unless_script no_scripts name pkg.value (scripts_of_change change) (Some (coming_found pkg))) o e in
-      subst (IfFound name) (script_ok no_scripts name pkg.0.value (scripts_of_change change) (Some (coming_found pkg.0)) o pkg.2)
-      (subst (λ (q : List ℕ). IsFoundAs q (coming_found pkg.0).member) named (path_ok n c (package_file_of repositories c) pkg.0 pkg.1))
+      let pkg = and_then_ok (added_package_by_path read n c (package_file_of repositories c)) (λ pkg.
+      unless_script no_scripts name pkg.value (scripts_of_change change) (Some (added_member_found pkg))) o e in
+      subst (IfFound name) (script_ok no_scripts name pkg.0.value (scripts_of_change change) (Some (added_member_found pkg.0)) o pkg.2)
+      (subst (λ (q : List ℕ). IsFoundAs q (added_member_found pkg.0).member) named (path_ok n c (package_file_of repositories c) pkg.0 pkg.1))
 
-  goes_ok : (no_scripts : Bool) (name : List ℕ) (change : Change) (before : Option Plain) (o : Option MemberFound) → name_that_goes no_scripts name change before ≡ Ok o → IfFound name o
+  goes_ok : (no_scripts : Bool) (name : List ℕ) (change : Change) (before : Option Plain) (o : Option MemberFound) → member_of_removed_name no_scripts name change before ≡ Ok o → IfFound name o
   goes_ok no_scripts name change None o e = let same : None ≡ o = cc in subst (IfFound name) same tt
   goes_ok no_scripts name change (Some pkg) o e = subst (IfFound name) (script_ok no_scripts name pkg (scripts_of_change change) None o e) tt
 
   module _ (r : Replacement) (before : AllSound r.before) (repositories : List Repository) (no_scripts : Bool) where
-    stays_ok : (name : List ℕ) (o : Option Plain) (f : Option MemberFound) → find (is_package_named name) r.before ≡ o → kept_found (option_map staying_found o) ≡ kept_found f → IfFound name f
+    stays_ok : (name : List ℕ) (o : Option Plain) (f : Option MemberFound) → find (is_package_named name) r.before ≡ o → kept_found (option_map kept_member_found o) ≡ kept_found f → IfFound name f
     stays_ok name None f is e = let same : None ≡ f = cc in subst (IfFound name) same tt
     stays_ok name (Some pkg) f is e =
-        let same : Some (staying_found pkg) ≡ f = cc in
+        let same : Some (kept_member_found pkg) ≡ f = cc in
         let here = found_in (is_package_named name) r.before pkg is in
         subst (IfFound name) same (record { sound = before pkg here.0; named = (bytes_eq-Decides (package_name pkg) name).0 here.1 })
 
@@ -155,9 +155,9 @@ module _ (come : FilesMayCome) (tested : PackagesAreTested) (read : Reads) (byte
     -- of these names, in their order
     abbrev AreFoundOf : List (List ℕ) → List MemberFound → Type 0
     AreFoundOf names fs =
-        AreOfSoundContainers (members_found fs)
-        × ((q : List ℕ) → Names.IsIn q (map member_name (members_found fs)) → Names.IsIn q names)
-        × Names.Rises (map member_name (members_found fs))
+        AreOfSoundContainers (found_members fs)
+        × ((q : List ℕ) → Names.IsIn q (map member_name (found_members fs)) → Names.IsIn q names)
+        × Names.Rises (map member_name (found_members fs))
 
     one_more : (name : List ℕ) (names : List (List ℕ)) (first : Option MemberFound) (fs : List MemberFound) → Names.Rises (name ∷ names) → IfFound name first → AreFoundOf names fs
         → AreFoundOf (name ∷ names) (cons_option first fs)
@@ -179,8 +179,8 @@ module _ (come : FilesMayCome) (tested : PackagesAreTested) (read : Reads) (byte
         subst (AreFoundOf (name ∷ names)) same
         (one_more name names first.0 others.0 rises (name_ok n name first.0 first.1) (names_ok (suc n) names others.0 rises.1 others.1))
 
-    pub members_ok : (fs : List MemberFound) → members_after r read repositories no_scripts ≡ Ok fs → AreOfSoundContainers (members_found fs) × AreInOrder (members_found fs)
+    pub members_ok : (fs : List MemberFound) → members_after r read repositories no_scripts ≡ Ok fs → AreOfSoundContainers (found_members fs) × AreInOrder (found_members fs)
     unfolding members_after
     members_ok fs e =
         let are = names_ok (first_index_read + length repositories) (names_on_both_sides r) fs (order_rises _) e in
-        (are.0, Names.pairs_from_rises (map member_name (members_found fs)) are.2)
+        (are.0, Names.pairs_from_rises (map member_name (found_members fs)) are.2)

@@ -11,7 +11,7 @@ use Rattle.change_inputs.specs.Inputs.{Inputs, Root, database_for, index_reads_f
 use Rattle.change_inputs.specs.Repositories.{if_trusted, root_repositories}
 use Rattle.change_inputs.specs.World.{root_world, text_found}
 use Rattle.change_outcome.specs.ChangeOutcome.{ChangeDone}
-use Rattle.change_outcome.specs.MembersAfter.{members_found}
+use Rattle.change_outcome.specs.MembersAfter.{found_members}
 use Rattle.command_core.specs.Command.{CommandLine}
 use Rattle.dep_core.specs.Dependency.{Dependency}
 use Rattle.dep_core.specs.Repositories.{Repository, repositories_of}
@@ -34,7 +34,7 @@ pub begins : (command later : CommandLine) (read next : Reads) (chosen : Option 
 begins command later read next chosen done left inputs reads e =
     let is = inputs_parts later next inputs e in
     record {
-      database = one_answer (database_for later next) inputs.root.database (database_of_members (members_found left.found) left.bytes) is.database (left.database later next reads);
+      database = one_answer (database_for later next) inputs.root.database (database_of_members (found_members left.found) left.bytes) is.database (left.database later next reads);
       world = one_answer (root_world (text_found (next world_read world_name))) inputs.root.world left.selected.inputs.root.new_world is.world (left.world next reads);
     }
 
@@ -110,4 +110,4 @@ pub refused : (command later : CommandLine) (read next : Reads) (chosen : Option
     → ReadsRoot done.files next → inputs_of later next ≡ Err refusal → IsOfRepositories refusal
 refused command later read next chosen done left refusal reads e =
     subst (λ (r : Result Inputs Refusal). FailsOfRepositories r) e
-    (inputs_fail later next (database_of_members (members_found left.found) left.bytes) left.selected.inputs.root.new_world (left.database later next reads) (left.world next reads))
+    (inputs_fail later next (database_of_members (found_members left.found) left.bytes) left.selected.inputs.root.new_world (left.database later next reads) (left.world next reads))

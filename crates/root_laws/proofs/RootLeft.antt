@@ -11,11 +11,11 @@ use Rattle.change_inputs.specs.World.{root_world, text_found}
 use Rattle.change_outcome.specs.Made.{IsChangeMade}
 use Rattle.change_outcome.proofs.Made.{and_then_ok, made}
 use Rattle.change_outcome.specs.ChangeOutcome.{ChangeDone, change_or_refusal, file_change, new_records}
-use Rattle.change_outcome.specs.MembersAfter.{contents_found, members_found}
+use Rattle.change_outcome.specs.MembersAfter.{found_package_contents, found_members}
 use Rattle.command_core.specs.Command.{CommandLine}
 use Rattle.engine_core.specs.Changed.{Selected, change_of_selected, change_of_command, selected_by, selected_for, selected_of_inputs, simulated_change}
 use Rattle.engine_core.specs.Selecting.{pool_by}
-use Rattle.engine_core.specs.Wishes.{unknown_place, unless_place, wishes_of}
+use Rattle.engine_core.specs.Wishes.{unknown_operand_place, unless_unknown_operand, wishes_of}
 use Rattle.make_info.specs.Reads.{Reads}
 use Rattle.path_clashes.specs.Clash.{NamePair}
 use Rattle.candidate_core.specs.Rank.{SealedPool}
@@ -53,15 +53,15 @@ chosen_ok command inputs pool (Some trace) s e = by_same _ refl refl e
     by_same : (t : Selected) → t.inputs ≡ inputs → t.replacement.before ≡ inputs.root.database.packages → kept t ≡ kept s → (s.inputs ≡ inputs) × (s.replacement.before ≡ inputs.root.database.packages)
     by_same t same before e = let is : t ≡ s = cc in (ap (λ (x : Selected). x.inputs) (sym is) ∙ same, ap (λ (x : Selected). x.replacement.before) (sym is) ∙ before)
 
-place_ok : {A : Type 0} (o : Option ℕ) (next : Result A Refusal) (a : A) → unless_place o next ≡ Ok a → next ≡ Ok a
+place_ok : {A : Type 0} (o : Option ℕ) (next : Result A Refusal) (a : A) → unless_unknown_operand o next ≡ Ok a → next ≡ Ok a
 place_ok None next a e = e
 place_ok (Some place) next a e = absurd (cc (e))
 
 selected_ok : (command : CommandLine) (read : Reads) (chosen : Option (List ℕ)) (s : Selected) → selected_for command read chosen ≡ Ok s → IsSelectedOf command read s
 selected_ok command read chosen s e =
     let inputs = and_then_ok (inputs_of command read) (selected_of_inputs command chosen) s e in
-    let pool = and_then_ok (pool_by command inputs.0) (λ pool. unless_place (unknown_place command.applet inputs.0 command.operands) (selected_by command inputs.0 pool chosen)) s inputs.2 in
-    let is = chosen_ok command inputs.0 pool.0 chosen s (place_ok (unknown_place command.applet inputs.0 command.operands) (selected_by command inputs.0 pool.0 chosen) s pool.2) in
+    let pool = and_then_ok (pool_by command inputs.0) (λ pool. unless_unknown_operand (unknown_operand_place command.applet inputs.0 command.operands) (selected_by command inputs.0 pool chosen)) s inputs.2 in
+    let is = chosen_ok command inputs.0 pool.0 chosen s (place_ok (unknown_operand_place command.applet inputs.0 command.operands) (selected_by command inputs.0 pool.0 chosen) s pool.2) in
     record {
       inputs = inputs.1 ∙ ap (λ (x : Inputs). Ok x) (sym is.0);
       before = is.1 ∙ ap (λ (x : Inputs). x.root.database.packages) (sym is.0);
@@ -79,9 +79,9 @@ module _ (laws : Laws) (command : CommandLine) (read : Reads) (files : Files) (c
       let change : FileChange = file_change s.inputs (wishes_of command) m.found in
       let records : Records = new_records s.inputs m.database in
       let database_there : done.files database_name ≡ Some m.database =
-      ap (λ (d : ChangeDone). d.files database_name) m.is ∙ database_after change (listing_bytes (contents_found m.found)) records files in
+      ap (λ (d : ChangeDone). d.files database_name) m.is ∙ database_after change (listing_bytes (found_package_contents m.found)) records files in
       let world_there : text_found (done.files world_name) ≡ records.world =
-      ap (λ (d : ChangeDone). text_found (d.files world_name)) m.is ∙ world_text_left change (listing_bytes (contents_found m.found)) records files in
+      ap (λ (d : ChangeDone). text_found (d.files world_name)) m.is ∙ world_text_left change (listing_bytes (found_package_contents m.found)) records files in
       record {
         selected = s;
         is_selected = is;
@@ -90,7 +90,7 @@ module _ (laws : Laws) (command : CommandLine) (read : Reads) (files : Files) (c
         bytes = m.database;
         database = λ later next finds.
             ap (λ (o : Option (List ℕ)). root_database later.flags.initdb o (next text_database_read text_database_name)) (finds.database ∙ database_there)
-            ∙ database_left laws.written (members_found m.found) m.database members.0 members.1 m.unreserved m.new_database;
+            ∙ database_left laws.written (found_members m.found) m.database members.0 members.1 m.unreserved m.new_database;
         world = λ next finds.
             ap root_world (ap text_found finds.world ∙ world_there)
             ∙ root_world_left laws.worlds s.inputs.root.new_world (new_world_sound command read s.inputs.root root);

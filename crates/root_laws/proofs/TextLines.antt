@@ -27,7 +27,7 @@ use Rattle.make_info.specs.Information.{plain_value}
 use Rattle.make_info.specs.Values.{number_value, plains_of_list}
 use Rattle.v2_core.specs.Database.{array_of, object_of}
 use Rattle.v2_core.specs.Records.{InfoLine, info_by}
-use Rattle.v2_lines.specs.Accesses.{Access, access_by, access_in, before_colon, behind_colon, is_id, is_octal, octal_number}
+use Rattle.v2_lines.specs.Accesses.{Access, access_by, access_in, before_colon, after_colon, is_id, is_octal, octal_number}
 use Rattle.v2_lines.specs.InfoFields.{field_of_letter, grammar_of}
 use Rattle.v2_lines.specs.InfoValues.{commit_values, one_number, one_text, sha1_of, values_by_grammar}
 use Rattle.v2_lines.specs.Lines.{RecordLine, info_line, folder_line, folder_access_line, file_line, file_access_line, file_hash_line, other_line, file_line_of, folder_line_of, info_line_by, record_line_by, record_line_of}
@@ -224,9 +224,9 @@ octal_good digits = by_test (is_octal digits) (nat_lt (digits_value 8 digits) (2
 
 access_good : (value : List ℕ) → IfSome (access_in value) IsGoodAccess
 access_good value =
-    if_each (λ o. IfSome o IsGoodAccess) (is_id (before_colon value) && is_id (before_colon (behind_colon value))) _ None
-    (map_some (λ n. n < 2 ^ 64) IsGoodAccess (access_by (before_colon value) (before_colon (behind_colon value))) (octal_number (before_colon (behind_colon (behind_colon value)))) (λ n h. h)
-    (octal_good (before_colon (behind_colon (behind_colon value))))) tt
+    if_each (λ o. IfSome o IsGoodAccess) (is_id (before_colon value) && is_id (before_colon (after_colon value))) _ None
+    (map_some (λ n. n < 2 ^ 64) IsGoodAccess (access_by (before_colon value) (before_colon (after_colon value))) (octal_number (before_colon (after_colon (after_colon value)))) (λ n h. h)
+    (octal_good (before_colon (after_colon (after_colon value))))) tt
 
 -- ---- a line
 

@@ -12,7 +12,7 @@ use Rattle.adb_fields.specs.Repeated.{files_in, folders_in, list_of, name_of}
 use Rattle.adb_schema.specs.Reserved.{is_reserved}
 use Rattle.adb_schema.specs.SoundValues.{IsFileOf, IsFolder, IsPackage}
 use Rattle.change_files.specs.PlanLists.{first_reserved}
-use Rattle.db_core.specs.Members.{Listing, Member, is_coming, listings_by, listings_from, listings_in_folder, listings_in_folders, member_listings}
+use Rattle.db_core.specs.Members.{Listing, Member, is_added, listings_by, listings_from, listings_in_folder, listings_in_folders, member_listings}
 use Rattle.db_core.specs.OwnedListings.{HaveOneOwner, owned_listings}
 use Rattle.db_core.specs.SoundMembers.{AreOfSoundContainers, IsOfSoundContainer, IsOfSoundDatabase, MayBeListed, NoneReserved}
 use Rattle.base_core.specs.ByteOrder.{precedes, smaller_text, smallest_text}
@@ -62,7 +62,7 @@ folders_free m place i (more v vs) h =
 
 -- it is of a member that comes, or its path is free
 abbrev IsFreeIfStays : Listing → Type 0
-IsFreeIfStays l = is_coming l.member ≡ false → IsFree l
+IsFreeIfStays l = is_added l.member ≡ false → IsFree l
 
 weaker : (ls : List Listing) → EachListing IsFree ls → EachListing IsFreeIfStays ls
 weaker [] h = tt
@@ -75,7 +75,7 @@ listed_free m place h =
 
 -- ---- of a member that comes nothing is asked
 
-module _ (m : Member) (place : ℕ) (comes : is_coming m ≡ true) where
+module _ (m : Member) (place : ℕ) (comes : is_added m ≡ true) where
   folder_comes : (folder i : ℕ) (above : List ℕ) (es : List Plain) → EachListing IsFreeIfStays (listings_in_folder m place folder i above es)
   folder_comes folder i above [] = tt
   folder_comes folder i above (e ∷ es) = (λ stays. absurd (true≢false (sym comes ∙ stays)), folder_comes folder (i + 1) above es)
@@ -108,19 +108,19 @@ smaller_some a (Some b) e = by_test (precedes b a) e
     by_test false e = absurd (cc (e))
 
 abbrev reserved_of : List Listing → List (List ℕ)
-reserved_of ls = filter is_reserved (map (λ l. l.path) (filter (λ l. is_coming l.member) ls))
+reserved_of ls = filter is_reserved (map (λ l. l.path) (filter (λ l. is_added l.member) ls))
 
 all_free : (ls : List Listing) → smallest_text (reserved_of ls) ≡ None → EachListing IsFreeIfStays ls → EachListing IsFree ls
 all_free [] free h = tt
-all_free (l ∷ ls) free h = by_member (is_coming l.member) refl free (λ rest. all_free ls rest h.1)
+all_free (l ∷ ls) free h = by_member (is_added l.member) refl free (λ rest. all_free ls rest h.1)
   where
     by_path : (b : Bool) → is_reserved l.path ≡ b → smallest_text (cond b (l.path ∷ reserved_of ls) (reserved_of ls)) ≡ None
         → (smallest_text (reserved_of ls) ≡ None → EachListing IsFree ls) → EachListing IsFree (l ∷ ls)
     by_path true e free others = absurd (smaller_some l.path (smallest_text (reserved_of ls)) free)
     by_path false e free others = (e, others free)
 
-    by_member : (b : Bool) → is_coming l.member ≡ b
-        → smallest_text (filter is_reserved (map (λ l. l.path) (cond b (l ∷ filter (λ l. is_coming l.member) ls) (filter (λ l. is_coming l.member) ls)))) ≡ None
+    by_member : (b : Bool) → is_added l.member ≡ b
+        → smallest_text (filter is_reserved (map (λ l. l.path) (cond b (l ∷ filter (λ l. is_added l.member) ls) (filter (λ l. is_added l.member) ls)))) ≡ None
         → (smallest_text (reserved_of ls) ≡ None → EachListing IsFree ls) → EachListing IsFree (l ∷ ls)
     by_member true e free others = by_path (is_reserved l.path) refl free others
     by_member false e free others = (h.0 e, others free)

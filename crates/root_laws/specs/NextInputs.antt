@@ -3,7 +3,7 @@
 use Rattle.std.specs.Prelude.{◌≡◌, ℕ, List, Option}
 use Rattle.change_inputs.specs.Inputs.{Inputs}
 use Rattle.change_outcome.specs.ChangeOutcome.{ChangeDone}
-use Rattle.change_outcome.specs.MembersAfter.{members_found}
+use Rattle.change_outcome.specs.MembersAfter.{found_members}
 use Rattle.command_core.specs.Command.{CommandLine}
 use Rattle.make_info.specs.Reads.{Reads}
 use Rattle.report_core.specs.declared.refusal.Refusal.{Refusal}
@@ -14,7 +14,7 @@ use Rattle.root_laws.specs.RootLeft.{IsRootLeft, database_of_members}
 -- the one that it was made for
 pub record AreInputsFrom {command : CommandLine} {read : Reads} {chosen : Option (List ℕ)}
     {done : ChangeDone} (left : IsRootLeft command read chosen done) (inputs : Inputs) : Type 0 where
-  pub database : inputs.root.database ≡ database_of_members (members_found left.found) left.bytes
+  pub database : inputs.root.database ≡ database_of_members (found_members left.found) left.bytes
   pub world : inputs.root.world ≡ left.selected.inputs.root.new_world
 
 -- a refusal reports a fault of the repositories, or of an index of one

@@ -7,7 +7,7 @@ use Rattle.change_inputs.specs.Database.{Database, database_by}
 use Rattle.change_inputs.specs.Inputs.{database_for, database_read, world_read}
 use Rattle.change_inputs.specs.World.{root_world, text_found}
 use Rattle.change_outcome.specs.ChangeOutcome.{ChangeDone, change_members}
-use Rattle.change_outcome.specs.MembersAfter.{MemberFound, members_found}
+use Rattle.change_outcome.specs.MembersAfter.{MemberFound, found_members}
 use Rattle.command_core.specs.Command.{CommandLine}
 use Rattle.db_core.specs.Members.{Member}
 use Rattle.db_write.specs.NewDatabase.{packages_after}
@@ -44,7 +44,7 @@ pub record IsRootLeft (command : CommandLine) (read : Reads) (chosen : Option (L
       ≡ Ok found
   pub bytes : List ℕ
   pub database : (later : CommandLine) (next : Reads) → ReadsRoot done.files next
-      → database_for later next ≡ Ok (database_of_members (members_found found) bytes)
+      → database_for later next ≡ Ok (database_of_members (found_members found) bytes)
   pub world : (next : Reads) → ReadsRoot done.files next
       → root_world (text_found (next world_read world_name)) ≡ Ok selected.inputs.root.new_world
   pub text : (next : Reads) → ReadsRoot done.files next

@@ -14,12 +14,12 @@ ghost use Rattle.report_core.specs.declared.refusal.Refusal.{Refusal};
 ghost use Rattle.root_laws.specs.NextInputs.{AreInputsFrom, IsOfRepositories};
 ghost use Rattle.root_laws.specs.RootLeft.{FindBytes, IsRootLeft, ReadsRoot};
 
-use adb_fields::no_name_is_repeated_where_each_stands_once;
+use adb_fields::no_repeated_name_is_reported_if_there_is_none;
 use adb_schema::no_text_is_bad_where_each_keeps_its_rule;
 use adb_view::{values_have_their_shape, values_of_few_visits_have_no_fault};
 use adb_write::{a_canonical_payload_is_read_back, a_value_overflows_exactly_past_a_limit};
 use db_write::{
-    a_database_of_sound_packages_may_stand_at_the_root, a_written_database_is_read_back,
+    a_database_of_sound_packages_may_be_the_root, a_written_database_is_read_back,
     packages_of_sound_containers_may_be_members,
 };
 use dep_core::worlds_are_read_back;
@@ -41,11 +41,11 @@ pub fn what_a_change_leaves_is_read_by_the_next_run()
     a_canonical_payload_is_read_back();
     a_value_overflows_exactly_past_a_limit();
     no_text_is_bad_where_each_keeps_its_rule();
-    no_name_is_repeated_where_each_stands_once();
+    no_repeated_name_is_reported_if_there_is_none();
     packages_of_sound_containers_may_be_members();
     a_package_is_tested_by_its_values_and_then_its_files();
     no_path_is_owned_by_two_members();
-    a_database_of_sound_packages_may_stand_at_the_root();
+    a_database_of_sound_packages_may_be_the_root();
     a_written_database_is_read_back();
     worlds_are_read_back();
 }

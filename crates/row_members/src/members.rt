@@ -50,7 +50,7 @@ pub fn add_installed(members: &mut Members<'_>, i: usize) -> Result<bool, AllocE
     if members.len() >= MOST_MEMBERS || i >= members.db().len() {
         return Ok(false);
     }
-    if !members.comes_behind(name_at(members.db(), i, PhantomData)) {
+    if !members.is_after_members(name_at(members.db(), i, PhantomData)) {
         return Ok(false);
     }
     members.stays(i)?;
@@ -78,7 +78,7 @@ fn add_contents<'a>(
     if members.len() >= MOST_MEMBERS {
         return Ok(false);
     }
-    if !members.comes_behind(name_of(contents, PhantomData)) {
+    if !members.is_after_members(name_of(contents, PhantomData)) {
         return Ok(false);
     }
     members.comes_in_pieces(contents)?;

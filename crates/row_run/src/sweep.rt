@@ -72,12 +72,19 @@ impl<'a, P: Program> Swept<'a, P> {
     /// Lets each call fail in turn (`fail each`). What is left, and what a crash leaves of it, has
     /// the files from before or from after, and the same command line goes on from there.
     fn fail_each(&self, alloc: Global) -> Result<(), RowFault> {
+        let mut unchanged_seen = false;
         for call in 1..MOST_CALLS {
             let failed = self.run_failing(alloc, call)?;
             if failed.tree.calls() < call {
                 return self.check_whole(alloc, &failed);
             }
             self.check_fault(alloc, call, &failed)?;
+            if leaves_no_trace(&failed) {
+                if unchanged_seen {
+                    continue;
+                }
+                unchanged_seen = true;
+            }
             self.look(alloc, call, &failed.tree)?;
             self.go_on_from(alloc, call, failed)?;
         }
@@ -95,12 +102,19 @@ impl<'a, P: Program> Swept<'a, P> {
     /// after, the new ones are seen, and the same command line goes on from what is left.
     fn stop_each(&self, alloc: Global) -> Result<(), RowFault> {
         let mut new_seen = false;
+        let mut unchanged_seen = false;
         for calls in 0..MOST_CALLS {
             let cut = self.run_stopped(alloc, calls)?;
             if cut.tree.calls() <= calls {
                 return self.check_end_of_stops(alloc, new_seen, &cut);
             }
             self.check_fault(alloc, calls, &cut)?;
+            if leaves_no_trace(&cut) {
+                if unchanged_seen {
+                    continue;
+                }
+                unchanged_seen = true;
+            }
             let seen = self.look(alloc, calls, &cut.tree)?;
             new_seen = new_seen || seen;
         }
@@ -279,6 +293,12 @@ impl<'a, P: Program> Swept<'a, P> {
         self.sides
             .check_images(alloc, self.program, self.step, &cut.tree)
     }
+}
+
+/// Whether a run made no call that writes. It left the tree that it found, with all files synced,
+/// and each image of it is that tree: what follows from one such run follows from each.
+fn leaves_no_trace(run: &Run) -> bool {
+    run.tree.writes() == 0
 }
 
 /// What a run printed on standard output, or else on standard error.

@@ -33,12 +33,12 @@ use Rattle.report_core.specs.declared.refusal.Refusal.TheVariants.{Reserved}
 use Rattle.words_core.specs.Grammar.{command_of}
 use Rattle.outcome.proofs.Applets.{change_is}
 use Rattle.outcome.specs.Changing.{change_outcome}
-use Rattle.outcome.specs.Commands.{IsOutcomeOf, IsOutcomeUnless, applet_outcome, reads_in}
+use Rattle.outcome.specs.Commands.{IsOutcomeOf, IsOutcomeUnlessBadIntent, effect_outcome, reads_in}
 use Rattle.outcome.specs.Effect.{Effect, Computes, Reads, Tells, Makes, Changes, effect_by, effect_of, reads_only}
 use Rattle.outcome.specs.Given.{Given}
 use Rattle.outcome.specs.Make.{files_with_output, index_line, make_outcome, unless_reserved}
 use Rattle.outcome.specs.Outcome.{Outcome, commit_report, just_refusal}
-use Rattle.outcome.specs.Words.{IsOutcome, IsOutcomeBy, IsOutcomeFor}
+use Rattle.outcome.specs.Words.{IsOutcome, IsOutcomeFor}
 use Rattle.outcome.specs.Work.{fault_of_intent, recovery_fault, work_files}
 use Rattle.run_lists.proofs.BadIntent.{only_reads}
 use Rattle.run_lists.proofs.Names.{no_scratch}
@@ -124,7 +124,7 @@ made_none output report files none (Err (TooLarge bytes values)) commits = refus
 made_none output report files none (Err Disk) commits = absurd (false≢true commits)
 made_none output report files none (Err Memory) commits = absurd (false≢true commits)
 
-maker_none : (applet : Applet) (command : CommandLine) (given : Given) (files : Files) → effect_of applet ≡ Makes → files intent_name ≡ None → Brings (applet_outcome applet command given (reads_in files) files)
+maker_none : (applet : Applet) (command : CommandLine) (given : Given) (files : Files) → effect_of applet ≡ Makes → files intent_name ≡ None → Brings (effect_outcome (effect_of applet) applet command given (reads_in files) files)
 maker_none Mkpkg command given files makes none = made_none (output_name command) [] files none (made_package command given.names (reads_in files))
 maker_none Mkndx command given files makes none = made_none (output_name command) (index_line (length command.operands)) files none (made_index command (reads_in files))
 maker_none other command given files makes none = absurd (cc (makes))
@@ -143,10 +143,10 @@ no_demo other command files o works is = is
 
 -- each outcome that commits
 abbrev pub CommitsNoIntent : Type 0
-CommitsNoIntent = (words : List (List ℕ)) (files : Files) (o : Outcome) → IsOutcome words files o → o.commits ≡ true → o.files intent_name ≡ None
+CommitsNoIntent = (words : List (List ℕ)) (files : Files) (o : Outcome) → IsOutcome (command_of words) files o → o.commits ≡ true → o.files intent_name ≡ None
 
 module _ (gone : BringsNoIntent) (sound : ReadSound) where
-  makes_none : (fault : Option Cause) (command : CommandLine) (files : Files) (o : Outcome) → effect_of command.applet ≡ Makes → recovery_fault (effect_of command.applet) files ≡ fault → IsOutcomeUnless fault command files o → Brings o
+  makes_none : (fault : Option Cause) (command : CommandLine) (files : Files) (o : Outcome) → effect_of command.applet ≡ Makes → recovery_fault (effect_of command.applet) files ≡ fault → IsOutcomeUnlessBadIntent fault command files o → Brings o
   makes_none (Some cause) command files o makes at is commits = absurd (false≢true (sym (ap (λ (p : Outcome). p.commits) is) ∙ commits))
   makes_none None command files o makes at (given, are, is) commits =
       let work : work_files (effect_of command.applet) files ≡ unstaged_files files = ap (λ (e : Effect). work_files e files) makes in
@@ -154,7 +154,7 @@ module _ (gone : BringsNoIntent) (sound : ReadSound) where
       let absent = ap (λ (f : Files). f intent_name) work ∙ absent_now sound files (files intent_name) refl good in
       subst Brings (sym is) (maker_none command.applet command given (work_files (effect_of command.applet) files) makes absent) commits
 
-  changes_none : (fault : Option Cause) (command : CommandLine) (files : Files) (o : Outcome) → effect_of command.applet ≡ Changes → recovery_fault (effect_of command.applet) files ≡ fault → IsOutcomeUnless fault command files o → Brings o
+  changes_none : (fault : Option Cause) (command : CommandLine) (files : Files) (o : Outcome) → effect_of command.applet ≡ Changes → recovery_fault (effect_of command.applet) files ≡ fault → IsOutcomeUnlessBadIntent fault command files o → Brings o
   changes_none (Some cause) command files o changes at is commits = absurd (false≢true (sym (ap (λ (p : Outcome). p.commits) is) ∙ commits))
   changes_none None command files o changes at (given, are, is) commits =
       let work : work_files (effect_of command.applet) files ≡ unstaged_files files = ap (λ (e : Effect). work_files e files) changes in
@@ -164,7 +164,7 @@ module _ (gone : BringsNoIntent) (sound : ReadSound) where
       subst Brings (change_is command.applet command given (reads_in here) here changes ∙ sym is)
       (change_none gone command here given.chosen given.clash (change_of_command command (reads_in here) here given.chosen given.clash) refl absent) commits
 
-  by_command : (read : Result CommandLine ℕ) (files : Files) (o : Outcome) (effect : Effect) → effect_by read ≡ effect → (effect ≡ Computes → ⊥) → (effect ≡ Reads → ⊥) → (effect ≡ Tells → ⊥) → IsOutcomeBy read files o → Brings o
+  by_command : (read : Result CommandLine ℕ) (files : Files) (o : Outcome) (effect : Effect) → effect_by read ≡ effect → (effect ≡ Computes → ⊥) → (effect ≡ Reads → ⊥) → (effect ≡ Tells → ⊥) → IsOutcome read files o → Brings o
   by_command (Err place) files o effect is works reads tells one = absurd (works (sym is))
   by_command (Ok command) files o Computes is works reads tells one = absurd (works refl)
   by_command (Ok command) files o Reads is works reads tells one = absurd (reads refl)
@@ -174,8 +174,8 @@ module _ (gone : BringsNoIntent) (sound : ReadSound) where
   by_command (Ok command) files o Changes is works reads tells one =
       changes_none (recovery_fault (effect_of command.applet) files) command files o is refl (no_demo command.applet command files o (λ computes. works (sym is ∙ computes)) one)
 
-  module _ (reading : (words : List (List ℕ)) (files : Files) (o : Outcome) → IsTrue (reads_only (command_of words)) → IsOutcome words files o → o.commits ≡ false)
-      (telling : (words : List (List ℕ)) (files : Files) (o : Outcome) → effect_by (command_of words) ≡ Tells → IsOutcome words files o → o.commits ≡ false) where
+  module _ (reading : (words : List (List ℕ)) (files : Files) (o : Outcome) → IsTrue (reads_only (command_of words)) → IsOutcome (command_of words) files o → o.commits ≡ false)
+      (telling : (words : List (List ℕ)) (files : Files) (o : Outcome) → effect_by (command_of words) ≡ Tells → IsOutcome (command_of words) files o → o.commits ≡ false) where
     pub committed_none : CommitsNoIntent
     committed_none words files o one commits = by (effect_by (command_of words)) refl
       where

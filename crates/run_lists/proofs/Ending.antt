@@ -3,20 +3,20 @@ use Rattle.std.proofs.Common.{◌≡◌, inl, inr, ℕ, Bool, true, false, List,
 use Rattle.std.specs.Prelude.{is_some, not}
 use Rattle.std.proofs.lemmas.Bool.{false≢true}
 use Rattle.apk_front.specs.Answers.{answer_by}
-use Rattle.apk_front.specs.Moments.{AnswersOutcome, CommitsNothing, IsAtRest, ignored_but}
+use Rattle.apk_front.specs.Moments.{AnswersOutcome, CommitsNothing, IsDurableState, ignored_but}
 use Rattle.apk_front.specs.declared.answer.Answer.{Answer}
 use Rattle.apk_front.specs.declared.answer.Answer.TheVariants.{Ok as Done, Refused, TreeFault, OutFault, Memory}
-use Rattle.base_core.specs.Calls.{HasNow}
-use Rattle.base_core.specs.Crash.{IsOrderly}
+use Rattle.base_core.specs.Calls.{HoldsNow}
+use Rattle.base_core.specs.Undone.{IsDurable}
 use Rattle.base_core.specs.Files.{Files}
 use Rattle.base_core.specs.Tree.{TreeState, files_of}
-use Rattle.journal_core.specs.Quiet.{IsStill}
-use Rattle.journal_core.specs.Recovery.{RestsOn, intent_name}
+use Rattle.journal_core.specs.Quiet.{StateIsUnchanged}
+use Rattle.journal_core.specs.Recovery.{StateDependsOn, intent_name}
 use Rattle.outcome.specs.Effect.{output}
 use Rattle.outcome.specs.Outcome.{Outcome}
 use Rattle.report_core.specs.declared.refusal.Refusal.{Refusal}
 use Rattle.words_core.specs.Grammar.{command_of}
-use Rattle.run_lists.specs.Events.{HasCommit, IsIdleRun, IsOutcomeFrom, IsRunFrom, Run, ignored_by, ignored_in}
+use Rattle.run_lists.specs.Events.{HasCommit, IsRunWithoutCommit, IsOutcomeFrom, IsRunFrom, Run, ignored_by, ignored_in}
 use Rattle.run_lists.specs.Safety.{LeavesOutcome}
 use Rattle.run_lists.proofs.AtMoments.{now_at}
 use Rattle.run_lists.proofs.Facts.{AreMore, Facts, Ignored}
@@ -33,13 +33,13 @@ done_not_refused o (inr is) = cc
 
 -- What is said of ignored names and of a state: it holds at rest, and for more names.
 pub record Resting (Q : Ignored → TreeState → Type 0) : Type 0 where
-  pub rest : (names : Ignored) (files : Files) (w : TreeState) → files_of w ≡ files → IsAtRest names files w → Q names w
+  pub rest : (names : Ignored) (files : Files) (w : TreeState) → files_of w ≡ files → IsDurableState names files w → Q names w
   pub more : (few many : Ignored) (w : TreeState) → AreMore few many → Q few w → Q many w
 
-module _ (facts : Facts) (ignored : Ignored) (v : TreeState) (run : Run) (is_run : IsRunFrom v run) (hidden : ignored intent_name ≡ false) (orderly : IsOrderly (RestsOn ignored) v)
-    (Q : Ignored → TreeState → Type 0) (resting : Resting Q) (w : TreeState) (ends : HasNow run.now (λ u. u ≡ w)) where
+module _ (facts : Facts) (ignored : Ignored) (v : TreeState) (run : Run) (is_run : IsRunFrom v run) (hidden : ignored intent_name ≡ false) (is_durable : IsDurable (StateDependsOn ignored) v)
+    (Q : Ignored → TreeState → Type 0) (resting : Resting Q) (w : TreeState) (ends : HoldsNow run.now (λ u. u ≡ w)) where
   pub leaves : AnswersOutcome run.answer → LeavesOutcome ignored v run w
-  leaves answers = now_at run.now (LeavesOutcome ignored v run) w (answered facts ignored v run is_run hidden orderly answers) ends
+  leaves answers = now_at run.now (LeavesOutcome ignored v run) w (answered facts ignored v run is_run hidden is_durable answers) ends
 
   rests_by : (answer : Answer) → AnswersOutcome answer → Q (ignored_but (output run.words) ignored) w → Q (ignored_by answer run ignored) w
   rests_by Done answers q = q
@@ -49,7 +49,7 @@ module _ (facts : Facts) (ignored : Ignored) (v : TreeState) (run : Run) (is_run
   rests_by Memory answers q = absurd answers
 
   pub written : (l : LeavesOutcome ignored v run w) → l.outcome.commits ≡ true → Q (ignored_but (output run.words) ignored) w
-  written l commits = resting.rest (ignored_but (output run.words) ignored) l.outcome.files w l.reads (l.at_rest commits)
+  written l commits = resting.rest (ignored_but (output run.words) ignored) l.outcome.files w l.reads (l.durable_state commits)
 
   -- an outcome that commits is at rest
   pub ends_at_rest : AnswersOutcome run.answer → HasCommit v run → Q (ignored_by run.answer run ignored) w
@@ -59,9 +59,9 @@ module _ (facts : Facts) (ignored : Ignored) (v : TreeState) (run : Run) (is_run
       rests_by run.answer answers (written l same)
 
   -- what holds at a still moment holds behind a run that ends, unless the tree failed
-  module _ (still : IsStill ignored v w → Q ignored w) where
-    left_idle : IsIdleRun v run → Q ignored w
-    left_idle idle = still (idle_end ignored v run is_run orderly idle w ends)
+  module _ (is_unchanged : StateIsUnchanged ignored v w → Q ignored w) where
+    left_idle : IsRunWithoutCommit v run → Q ignored w
+    left_idle idle = is_unchanged (idle_end ignored v run is_run is_durable idle w ends)
 
     -- a maker's outcome commits where it is no refusal
     no_output : (o : Option (List ℕ)) → output run.words ≡ o → (outcome : Outcome) → IsOutcomeFrom v run outcome → outcome.refusal ≡ None → outcome.commits ≡ false → Q ignored w → Q (ignored_but (output run.words) ignored) w

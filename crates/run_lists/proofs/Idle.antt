@@ -2,62 +2,61 @@
 use Rattle.std.proofs.Common.{◌≡◌, inr, ℕ, Bool, true, false, cond, ◌||◌, List, [], ◌∷◌, None, Option, refl, sym, subst, ◌∙◌}
 use Rattle.std.specs.Prelude.{IsTrue}
 use Rattle.std.proofs.lemmas.Bool.{false≢true}
-use Rattle.apk_front.specs.Moments.{IsAtRest}
-use Rattle.base_core.specs.Crash.{IsImage, IsOrderly}
+use Rattle.apk_front.specs.Moments.{IsDurableState}
 use Rattle.base_core.specs.Files.{Files}
-use Rattle.base_core.specs.Restart.{IsCrashOf}
+use Rattle.base_core.specs.Undone.{IsAfterCrash, IsDurable, IsCrashImage}
 use Rattle.base_core.specs.Tree.{TreeState, files_of}
-use Rattle.journal_core.specs.Quiet.{IsQuiet, IsStill}
-use Rattle.journal_core.specs.Recovery.{RestsOn, is_staged, recovered_files, state_of}
+use Rattle.journal_core.specs.Quiet.{EachCrashLeavesOld, StateIsUnchanged}
+use Rattle.journal_core.specs.Recovery.{StateDependsOn, is_staged, recovered_files, state_of}
 use Rattle.journal_core.specs.Staged.{unstaged_files}
 use Rattle.journal_core.proofs.More.{settled_more, states_same}
 use Rattle.outcome.specs.Effect.{reads_only}
 use Rattle.outcome.specs.Outcome.{Outcome}
 use Rattle.outcome.specs.Words.{IsOutcome}
 use Rattle.words_core.specs.Grammar.{command_of}
-use Rattle.run_lists.specs.Events.{Crashes, Edits, Ends, Event, HasSeenIdly, IsIdle, IsIdleRun, LeadsOn, Run, Stops, Touches, with_all_touched, with_touched}
+use Rattle.run_lists.specs.Events.{Crashes, Edits, Ends, Event, ReachesWithoutCommit, IsEventWithoutCommit, IsRunWithoutCommit, IsTransition, Run, Stops, Touches, with_all_touched, with_touched}
 use Rattle.run_lists.proofs.Facts.{AreMore, Ignored}
 use Rattle.run_lists.proofs.Names.{reader_output, touched_more}
 use Rattle.run_lists.proofs.OneRun.{idle_end, idle_moment, settled_on}
-use Rattle.run_lists.proofs.Torn.{torn_orderly, torn_quiet}
-use Rattle.run_lists.proofs.Touched.{touch_orderly, touch_quiet}
+use Rattle.run_lists.proofs.Torn.{torn_durable, torn_quiet}
+use Rattle.run_lists.proofs.Touched.{touch_durable, touch_quiet}
 
-still_rest : (ignored : Ignored) (files : Files) (v w : TreeState) → IsAtRest ignored files v → IsStill ignored v w → IsAtRest ignored files w
-still_rest ignored files v w rest still = record { orderly = still.orderly; settled = settled_on ignored files v w rest.settled still.quiet }
+still_rest : (ignored : Ignored) (files : Files) (v w : TreeState) → IsDurableState ignored files v → StateIsUnchanged ignored v w → IsDurableState ignored files w
+still_rest ignored files v w rest is_unchanged = record { is_durable = is_unchanged.is_durable; settled = settled_on ignored files v w rest.settled is_unchanged.quiet }
 
-module _ (crash_orderly : (ignored : Ignored) (v w : TreeState) → IsCrashOf v w → IsOrderly (RestsOn ignored) w) (crash_quiet : (ignored : Ignored) (v w : TreeState) → IsCrashOf v w → IsQuiet ignored v w) where
-  led_idle : (start : Ignored) (files : Files) (earlier : List Event) (v : TreeState) (event : Event) (w : TreeState) → IsAtRest (with_all_touched earlier start) files v → IsIdle v event → LeadsOn v event w → IsAtRest (with_all_touched (event ∷ earlier) start) files w
+module _ (crash_durable : (ignored : Ignored) (v w : TreeState) → IsAfterCrash v w → IsDurable (StateDependsOn ignored) w) (crash_quiet : (ignored : Ignored) (v w : TreeState) → IsAfterCrash v w → EachCrashLeavesOld ignored v w) where
+  led_idle : (start : Ignored) (files : Files) (earlier : List Event) (v : TreeState) (event : Event) (w : TreeState) → IsDurableState (with_all_touched earlier start) files v → IsEventWithoutCommit v event → IsTransition v event w → IsDurableState (with_all_touched (event ∷ earlier) start) files w
   led_idle start files earlier v (Ends run) w rest idle (is_run, ends) =
       let names = with_all_touched earlier start in
-      still_rest names files v w rest (idle_end names v run is_run rest.orderly idle w ends)
+      still_rest names files v w rest (idle_end names v run is_run rest.is_durable idle w ends)
   led_idle start files earlier v (Stops run) w rest idle (is_run, (m, moment, torn)) =
       let names = with_all_touched earlier start in
-      let still = idle_moment names v run is_run rest.orderly idle m moment in
-      record { orderly = torn_orderly m w torn names still.orderly; settled = settled_on names files v w rest.settled (torn_quiet m w torn names v still.quiet) }
+      let is_unchanged = idle_moment names v run is_run rest.is_durable idle m moment in
+      record { is_durable = torn_durable m w torn names is_unchanged.is_durable; settled = settled_on names files v w rest.settled (torn_quiet m w torn names v is_unchanged.quiet) }
   led_idle start files earlier v Crashes w rest idle crash =
       let names = with_all_touched earlier start in
-      record { orderly = crash_orderly names v w crash; settled = settled_on names files v w rest.settled (crash_quiet names v w crash) }
+      record { is_durable = crash_durable names v w crash; settled = settled_on names files v w rest.settled (crash_quiet names v w crash) }
   led_idle start files earlier v Edits w rest idle synced = absurd idle
   led_idle start files earlier v (Touches theirs) w rest idle touch =
       let few = with_all_touched earlier start in
       let names = with_touched theirs few in
       record {
-        orderly = touch_orderly theirs v w touch few rest.orderly;
+        is_durable = touch_durable theirs v w touch few rest.is_durable;
         settled = settled_on names files v w (settled_more few names (touched_more theirs few) files v rest.settled) (touch_quiet theirs v w touch few);
       }
 
-  idle_from : (start : Ignored) (files : Files) (v w : TreeState) (events : List Event) → IsAtRest start files v → HasSeenIdly v events w → IsAtRest (with_all_touched events start) files w
-  idle_from start files v w [] rest is = subst (IsAtRest start files) (sym is) rest
+  idle_from : (start : Ignored) (files : Files) (v w : TreeState) (events : List Event) → IsDurableState start files v → ReachesWithoutCommit v events w → IsDurableState (with_all_touched events start) files w
+  idle_from start files v w [] rest is = subst (IsDurableState start files) (sym is) rest
   idle_from start files v w (event ∷ earlier) rest (u, seen, idle, leads) =
       led_idle start files earlier u event w (idle_from start files v u earlier rest seen) idle leads
 
-  pub seen_idly : (ignored : Ignored) (v w : TreeState) (events : List Event) → IsAtRest ignored (files_of v) v → HasSeenIdly v events w → IsAtRest (with_all_touched events ignored) (files_of v) w
+  pub seen_idly : (ignored : Ignored) (v w : TreeState) (events : List Event) → IsDurableState ignored (files_of v) v → ReachesWithoutCommit v events w → IsDurableState (with_all_touched events ignored) (files_of v) w
   seen_idly ignored v w events = idle_from ignored (files_of v) v w events
 
-  same_state : (few many : Ignored) (files : Files) (w : TreeState) → AreMore few many → IsImage w (files_of w) → IsAtRest few files w → state_of many (files_of w) ≡ state_of many files
+  same_state : (few many : Ignored) (files : Files) (w : TreeState) → AreMore few many → IsCrashImage w (files_of w) → IsDurableState few files w → state_of many (files_of w) ≡ state_of many files
   same_state few many files w more left rest = states_same few many more (files_of w) files (rest.settled (files_of w) left)
 
-  pub idly_agree : ((v : TreeState) → IsImage v (files_of v)) → (ignored names : Ignored) (v w u : TreeState) (events others : List Event) → IsAtRest ignored (files_of v) v → HasSeenIdly v events w → HasSeenIdly v others u
+  pub idly_agree : ((v : TreeState) → IsCrashImage v (files_of v)) → (ignored names : Ignored) (v w u : TreeState) (events others : List Event) → IsDurableState ignored (files_of v) v → ReachesWithoutCommit v events w → ReachesWithoutCommit v others u
       → AreMore (with_all_touched events ignored) names → AreMore (with_all_touched others ignored) names → state_of names (files_of w) ≡ state_of names (files_of u)
   idly_agree left ignored names v w u events others rest first second more others_more =
       same_state (with_all_touched events ignored) names (files_of v) w more (left w) (seen_idly ignored v w events rest first)
@@ -65,7 +64,7 @@ module _ (crash_orderly : (ignored : Ignored) (v w : TreeState) → IsCrashOf v 
 
 -- ---- a command that only reads
 
-pub reader_idle : ((words : List (List ℕ)) (files : Files) (o : Outcome) → IsTrue (reads_only (command_of words)) → IsOutcome words files o → o.commits ≡ false) → (v : TreeState) (run : Run) → IsTrue (reads_only (command_of run.words)) → IsIdleRun v run
+pub reader_idle : ((words : List (List ℕ)) (files : Files) (o : Outcome) → IsTrue (reads_only (command_of words)) → IsOutcome (command_of words) files o → o.commits ≡ false) → (v : TreeState) (run : Run) → IsTrue (reads_only (command_of run.words)) → IsRunWithoutCommit v run
 reader_idle reading v run reads = inr (reader_output (command_of run.words) reads, λ commit. false≢true (sym (reading run.words (files_of v) commit.0 reads commit.1) ∙ commit.2))
 
 -- ---- the state

@@ -4,13 +4,14 @@ use Rattle.std.specs.Prelude.{IsSome}
 use Rattle.std.specs.Str.{bytes_eq}
 use Rattle.std.proofs.lemmas.Bool.{false≢true}
 use Rattle.std.proofs.lemmas.Slice.Eq.{bytes_eq-Decides}
-use Rattle.apk_front.specs.Moments.{AreReadOnTheWay, IsBehindRecovery, IsDrafting, IsReadAtWork, UnreadNamesLast, is_draft_name, output_names}
-use Rattle.base_core.specs.Calls.{HasNow}
-use Rattle.base_core.specs.Crash.{IsImage, IsOrderly, MayLeave}
+use Rattle.apk_front.specs.Moments.{AreReadDuringRun, IsRecoveringOrNext, IsReadExceptDrafts, IsReadDuringWork, NamesAreDurableWithoutIntentExcept, is_draft_name, output_names}
+use Rattle.base_core.specs.Calls.{HoldsNow}
+use Rattle.base_core.specs.Crash.{CrashMayLeave}
 use Rattle.base_core.specs.Files.{Files, NameMap}
-use Rattle.base_core.specs.Tree.{File, IsMapOf, TreeState, bytes_at, files_of}
-use Rattle.journal_core.specs.Kept.{IsWaitingName}
-use Rattle.journal_core.specs.Recovery.{RestsOn, intent_at, intent_name, intent_of, is_staged}
+use Rattle.base_core.specs.Tree.{File, TreeState, bytes_at, files_of}
+use Rattle.base_core.specs.Undone.{IsDurable, IsCrashImage, IsCrashMap}
+use Rattle.journal_core.specs.Kept.{IsJournalName}
+use Rattle.journal_core.specs.Recovery.{StateDependsOn, intent_at, intent_name, intent_of, is_staged}
 use Rattle.journal_core.specs.Replacing.{scratch_of}
 use Rattle.journal_core.specs.Staged.{unstaged_files}
 use Rattle.journal_intent.specs.FreeNames.{IsNoneOf}
@@ -18,14 +19,14 @@ use Rattle.outcome.specs.Effect.{Effect, Computes, Reads, Tells, Makes, Changes,
 use Rattle.outcome.specs.Outcome.{Outcome}
 use Rattle.outcome.specs.Work.{work_files}
 use Rattle.words_core.specs.Grammar.{command_of}
-use Rattle.run_lists.specs.Events.{Crashes, Edits, Ends, Event, HasSeen, IsMomentOf, IsOutcomeFrom, IsRunFrom, LeadsOn, Run, Stops, Touches, ignored_behind, ignored_in, with_scratch}
-use Rattle.run_lists.specs.Reading.{HasBytesOfRun, HasOutcomeBytes, HasSeenRuns, IsDoneForGood, IsLastingName, IsNoDraft, IsRunWith, IsTrueAt, LeavesTrueAt}
-use Rattle.run_lists.proofs.Along.{seen_orderly}
+use Rattle.run_lists.specs.Events.{Crashes, Edits, Ends, Event, Reaches, IsMomentOf, IsOutcomeFrom, IsRunFrom, IsTransition, Run, Stops, Touches, ignored_after, ignored_in, with_scratch}
+use Rattle.run_lists.specs.Reading.{HasBytesOfRun, HasOutcomeBytes, ReachesByRuns, IsDurablyDone, IsOrdinaryName, IsNoDraft, IsRunWith, IsTrueAt, LeavesTrueAt}
+use Rattle.run_lists.proofs.Along.{seen_durable}
 use Rattle.run_lists.proofs.AtMoments.{History, now_map, start_or_made}
 use Rattle.run_lists.proofs.Committed.{CommitsNoIntent}
 use Rattle.run_lists.proofs.Facts.{Facts, Ignored}
-use Rattle.run_lists.proofs.Names.{behind_hides, no_scratch}
-use Rattle.run_lists.proofs.OneRun.{now_hides, now_orderly, orderly_at}
+use Rattle.run_lists.proofs.Names.{after_hides, no_scratch}
+use Rattle.run_lists.proofs.OneRun.{now_hides, now_durable, durable_at}
 use Rattle.run_lists.proofs.Unstaged.{none_found, not_staged, plain_at}
 
 -- ---- drafts
@@ -58,16 +59,16 @@ module _ (v : TreeState) (run : Run) (m : TreeState) where
   -- where a moment stands: at the start, in a recovery, at work without a commit, or on the way to
   -- an outcome's files
   abbrev pub Stands : Type 0
-  Stands = (m ≡ v) ⊎ (IsBehindRecovery Act (λ w. files_of w ≡ Work) v m
-      ⊎ ((o : Outcome) × IsOutcomeFrom v run o × (o.commits ≡ true) × IsBehindRecovery Act (IsReadAtWork Act (output run.words) o.files Work) v m))
+  Stands = (m ≡ v) ⊎ (IsRecoveringOrNext Act (λ w. files_of w ≡ Work) v m
+      ⊎ ((o : Outcome) × IsOutcomeFrom v run o × (o.commits ≡ true) × IsRecoveringOrNext Act (IsReadDuringWork Act (output run.words) o.files Work) v m))
 
-  pub stands : IsRunFrom v run → IsMomentOf run m → Stands
-  stands is_run moment = by is_run.reads
+  pub located : IsRunFrom v run → IsMomentOf run m → Stands
+  located is_run moment = by is_run.reads
     where
-      by : AreReadOnTheWay (IsOutcomeFrom v run) Act (output run.words) v run.old run.now → Stands
-      by (inl since) = ⊎_elim inl (λ p. inr (inl p)) (start_or_made (IsBehindRecovery Act (λ w. files_of w ≡ Work) v) run v m is_run.begins since moment)
+      by : AreReadDuringRun (IsOutcomeFrom v run) Act (output run.words) v run.old run.now → Stands
+      by (inl since) = ⊎_elim inl (λ p. inr (inl p)) (start_or_made (IsRecoveringOrNext Act (λ w. files_of w ≡ Work) v) run v m is_run.begins since moment)
       by (inr (o, one, commits, since)) =
-          ⊎_elim inl (λ p. inr (inr (o, one, commits, p))) (start_or_made (IsBehindRecovery Act (IsReadAtWork Act (output run.words) o.files Work) v) run v m is_run.begins since moment)
+          ⊎_elim inl (λ p. inr (inr (o, one, commits, p))) (start_or_made (IsRecoveringOrNext Act (IsReadDuringWork Act (output run.words) o.files Work) v) run v m is_run.begins since moment)
 
   -- ---- the bytes of a name
 
@@ -98,7 +99,7 @@ module _ (v : TreeState) (run : Run) (m : TreeState) where
 
 -- ---- a test along runs
 
-module _ (no_intent : CommitsNoIntent) (test : Option (List ℕ) → Bool) (q : List ℕ) (stays : IsWaitingName q → ⊥) where
+module _ (no_intent : CommitsNoIntent) (test : Option (List ℕ) → Bool) (q : List ℕ) (stays : IsJournalName q → ⊥) where
   abbrev At : Files → Type 0
   At files = IsTrueAt test q files
 
@@ -122,11 +123,11 @@ module _ (no_intent : CommitsNoIntent) (test : Option (List ℕ) → Bool) (q : 
   work_true Makes files at = unstaged_true files at
   work_true Changes files at = unstaged_true files at
 
-  drafted : (effect : Effect) (o : Option (List ℕ)) (files : Files) (m : TreeState) → IsDrafting effect o (unstaged_files files) m → is_draft_name effect o q ≡ false → At files → At (files_of m)
+  drafted : (effect : Effect) (o : Option (List ℕ)) (files : Files) (m : TreeState) → IsReadExceptDrafts effect o (unstaged_files files) m → is_draft_name effect o q ≡ false → At files → At (files_of m)
   drafted effect o files m drafting no_draft at =
       plain (files_of m) (ap intent_at (drafting intent_name (intent_no_draft effect o)) ∙ none_found files) (subst Passes (sym (drafting q no_draft)) at.recovered)
 
-  draft_true : (effect : Effect) (o : Option (List ℕ)) (files : Files) (m : TreeState) → IsDrafting effect o (work_files effect files) m → is_draft_name effect o q ≡ false → At files → At (files_of m)
+  draft_true : (effect : Effect) (o : Option (List ℕ)) (files : Files) (m : TreeState) → IsReadExceptDrafts effect o (work_files effect files) m → is_draft_name effect o q ≡ false → At files → At (files_of m)
   draft_true Computes o files m drafting no_draft at = subst At (λ i p. sym (drafting p refl) i) at
   draft_true Reads o files m drafting no_draft at = subst At (λ i p. sym (drafting p refl) i) at
   draft_true Tells o files m drafting no_draft at = drafted Tells o files m drafting no_draft at
@@ -161,32 +162,32 @@ module _ (no_intent : CommitsNoIntent) (test : Option (List ℕ) → Bool) (q : 
     stands_true (inr (inr (o, one, commits, inr (inr (inr is))))) = subst At (sym is) (plain o.files (ap intent_at (no_intent run.words (files_of v) o one commits)) (leaves.outcomes o one commits))
 
 -- the last state of a run is one of its moments
-last_by : (run : Run) (w : TreeState) (added : List TreeState) → run.now ≡ added ++ run.old → HasNow run.now (λ u. u ≡ w) → IsMomentOf run w
-last_by run w [] is ends = inl (now_map run.old (λ u. u ≡ w) (λ u. w ≡ u) (λ u same. sym same) (subst (λ (h : History). HasNow h (λ u. u ≡ w)) is ends))
-last_by run w (u ∷ added) is ends = inr (u ∷ added, is, (0, omega arith, subst (λ (h : History). HasNow h (λ u. u ≡ w)) is ends))
+last_by : (run : Run) (w : TreeState) (added : List TreeState) → run.now ≡ added ++ run.old → HoldsNow run.now (λ u. u ≡ w) → IsMomentOf run w
+last_by run w [] is ends = inl (now_map run.old (λ u. u ≡ w) (λ u. w ≡ u) (λ u same. sym same) (subst (λ (h : History). HoldsNow h (λ u. u ≡ w)) is ends))
+last_by run w (u ∷ added) is ends = inr (u ∷ added, is, (0, omega arith, subst (λ (h : History). HoldsNow h (λ u. u ≡ w)) is ends))
 
-pub last_moment : (run : Run) (v w : TreeState) → IsRunFrom v run → HasNow run.now (λ u. u ≡ w) → IsMomentOf run w
+pub last_moment : (run : Run) (v w : TreeState) → IsRunFrom v run → HoldsNow run.now (λ u. u ≡ w) → IsMomentOf run w
 last_moment run v w is_run ends = by is_run.reads
   where
-    by : AreReadOnTheWay (IsOutcomeFrom v run) (effect_by (command_of run.words)) (output run.words) v run.old run.now → IsMomentOf run w
+    by : AreReadDuringRun (IsOutcomeFrom v run) (effect_by (command_of run.words)) (output run.words) v run.old run.now → IsMomentOf run w
     by (inl since) = last_by run w since.added since.is ends
     by (inr (o, one, commits, since)) = last_by run w since.added since.is ends
 
-led_true : CommitsNoIntent → (test : Option (List ℕ) → Bool) (q : List ℕ) (stays : IsWaitingName q → ⊥) (v w : TreeState) (event : Event) → IsTrueAt test q (files_of v) → IsRunWith (LeavesTrueAt test q) v event w → LeadsOn v event w → IsTrueAt test q (files_of w)
-led_true no_intent test q stays v w (Ends run) at leaves (is_run, ends) = stands_true no_intent test q stays v run w leaves at (stands v run w is_run (last_moment run v w is_run ends))
-led_true no_intent test q stays v w (Stops run) at (leaves, moment) (is_run, stop) = stands_true no_intent test q stays v run w leaves at (stands v run w is_run moment)
+led_true : CommitsNoIntent → (test : Option (List ℕ) → Bool) (q : List ℕ) (stays : IsJournalName q → ⊥) (v w : TreeState) (event : Event) → IsTrueAt test q (files_of v) → IsRunWith (LeavesTrueAt test q) v event w → IsTransition v event w → IsTrueAt test q (files_of w)
+led_true no_intent test q stays v w (Ends run) at leaves (is_run, ends) = stands_true no_intent test q stays v run w leaves at (located v run w is_run (last_moment run v w is_run ends))
+led_true no_intent test q stays v w (Stops run) at (leaves, moment) (is_run, stop) = stands_true no_intent test q stays v run w leaves at (located v run w is_run moment)
 led_true no_intent test q stays v w Crashes at leaves leads = absurd leaves
 led_true no_intent test q stays v w Edits at leaves leads = absurd leaves
 led_true no_intent test q stays v w (Touches theirs) at leaves leads = absurd leaves
 
-pub seen_true : CommitsNoIntent → (test : Option (List ℕ) → Bool) (q : List ℕ) → (IsWaitingName q → ⊥) → (first w : TreeState) (events : List Event) → IsTrueAt test q (files_of first) → HasSeenRuns (LeavesTrueAt test q) first events w → IsTrueAt test q (files_of w)
+pub seen_true : CommitsNoIntent → (test : Option (List ℕ) → Bool) (q : List ℕ) → (IsJournalName q → ⊥) → (first w : TreeState) (events : List Event) → IsTrueAt test q (files_of first) → ReachesByRuns (LeavesTrueAt test q) first events w → IsTrueAt test q (files_of w)
 seen_true no_intent test q stays first w [] at is = subst (λ (u : TreeState). IsTrueAt test q (files_of u)) (sym is) at
 seen_true no_intent test q stays first w (event ∷ earlier) at (v, seen, leaves, leads) =
     led_true no_intent test q stays v w event (seen_true no_intent test q stays first v earlier at seen) leaves leads
 
 -- ---- what an intent said
 
-synced_as_read : (files : ℕ → File) (o : Option ℕ) (bytes : Option (List ℕ)) → ((n : ℕ) → o ≡ Some n → (files n).synced ≡ true) → MayLeave files o bytes → bytes ≡ bytes_at files o
+synced_as_read : (files : ℕ → File) (o : Option ℕ) (bytes : Option (List ℕ)) → ((n : ℕ) → o ≡ Some n → (files n).synced ≡ true) → CrashMayLeave files o bytes → bytes ≡ bytes_at files o
 synced_as_read files None bytes synced left = left
 synced_as_read files (Some n) None synced left = absurd left
 synced_as_read files (Some n) (Some bytes) synced left = ap (λ (b : List ℕ). Some b) (left (synced n refl))
@@ -250,7 +251,7 @@ module _ (v : TreeState) (run : Run) (m : TreeState) (there : IsSome (v.names in
     work_here Makes at is = inl is
     work_here Changes at is = inl is
 
-    draft_here : (effect : Effect) (o : Option (List ℕ)) → is_draft_name effect o q ≡ false → IsDrafting effect o (work_files effect (files_of v)) m → Done
+    draft_here : (effect : Effect) (o : Option (List ℕ)) → is_draft_name effect o q ≡ false → IsReadExceptDrafts effect o (work_files effect (files_of v)) m → Done
     draft_here effect o no_draft drafting = work_here effect (drafting intent_name (intent_no_draft effect o)) (drafting q no_draft)
 
     pub done_here : is_draft_name (effect_by (command_of run.words)) (output run.words) q ≡ false → Stands v run m → Done
@@ -264,27 +265,27 @@ module _ (v : TreeState) (run : Run) (m : TreeState) (there : IsSome (v.names in
 
   -- ---- behind a list
 
-  names_last : IsRunFrom v run → IsMomentOf run m → (map : NameMap) → IsMapOf m map → (q : List ℕ) → (IsWaitingName q → ⊥) → IsNoneOf q (output_names (output run.words)) → map q ≡ m.names q
+  names_last : IsRunFrom v run → IsMomentOf run m → (map : NameMap) → IsCrashMap m map → (q : List ℕ) → (IsJournalName q → ⊥) → IsNoneOf q (output_names (output run.words)) → map q ≡ m.names q
   names_last is_run moment map is_map q stays other =
       ⊎_elim (λ is. absurd (not_first is))
-      (λ (last : UnreadNamesLast (output run.words) m). last unread map is_map q other (λ is. stays (inl is)) (not_staged q stays))
-      (start_or_made (UnreadNamesLast (output run.words)) run v m is_run.begins (is_run.last there) moment)
+      (λ (last : NamesAreDurableWithoutIntentExcept (output run.words) m). last unread map is_map q other (λ is. stays (inl is)) (not_staged q stays))
+      (start_or_made (NamesAreDurableWithoutIntentExcept (output run.words)) run v m is_run.begins (is_run.last there) moment)
 
-  module _ (facts : Facts) (ignored : Ignored) (hidden : ignored intent_name ≡ false) (orderly : IsOrderly (RestsOn ignored) v) where
-    left_as_read : IsRunFrom v run → IsMomentOf run m → (q : List ℕ) → IsLastingName ignored run q → (image : Files) → IsImage m image → image q ≡ files_of m q
+  module _ (facts : Facts) (ignored : Ignored) (hidden : ignored intent_name ≡ false) (is_durable : IsDurable (StateDependsOn ignored) v) where
+    left_as_read : IsRunFrom v run → IsMomentOf run m → (q : List ℕ) → IsOrdinaryName ignored run q → (image : Files) → IsCrashImage m image → image q ≡ files_of m q
     left_as_read is_run moment q name image (map, is_map, left) =
-        let here = orderly_at facts ignored v run is_run hidden orderly (is_run.crash (ignored_in run ignored) (now_orderly facts ignored v run is_run hidden orderly) (now_hides facts ignored v run is_run hidden orderly)) m moment in
+        let here = durable_at facts ignored v run is_run hidden is_durable (is_run.crash (ignored_in run ignored) (now_durable facts ignored v run is_run hidden is_durable) (now_hides facts ignored v run is_run hidden is_durable)) m moment in
         let counts = neither (is_staged q) (ignored_in run ignored q) (not_staged q name.waits) (counts_in (output run.words) ignored q name.other name.counts) in
         synced_as_read m.files (map q) (image q) (λ n at. here.each map is_map q n (inr (inl counts)) at) (left q)
         ∙ ap (bytes_at m.files) (names_last is_run moment map is_map q name.waits name.other)
 
-    pub done_for_good : IsRunFrom v run → IsMomentOf run m → (q : List ℕ) → IsLastingName ignored run q → IsDoneForGood v run m q
+    pub done_for_good : IsRunFrom v run → IsMomentOf run m → (q : List ℕ) → IsOrdinaryName ignored run q → IsDurablyDone v run m q
     done_for_good is_run moment q name = record {
-      done = done_here q (not_staged q name.waits) (no_draft_by (effect_by (command_of run.words)) (output run.words) q name.other (not_staged q name.waits)) (stands v run m is_run moment);
+      done = done_here q (not_staged q name.waits) (no_draft_by (effect_by (command_of run.words)) (output run.words) q name.other (not_staged q name.waits)) (located v run m is_run moment);
       lasts = left_as_read is_run moment q name;
     }
 
-pub seen_done : Facts → (ignored : Ignored) (first v m : TreeState) (events : List Event) (run : Run) → ignored intent_name ≡ false → IsOrderly (RestsOn ignored) first → HasSeen first events v → IsRunFrom v run
-    → IsSome (v.names intent_name) → IsMomentOf run m → m.names intent_name ≡ None → (q : List ℕ) → IsLastingName (ignored_behind ignored events) run q → IsDoneForGood v run m q
-seen_done facts ignored first v m events run off orderly seen is_run there moment unread q name =
-    done_for_good v run m there unread facts (ignored_behind ignored events) (behind_hides ignored off events) (seen_orderly facts ignored off first v events orderly seen) is_run moment q name
+pub seen_done : Facts → (ignored : Ignored) (first v m : TreeState) (events : List Event) (run : Run) → ignored intent_name ≡ false → IsDurable (StateDependsOn ignored) first → Reaches first events v → IsRunFrom v run
+    → IsSome (v.names intent_name) → IsMomentOf run m → m.names intent_name ≡ None → (q : List ℕ) → IsOrdinaryName (ignored_after ignored events) run q → IsDurablyDone v run m q
+seen_done facts ignored first v m events run off is_durable seen is_run there moment unread q name =
+    done_for_good v run m there unread facts (ignored_after ignored events) (after_hides ignored off events) (seen_durable facts ignored off first v events is_durable seen) is_run moment q name

@@ -4,14 +4,14 @@ use Rattle.std.specs.Prelude.{IsTrue, if◌then◌else◌}
 use Rattle.std.specs.Str.{bytes_eq}
 use Rattle.std.proofs.lemmas.Bool.{false≢true}
 use Rattle.std.proofs.lemmas.Slice.Eq.{bytes_eq-Decides}
-use Rattle.apk_front.specs.Moments.{HidesScratchOf, ignored_but}
+use Rattle.apk_front.specs.Moments.{IgnoresScratchOf, ignored_but}
 use Rattle.apk_front.specs.declared.answer.Answer.{Answer}
 use Rattle.apk_front.specs.declared.answer.Answer.TheVariants.{Ok as Done, Refused, TreeFault, OutFault, Memory}
 use Rattle.command_core.specs.Command.{CommandLine}
 use Rattle.journal_core.specs.Recovery.{intent_name}
 use Rattle.journal_core.specs.Replacing.{scratch_of}
 use Rattle.outcome.specs.Effect.{Effect, Computes, Reads, Tells, Makes, Changes, does_only_read, effect_by, effect_of, output, output_by, output_if, reads_only}
-use Rattle.run_lists.specs.Events.{Crashes, Edits, Ends, Event, HasNoPendingOutput, Run, Stops, Touches, ignored_behind, ignored_by, names_of_others, nothing_ignored, with_all_touched, with_scratch, with_touched}
+use Rattle.run_lists.specs.Events.{Crashes, Edits, Ends, Event, HasNoPendingOutput, Run, Stops, Touches, ignored_after, ignored_by, names_of_others, nothing_ignored, with_all_touched, with_scratch, with_touched}
 use Rattle.run_lists.proofs.Facts.{AreMore, Ignored}
 use Rattle.run_lists.proofs.Touched.{intent_off}
 
@@ -49,7 +49,7 @@ first_true : (a b : Bool) → a ≡ true → (a || b) ≡ true
 first_true true b is = refl
 first_true false b is = absurd (false≢true is)
 
-pub hides : (o : Option (List ℕ)) (ignored : Ignored) → ignored intent_name ≡ false → HidesScratchOf o (with_scratch o ignored)
+pub hides : (o : Option (List ℕ)) (ignored : Ignored) → ignored intent_name ≡ false → IgnoresScratchOf o (with_scratch o ignored)
 hides None ignored off = tt
 hides (Some name) ignored off = record {
   scratch = first_true (bytes_eq (scratch_of name) (scratch_of name)) (ignored (scratch_of name)) ((bytes_eq-Decides (scratch_of name) (scratch_of name)).1 refl);
@@ -82,13 +82,13 @@ all_touched_hides (Crashes ∷ earlier) ignored off = all_touched_hides earlier 
 all_touched_hides (Edits ∷ earlier) ignored off = all_touched_hides earlier ignored off
 all_touched_hides (Touches theirs ∷ earlier) ignored off = touched_hides theirs (with_all_touched earlier ignored) (all_touched_hides earlier ignored off)
 
-pub behind_hides : (ignored : Ignored) → ignored intent_name ≡ false → (events : List Event) → ignored_behind ignored events intent_name ≡ false
-behind_hides ignored off [] = off
-behind_hides ignored off (Ends run ∷ earlier) = by_hides run.answer run (ignored_behind ignored earlier) (behind_hides ignored off earlier)
-behind_hides ignored off (Stops run ∷ earlier) = scratch_hides (output run.words) (ignored_behind ignored earlier) (behind_hides ignored off earlier)
-behind_hides ignored off (Crashes ∷ earlier) = refl
-behind_hides ignored off (Edits ∷ earlier) = refl
-behind_hides ignored off (Touches theirs ∷ earlier) = touched_hides theirs (ignored_behind ignored earlier) (behind_hides ignored off earlier)
+pub after_hides : (ignored : Ignored) → ignored intent_name ≡ false → (events : List Event) → ignored_after ignored events intent_name ≡ false
+after_hides ignored off [] = off
+after_hides ignored off (Ends run ∷ earlier) = by_hides run.answer run (ignored_after ignored earlier) (after_hides ignored off earlier)
+after_hides ignored off (Stops run ∷ earlier) = scratch_hides (output run.words) (ignored_after ignored earlier) (after_hides ignored off earlier)
+after_hides ignored off (Crashes ∷ earlier) = refl
+after_hides ignored off (Edits ∷ earlier) = refl
+after_hides ignored off (Touches theirs ∷ earlier) = touched_hides theirs (ignored_after ignored earlier) (after_hides ignored off earlier)
 
 -- ---- more and fewer
 
@@ -144,10 +144,10 @@ by_off TreeFault run ignored q fault off = scratch_off (output run.words) ignore
 by_off OutFault run ignored q fault off = off
 by_off Memory run ignored q fault off = off
 
-pub none_ignored : (events : List Event) (q : List ℕ) → HasNoPendingOutput events → ignored_behind nothing_ignored events q ≡ false
+pub none_ignored : (events : List Event) (q : List ℕ) → HasNoPendingOutput events → ignored_after nothing_ignored events q ≡ false
 none_ignored [] q written = refl
-none_ignored (Ends run ∷ earlier) q (fault, before) = by_off run.answer run (ignored_behind nothing_ignored earlier) q fault (none_ignored earlier q before)
-none_ignored (Stops run ∷ earlier) q (none, before) = scratch_off (output run.words) (ignored_behind nothing_ignored earlier) q none (none_ignored earlier q before)
+none_ignored (Ends run ∷ earlier) q (fault, before) = by_off run.answer run (ignored_after nothing_ignored earlier) q fault (none_ignored earlier q before)
+none_ignored (Stops run ∷ earlier) q (none, before) = scratch_off (output run.words) (ignored_after nothing_ignored earlier) q none (none_ignored earlier q before)
 none_ignored (Crashes ∷ earlier) q written = refl
 none_ignored (Edits ∷ earlier) q written = refl
 none_ignored (Touches theirs ∷ earlier) q none = absurd none

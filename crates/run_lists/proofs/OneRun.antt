@@ -1,22 +1,23 @@
--- A run from an orderly tree is safe, and from one state it is all or nothing.
+-- A run from a durable tree is safe, and from one state it is all or nothing.
 use Rattle.std.proofs.Common.{◌≡◌, ◌⊎◌, inl, inr, ⊎_elim, ℕ, true, false, List, Option, refl, sym, subst, ◌∙◌, arith}
 use Rattle.std.specs.Prelude.{is_some}
 use Rattle.apk_front.specs.Answers.{IsAnswerOf, answer_of}
-use Rattle.apk_front.specs.Moments.{AnswersOutcome, AreSafe, HidesScratchOf, IsAtRest, LeavesAtRest, LeavesLasting, Settles, ignored_but}
+use Rattle.apk_front.specs.Moments.{AnswersOutcome, AreOldOrLeadToOutcome, IgnoresScratchOf, IsDurableState, LeavesDurableState, LeavesDurableOnceAnswered, MakesDurable, ignored_but}
 use Rattle.apk_front.specs.declared.answer.Answer.{Answer}
 use Rattle.apk_front.specs.declared.answer.Answer.TheVariants.{Ok as Done, Refused, TreeFault, OutFault, Memory}
-use Rattle.base_core.specs.Calls.{HasNow}
-use Rattle.base_core.specs.Crash.{IsImage, IsOrderly, Since}
+use Rattle.base_core.specs.Calls.{HoldsNow}
+use Rattle.base_core.specs.Crash.{Since}
+use Rattle.base_core.specs.Undone.{IsDurable, IsCrashImage}
 use Rattle.base_core.specs.Files.{Files}
 use Rattle.base_core.specs.Sink.{SinkChange}
 use Rattle.base_core.specs.Tree.{TreeState, files_of}
-use Rattle.journal_core.specs.Quiet.{IsQuiet, IsStill}
-use Rattle.journal_core.specs.Recovery.{IsSettled, RestsOn, intent_name}
-use Rattle.journal_core.specs.Replacing.{IsReplacing}
+use Rattle.journal_core.specs.Quiet.{EachCrashLeavesOld, StateIsUnchanged}
+use Rattle.journal_core.specs.Recovery.{EachCrashLeaves, StateDependsOn, intent_name}
+use Rattle.journal_core.specs.Replacing.{IsMomentOfReplacing}
 use Rattle.outcome.specs.Effect.{Effect, effect_by, output}
 use Rattle.outcome.specs.Outcome.{Outcome}
 use Rattle.words_core.specs.Grammar.{command_of}
-use Rattle.run_lists.specs.Events.{HasCommit, IsIdleRun, IsMomentOf, IsOutcomeFrom, IsRunFrom, Run, ignored_in, with_scratch}
+use Rattle.run_lists.specs.Events.{HasCommit, IsRunWithoutCommit, IsMomentOf, IsOutcomeFrom, IsRunFrom, Run, ignored_in, with_scratch}
 use Rattle.run_lists.specs.Safety.{HasOldOrOutcome, IsAtomic, IsOldOrOutcome, IsSafe, LeavesOutcome}
 use Rattle.run_lists.proofs.AtMoments.{History, at_last, at_moment, now_at, now_map, now_under, now_with}
 use Rattle.run_lists.proofs.Facts.{Facts, Ignored}
@@ -24,40 +25,40 @@ use Rattle.run_lists.proofs.Names.{but_same, hides, scratch_more}
 
 -- ---- states
 
-pub quiet_self : (ignored : Ignored) (v : TreeState) → IsQuiet ignored v v
+pub quiet_self : (ignored : Ignored) (v : TreeState) → EachCrashLeavesOld ignored v v
 quiet_self ignored v image is = (image, is, refl)
 
-pub settled_on : (ignored : Ignored) (files : Files) (v m : TreeState) → IsSettled ignored files v → IsQuiet ignored v m → IsSettled ignored files m
+pub settled_on : (ignored : Ignored) (files : Files) (v m : TreeState) → EachCrashLeaves ignored files v → EachCrashLeavesOld ignored v m → EachCrashLeaves ignored files m
 settled_on ignored files v m settled quiet image is = let was = quiet image is in was.2 ∙ settled was.0 was.1
 
-pub still_self : (ignored : Ignored) (v : TreeState) → IsOrderly (RestsOn ignored) v → IsStill ignored v v
-still_self ignored v orderly = record { orderly = orderly; quiet = quiet_self ignored v; reads = refl; made = omega arith }
+pub still_self : (ignored : Ignored) (v : TreeState) → IsDurable (StateDependsOn ignored) v → StateIsUnchanged ignored v v
+still_self ignored v is_durable = record { is_durable = is_durable; quiet = quiet_self ignored v; reads = refl; made = omega arith }
 
-pub more_orderly : Facts → (o : Option (List ℕ)) (ignored : Ignored) (v : TreeState) → IsOrderly (RestsOn ignored) v → IsOrderly (RestsOn (with_scratch o ignored)) v
-more_orderly facts o ignored v orderly = facts.more_order ignored (with_scratch o ignored) v (scratch_more o ignored) orderly
+pub more_durable : Facts → (o : Option (List ℕ)) (ignored : Ignored) (v : TreeState) → IsDurable (StateDependsOn ignored) v → IsDurable (StateDependsOn (with_scratch o ignored)) v
+more_durable facts o ignored v is_durable = facts.more_order ignored (with_scratch o ignored) v (scratch_more o ignored) is_durable
 
-pub at_rest_fewer : Facts → (o : Option (List ℕ)) (ignored : Ignored) (files : Files) (w : TreeState) → IsAtRest (ignored_but o (with_scratch o ignored)) files w → IsAtRest (ignored_but o ignored) files w
+pub at_rest_fewer : Facts → (o : Option (List ℕ)) (ignored : Ignored) (files : Files) (w : TreeState) → IsDurableState (ignored_but o (with_scratch o ignored)) files w → IsDurableState (ignored_but o ignored) files w
 at_rest_fewer facts o ignored files w rest = record {
-  orderly = facts.more_order (ignored_but o (with_scratch o ignored)) (ignored_but o ignored) w (but_same o ignored) rest.orderly;
+  is_durable = facts.more_order (ignored_but o (with_scratch o ignored)) (ignored_but o ignored) w (but_same o ignored) rest.is_durable;
   settled = facts.more_settled (ignored_but o (with_scratch o ignored)) (ignored_but o ignored) files w (but_same o ignored) rest.settled;
 }
 
 -- ---- a run that commits nothing
 
-module _ (ignored : Ignored) (v : TreeState) (run : Run) (is_run : IsRunFrom v run) (orderly : IsOrderly (RestsOn ignored) v) where
-  uncommitted : (HasCommit v run → ⊥) → AreSafe (IsOutcomeFrom v run) (is_some (output run.words)) ignored v run.old run.now → Since (IsStill ignored v) run.old run.now
-  uncommitted never (inl still) = still
+module _ (ignored : Ignored) (v : TreeState) (run : Run) (is_run : IsRunFrom v run) (is_durable : IsDurable (StateDependsOn ignored) v) where
+  uncommitted : (HasCommit v run → ⊥) → AreOldOrLeadToOutcome (IsOutcomeFrom v run) (is_some (output run.words)) ignored v run.old run.now → Since (StateIsUnchanged ignored v) run.old run.now
+  uncommitted never (inl is_unchanged) = is_unchanged
   uncommitted never (inr (o, one, commits, way)) = absurd (never (o, one, commits))
 
-  idle_still : IsIdleRun v run → Since (IsStill ignored v) run.old run.now
-  idle_still (inl none) = is_run.left none ignored orderly
-  idle_still (inr (none, never)) = uncommitted never (is_run.crash ignored orderly (subst (λ (o : Option (List ℕ)). HidesScratchOf o ignored) (sym none) tt))
+  idle_still : IsRunWithoutCommit v run → Since (StateIsUnchanged ignored v) run.old run.now
+  idle_still (inl none) = is_run.left none ignored is_durable
+  idle_still (inr (none, never)) = uncommitted never (is_run.crash ignored is_durable (subst (λ (o : Option (List ℕ)). IgnoresScratchOf o ignored) (sym none) tt))
 
-  pub idle_moment : IsIdleRun v run → (m : TreeState) → IsMomentOf run m → IsStill ignored v m
-  idle_moment idle m moment = at_moment (IsStill ignored v) run v m is_run.begins (still_self ignored v orderly) (idle_still idle) moment
+  pub idle_moment : IsRunWithoutCommit v run → (m : TreeState) → IsMomentOf run m → StateIsUnchanged ignored v m
+  idle_moment idle m moment = at_moment (StateIsUnchanged ignored v) run v m is_run.begins (still_self ignored v is_durable) (idle_still idle) moment
 
-  pub idle_end : IsIdleRun v run → (w : TreeState) → HasNow run.now (λ u. u ≡ w) → IsStill ignored v w
-  idle_end idle w ends = now_at run.now (IsStill ignored v) w (at_last (IsStill ignored v) run.old run.now v is_run.begins (still_self ignored v orderly) (idle_still idle)) ends
+  pub idle_end : IsRunWithoutCommit v run → (w : TreeState) → HoldsNow run.now (λ u. u ≡ w) → StateIsUnchanged ignored v w
+  idle_end idle w ends = now_at run.now (StateIsUnchanged ignored v) w (at_last (StateIsUnchanged ignored v) run.old run.now v is_run.begins (still_self ignored v is_durable) (idle_still idle)) ends
 
 -- ---- the answer
 
@@ -74,97 +75,97 @@ module _ (IsOne : Outcome → Type 0) (unique : (a b : Outcome) → IsOne a → 
   told Leaves failed Memory out err is answers = absurd answers
 
   module _ (effect : Effect) (ignored : Ignored) (v : TreeState) (now : History) where
-    lasts_for : (o p : Outcome) → o ≡ p → (Settles effect ignored v o → HasNow now (IsSettled ignored o.files)) → Settles effect ignored v p → HasNow now (IsSettled ignored p.files)
-    lasts_for o p same last = subst (λ (x : Outcome). (Settles effect ignored v x → HasNow now (IsSettled ignored x.files))) same last
+    lasts_for : (o p : Outcome) → o ≡ p → (MakesDurable effect ignored v o → HoldsNow now (EachCrashLeaves ignored o.files)) → MakesDurable effect ignored v p → HoldsNow now (EachCrashLeaves ignored p.files)
+    lasts_for o p same last = subst (λ (x : Outcome). (MakesDurable effect ignored v x → HoldsNow now (EachCrashLeaves ignored x.files))) same last
 
-    pub lasts : (answer : Answer) → LeavesLasting IsOne effect ignored v now answer → AnswersOutcome answer → (p : Outcome) → IsOne p → Settles effect ignored v p → HasNow now (IsSettled ignored p.files)
+    pub lasts : (answer : Answer) → LeavesDurableOnceAnswered IsOne effect ignored v now answer → AnswersOutcome answer → (p : Outcome) → IsOne p → MakesDurable effect ignored v p → HoldsNow now (EachCrashLeaves ignored p.files)
     lasts Done is answers p one = lasts_for is.0 p (unique is.0 p is.1 one) is.3
     lasts (Refused r) is answers p one = lasts_for is.0 p (unique is.0 p is.1 one) is.3
     lasts OutFault is answers p one = lasts_for is.0 p (unique is.0 p is.1 one) is.2
     lasts TreeFault is answers p one = absurd answers
     lasts Memory is answers p one = absurd answers
 
-  pub rests : (o : Option (List ℕ)) (ignored : Ignored) (now : History) → LeavesAtRest IsOne o ignored now → (p : Outcome) → IsOne p → p.commits ≡ true → HasNow now (IsAtRest (ignored_but o ignored) p.files)
+  pub rests : (o : Option (List ℕ)) (ignored : Ignored) (now : History) → LeavesDurableState IsOne o ignored now → (p : Outcome) → IsOne p → p.commits ≡ true → HoldsNow now (IsDurableState (ignored_but o ignored) p.files)
   rests o ignored now is p one =
-      subst (λ (x : Outcome). (x.commits ≡ true → HasNow now (IsAtRest (ignored_but o ignored) x.files))) (unique is.0 p is.1 one) is.2
+      subst (λ (x : Outcome). (x.commits ≡ true → HoldsNow now (IsDurableState (ignored_but o ignored) x.files))) (unique is.0 p is.1 one) is.2
 
 -- ---- safe
 
-module _ (facts : Facts) (ignored : Ignored) (v : TreeState) (run : Run) (is_run : IsRunFrom v run) (hidden : ignored intent_name ≡ false) (orderly : IsOrderly (RestsOn ignored) v) where
+module _ (facts : Facts) (ignored : Ignored) (v : TreeState) (run : Run) (is_run : IsRunFrom v run) (hidden : ignored intent_name ≡ false) (is_durable : IsDurable (StateDependsOn ignored) v) where
   abbrev Now : Ignored
   Now = ignored_in run ignored
 
-  pub now_orderly : IsOrderly (RestsOn Now) v
-  now_orderly = more_orderly facts (output run.words) ignored v orderly
+  pub now_durable : IsDurable (StateDependsOn Now) v
+  now_durable = more_durable facts (output run.words) ignored v is_durable
 
-  pub now_hides : HidesScratchOf (output run.words) Now
+  pub now_hides : IgnoresScratchOf (output run.words) Now
   now_hides = hides (output run.words) ignored hidden
 
   ones : (a b : Outcome) → IsOutcomeFrom v run a → IsOutcomeFrom v run b → a ≡ b
   ones = facts.unique run.words (files_of v)
 
-  pub replacing : (o : Outcome) → IsOutcomeFrom v run o → Since (IsReplacing Now o.files v) run.old run.now
-  replacing o one = facts.safe run.words Now v o run.old run.now (is_run.crash Now now_orderly now_hides) one
+  pub replacing : (o : Outcome) → IsOutcomeFrom v run o → Since (IsMomentOfReplacing Now o.files v) run.old run.now
+  replacing o one = facts.safe run.words Now v o run.old run.now (is_run.crash Now now_durable now_hides) one
 
-  either : AreSafe (IsOutcomeFrom v run) (is_some (output run.words)) Now v run.old run.now → (m : TreeState) → IsMomentOf run m → IsOldOrOutcome Now v run m
-  either (inl still) m moment = inl (at_moment (IsStill Now v) run v m is_run.begins (still_self Now v now_orderly) still moment).quiet
+  either : AreOldOrLeadToOutcome (IsOutcomeFrom v run) (is_some (output run.words)) Now v run.old run.now → (m : TreeState) → IsMomentOf run m → IsOldOrOutcome Now v run m
+  either (inl is_unchanged) m moment = inl (at_moment (StateIsUnchanged Now v) run v m is_run.begins (still_self Now v now_durable) is_unchanged moment).quiet
   either (inr (o, one, commits, way)) m moment =
       at_moment_either o one commits m moment
     where
       at_moment_either : (o : Outcome) → IsOutcomeFrom v run o → o.commits ≡ true → (m : TreeState) → IsMomentOf run m → IsOldOrOutcome Now v run m
-      at_moment_either o one commits m moment = inr (o, one, commits, (at_moment (IsReplacing Now o.files v) run v m is_run.begins (record { orderly = now_orderly; old_or_new = λ image is. inl (image, is, refl); made = omega arith }) (replacing o one) moment).old_or_new)
+      at_moment_either o one commits m moment = inr (o, one, commits, (at_moment (IsMomentOfReplacing Now o.files v) run v m is_run.begins (record { is_durable = now_durable; old_or_new = λ image is. inl (image, is, refl); made = omega arith }) (replacing o one) moment).old_or_new)
 
-  pub orderly_at : AreSafe (IsOutcomeFrom v run) (is_some (output run.words)) Now v run.old run.now → (m : TreeState) → IsMomentOf run m → IsOrderly (RestsOn Now) m
-  orderly_at (inl still) m moment = (at_moment (IsStill Now v) run v m is_run.begins (still_self Now v now_orderly) still moment).orderly
-  orderly_at (inr (o, one, commits, way)) m moment =
-      (at_moment (IsReplacing Now o.files v) run v m is_run.begins (record { orderly = now_orderly; old_or_new = λ image is. inl (image, is, refl); made = omega arith }) (replacing o one) moment).orderly
+  pub durable_at : AreOldOrLeadToOutcome (IsOutcomeFrom v run) (is_some (output run.words)) Now v run.old run.now → (m : TreeState) → IsMomentOf run m → IsDurable (StateDependsOn Now) m
+  durable_at (inl is_unchanged) m moment = (at_moment (StateIsUnchanged Now v) run v m is_run.begins (still_self Now v now_durable) is_unchanged moment).is_durable
+  durable_at (inr (o, one, commits, way)) m moment =
+      (at_moment (IsMomentOfReplacing Now o.files v) run v m is_run.begins (record { is_durable = now_durable; old_or_new = λ image is. inl (image, is, refl); made = omega arith }) (replacing o one) moment).is_durable
 
   -- the outcome that was answered, and what holds of the last state
-  pub answered : AnswersOutcome run.answer → HasNow run.now (LeavesOutcome ignored v run)
+  pub answered : AnswersOutcome run.answer → HoldsNow run.now (LeavesOutcome ignored v run)
   answered answers =
       let t = told (IsOutcomeFrom v run) ones _ _ run.answer run.out run.err is_run.stated answers in
       with_outcome t.0 t.1 t.2 t.3 answers
     where
-      with_outcome : (o : Outcome) → IsOutcomeFrom v run o → Told run.answer o → HasNow run.now (λ w. files_of w ≡ o.files) → AnswersOutcome run.answer → HasNow run.now (LeavesOutcome ignored v run)
+      with_outcome : (o : Outcome) → IsOutcomeFrom v run o → Told run.answer o → HoldsNow run.now (λ w. files_of w ≡ o.files) → AnswersOutcome run.answer → HoldsNow run.now (LeavesOutcome ignored v run)
       with_outcome o one was reads answers =
           now_with run.now (λ w. files_of w ≡ o.files)
-          (λ w. (Settles (effect_by (command_of run.words)) Now v o → IsSettled Now o.files w) × (o.commits ≡ true → IsAtRest (ignored_but (output run.words) ignored) o.files w))
+          (λ w. (MakesDurable (effect_by (command_of run.words)) Now v o → EachCrashLeaves Now o.files w) × (o.commits ≡ true → IsDurableState (ignored_but (output run.words) ignored) o.files w))
           (LeavesOutcome ignored v run)
-          (λ w read last. record { outcome = o; is_outcome = one; answered = was; reads = read; settled = last.0; at_rest = last.1 })
+          (λ w read last. record { outcome = o; is_outcome = one; answered = was; reads = read; settled = last.0; durable_state = last.1 })
           reads
           (now_with run.now
-          (λ w. Settles (effect_by (command_of run.words)) Now v o → IsSettled Now o.files w)
-          (λ w. o.commits ≡ true → IsAtRest (ignored_but (output run.words) ignored) o.files w)
-          (λ w. (Settles (effect_by (command_of run.words)) Now v o → IsSettled Now o.files w) × (o.commits ≡ true → IsAtRest (ignored_but (output run.words) ignored) o.files w))
+          (λ w. MakesDurable (effect_by (command_of run.words)) Now v o → EachCrashLeaves Now o.files w)
+          (λ w. o.commits ≡ true → IsDurableState (ignored_but (output run.words) ignored) o.files w)
+          (λ w. (MakesDurable (effect_by (command_of run.words)) Now v o → EachCrashLeaves Now o.files w) × (o.commits ≡ true → IsDurableState (ignored_but (output run.words) ignored) o.files w))
           (λ w a b. (a, b))
-          (now_under run.now (Settles (effect_by (command_of run.words)) Now v o) (IsSettled Now o.files) (λ w. files_of w ≡ o.files) reads
-          (lasts (IsOutcomeFrom v run) ones (effect_by (command_of run.words)) Now v run.now run.answer (is_run.settled Now now_orderly now_hides) answers o one))
-          (now_under run.now (o.commits ≡ true) (IsAtRest (ignored_but (output run.words) ignored) o.files) (λ w. files_of w ≡ o.files) reads
-          (λ commits. now_map run.now (IsAtRest (ignored_but (output run.words) Now) o.files) (IsAtRest (ignored_but (output run.words) ignored) o.files)
+          (now_under run.now (MakesDurable (effect_by (command_of run.words)) Now v o) (EachCrashLeaves Now o.files) (λ w. files_of w ≡ o.files) reads
+          (lasts (IsOutcomeFrom v run) ones (effect_by (command_of run.words)) Now v run.now run.answer (is_run.settled Now now_durable now_hides) answers o one))
+          (now_under run.now (o.commits ≡ true) (IsDurableState (ignored_but (output run.words) ignored) o.files) (λ w. files_of w ≡ o.files) reads
+          (λ commits. now_map run.now (IsDurableState (ignored_but (output run.words) Now) o.files) (IsDurableState (ignored_but (output run.words) ignored) o.files)
           (at_rest_fewer facts (output run.words) ignored o.files)
-          (rests (IsOutcomeFrom v run) ones (output run.words) Now run.now (is_run.at_rest Now now_orderly now_hides answers) o one commits))))
+          (rests (IsOutcomeFrom v run) ones (output run.words) Now run.now (is_run.durable_state Now now_durable now_hides answers) o one commits))))
 
   pub safe : IsSafe ignored v run
   safe = record {
-    moments = either (is_run.crash Now now_orderly now_hides);
+    moments = either (is_run.crash Now now_durable now_hides);
     answered = answered;
-    left = λ idle m moment. let still = idle_moment ignored v run is_run orderly idle m moment in record { quiet = still.quiet; reads = still.reads };
+    left = λ idle m moment. let is_unchanged = idle_moment ignored v run is_run is_durable idle m moment in record { quiet = is_unchanged.quiet; reads = is_unchanged.reads };
   }
 
   -- ---- all or nothing
 
-  module _ (settled : IsSettled ignored (files_of v) v) where
-    now_settled : IsSettled Now (files_of v) v
+  module _ (settled : EachCrashLeaves ignored (files_of v) v) where
+    now_settled : EachCrashLeaves Now (files_of v) v
     now_settled = facts.more_settled ignored Now (files_of v) v (scratch_more (output run.words) ignored) settled
 
-    one_of_two : (m : TreeState) → IsOldOrOutcome Now v run m → (image : Files) → IsImage m image → HasOldOrOutcome Now v run image
+    one_of_two : (m : TreeState) → IsOldOrOutcome Now v run m → (image : Files) → IsCrashImage m image → HasOldOrOutcome Now v run image
     one_of_two m (inl quiet) image is = inl (settled_on Now (files_of v) v m now_settled quiet image is)
     one_of_two m (inr (o, one, commits, old_or_new)) image is =
         ⊎_elim (λ was. inl (was.2 ∙ now_settled was.0 was.1)) (λ new. inr (o, one, commits, new)) (old_or_new image is)
 
     pub atomic : IsAtomic ignored v run
     atomic = record {
-      moments = λ m moment. one_of_two m (either (is_run.crash Now now_orderly now_hides) m moment);
-      answered = λ answers o one. lasts (IsOutcomeFrom v run) ones (effect_by (command_of run.words)) Now v run.now run.answer (is_run.settled Now now_orderly now_hides) answers o one (inl (inr now_settled));
-      left = λ idle m moment. settled_on ignored (files_of v) v m settled (idle_moment ignored v run is_run orderly idle m moment).quiet;
+      moments = λ m moment. one_of_two m (either (is_run.crash Now now_durable now_hides) m moment);
+      answered = λ answers o one. lasts (IsOutcomeFrom v run) ones (effect_by (command_of run.words)) Now v run.now run.answer (is_run.settled Now now_durable now_hides) answers o one (inl (inr now_settled));
+      left = λ idle m moment. settled_on ignored (files_of v) v m settled (idle_moment ignored v run is_run is_durable idle m moment).quiet;
     }

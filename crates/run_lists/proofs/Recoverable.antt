@@ -4,17 +4,16 @@ use Rattle.std.specs.Prelude.{if◌then◌else◌}
 use Rattle.adb_schema.specs.Soundness.{first_fault}
 use Rattle.adb_view.specs.declared.tables.Which.TheVariants.{Intent as IntentTable}
 use Rattle.apk_front.specs.Answers.{answer_by}
-use Rattle.apk_front.specs.Moments.{AnswersOutcome, HasIdleOutcome}
+use Rattle.apk_front.specs.Moments.{AnswersOutcome, HasOutcomeWithoutCommit}
 use Rattle.apk_front.specs.declared.answer.Answer.{Answer}
 use Rattle.apk_front.specs.declared.answer.Answer.TheVariants.{Refused}
-use Rattle.base_core.specs.Calls.{HasNow}
-use Rattle.base_core.specs.Crash.{IsImage, IsOrderly}
+use Rattle.base_core.specs.Calls.{HoldsNow}
 use Rattle.base_core.specs.Files.{Files}
-use Rattle.base_core.specs.Restart.{IsCrashOf}
+use Rattle.base_core.specs.Undone.{IsAfterCrash, IsDurable, IsCrashImage}
 use Rattle.base_core.specs.Tree.{TreeState, files_of}
 use Rattle.base_core.specs.declared.cause.Cause.{Cause}
-use Rattle.journal_core.specs.Quiet.{IsQuiet}
-use Rattle.journal_core.specs.Recovery.{IsSettled, RestsOn, intent_name, is_staged, recovered_files, state_of}
+use Rattle.journal_core.specs.Quiet.{EachCrashLeavesOld}
+use Rattle.journal_core.specs.Recovery.{EachCrashLeaves, StateDependsOn, intent_name, is_staged, recovered_files, state_of}
 use Rattle.journal_core.specs.Staged.{IsIntentFault, unstaged_files}
 use Rattle.journal_core.proofs.More.{quiet_more, states_same}
 use Rattle.outcome.specs.Effect.{Effect, Computes, Reads, Tells, Makes, Changes, does_recover, effect_by, output}
@@ -24,19 +23,19 @@ use Rattle.outcome.specs.Work.{fault_of_intent, recovery_fault}
 use Rattle.report_core.specs.declared.refusal.Refusal.{Refusal}
 use Rattle.report_core.specs.declared.refusal.Refusal.TheVariants.{IntentBad}
 use Rattle.words_core.specs.Grammar.{command_of}
-use Rattle.run_lists.specs.Events.{Crashes, Edits, Ends, Event, HasSeen, HasSeenIdly, IsIdle, IsMomentOf, IsOutcomeFrom, IsRunFrom, IsStopOf, LeadsOn, Run, Stops, Touches, ignored_behind, ignored_in, nothing_ignored, with_all_touched, with_touched}
+use Rattle.run_lists.specs.Events.{Crashes, Edits, Ends, Event, Reaches, ReachesWithoutCommit, IsEventWithoutCommit, IsMomentOf, IsOutcomeFrom, IsRunFrom, IsStopOf, IsTransition, Run, Stops, Touches, ignored_after, ignored_in, nothing_ignored, with_all_touched, with_touched}
 use Rattle.run_lists.specs.Reading.{HasBadIntent}
-use Rattle.run_lists.specs.Recovered.{HasSeenNoBadIntent, HasStateBefore, HasStateBeforeOrOutcome, HasStateOf, IsRecoveredBy, IsUnrefused, LeavesNoBadIntent, PutsNoBadIntent}
+use Rattle.run_lists.specs.Recovered.{ReachesWithoutBadIntent, HasStateBefore, HasStateBeforeOrOutcome, HasStateOf, IsRecoveredBy, IsNotRefusedForIntent, LeavesNoBadIntent, PutsNoBadIntent}
 use Rattle.run_lists.specs.Safety.{HasOldOrOutcome, IsOldOrOutcome}
-use Rattle.run_lists.proofs.Along.{as_crash, seen_orderly}
+use Rattle.run_lists.proofs.Along.{as_crash, seen_durable}
 use Rattle.run_lists.proofs.Committed.{CommitsNoIntent, ReadSound, absent_now}
 use Rattle.run_lists.proofs.Facts.{AreMore, Facts, Ignored}
 use Rattle.run_lists.proofs.Idle.{state_read}
 use Rattle.run_lists.proofs.Moments.{last_moment}
-use Rattle.run_lists.proofs.Names.{all_touched_hides, all_touched_more, behind_hides, scratch_hides, touched_hides, touched_more}
-use Rattle.run_lists.proofs.OneRun.{Told, idle_end, idle_moment, now_hides, now_orderly, orderly_at, quiet_self, safe, told}
-use Rattle.run_lists.proofs.Torn.{torn_good, torn_image, torn_orderly, torn_quiet}
-use Rattle.run_lists.proofs.Touched.{touch_orderly, touch_quiet}
+use Rattle.run_lists.proofs.Names.{all_touched_hides, all_touched_more, after_hides, scratch_hides, touched_hides, touched_more}
+use Rattle.run_lists.proofs.OneRun.{Told, idle_end, idle_moment, now_hides, now_durable, durable_at, quiet_self, safe, told}
+use Rattle.run_lists.proofs.Torn.{torn_good, torn_image, torn_durable, torn_quiet}
+use Rattle.run_lists.proofs.Touched.{touch_durable, touch_quiet}
 use Rattle.run_lists.proofs.Unstaged.{again_at}
 
 -- ---- laws of the crates below
@@ -45,7 +44,7 @@ abbrev pub HasSameBadIntent : Type 0
 HasSameBadIntent = (ignored : Ignored) (a b : Files) (cause : Cause) → ignored intent_name ≡ false → state_of ignored a ≡ state_of ignored b → IsIntentFault a cause → IsIntentFault b cause
 
 abbrev pub OnlyBadRefused : Type 0
-OnlyBadRefused = (words : List (List ℕ)) (files : Files) (o : Outcome) (cause : Cause) → does_recover (effect_by (command_of words)) ≡ true → IsOutcome words files o → o.refusal ≡ Some (IntentBad cause) → recovery_fault (effect_by (command_of words)) files ≡ Some cause
+OnlyBadRefused = (words : List (List ℕ)) (files : Files) (o : Outcome) (cause : Cause) → does_recover (effect_by (command_of words)) ≡ true → IsOutcome (command_of words) files o → o.refusal ≡ Some (IntentBad cause) → recovery_fault (effect_by (command_of words)) files ≡ Some cause
 
 -- ---- files with a bad intent
 
@@ -71,7 +70,7 @@ no_fault Tells files good = good_fault files good
 no_fault Makes files good = good_fault files good
 no_fault Changes files good = good_fault files good
 
-pub seen_plainly : (first v : TreeState) (events : List Event) → HasSeenNoBadIntent first events v → HasSeen first events v
+pub seen_plainly : (first v : TreeState) (events : List Event) → ReachesWithoutBadIntent first events v → Reaches first events v
 seen_plainly first v [] is = is
 seen_plainly first v (event ∷ earlier) (u, seen, leads, puts) = (u, seen_plainly first u earlier seen, leads)
 
@@ -79,7 +78,7 @@ module _ (same : HasSameBadIntent) where
   bad_both : (ignored : Ignored) (a b : Files) → ignored intent_name ≡ false → state_of ignored a ≡ state_of ignored b → HasBadIntent a → HasBadIntent b
   bad_both ignored a b shown is (cause, fault) = (cause, same ignored a b cause shown is fault)
 
-  quiet_good : (ignored : Ignored) (v m : TreeState) → ignored intent_name ≡ false → IsQuiet ignored v m → LeavesNoBadIntent v → LeavesNoBadIntent m
+  quiet_good : (ignored : Ignored) (v m : TreeState) → ignored intent_name ≡ false → EachCrashLeavesOld ignored v m → LeavesNoBadIntent v → LeavesNoBadIntent m
   quiet_good ignored v m shown quiet good = λ image is bad.
       let was = quiet image is in
       good was.0 was.1 (bad_both ignored image was.0 shown was.2 bad)
@@ -93,25 +92,25 @@ module _ (same : HasSameBadIntent) where
         (old_or_new image is)
 
     module _ (facts : Facts) where
-      run_good : (names : Ignored) (v : TreeState) (run : Run) → IsRunFrom v run → names intent_name ≡ false → IsOrderly (RestsOn names) v → LeavesNoBadIntent v → (m : TreeState) → IsMomentOf run m → LeavesNoBadIntent m
-      run_good names v run is_run shown orderly good m moment =
-          let all = safe facts names v run is_run shown orderly in
+      run_good : (names : Ignored) (v : TreeState) (run : Run) → IsRunFrom v run → names intent_name ≡ false → IsDurable (StateDependsOn names) v → LeavesNoBadIntent v → (m : TreeState) → IsMomentOf run m → LeavesNoBadIntent m
+      run_good names v run is_run shown is_durable good m moment =
+          let all = safe facts names v run is_run shown is_durable in
           moment_good (ignored_in run names) v run m (scratch_hides (output run.words) names shown) good (all.moments m moment)
 
-      led_good : (names : Ignored) (event : Event) (v w : TreeState) → names intent_name ≡ false → IsOrderly (RestsOn names) v → LeavesNoBadIntent v → LeadsOn v event w → PutsNoBadIntent event w → LeavesNoBadIntent w
-      led_good names (Ends run) v w shown orderly good (is_run, ends) puts = run_good names v run is_run shown orderly good w (last_moment run v w is_run ends)
-      led_good names (Stops run) v w shown orderly good (is_run, (m, moment, torn)) puts = torn_good m w torn (run_good names v run is_run shown orderly good m moment)
-      led_good names Crashes v w shown orderly good crash puts = λ image is bad.
+      led_good : (names : Ignored) (event : Event) (v w : TreeState) → names intent_name ≡ false → IsDurable (StateDependsOn names) v → LeavesNoBadIntent v → IsTransition v event w → PutsNoBadIntent event w → LeavesNoBadIntent w
+      led_good names (Ends run) v w shown is_durable good (is_run, ends) puts = run_good names v run is_run shown is_durable good w (last_moment run v w is_run ends)
+      led_good names (Stops run) v w shown is_durable good (is_run, (m, moment, torn)) puts = torn_good m w torn (run_good names v run is_run shown is_durable good m moment)
+      led_good names Crashes v w shown is_durable good crash puts = λ image is bad.
           good (files_of w) crash.left (bad_both nothing_ignored image (files_of w) refl (facts.crash_settled nothing_ignored v w crash image is) bad)
-      led_good names Edits v w shown orderly good synced puts = λ image is bad.
+      led_good names Edits v w shown is_durable good synced puts = λ image is bad.
           puts (bad_both nothing_ignored image (files_of w) refl (facts.crash_settled nothing_ignored w w (as_crash facts w synced) image is) bad)
-      led_good names (Touches theirs) v w shown orderly good touch puts = quiet_good (with_touched theirs names) v w (touched_hides theirs names shown) (touch_quiet theirs v w touch names) good
+      led_good names (Touches theirs) v w shown is_durable good touch puts = quiet_good (with_touched theirs names) v w (touched_hides theirs names shown) (touch_quiet theirs v w touch names) good
 
-      module _ (start : Ignored) (off : start intent_name ≡ false) (first : TreeState) (orderly : IsOrderly (RestsOn start) first) (good : LeavesNoBadIntent first) where
-        pub seen_good : (v : TreeState) (events : List Event) → HasSeenNoBadIntent first events v → LeavesNoBadIntent v
+      module _ (start : Ignored) (off : start intent_name ≡ false) (first : TreeState) (is_durable : IsDurable (StateDependsOn start) first) (good : LeavesNoBadIntent first) where
+        pub seen_good : (v : TreeState) (events : List Event) → ReachesWithoutBadIntent first events v → LeavesNoBadIntent v
         seen_good v [] is = subst LeavesNoBadIntent (sym is) good
         seen_good v (event ∷ earlier) (u, seen, leads, puts) =
-            led_good (ignored_behind start earlier) event u v (behind_hides start off earlier) (seen_orderly facts start off first u earlier orderly (seen_plainly first u earlier seen)) (seen_good u earlier seen) leads puts
+            led_good (ignored_after start earlier) event u v (after_hides start off earlier) (seen_durable facts start off first u earlier is_durable (seen_plainly first u earlier seen)) (seen_good u earlier seen) leads puts
 
 -- ---- the next run
 
@@ -127,7 +126,7 @@ module _ (facts : Facts) (only : OnlyBadRefused) where
   told_bad answer o cause is (inl by) = refused_by o.refusal cause (sym is ∙ by)
   told_bad answer o cause is (inr by) = absurd (cc (is, by))
 
-  pub good_unrefused : (v : TreeState) (run : Run) → IsRunFrom v run → does_recover (effect_by (command_of run.words)) ≡ true → LeavesNoBadIntent v → IsUnrefused run
+  pub good_unrefused : (v : TreeState) (run : Run) → IsRunFrom v run → does_recover (effect_by (command_of run.words)) ≡ true → LeavesNoBadIntent v → IsNotRefusedForIntent run
   good_unrefused v run is_run recovers good = λ cause is.
       let t = told (IsOutcomeFrom v run) (facts.unique run.words (files_of v)) _ _ run.answer run.out run.err is_run.stated (subst AnswersOutcome (sym is) tt) in
       none_some (recovery_fault (effect_by (command_of run.words)) (files_of v)) cause
@@ -166,7 +165,7 @@ module _ (names : Ignored) (v : TreeState) (run : Run) where
   state_on a b is (inl (was, left, same)) = inl (was, left, is ∙ same)
   state_on a b is (inr (o, one, commits, same)) = inr (o, one, commits, is ∙ same)
 
-  pub left_state : (m : TreeState) → IsOldOrOutcome names v run m → (image : Files) → IsImage m image → HasStateBeforeOrOutcome names v run image
+  pub left_state : (m : TreeState) → IsOldOrOutcome names v run m → (image : Files) → IsCrashImage m image → HasStateBeforeOrOutcome names v run image
   left_state m (inl quiet) image is = let was = quiet image is in inl (was.0, was.1, was.2)
   left_state m (inr (o, one, commits, old_or_new)) image is =
       ⊎_elim (λ was. inl (was.0, was.1, was.2)) (λ new. inr (o, one, commits, new)) (old_or_new image is)
@@ -179,55 +178,55 @@ pub before_or_outcome_more : (few many : Ignored) (v : TreeState) (run : Run) �
 before_or_outcome_more few many v run more files (inl before) = inl (before_more few many v more files before)
 before_or_outcome_more few many v run more files (inr (o, one, commits, same)) = inr (o, one, commits, states_same few many more files o.files same)
 
-pub one_of_two : (names : Ignored) (v : TreeState) (run : Run) (files : Files) → IsSettled names (files_of v) v → HasStateBeforeOrOutcome names v run files → HasOldOrOutcome names v run files
+pub one_of_two : (names : Ignored) (v : TreeState) (run : Run) (files : Files) → EachCrashLeaves names (files_of v) v → HasStateBeforeOrOutcome names v run files → HasOldOrOutcome names v run files
 one_of_two names v run files settled (inl (was, left, same)) = inl (same ∙ settled was left)
 one_of_two names v run files settled (inr (o, one, commits, same)) = inr (o, one, commits, same)
 
-quiet_on : (ignored : Ignored) (a b c : TreeState) → IsQuiet ignored a b → IsQuiet ignored b c → IsQuiet ignored a c
+quiet_on : (ignored : Ignored) (a b c : TreeState) → EachCrashLeavesOld ignored a b → EachCrashLeavesOld ignored b c → EachCrashLeavesOld ignored a c
 quiet_on ignored a b c first second image is =
     let mid = second image is in
     let was = first mid.0 mid.1 in
     (was.0, was.1, mid.2 ∙ was.2)
 
 record QuietOn (ignored : Ignored) (m w : TreeState) : Type 0 where
-  quiet : IsQuiet ignored m w
-  orderly : IsOrderly (RestsOn ignored) w
+  quiet : EachCrashLeavesOld ignored m w
+  is_durable : IsDurable (StateDependsOn ignored) w
 
-module _ (facts : Facts) (crash_quiet : (ignored : Ignored) (v w : TreeState) → IsCrashOf v w → IsQuiet ignored v w) (start : Ignored) where
-  led_quiet : (earlier : List Event) (m v : TreeState) (event : Event) (w : TreeState) → QuietOn (with_all_touched earlier start) m v → IsIdle v event → LeadsOn v event w → QuietOn (with_all_touched (event ∷ earlier) start) m w
+module _ (facts : Facts) (crash_quiet : (ignored : Ignored) (v w : TreeState) → IsAfterCrash v w → EachCrashLeavesOld ignored v w) (start : Ignored) where
+  led_quiet : (earlier : List Event) (m v : TreeState) (event : Event) (w : TreeState) → QuietOn (with_all_touched earlier start) m v → IsEventWithoutCommit v event → IsTransition v event w → QuietOn (with_all_touched (event ∷ earlier) start) m w
   led_quiet earlier m v (Ends run) w on idle (is_run, ends) =
       let names = with_all_touched earlier start in
-      let still = idle_end names v run is_run on.orderly idle w ends in
-      record { quiet = quiet_on names m v w on.quiet still.quiet; orderly = still.orderly }
+      let is_unchanged = idle_end names v run is_run on.is_durable idle w ends in
+      record { quiet = quiet_on names m v w on.quiet is_unchanged.quiet; is_durable = is_unchanged.is_durable }
   led_quiet earlier m v (Stops run) w on idle (is_run, (at, moment, torn)) =
       let names = with_all_touched earlier start in
-      let still = idle_moment names v run is_run on.orderly idle at moment in
-      record { quiet = quiet_on names m v w on.quiet (torn_quiet at w torn names v still.quiet); orderly = torn_orderly at w torn names still.orderly }
+      let is_unchanged = idle_moment names v run is_run on.is_durable idle at moment in
+      record { quiet = quiet_on names m v w on.quiet (torn_quiet at w torn names v is_unchanged.quiet); is_durable = torn_durable at w torn names is_unchanged.is_durable }
   led_quiet earlier m v Crashes w on idle crash =
       let names = with_all_touched earlier start in
-      record { quiet = quiet_on names m v w on.quiet (crash_quiet names v w crash); orderly = facts.crash_orderly names v w crash }
+      record { quiet = quiet_on names m v w on.quiet (crash_quiet names v w crash); is_durable = facts.crash_durable names v w crash }
   led_quiet earlier m v Edits w on idle synced = absurd idle
   led_quiet earlier m v (Touches theirs) w on idle touch =
       let few = with_all_touched earlier start in
       let names = with_touched theirs few in
       record {
         quiet = quiet_on names m v w (quiet_more few names (touched_more theirs few) m v on.quiet) (touch_quiet theirs v w touch few);
-        orderly = touch_orderly theirs v w touch few on.orderly;
+        is_durable = touch_durable theirs v w touch few on.is_durable;
       }
 
-  seen_quiet : (m w : TreeState) (later : List Event) → IsOrderly (RestsOn start) m → HasSeenIdly m later w → QuietOn (with_all_touched later start) m w
-  seen_quiet m w [] orderly is = subst (QuietOn start m) (sym is) (record { quiet = quiet_self start m; orderly = orderly })
-  seen_quiet m w (event ∷ earlier) orderly (v, seen, idle, leads) = led_quiet earlier m v event w (seen_quiet m v earlier orderly seen) idle leads
+  seen_quiet : (m w : TreeState) (later : List Event) → IsDurable (StateDependsOn start) m → ReachesWithoutCommit m later w → QuietOn (with_all_touched later start) m w
+  seen_quiet m w [] is_durable is = subst (QuietOn start m) (sym is) (record { quiet = quiet_self start m; is_durable = is_durable })
+  seen_quiet m w (event ∷ earlier) is_durable (v, seen, idle, leads) = led_quiet earlier m v event w (seen_quiet m v earlier is_durable seen) idle leads
 
   module _ (same : HasSameBadIntent) (shown : start intent_name ≡ false) (only : OnlyBadRefused) (sound : ReadSound)
       (recovered : (v : TreeState) (run : Run) → IsRunFrom v run → does_recover (effect_by (command_of run.words)) ≡ true → recovery_fault (effect_by (command_of run.words)) (files_of v) ≡ None
-      → AnswersOutcome run.answer → HasIdleOutcome (IsOutcomeFrom v run) → HasNow run.now (λ w. files_of w ≡ unstaged_files (files_of v))) where
+      → AnswersOutcome run.answer → HasOutcomeWithoutCommit (IsOutcomeFrom v run) → HoldsNow run.now (λ w. files_of w ≡ unstaged_files (files_of v))) where
     -- from a moment of a run on, over what crashes and idle runs leave
-    pub next_recovers : (m w : TreeState) (later : List Event) (next : Run) → IsOrderly (RestsOn start) m → LeavesNoBadIntent m
-        → HasSeenIdly m later w → IsRunFrom w next → does_recover (effect_by (command_of next.words)) ≡ true → (image : Files) × IsImage m image × IsRecoveredBy (HasStateOf (with_all_touched later start) image) w next
-    next_recovers m w later next orderly good seen is_next recovers =
+    pub next_recovers : (m w : TreeState) (later : List Event) (next : Run) → IsDurable (StateDependsOn start) m → LeavesNoBadIntent m
+        → ReachesWithoutCommit m later w → IsRunFrom w next → does_recover (effect_by (command_of next.words)) ≡ true → (image : Files) × IsCrashImage m image × IsRecoveredBy (HasStateOf (with_all_touched later start) image) w next
+    next_recovers m w later next is_durable good seen is_next recovers =
         let names = with_all_touched later start in
-        let on = seen_quiet m w later orderly seen in
+        let on = seen_quiet m w later is_durable seen in
         let here : LeavesNoBadIntent w = quiet_good same names m w (all_touched_hides later start shown) on.quiet good in
         let fault = good_recovers facts w next.words here in
         let was = on.quiet (files_of w) (facts.read_left w) in (
@@ -254,28 +253,28 @@ recovered_as A B leads w next is = record {
 }
 
 -- behind a list
-module _ (facts : Facts) (same : HasSameBadIntent) (committed : CommitsNoIntent) (only : OnlyBadRefused) (sound : ReadSound) (crash_quiet : (ignored : Ignored) (v w : TreeState) → IsCrashOf v w → IsQuiet ignored v w)
+module _ (facts : Facts) (same : HasSameBadIntent) (committed : CommitsNoIntent) (only : OnlyBadRefused) (sound : ReadSound) (crash_quiet : (ignored : Ignored) (v w : TreeState) → IsAfterCrash v w → EachCrashLeavesOld ignored v w)
     (recovered : (v : TreeState) (run : Run) → IsRunFrom v run → does_recover (effect_by (command_of run.words)) ≡ true → recovery_fault (effect_by (command_of run.words)) (files_of v) ≡ None
-    → AnswersOutcome run.answer → HasIdleOutcome (IsOutcomeFrom v run) → HasNow run.now (λ w. files_of w ≡ unstaged_files (files_of v)))
-    (start : Ignored) (off : start intent_name ≡ false) (first : TreeState) (orderly : IsOrderly (RestsOn start) first) (good : LeavesNoBadIntent first) where
-  pub stopped_left : (v m w : TreeState) (events later : List Event) (run next : Run) → HasSeenNoBadIntent first events v → IsRunFrom v run → IsStopOf run m → HasSeenIdly m later w
-      → IsRunFrom w next → does_recover (effect_by (command_of next.words)) ≡ true → (image : Files) × IsImage m image × IsRecoveredBy (HasStateOf (with_all_touched later (ignored_in run (ignored_behind start events))) image) w next
+    → AnswersOutcome run.answer → HasOutcomeWithoutCommit (IsOutcomeFrom v run) → HoldsNow run.now (λ w. files_of w ≡ unstaged_files (files_of v)))
+    (start : Ignored) (off : start intent_name ≡ false) (first : TreeState) (is_durable : IsDurable (StateDependsOn start) first) (good : LeavesNoBadIntent first) where
+  pub stopped_left : (v m w : TreeState) (events later : List Event) (run next : Run) → ReachesWithoutBadIntent first events v → IsRunFrom v run → IsStopOf run m → ReachesWithoutCommit m later w
+      → IsRunFrom w next → does_recover (effect_by (command_of next.words)) ≡ true → (image : Files) × IsCrashImage m image × IsRecoveredBy (HasStateOf (with_all_touched later (ignored_in run (ignored_after start events))) image) w next
   stopped_left v m w events later run next seen is_run (at, moment, torn) idly is_next recovers =
-      let names = ignored_behind start events in
-      let shown = behind_hides start off events in
-      let here = seen_orderly facts start off first v events orderly (seen_plainly first v events seen) in
-      let order = orderly_at facts names v run is_run shown here (is_run.crash (ignored_in run names) (now_orderly facts names v run is_run shown here) (now_hides facts names v run is_run shown here)) at moment in
-      let is_good = run_good same committed facts names v run is_run shown here (seen_good same committed facts start off first orderly good v events seen) at moment in
+      let names = ignored_after start events in
+      let shown = after_hides start off events in
+      let here = seen_durable facts start off first v events is_durable (seen_plainly first v events seen) in
+      let order = durable_at facts names v run is_run shown here (is_run.crash (ignored_in run names) (now_durable facts names v run is_run shown here) (now_hides facts names v run is_run shown here)) at moment in
+      let is_good = run_good same committed facts names v run is_run shown here (seen_good same committed facts start off first is_durable good v events seen) at moment in
       next_recovers facts crash_quiet (ignored_in run names) same (scratch_hides (output run.words) names shown) only sound recovered m w later next
-      (torn_orderly at m torn (ignored_in run names) order) (torn_good at m torn is_good) idly is_next recovers
+      (torn_durable at m torn (ignored_in run names) order) (torn_good at m torn is_good) idly is_next recovers
 
-  pub stopped_recovers : (v m w : TreeState) (events later : List Event) (run next : Run) → HasSeenNoBadIntent first events v → IsRunFrom v run → IsStopOf run m → HasSeenIdly m later w
-      → IsRunFrom w next → does_recover (effect_by (command_of next.words)) ≡ true → IsRecoveredBy (HasStateBeforeOrOutcome (with_all_touched later (ignored_in run (ignored_behind start events))) v run) w next
+  pub stopped_recovers : (v m w : TreeState) (events later : List Event) (run next : Run) → ReachesWithoutBadIntent first events v → IsRunFrom v run → IsStopOf run m → ReachesWithoutCommit m later w
+      → IsRunFrom w next → does_recover (effect_by (command_of next.words)) ≡ true → IsRecoveredBy (HasStateBeforeOrOutcome (with_all_touched later (ignored_in run (ignored_after start events))) v run) w next
   stopped_recovers v m w events later run next seen is_run (at, moment, torn) idly is_next recovers =
-      let few = ignored_in run (ignored_behind start events) in
+      let few = ignored_in run (ignored_after start events) in
       let names = with_all_touched later few in
       let left = stopped_left v m w events later run next seen is_run (at, moment, torn) idly is_next recovers in
-      let either = (safe facts (ignored_behind start events) v run is_run (behind_hides start off events) (seen_orderly facts start off first v events orderly (seen_plainly first v events seen))).moments at moment in
+      let either = (safe facts (ignored_after start events) v run is_run (after_hides start off events) (seen_durable facts start off first v events is_durable (seen_plainly first v events seen))).moments at moment in
       let had = left_state few v run at either left.0 (torn_image at m torn left.0 left.1) in
       recovered_as (HasStateOf names left.0) (HasStateBeforeOrOutcome names v run)
       (λ files same. state_on names v run files left.0 same (before_or_outcome_more few names v run (all_touched_more later few) left.0 had)) w next left.2

@@ -1,7 +1,7 @@
 -- What a run leaves that recovers and commits nothing.
 use Rattle.std.proofs.Common.{◌≡◌, ℕ, true, false, List, Option, None, Result, Ok, Err, refl, ap, subst, ◌∙◌}
-use Rattle.apk_front.specs.Moments.{AnswersOutcome, HasIdleOutcome}
-use Rattle.base_core.specs.Calls.{HasNow}
+use Rattle.apk_front.specs.Moments.{AnswersOutcome, HasOutcomeWithoutCommit}
+use Rattle.base_core.specs.Calls.{HoldsNow}
 use Rattle.base_core.specs.Files.{Files}
 use Rattle.base_core.specs.Tree.{TreeState, files_of}
 use Rattle.base_core.specs.declared.cause.Cause.{Cause}
@@ -9,10 +9,10 @@ use Rattle.command_core.specs.Command.{CommandLine}
 use Rattle.command_core.specs.declared.command.Applet.{Applet}
 use Rattle.command_core.specs.declared.command.Applet.TheVariants.{Demo}
 use Rattle.journal_core.specs.Staged.{unstaged_files}
-use Rattle.outcome.specs.Commands.{IsOutcomeOf, IsOutcomeOver, IsOutcomeUnless}
+use Rattle.outcome.specs.Commands.{IsOutcomeOf, IsOutcomeOn, IsOutcomeUnlessBadIntent}
 use Rattle.outcome.specs.Effect.{Effect, Computes, Reads, Tells, Makes, Changes, does_recover, effect_by, effect_of}
 use Rattle.outcome.specs.Outcome.{Outcome}
-use Rattle.outcome.specs.Words.{IsOutcome, IsOutcomeBy, IsOutcomeFor}
+use Rattle.outcome.specs.Words.{IsOutcome, IsOutcomeFor}
 use Rattle.outcome.specs.Work.{recovery_fault, work_files}
 use Rattle.words_core.specs.Grammar.{command_of}
 use Rattle.run_lists.specs.Events.{IsOutcomeFrom, IsRunFrom, Run}
@@ -31,15 +31,15 @@ other_than_demo : (applet : Applet) (command : CommandLine) (files : Files) (o :
 other_than_demo Demo command files o recovers one = cc
 other_than_demo other command files o recovers one = one
 
-module _ (idle_leaves : (command : CommandLine) (files : Files) (o : Outcome) → IsOutcomeOver command files o → o.commits ≡ false → o.files ≡ files) (unique : (words : List (List ℕ)) (files : Files) (a b : Outcome) → IsOutcome words files a → IsOutcome words files b → a ≡ b) where
-  recovers_by : (command : Result CommandLine ℕ) (files : Files) (o : Outcome) → IsOutcomeBy command files o → does_recover (effect_by command) ≡ true → recovery_fault (effect_by command) files ≡ None → o.commits ≡ false → o.files ≡ unstaged_files files
+module _ (idle_leaves : (command : CommandLine) (files : Files) (o : Outcome) → IsOutcomeOn command files o → o.commits ≡ false → o.files ≡ files) (unique : (words : List (List ℕ)) (files : Files) (a b : Outcome) → IsOutcome (command_of words) files a → IsOutcome (command_of words) files b → a ≡ b) where
+  recovers_by : (command : Result CommandLine ℕ) (files : Files) (o : Outcome) → IsOutcome command files o → does_recover (effect_by command) ≡ true → recovery_fault (effect_by command) files ≡ None → o.commits ≡ false → o.files ≡ unstaged_files files
   recovers_by (Err place) files o is recovers none idle = cc
   recovers_by (Ok command) files o is recovers none idle =
-      let over : IsOutcomeOver command (work_files (effect_of command.applet) files) o = subst (λ (c : Option Cause). IsOutcomeUnless c command files o) none (other_than_demo command.applet command files o recovers is) in
+      let over : IsOutcomeOn command (work_files (effect_of command.applet) files) o = subst (λ (c : Option Cause). IsOutcomeUnlessBadIntent c command files o) none (other_than_demo command.applet command files o recovers is) in
       idle_leaves command (work_files (effect_of command.applet) files) o over idle ∙ work_recovers (effect_of command.applet) files recovers
 
   pub recovered : (v : TreeState) (run : Run) → IsRunFrom v run → does_recover (effect_by (command_of run.words)) ≡ true → recovery_fault (effect_by (command_of run.words)) (files_of v) ≡ None
-      → AnswersOutcome run.answer → HasIdleOutcome (IsOutcomeFrom v run) → HasNow run.now (λ w. files_of w ≡ unstaged_files (files_of v))
+      → AnswersOutcome run.answer → HasOutcomeWithoutCommit (IsOutcomeFrom v run) → HoldsNow run.now (λ w. files_of w ≡ unstaged_files (files_of v))
   recovered v run is_run recovers none answers (p, one, idle) =
       let t = told (IsOutcomeFrom v run) (unique run.words (files_of v)) _ _ run.answer run.out run.err is_run.stated answers in
       let commits : t.0.commits ≡ false = ap (λ (o : Outcome). o.commits) (unique run.words (files_of v) t.0 p t.1 one) ∙ idle in

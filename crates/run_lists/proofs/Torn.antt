@@ -1,11 +1,11 @@
 -- A state inside a call leaves what the moment leaves that it is torn from.
-use Rattle.std.proofs.Common.{◌≡◌, inl, inr, ℕ, true, List, ◌∷◌, Option, Some, None, refl, ap, subst, ◌∙◌}
-use Rattle.base_core.specs.Crash.{IsImage, IsOrderly, MayLeave}
+use Rattle.std.proofs.Common.{◌≡◌, inl, inr, ℕ, true, List, Option, Some, None, refl, ap, subst, ◌∙◌}
+use Rattle.base_core.specs.Crash.{CrashMayLeave}
 use Rattle.base_core.specs.Files.{Files, NameMap}
-use Rattle.base_core.specs.Lists.{IsIn}
-use Rattle.base_core.specs.Tree.{File, IsMapOf, TreeState, bytes_at, files_by}
-use Rattle.journal_core.specs.Quiet.{IsQuiet}
-use Rattle.journal_core.specs.Recovery.{Intent, IsPlaceOf, RestsOn, intent_at, intent_name, intent_of}
+use Rattle.base_core.specs.Tree.{File, TreeState, bytes_at, files_by}
+use Rattle.base_core.specs.Undone.{IsDurable, IsLeftOf, IsCrashImage, IsCrashMap}
+use Rattle.journal_core.specs.Quiet.{EachCrashLeavesOld}
+use Rattle.journal_core.specs.Recovery.{Intent, IsStagedNameOf, StateDependsOn, intent_at, intent_name, intent_of}
 use Rattle.run_lists.specs.Events.{IsTornFrom}
 use Rattle.run_lists.specs.Recovered.{LeavesNoBadIntent}
 use Rattle.run_lists.proofs.Facts.{Ignored}
@@ -13,37 +13,37 @@ use Rattle.run_lists.proofs.Facts.{Ignored}
 pub torn_self : (m : TreeState) → IsTornFrom m m
 torn_self m = record { names = refl; older = refl; made = refl; synced = λ n. refl; bytes = λ n is. refl }
 
-torn_leaves : (f g : ℕ → File) → ((n : ℕ) → (g n).synced ≡ (f n).synced) → ((n : ℕ) → (f n).synced ≡ true → (g n).bytes ≡ (f n).bytes) → (at : Option ℕ) (bytes : Option (List ℕ)) → MayLeave g at bytes → MayLeave f at bytes
+torn_leaves : (f g : ℕ → File) → ((n : ℕ) → (g n).synced ≡ (f n).synced) → ((n : ℕ) → (f n).synced ≡ true → (g n).bytes ≡ (f n).bytes) → (at : Option ℕ) (bytes : Option (List ℕ)) → CrashMayLeave g at bytes → CrashMayLeave f at bytes
 torn_leaves f g synced same None bytes is = is
 torn_leaves f g synced same (Some n) None is = is
 torn_leaves f g synced same (Some n) (Some bytes) is = λ durable. is (synced n ∙ durable) ∙ same n durable
 
 module _ (m w : TreeState) (torn : IsTornFrom m w) where
-  torn_map : (map : NameMap) → IsMapOf w map → IsMapOf m map
-  torn_map map among = subst (λ (older : List NameMap). IsIn map (m.names ∷ older)) torn.older (subst (λ (names : NameMap). IsIn map (names ∷ w.older)) torn.names among)
+  torn_map : (map : NameMap) → IsCrashMap w map → IsCrashMap m map
+  torn_map map left = subst (λ (older : List NameMap). IsLeftOf m.names older map) torn.older (subst (λ (names : NameMap). IsLeftOf names w.older map) torn.names left)
 
-  pub torn_image : (image : Files) → IsImage w image → IsImage m image
+  pub torn_image : (image : Files) → IsCrashImage w image → IsCrashImage m image
   torn_image image (map, among, by) = (map, torn_map map among, λ q. torn_leaves m.files w.files torn.synced torn.bytes (map q) (image q) (by q))
 
   module _ (ignored : Ignored) where
-    pub torn_quiet : (v : TreeState) → IsQuiet ignored v m → IsQuiet ignored v w
+    pub torn_quiet : (v : TreeState) → EachCrashLeavesOld ignored v m → EachCrashLeavesOld ignored v w
     torn_quiet v quiet image is = quiet image (torn_image image is)
 
-    module _ (orderly : IsOrderly (RestsOn ignored) m) where
-      same_intent : (map : NameMap) → IsMapOf m map → intent_of (files_by w map) ≡ intent_of (files_by m map)
+    module _ (is_durable : IsDurable (StateDependsOn ignored) m) where
+      same_intent : (map : NameMap) → IsCrashMap m map → intent_of (files_by w map) ≡ intent_of (files_by m map)
       same_intent map among = ap intent_at (by (map intent_name) refl)
         where
           by : (o : Option ℕ) → map intent_name ≡ o → bytes_at w.files o ≡ bytes_at m.files o
           by None is = refl
-          by (Some n) is = ap (λ (bytes : List ℕ). Some bytes) (torn.bytes n (orderly.each map among intent_name n (inl refl) is))
+          by (Some n) is = ap (λ (bytes : List ℕ). Some bytes) (torn.bytes n (is_durable.each map among intent_name n (inl refl) is))
 
-      rests : (map : NameMap) → IsMapOf m map → (q : List ℕ) → RestsOn ignored (files_by w map) q → RestsOn ignored (files_by m map) q
+      rests : (map : NameMap) → IsCrashMap m map → (q : List ℕ) → StateDependsOn ignored (files_by w map) q → StateDependsOn ignored (files_by m map) q
       rests map among q (inl is) = inl is
       rests map among q (inr (inl shown)) = inr (inl shown)
-      rests map among q (inr (inr place)) = inr (inr (subst (λ (o : Option Intent). IsPlaceOf o q) (same_intent map among) place))
+      rests map among q (inr (inr place)) = inr (inr (subst (λ (o : Option Intent). IsStagedNameOf o q) (same_intent map among) place))
 
-      pub torn_orderly : IsOrderly (RestsOn ignored) w
-      torn_orderly = record { each = λ map among q n on is. torn.synced n ∙ orderly.each map (torn_map map among) q n (rests map (torn_map map among) q on) is }
+      pub torn_durable : IsDurable (StateDependsOn ignored) w
+      torn_durable = record { each = λ map among q n on is. torn.synced n ∙ is_durable.each map (torn_map map among) q n (rests map (torn_map map among) q on) is }
 
   pub torn_good : LeavesNoBadIntent m → LeavesNoBadIntent w
   torn_good good image is bad = good image (torn_image image is) bad

@@ -4,14 +4,15 @@ use Rattle.std.specs.Prelude.{if◌then◌else◌}
 use Rattle.std.specs.Str.{bytes_eq}
 use Rattle.std.proofs.lemmas.Bool.{false≢true}
 use Rattle.std.proofs.lemmas.Slice.Eq.{bytes_eq-Decides}
-use Rattle.base_core.specs.Crash.{IsOrderly, MayLeave}
+use Rattle.base_core.specs.Crash.{CrashMayLeave}
+use Rattle.base_core.specs.Undone.{IsDurable}
 use Rattle.base_core.specs.Files.{Files, NameMap}
 use Rattle.base_core.specs.Tree.{File, TreeState, bytes_at, files_by}
 use Rattle.journal_intent.proofs.StageNames.{stage_name_staged}
-use Rattle.journal_core.specs.Quiet.{IsQuiet}
-use Rattle.journal_core.specs.Recovery.{Intent, IsPlaceOf, RestsOn, intent_at, intent_name, intent_of, is_staged}
+use Rattle.journal_core.specs.Quiet.{EachCrashLeavesOld}
+use Rattle.journal_core.specs.Recovery.{Intent, IsStagedNameOf, StateDependsOn, intent_at, intent_name, intent_of, is_staged}
 use Rattle.journal_core.proofs.Agree.{state_agree}
-use Rattle.run_lists.specs.Events.{IsSameBut, IsTouchOf, names_of_others, with_touched}
+use Rattle.run_lists.specs.Events.{IsSameExcept, IsTouchOf, names_of_others, with_touched}
 use Rattle.run_lists.proofs.Facts.{Ignored}
 
 -- ---- the names
@@ -36,18 +37,18 @@ parts true b c is = absurd (false≢true (sym is))
 parts false true c is = absurd (false≢true (sym is))
 parts false false c is = (refl, is)
 
-place_staged : (o : Option Intent) (q : List ℕ) → IsPlaceOf o q → is_staged q ≡ true
+place_staged : (o : Option Intent) (q : List ℕ) → IsStagedNameOf o q → is_staged q ≡ true
 place_staged None q at = absurd at
 place_staged (Some intent) q (k, low, high, is) = ap is_staged is ∙ stage_name_staged k
 
 -- ---- the files
 
-same_left : (f g : ℕ → File) (o : Option ℕ) (bytes : Option (List ℕ)) → ((n : ℕ) → o ≡ Some n → g n ≡ f n) → MayLeave g o bytes → MayLeave f o bytes
+same_left : (f g : ℕ → File) (o : Option ℕ) (bytes : Option (List ℕ)) → ((n : ℕ) → o ≡ Some n → g n ≡ f n) → CrashMayLeave g o bytes → CrashMayLeave f o bytes
 same_left f g None bytes same is = is
 same_left f g (Some n) None same is = is
 same_left f g (Some n) (Some bytes) same is = subst (λ (file : File). (file.synced ≡ true → bytes ≡ file.bytes)) (same n refl) is
 
-read_left : (f : ℕ → File) (o : Option ℕ) → MayLeave f o (bytes_at f o)
+read_left : (f : ℕ → File) (o : Option ℕ) → CrashMayLeave f o (bytes_at f o)
 read_left f None = refl
 read_left f (Some n) = λ synced. refl
 
@@ -59,7 +60,7 @@ module _ (theirs : Ignored) (v w : TreeState) (touch : IsTouchOf theirs v w) (ig
   abbrev Names : Ignored
   Names = with_touched theirs ignored
 
-  counts : (files : Files) (q : List ℕ) → RestsOn Names files q → names_of_others theirs q ≡ false
+  counts : (files : Files) (q : List ℕ) → StateDependsOn Names files q → names_of_others theirs q ≡ false
   counts files q (inl is) = ap (names_of_others theirs) is ∙ intent_off theirs
   counts files q (inr (inl shown)) = (parts (is_staged q) (names_of_others theirs q) (ignored q) shown).0
   counts files q (inr (inr place)) = staged_off theirs q (place_staged (intent_of files) q place)
@@ -68,16 +69,16 @@ module _ (theirs : Ignored) (v w : TreeState) (touch : IsTouchOf theirs v w) (ig
   abbrev old_files : NameMap → Files → Files
   old_files was image q = if names_of_others theirs q then bytes_at v.files (was q) else image q
 
-  old_left : (was map : NameMap) (image : Files) → IsSameBut theirs v was w map → ((q : List ℕ) → MayLeave w.files (map q) (image q)) → (q : List ℕ) → MayLeave v.files (was q) (old_files was image q)
+  old_left : (was map : NameMap) (image : Files) → IsSameExcept theirs v was w map → ((q : List ℕ) → CrashMayLeave w.files (map q) (image q)) → (q : List ℕ) → CrashMayLeave v.files (was q) (old_files was image q)
   old_left was map image same by q = at (names_of_others theirs q) refl
     where
-      at : (b : Bool) → names_of_others theirs q ≡ b → MayLeave v.files (was q) (if b then bytes_at v.files (was q) else image q)
+      at : (b : Bool) → names_of_others theirs q ≡ b → CrashMayLeave v.files (was q) (if b then bytes_at v.files (was q) else image q)
       at true is = read_left v.files (was q)
       at false is =
           let both = same q is in
-          same_left v.files w.files (was q) (image q) both.1 (subst (λ (o : Option ℕ). MayLeave w.files o (image q)) both.0 (by q))
+          same_left v.files w.files (was q) (image q) both.1 (subst (λ (o : Option ℕ). CrashMayLeave w.files o (image q)) both.0 (by q))
 
-  pub touch_quiet : IsQuiet Names v w
+  pub touch_quiet : EachCrashLeavesOld Names v w
   touch_quiet image (map, among, by) =
       let at = touch map among in (
         old_files at.0 image,
@@ -86,19 +87,19 @@ module _ (theirs : Ignored) (v w : TreeState) (touch : IsTouchOf theirs v w) (ig
             (λ q rests. sym (ap (λ (b : Bool). (if b then bytes_at v.files (at.0 q) else image q)) (counts image q rests))),
       )
 
-  rested : (was map : NameMap) → IsSameBut theirs v was w map → (q : List ℕ) → RestsOn Names (files_by w map) q → RestsOn ignored (files_by v was) q
+  rested : (was map : NameMap) → IsSameExcept theirs v was w map → (q : List ℕ) → StateDependsOn Names (files_by w map) q → StateDependsOn ignored (files_by v was) q
   rested was map same q (inl is) = inl is
   rested was map same q (inr (inl shown)) = inr (inl (parts (is_staged q) (names_of_others theirs q) (ignored q) shown).1)
   rested was map same q (inr (inr place)) =
       let both = same intent_name (intent_off theirs) in
       let at : files_by w map intent_name ≡ files_by v was intent_name = ap (bytes_at w.files) both.0 ∙ same_bytes v.files w.files (was intent_name) both.1 in
-      inr (inr (subst (λ (o : Option Intent). IsPlaceOf o q) (ap intent_at at) place))
+      inr (inr (subst (λ (o : Option Intent). IsStagedNameOf o q) (ap intent_at at) place))
 
-  pub touch_orderly : IsOrderly (RestsOn ignored) v → IsOrderly (RestsOn Names) w
-  touch_orderly orderly = record {
+  pub touch_durable : IsDurable (StateDependsOn ignored) v → IsDurable (StateDependsOn Names) w
+  touch_durable is_durable = record {
     each = λ map among q n rests is.
         let at = touch map among in
         let both = at.2 q (counts (files_by w map) q rests) in
         let was : at.0 q ≡ Some n = sym both.0 ∙ is in
-        ap (λ (file : File). file.synced) (both.1 n was) ∙ orderly.each at.0 at.1 q n (rested at.0 map at.2 q rests) was;
+        ap (λ (file : File). file.synced) (both.1 n was) ∙ is_durable.each at.0 at.1 q n (rested at.0 map at.2 q rests) was;
   }

@@ -3,19 +3,19 @@
 -- *event*.
 use Rattle.std.specs.Prelude.{◌≡◌, ◌≢◌, ◌⊎◌, ◌++◌, ◌||◌, ℕ, Bool, true, false, if◌then◌else◌, List, [], ◌∷◌, Option, Some, None, Contains, IsSome, IsTrue, is_some}
 use Rattle.std.specs.Str.{bytes_eq}
-use Rattle.apk_front.specs.Answers.{IsAnswerTo, LeavesFiles}
-use Rattle.apk_front.specs.Moments.{AnswersOutcome, AreReadOnTheWay, AreSafe, CanRecover, CommitsNothing, HasNothingToRecover, HidesScratchOf, LeavesAtRest, LeavesLasting, UnreadNamesLast, ignored_but}
+use Rattle.apk_front.specs.Answers.{IsAnswerOf, LeavesFiles}
+use Rattle.apk_front.specs.Moments.{AnswersOutcome, AreReadDuringRun, AreOldOrLeadToOutcome, CanRecover, CommitsNothing, HasNothingToRecover, IgnoresScratchOf, LeavesDurableState, LeavesDurableOnceAnswered, NamesAreDurableWithoutIntentExcept, ignored_but}
 use Rattle.apk_front.specs.declared.answer.Answer.{Answer}
 use Rattle.apk_front.specs.declared.answer.Answer.TheVariants.{Ok, TreeFault}
-use Rattle.base_core.specs.Calls.{HasNow}
-use Rattle.base_core.specs.Crash.{IsOrderly, Since}
+use Rattle.base_core.specs.Calls.{HoldsNow}
+use Rattle.base_core.specs.Crash.{Since}
 use Rattle.base_core.specs.Faults.{Counts, HasCause}
-use Rattle.base_core.specs.Restart.{IsCrashOf}
 use Rattle.base_core.specs.Sink.{SinkChange}
 use Rattle.base_core.specs.Files.{NameMap}
-use Rattle.base_core.specs.Tree.{IsMapOf, TreeState, files_of}
-use Rattle.journal_core.specs.Quiet.{IsStill}
-use Rattle.journal_core.specs.Recovery.{RestsOn, intent_name, is_staged}
+use Rattle.base_core.specs.Tree.{TreeState, files_of}
+use Rattle.base_core.specs.Undone.{IsAfterCrash, IsDurable, IsCrashMap}
+use Rattle.journal_core.specs.Quiet.{StateIsUnchanged}
+use Rattle.journal_core.specs.Recovery.{StateDependsOn, intent_name, is_staged}
 use Rattle.journal_core.specs.Replacing.{scratch_of}
 use Rattle.outcome.specs.Effect.{effect_by, output, reads_only}
 use Rattle.outcome.specs.Outcome.{Outcome}
@@ -41,7 +41,7 @@ pub record Run : Type 0 where
 
 -- the outcome of a run's arguments over the files as read when it begins
 abbrev pub IsOutcomeFrom : TreeState → Run → Outcome → Type 0
-IsOutcomeFrom v run = IsOutcome run.words (files_of v)
+IsOutcomeFrom v run = IsOutcome (command_of run.words) (files_of v)
 
 -- a run has an outcome that commits
 abbrev pub HasCommit : TreeState → Run → Type 0
@@ -50,39 +50,41 @@ HasCommit v run =
 
 -- A run that begins in the state v: what the contract of `apk` says of it, clause by clause.
 pub record IsRunFrom (v : TreeState) (run : Run) : Type 0 where
-  pub begins : HasNow run.old (λ u. u ≡ v)
-  pub stated : IsAnswerTo run.words (files_of v) (LeavesFiles run.now)
+  pub begins : HoldsNow run.old (λ u. u ≡ v)
+  pub stated : IsAnswerOf (IsOutcomeFrom v run) (LeavesFiles run.now)
       (HasCause run.before run.after) run.answer run.out run.err
   pub same : IsTrue (reads_only (command_of run.words)) → run.now ≡ run.old
   pub idle : CommitsNothing (IsOutcomeFrom v run) run.answer
       → HasNothingToRecover (effect_by (command_of run.words)) v → run.now ≡ run.old
   pub bad_intent : IsSome (recovery_fault (effect_by (command_of run.words)) (files_of v))
       → run.now ≡ run.old
-  pub reads : AreReadOnTheWay (IsOutcomeFrom v run) (effect_by (command_of run.words))
+  pub reads : AreReadDuringRun (IsOutcomeFrom v run) (effect_by (command_of run.words))
       (output run.words) v run.old run.now
   pub last : IsSome (v.names intent_name)
-      → Since (UnreadNamesLast (output run.words)) run.old run.now
+      → Since (NamesAreDurableWithoutIntentExcept (output run.words)) run.old run.now
   pub left : CommitsNothing (IsOutcomeFrom v run) run.answer → (ignored : List ℕ → Bool)
-      → IsOrderly (RestsOn ignored) v → Since (IsStill ignored v) run.old run.now
+      → IsDurable (StateDependsOn ignored) v → Since (StateIsUnchanged ignored v) run.old run.now
   pub crash : (ignored : List ℕ → Bool)
-      → IsOrderly (RestsOn ignored) v → HidesScratchOf (output run.words) ignored
-      → AreSafe (IsOutcomeFrom v run) (is_some (output run.words)) ignored v run.old run.now
-  pub orderly : (ignored : List ℕ → Bool)
-      → IsOrderly (RestsOn ignored) v → HidesScratchOf (output run.words) ignored
-      → HasNow run.now (IsOrderly (RestsOn ignored))
+      → IsDurable (StateDependsOn ignored) v → IgnoresScratchOf (output run.words) ignored
+      → AreOldOrLeadToOutcome (IsOutcomeFrom v run) (is_some (output run.words)) ignored v run.old
+      run.now
+  pub is_durable : (ignored : List ℕ → Bool)
+      → IsDurable (StateDependsOn ignored) v → IgnoresScratchOf (output run.words) ignored
+      → HoldsNow run.now (IsDurable (StateDependsOn ignored))
   pub settled : (ignored : List ℕ → Bool)
-      → IsOrderly (RestsOn ignored) v → HidesScratchOf (output run.words) ignored
-      → LeavesLasting (IsOutcomeFrom v run) (effect_by (command_of run.words)) ignored v run.now
+      → IsDurable (StateDependsOn ignored) v → IgnoresScratchOf (output run.words) ignored
+      → LeavesDurableOnceAnswered (IsOutcomeFrom v run) (effect_by (command_of run.words)) ignored v
+      run.now
       run.answer
-  pub at_rest : (ignored : List ℕ → Bool)
-      → IsOrderly (RestsOn ignored) v → HidesScratchOf (output run.words) ignored
+  pub durable_state : (ignored : List ℕ → Bool)
+      → IsDurable (StateDependsOn ignored) v → IgnoresScratchOf (output run.words) ignored
       → AnswersOutcome run.answer
-      → LeavesAtRest (IsOutcomeFrom v run) (output run.words) ignored run.now
+      → LeavesDurableState (IsOutcomeFrom v run) (output run.words) ignored run.now
 
 -- a moment of a run: the state in which it begins, or one that it made
 abbrev pub IsMomentOf : Run → TreeState → Type 0
 IsMomentOf run m =
-    HasNow run.old (λ v. m ≡ v)
+    HoldsNow run.old (λ v. m ≡ v)
     ⊎ ((added : List TreeState) × (run.now ≡ added ++ run.old) × Contains added m)
 
 -- ---- events
@@ -120,53 +122,55 @@ abbrev pub names_of_others : (List ℕ → Bool) → List ℕ → Bool
 names_of_others theirs q = if bytes_eq q intent_name || is_staged q then false else theirs q
 
 -- two maps of names agree, but for the names of others, and each other name leads to the same file
-abbrev pub IsSameBut : (List ℕ → Bool) → TreeState → NameMap → TreeState → NameMap → Type 0
-IsSameBut theirs v was w map =
+abbrev pub IsSameExcept : (List ℕ → Bool) → TreeState → NameMap → TreeState → NameMap → Type 0
+IsSameExcept theirs v was w map =
     (q : List ℕ) → names_of_others theirs q ≡ false
     → (map q ≡ was q) × ((n : ℕ) → was q ≡ Some n → w.files n ≡ v.files n)
 
 -- others have changed only files under their names: each map of names is one from before but for these
 abbrev pub IsTouchOf : (List ℕ → Bool) → TreeState → TreeState → Type 0
 IsTouchOf theirs v w =
-    (map : NameMap) → IsMapOf w map → (was : NameMap) × IsMapOf v was × IsSameBut theirs v was w map
+    (map : NameMap) → IsCrashMap w map → (was : NameMap) × IsCrashMap v was
+    × IsSameExcept theirs v was w map
 
 -- an event finds a tree in the state v, and leaves it in the state w
-abbrev pub LeadsOn : TreeState → Event → TreeState → Type 0
-LeadsOn v (Ends run) w = IsRunFrom v run × HasNow run.now (λ u. u ≡ w)
-LeadsOn v (Stops run) w = IsRunFrom v run × IsStopOf run w
-LeadsOn v Crashes w = IsCrashOf v w
+abbrev pub IsTransition : TreeState → Event → TreeState → Type 0
+IsTransition v (Ends run) w = IsRunFrom v run × HoldsNow run.now (λ u. u ≡ w)
+IsTransition v (Stops run) w = IsRunFrom v run × IsStopOf run w
+IsTransition v Crashes w = IsAfterCrash v w
 -- others may lead to any files of the tree, once these are synced
-LeadsOn v Edits w = IsAllSynced w
-LeadsOn v (Touches theirs) w = IsTouchOf theirs v w
+IsTransition v Edits w = IsAllSynced w
+IsTransition v (Touches theirs) w = IsTouchOf theirs v w
 
 -- a root that was in the state `first` has seen these events, the newest first, and is in state w
-abbrev pub HasSeen : TreeState → List Event → TreeState → Type 0
-HasSeen first [] w = w ≡ first
-HasSeen first (event ∷ earlier) w =
-    (v : TreeState) × HasSeen first earlier v × LeadsOn v event w
+abbrev pub Reaches : TreeState → List Event → TreeState → Type 0
+Reaches first [] w = w ≡ first
+Reaches first (event ∷ earlier) w =
+    (v : TreeState) × Reaches first earlier v × IsTransition v event w
 
 -- ---- what is committed
 
 -- a run commits nothing: it is refused, runs out of memory, or has an outcome that commits nothing; or
 -- it has no output, and no outcome that commits
-abbrev pub IsIdleRun : TreeState → Run → Type 0
-IsIdleRun v run =
+abbrev pub IsRunWithoutCommit : TreeState → Run → Type 0
+IsRunWithoutCommit v run =
     CommitsNothing (IsOutcomeFrom v run) run.answer
     ⊎ ((output run.words ≡ None) × (HasCommit v run → ⊥))
 
 -- an event is a crash, a run that commits nothing, or a touch by others
-abbrev pub IsIdle : TreeState → Event → Type 0
-IsIdle v (Ends run) = IsIdleRun v run
-IsIdle v (Stops run) = IsIdleRun v run
-IsIdle v Crashes = Unit {0}
-IsIdle v Edits = ⊥
-IsIdle v (Touches theirs) = Unit {0}
+abbrev pub IsEventWithoutCommit : TreeState → Event → Type 0
+IsEventWithoutCommit v (Ends run) = IsRunWithoutCommit v run
+IsEventWithoutCommit v (Stops run) = IsRunWithoutCommit v run
+IsEventWithoutCommit v Crashes = Unit {0}
+IsEventWithoutCommit v Edits = ⊥
+IsEventWithoutCommit v (Touches theirs) = Unit {0}
 
 -- a root has seen events, and none committed anything
-abbrev pub HasSeenIdly : TreeState → List Event → TreeState → Type 0
-HasSeenIdly first [] w = w ≡ first
-HasSeenIdly first (event ∷ earlier) w =
-    (v : TreeState) × HasSeenIdly first earlier v × IsIdle v event × LeadsOn v event w
+abbrev pub ReachesWithoutCommit : TreeState → List Event → TreeState → Type 0
+ReachesWithoutCommit first [] w = w ≡ first
+ReachesWithoutCommit first (event ∷ earlier) w =
+    (v : TreeState) × ReachesWithoutCommit first earlier v × IsEventWithoutCommit v event
+    × IsTransition v event w
 
 -- ---- when a crash leaves one state
 
@@ -185,21 +189,21 @@ MakesOneState v (Touches theirs) = ⊥
 -- after the event each crash leaves one state if it did before: it is no run; or a run that commits
 -- nothing, or that ends without an I/O error of the tree
 abbrev pub KeepsOneState : TreeState → Event → Type 0
-KeepsOneState v (Ends run) = (run.answer ≢ TreeFault) ⊎ IsIdleRun v run
-KeepsOneState v (Stops run) = IsIdleRun v run
+KeepsOneState v (Ends run) = (run.answer ≢ TreeFault) ⊎ IsRunWithoutCommit v run
+KeepsOneState v (Stops run) = IsRunWithoutCommit v run
 KeepsOneState v Crashes = Unit {0}
 KeepsOneState v Edits = Unit {0}
 KeepsOneState v (Touches theirs) = Unit {0}
 
 -- a root has seen events, and each crash leaves one state: an event made it so, or it was so at first,
 -- and the events after that kept it
-abbrev pub HasSeenToOneState : TreeState → List Event → TreeState → Type 0
-HasSeenToOneState first [] w = w ≡ first
-HasSeenToOneState first (event ∷ earlier) w =
+abbrev pub ReachesOneState : TreeState → List Event → TreeState → Type 0
+ReachesOneState first [] w = w ≡ first
+ReachesOneState first (event ∷ earlier) w =
     (v : TreeState)
-    × LeadsOn v event w
-    × ((HasSeen first earlier v × MakesOneState v event)
-    ⊎ (HasSeenToOneState first earlier v × KeepsOneState v event))
+    × IsTransition v event w
+    × ((Reaches first earlier v × MakesOneState v event)
+    ⊎ (ReachesOneState first earlier v × KeepsOneState v event))
 
 -- since the last crash, or change by others, no run was stopped, and none ended by a fault of the tree
 abbrev pub HasNoPendingRun : List Event → Type 0
@@ -252,15 +256,15 @@ with_all_touched (Touches theirs ∷ earlier) ignored =
 -- The names that are ignored after a list. A run with an output adds its scratch name if it is stopped
 -- or the tree fails. The name is no longer ignored once the output is written, or all was synced. Names
 -- that others touched are ignored until all was synced.
-abbrev pub ignored_behind : (List ℕ → Bool) → List Event → List ℕ → Bool
-ignored_behind ignored [] = ignored
-ignored_behind ignored (Ends run ∷ earlier) =
-    ignored_by run.answer run (ignored_behind ignored earlier)
-ignored_behind ignored (Stops run ∷ earlier) = ignored_in run (ignored_behind ignored earlier)
-ignored_behind ignored (Crashes ∷ earlier) = nothing_ignored
-ignored_behind ignored (Edits ∷ earlier) = nothing_ignored
-ignored_behind ignored (Touches theirs ∷ earlier) =
-    with_touched theirs (ignored_behind ignored earlier)
+abbrev pub ignored_after : (List ℕ → Bool) → List Event → List ℕ → Bool
+ignored_after ignored [] = ignored
+ignored_after ignored (Ends run ∷ earlier) =
+    ignored_by run.answer run (ignored_after ignored earlier)
+ignored_after ignored (Stops run ∷ earlier) = ignored_in run (ignored_after ignored earlier)
+ignored_after ignored (Crashes ∷ earlier) = nothing_ignored
+ignored_after ignored (Edits ∷ earlier) = nothing_ignored
+ignored_after ignored (Touches theirs ∷ earlier) =
+    with_touched theirs (ignored_after ignored earlier)
 
 -- since all was synced no run with an output was stopped, or ended by a fault of the tree, and others
 -- touched nothing

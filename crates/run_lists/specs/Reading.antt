@@ -2,24 +2,24 @@
 -- crash. The rules are in `docs/crash-safety.md`, "Recovery", its last two paragraphs.
 use Rattle.std.specs.Prelude.{◌≡◌, ◌⊎◌, ℕ, Bool, true, false, List, [], ◌∷◌, Option}
 use Rattle.apk_front.specs.Moments.{is_draft_name, output_names}
-use Rattle.base_core.specs.Crash.{IsImage}
+use Rattle.base_core.specs.Undone.{IsCrashImage}
 use Rattle.base_core.specs.Files.{Files}
 use Rattle.base_core.specs.Tree.{TreeState, files_of}
 use Rattle.base_core.specs.declared.cause.Cause.{Cause}
-use Rattle.journal_core.specs.Kept.{IsWaitingName}
+use Rattle.journal_core.specs.Kept.{IsJournalName}
 use Rattle.journal_core.specs.Staged.{IsIntentFault, unstaged_files}
 use Rattle.journal_intent.specs.FreeNames.{IsNoneOf}
 use Rattle.outcome.specs.Effect.{does_recover, effect_by, output}
 use Rattle.outcome.specs.Outcome.{Outcome}
 use Rattle.words_core.specs.Grammar.{command_of}
-use Rattle.run_lists.specs.Events.{Crashes, Edits, Ends, Event, IsMomentOf, IsOutcomeFrom, LeadsOn, Run, Stops, Touches}
+use Rattle.run_lists.specs.Events.{Crashes, Edits, Ends, Event, IsMomentOf, IsOutcomeFrom, IsTransition, Run, Stops, Touches}
 
 -- ---- at each moment of a run
 
 -- a name is neither the intent's, nor that of a staged file, nor one under which the run makes a new
 -- file
 pub record IsNoDraft (run : Run) (q : List ℕ) : Type 0 where
-  pub waits : IsWaitingName q → ⊥
+  pub waits : IsJournalName q → ⊥
   pub drafts : is_draft_name (effect_by (command_of run.words)) (output run.words) q ≡ false
 
 -- at a moment of a run a name has the bytes of an outcome of the run that commits
@@ -50,14 +50,14 @@ IsRunWith Holds v Edits w = ⊥
 IsRunWith Holds v (Touches theirs) w = ⊥
 
 -- a root has seen only runs, ended or stopped, each with this property
-abbrev pub HasSeenRuns :
+abbrev pub ReachesByRuns :
     (TreeState → Run → Type 0) → TreeState → List Event → TreeState → Type 0
-HasSeenRuns Holds first [] w = w ≡ first
-HasSeenRuns Holds first (event ∷ earlier) w =
+ReachesByRuns Holds first [] w = w ≡ first
+ReachesByRuns Holds first (event ∷ earlier) w =
     (v : TreeState)
-    × HasSeenRuns Holds first earlier v
+    × ReachesByRuns Holds first earlier v
     × IsRunWith Holds v event w
-    × LeadsOn v event w
+    × IsTransition v event w
 
 -- no further property of a run is required
 abbrev pub IsAnyRun : TreeState → Run → Type 0
@@ -86,13 +86,13 @@ HasBadIntent files = (cause : Cause) × IsIntentFault files cause
 
 -- a name is neither the intent's, nor that of a staged file, nor one that the run may write as or for
 -- its output, nor one of those ignored
-pub record IsLastingName (ignored : List ℕ → Bool) (run : Run) (q : List ℕ) : Type 0 where
-  pub waits : IsWaitingName q → ⊥
+pub record IsOrdinaryName (ignored : List ℕ → Bool) (run : Run) (q : List ℕ) : Type 0 where
+  pub waits : IsJournalName q → ⊥
   pub other : IsNoneOf q (output_names (output run.words))
   pub counts : ignored q ≡ false
 
 -- the intent's change is durable under a name: the name has its recovered bytes, or those of an outcome
 -- of the run, and each crash leaves exactly these
-pub record IsDoneForGood (v : TreeState) (run : Run) (m : TreeState) (q : List ℕ) : Type 0 where
+pub record IsDurablyDone (v : TreeState) (run : Run) (m : TreeState) (q : List ℕ) : Type 0 where
   pub done : (files_of m q ≡ unstaged_files (files_of v) q) ⊎ HasOutcomeBytes v run m q
-  pub lasts : (image : Files) → IsImage m image → image q ≡ files_of m q
+  pub lasts : (image : Files) → IsCrashImage m image → image q ≡ files_of m q

@@ -1,10 +1,10 @@
 -- What keeps a root recoverable, and the state after a run that was stopped. The rules are in
 -- `docs/crash-safety.md`, "Recovery", its table of what is found and its last part.
 use Rattle.std.specs.Prelude.{◌≡◌, ◌≢◌, ◌⊎◌, ℕ, Bool, true, List, [], ◌∷◌, None}
-use Rattle.apk_front.specs.Moments.{AnswersOutcome, HasIdleOutcome}
+use Rattle.apk_front.specs.Moments.{AnswersOutcome, HasOutcomeWithoutCommit}
 use Rattle.apk_front.specs.declared.answer.Answer.TheVariants.{Refused}
-use Rattle.base_core.specs.Calls.{HasNow}
-use Rattle.base_core.specs.Crash.{IsImage}
+use Rattle.base_core.specs.Calls.{HoldsNow}
+use Rattle.base_core.specs.Undone.{IsCrashImage}
 use Rattle.base_core.specs.Files.{Files}
 use Rattle.base_core.specs.Tree.{TreeState, files_of}
 use Rattle.base_core.specs.declared.cause.Cause.{Cause}
@@ -15,14 +15,14 @@ use Rattle.outcome.specs.Outcome.{Outcome}
 use Rattle.outcome.specs.Work.{recovery_fault}
 use Rattle.report_core.specs.declared.refusal.Refusal.TheVariants.{IntentBad}
 use Rattle.words_core.specs.Grammar.{command_of}
-use Rattle.run_lists.specs.Events.{Crashes, Edits, Ends, Event, IsOutcomeFrom, LeadsOn, Run, Stops, Touches}
+use Rattle.run_lists.specs.Events.{Crashes, Edits, Ends, Event, IsOutcomeFrom, IsTransition, Run, Stops, Touches}
 use Rattle.run_lists.specs.Reading.{HasBadIntent}
 
 -- ---- no bad intent
 
 -- no crash leaves a bad intent, so none is read either
 abbrev pub LeavesNoBadIntent : TreeState → Type 0
-LeavesNoBadIntent v = (image : Files) → IsImage v image → HasBadIntent image → ⊥
+LeavesNoBadIntent v = (image : Files) → IsCrashImage v image → HasBadIntent image → ⊥
 
 -- when others change files, they put no bad intent there
 abbrev pub PutsNoBadIntent : Event → TreeState → Type 0
@@ -33,17 +33,17 @@ PutsNoBadIntent Edits w = HasBadIntent (files_of w) → ⊥
 PutsNoBadIntent (Touches theirs) w = Unit {0}
 
 -- a root has seen events, and others put no bad intent there
-abbrev pub HasSeenNoBadIntent : TreeState → List Event → TreeState → Type 0
-HasSeenNoBadIntent first [] w = w ≡ first
-HasSeenNoBadIntent first (event ∷ earlier) w =
+abbrev pub ReachesWithoutBadIntent : TreeState → List Event → TreeState → Type 0
+ReachesWithoutBadIntent first [] w = w ≡ first
+ReachesWithoutBadIntent first (event ∷ earlier) w =
     (v : TreeState)
-    × HasSeenNoBadIntent first earlier v
-    × LeadsOn v event w
+    × ReachesWithoutBadIntent first earlier v
+    × IsTransition v event w
     × PutsNoBadIntent event w
 
 -- a run is not refused for its intent
-abbrev pub IsUnrefused : Run → Type 0
-IsUnrefused run = (cause : Cause) → run.answer ≢ Refused (IntentBad cause)
+abbrev pub IsNotRefusedForIntent : Run → Type 0
+IsNotRefusedForIntent run = (cause : Cause) → run.answer ≢ Refused (IntentBad cause)
 
 -- ---- after a run that was stopped
 
@@ -53,7 +53,7 @@ HasStateOf ignored others files = state_of ignored files ≡ state_of ignored ot
 
 -- files have a state that a crash might have left when the run began
 abbrev pub HasStateBefore : (List ℕ → Bool) → TreeState → Files → Type 0
-HasStateBefore ignored v files = (was : Files) × IsImage v was × HasStateOf ignored was files
+HasStateBefore ignored v files = (was : Files) × IsCrashImage v was × HasStateOf ignored was files
 
 -- files have a state from before the run, or that of an outcome of the run, which commits
 abbrev pub HasStateBeforeOrOutcome : (List ℕ → Bool) → TreeState → Run → Files → Type 0
@@ -75,8 +75,8 @@ pub record AreRecovered (HasState : Files → Type 0) (files : Files) : Type 0 w
 -- is read once this is answered.
 pub record IsRecoveredBy (HasState : Files → Type 0) (w : TreeState) (next : Run) :
     Type 0 where
-  pub unrefused : IsUnrefused next
+  pub unrefused : IsNotRefusedForIntent next
   pub works : recovery_fault (effect_by (command_of next.words)) (files_of w) ≡ None
   pub files : AreRecovered HasState (unstaged_files (files_of w))
-  pub read : AnswersOutcome next.answer → HasIdleOutcome (IsOutcomeFrom w next)
-      → HasNow next.now (λ u. files_of u ≡ unstaged_files (files_of w))
+  pub read : AnswersOutcome next.answer → HasOutcomeWithoutCommit (IsOutcomeFrom w next)
+      → HoldsNow next.now (λ u. files_of u ≡ unstaged_files (files_of w))

@@ -2,18 +2,18 @@
 -- "Recovery": the table of what a run may leave, and its last part.
 use Rattle.std.specs.Prelude.{◌≡◌, ◌⊎◌, ℕ, Bool, true, false, List}
 use Rattle.apk_front.specs.Answers.{answer_of}
-use Rattle.apk_front.specs.Moments.{AnswersOutcome, IsAtRest, Settles, ignored_but}
+use Rattle.apk_front.specs.Moments.{AnswersOutcome, IsDurableState, MakesDurable, ignored_but}
 use Rattle.apk_front.specs.declared.answer.Answer.TheVariants.{OutFault}
-use Rattle.base_core.specs.Calls.{HasNow}
-use Rattle.base_core.specs.Crash.{IsImage, IsOrderly}
+use Rattle.base_core.specs.Calls.{HoldsNow}
+use Rattle.base_core.specs.Undone.{IsDurable, IsCrashImage}
 use Rattle.base_core.specs.Files.{Files}
 use Rattle.base_core.specs.Tree.{TreeState, files_of}
-use Rattle.journal_core.specs.Quiet.{IsQuiet}
-use Rattle.journal_core.specs.Recovery.{IsOldOrNew, IsSettled, RestsOn, intent_name, state_of}
+use Rattle.journal_core.specs.Quiet.{EachCrashLeavesOld}
+use Rattle.journal_core.specs.Recovery.{EachCrashLeavesOldOrNew, EachCrashLeaves, StateDependsOn, intent_name, state_of}
 use Rattle.outcome.specs.Effect.{effect_by, output}
 use Rattle.outcome.specs.Outcome.{Outcome}
 use Rattle.words_core.specs.Grammar.{command_of}
-use Rattle.run_lists.specs.Events.{Event, HasSeen, HasSeenToOneState, IsIdleRun, IsMomentOf, IsOutcomeFrom, Run, ignored_behind, ignored_in}
+use Rattle.run_lists.specs.Events.{Event, Reaches, ReachesOneState, IsRunWithoutCommit, IsMomentOf, IsOutcomeFrom, Run, ignored_after, ignored_in}
 
 -- ---- from any states that a crash might have left before the run
 
@@ -21,15 +21,15 @@ use Rattle.run_lists.specs.Events.{Event, HasSeen, HasSeenToOneState, IsIdleRun,
 -- a crash leaves a state from before or that of its files
 abbrev pub IsOldOrOutcome : (List ℕ → Bool) → TreeState → Run → TreeState → Type 0
 IsOldOrOutcome ignored v run m =
-    IsQuiet ignored v m
+    EachCrashLeavesOld ignored v m
     ⊎ ((outcome : Outcome)
     × IsOutcomeFrom v run outcome
     × (outcome.commits ≡ true)
-    × IsOldOrNew ignored v outcome.files m)
+    × EachCrashLeavesOldOrNew ignored v outcome.files m)
 
 -- at a moment of a run a crash leaves a state from before, and the files as read have the old one
 pub record KeepsState (ignored : List ℕ → Bool) (v m : TreeState) : Type 0 where
-  pub quiet : IsQuiet ignored v m
+  pub quiet : EachCrashLeavesOld ignored v m
   pub reads : state_of ignored (files_of m) ≡ state_of ignored (files_of v)
 
 -- the run's outcome was answered, or a sink's fault in its place, and its files are read
@@ -41,19 +41,19 @@ pub record LeavesOutcome (ignored : List ℕ → Bool) (v : TreeState) (run : Ru
   pub reads : files_of w ≡ outcome.files
   -- each crash leaves them, if it commits, if each left the old ones before, or if an intent was found
   -- and completed
-  pub settled : Settles (effect_by (command_of run.words)) (ignored_in run ignored) v outcome
-      → IsSettled (ignored_in run ignored) outcome.files w
+  pub settled : MakesDurable (effect_by (command_of run.words)) (ignored_in run ignored) v outcome
+      → EachCrashLeaves (ignored_in run ignored) outcome.files w
   -- if it commits, under its output and the scratch name too
-  pub at_rest : outcome.commits ≡ true
-      → IsAtRest (ignored_but (output run.words) ignored) outcome.files w
+  pub durable_state : outcome.commits ≡ true
+      → IsDurableState (ignored_but (output run.words) ignored) outcome.files w
 
 -- A run is safe: at each moment a crash leaves a state from before or that of the outcome. Once the
 -- outcome is answered its files are read, and are durable. A run that commits nothing keeps the state.
 pub record IsSafe (ignored : List ℕ → Bool) (v : TreeState) (run : Run) : Type 0 where
   pub moments : (m : TreeState) → IsMomentOf run m
       → IsOldOrOutcome (ignored_in run ignored) v run m
-  pub answered : AnswersOutcome run.answer → HasNow run.now (LeavesOutcome ignored v run)
-  pub left : IsIdleRun v run
+  pub answered : AnswersOutcome run.answer → HoldsNow run.now (LeavesOutcome ignored v run)
+  pub left : IsRunWithoutCommit v run
       → (m : TreeState) → IsMomentOf run m → KeepsState ignored v m
 
 -- ---- from one state
@@ -70,27 +70,27 @@ HasOldOrOutcome ignored v run image =
 -- All or nothing: at each moment a crash leaves the old state or that of the outcome. Once it is
 -- answered a crash leaves that of the outcome, and the old one if the run commits nothing.
 pub record IsAtomic (ignored : List ℕ → Bool) (v : TreeState) (run : Run) : Type 0 where
-  pub moments : (m : TreeState) → IsMomentOf run m → (image : Files) → IsImage m image
+  pub moments : (m : TreeState) → IsMomentOf run m → (image : Files) → IsCrashImage m image
       → HasOldOrOutcome (ignored_in run ignored) v run image
   pub answered : AnswersOutcome run.answer → (outcome : Outcome) → IsOutcomeFrom v run outcome
-      → HasNow run.now (IsSettled (ignored_in run ignored) outcome.files)
-  pub left : IsIdleRun v run
-      → (m : TreeState) → IsMomentOf run m → IsSettled ignored (files_of v) m
+      → HoldsNow run.now (EachCrashLeaves (ignored_in run ignored) outcome.files)
+  pub left : IsRunWithoutCommit v run
+      → (m : TreeState) → IsMomentOf run m → EachCrashLeaves ignored (files_of v) m
 
 -- ---- after every list
 
--- whatever list a root has seen, from an orderly tree on, a run that begins in the state v is safe
-abbrev pub IsSafeBehindAll : TreeState → Run → Type 0
-IsSafeBehindAll v run =
+-- whatever list a root has seen, from a durable tree on, a run that begins in the state v is safe
+abbrev pub IsSafeAfterAnyEvents : TreeState → Run → Type 0
+IsSafeAfterAnyEvents v run =
     (ignored : List ℕ → Bool) (first : TreeState) (events : List Event)
-    → ignored intent_name ≡ false → IsOrderly (RestsOn ignored) first → HasSeen first events v
-    → IsSafe (ignored_behind ignored events) v run
+    → ignored intent_name ≡ false → IsDurable (StateDependsOn ignored) first → Reaches first events v
+    → IsSafe (ignored_after ignored events) v run
 
 -- a run that begins in the state v is all or nothing, whatever list a root has seen after which each
 -- crash leaves one state
-abbrev pub IsAtomicBehindAll : TreeState → Run → Type 0
-IsAtomicBehindAll v run =
+abbrev pub IsAtomicAfterAnyEvents : TreeState → Run → Type 0
+IsAtomicAfterAnyEvents v run =
     (ignored : List ℕ → Bool) (first : TreeState) (events : List Event)
-    → ignored intent_name ≡ false → IsAtRest ignored (files_of first) first
-    → HasSeenToOneState first events v
-    → IsAtomic (ignored_behind ignored events) v run
+    → ignored intent_name ≡ false → IsDurableState ignored (files_of first) first
+    → ReachesOneState first events v
+    → IsAtomic (ignored_after ignored events) v run

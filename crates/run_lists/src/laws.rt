@@ -1,86 +1,85 @@
 //! Laws on lists of runs, stops and crashes. The rules are in `docs/crash-safety.md`, "Recovery",
 //! its last two paragraphs; the sentence is in the README of this crate.
 ghost use Rattle.std.specs.Prelude.{◌≡◌, ℕ, Bool, false, true, List, None, Option, IsSome, IsTrue};
-ghost use Rattle.apk_front.specs.Moments.{AnswersOutcome, HasIdleOutcome, HidesScratchOf, IsAtRest};
-ghost use Rattle.base_core.specs.Calls.{HasNow};
-ghost use Rattle.base_core.specs.Crash.{IsImage, IsOrderly};
+ghost use Rattle.apk_front.specs.Moments.{AnswersOutcome, HasOutcomeWithoutCommit, IgnoresScratchOf, IsDurableState};
+ghost use Rattle.base_core.specs.Calls.{HoldsNow};
+ghost use Rattle.base_core.specs.Undone.{IsDurable, IsCrashImage};
 ghost use Rattle.base_core.specs.Files.{Files};
 ghost use Rattle.base_core.specs.Tree.{TreeState, files_of};
-ghost use Rattle.journal_core.specs.Kept.{IsWaitingName};
-ghost use Rattle.journal_core.specs.Recovery.{IsSettled, RestsOn, intent_name, state_of};
+ghost use Rattle.journal_core.specs.Kept.{IsJournalName};
+ghost use Rattle.journal_core.specs.Recovery.{EachCrashLeaves, StateDependsOn, intent_name, state_of};
 ghost use Rattle.journal_core.specs.Staged.{unstaged_files};
 ghost use Rattle.outcome.specs.Effect.{does_recover, effect_by, output, reads_only};
 ghost use Rattle.outcome.specs.Outcome.{Outcome};
 ghost use Rattle.outcome.specs.Words.{IsOutcome};
 ghost use Rattle.outcome.specs.Work.{recovery_fault};
-ghost use Rattle.run_lists.specs.Events.{AreAmong, Event, HasNoPendingOutput, HasNoPendingRun, HasSeen, HasSeenIdly, HasSeenToOneState, IsIdleRun, IsMomentOf, IsOutcomeFrom, IsRunFrom, IsStopOf, Run, ignored_behind, ignored_in, nothing_ignored, with_all_touched, with_scratch};
-ghost use Rattle.run_lists.specs.Reading.{HasBadIntent, HasBytesOfRun, HasSeenRuns, IsAnyRun, IsDoneForGood, IsLastingName, IsNoDraft, IsTrueAt, LeavesTrueAt};
-ghost use Rattle.run_lists.specs.Recovered.{HasSeenNoBadIntent, HasStateBeforeOrOutcome, HasStateOf, IsRecoveredBy, IsUnrefused, LeavesNoBadIntent};
-ghost use Rattle.run_lists.specs.Safety.{HasOldOrOutcome, IsAtomicBehindAll, IsSafeBehindAll};
+ghost use Rattle.run_lists.specs.Events.{AreAmong, Event, HasNoPendingOutput, HasNoPendingRun, Reaches, ReachesWithoutCommit, ReachesOneState, IsRunWithoutCommit, IsMomentOf, IsOutcomeFrom, IsRunFrom, IsStopOf, Run, ignored_after, ignored_in, nothing_ignored, with_all_touched, with_scratch};
+ghost use Rattle.run_lists.specs.Reading.{HasBadIntent, HasBytesOfRun, ReachesByRuns, IsAnyRun, IsDurablyDone, IsOrdinaryName, IsNoDraft, IsTrueAt, LeavesTrueAt};
+ghost use Rattle.run_lists.specs.Recovered.{ReachesWithoutBadIntent, HasStateBeforeOrOutcome, HasStateOf, IsRecoveredBy, IsNotRefusedForIntent, LeavesNoBadIntent};
+ghost use Rattle.run_lists.specs.Safety.{HasOldOrOutcome, IsAtomicAfterAnyEvents, IsSafeAfterAnyEvents};
 ghost use Rattle.words_core.specs.Grammar.{command_of};
 
 use apk_front::a_crash_leaves_the_old_files_or_those_of_the_outcome;
-use base_core::a_crash_may_leave_the_files_as_read;
-use change_outcome::a_change_keeps_room;
+use change_outcome::a_change_keeps_paths_free;
 use journal_core::{
-    a_crash_leaves_an_orderly_settled_tree, a_state_shows_a_bad_intent, more_names_may_be_ignored,
+    a_crash_leaves_a_durable_settled_tree, a_state_shows_a_bad_intent, more_names_may_be_ignored,
 };
 use journal_intent::an_intent_is_read_from_a_sound_container;
 use outcome::{
     a_command_that_commits_nothing_leaves_the_files, a_command_that_makes_commits_unless_refused,
-    a_command_that_reads_leaves_the_files, a_command_that_tells_leaves_the_files,
+    a_command_that_reads_leaves_the_files, a_reporting_command_leaves_the_files,
     an_outcome_is_unique, only_a_bad_intent_is_refused_as_one,
 };
 
 /// Safety, after whatever list of runs, stops, crashes and changes by others that a root has seen
-/// from an orderly tree on. A run, ended or stopped at any moment, recovers to a state from before
+/// from a durable tree on. A run, ended or stopped at any moment, recovers to a state from before
 /// it or to that of its outcome's files. Once the outcome was answered, it is the latter. If the
 /// root had one state, these are two.
 ///
 /// `ignored` are names that are ignored from the start, such as scratch names of outputs; on an
 /// ordinary root there are none.
-pub fn whatever_a_root_has_seen_a_run_is_safe()
-    // Behind each list the tree is orderly, apart from the names that are ignored then.
-    ensures orderly { (ignored : List ℕ → Bool) (first v : TreeState) (events : List Event)
-        → ignored intent_name ≡ false → IsOrderly (RestsOn ignored) first
-        → HasSeen first events v
-        → IsOrderly (RestsOn (ignored_behind ignored events)) v }
+pub fn a_run_is_safe_after_any_events()
+    // Behind each list the tree is durable, apart from the names that are ignored then.
+    ensures is_durable { (ignored : List ℕ → Bool) (first v : TreeState) (events : List Event)
+        → ignored intent_name ≡ false → IsDurable (StateDependsOn ignored) first
+        → Reaches first events v
+        → IsDurable (StateDependsOn (ignored_after ignored events)) v }
 
     // So each clause of `apk` on crashes holds of the next run, whatever its arguments: with the
     // scratch name of its output these names meet the conditions of the clauses.
     ensures begins { (ignored : List ℕ → Bool) (first v : TreeState) (events : List Event)
-        (words : List (List ℕ)) → ignored intent_name ≡ false → IsOrderly (RestsOn ignored) first
-        → HasSeen first events v
-        → let names = with_scratch (output words) (ignored_behind ignored events) in
-        IsOrderly (RestsOn names) v × HidesScratchOf (output words) names }
+        (words : List (List ℕ)) → ignored intent_name ≡ false
+        → IsDurable (StateDependsOn ignored) first
+        → Reaches first events v
+        → let names = with_scratch (output words) (ignored_after ignored events) in
+        IsDurable (StateDependsOn names) v × IgnoresScratchOf (output words) names }
 
     // On an ordinary root no name is ignored, and none is until a run with an output is stopped, or
     // ends by an I/O error of the tree.
     ensures ordinary { (events : List Event) (q : List ℕ) → HasNoPendingOutput events
-        → ignored_behind nothing_ignored events q ≡ false }
+        → ignored_after nothing_ignored events q ≡ false }
 
     // The next run is safe.
-    ensures safe { (v : TreeState) (run : Run) → IsRunFrom v run → IsSafeBehindAll v run }
+    ensures safe { (v : TreeState) (run : Run) → IsRunFrom v run → IsSafeAfterAnyEvents v run }
 
     // Each crash leaves one state, that of the files as read, if it did so at the start. This lasts
     // until a run that commits is stopped, or ends by an I/O error of the tree. It holds again
     // after a crash, after a synced change by others, after a commit that was answered, and after a
     // change that was found and completed.
     ensures one_state { (ignored : List ℕ → Bool) (first v : TreeState) (events : List Event)
-        → ignored intent_name ≡ false → IsAtRest ignored (files_of first) first
-        → HasSeenToOneState first events v
-        → IsAtRest (ignored_behind ignored events) (files_of v) v }
+        → ignored intent_name ≡ false → IsDurableState ignored (files_of first) first
+        → ReachesOneState first events v
+        → IsDurableState (ignored_after ignored events) (files_of v) v }
 
     // A list keeps it so if no run was stopped, or failed by the tree, since the last crash or
     // change by others: a power cut during a run is a crash.
     ensures without_pending_run { (first v : TreeState) (events : List Event)
-        → HasSeen first events v → HasNoPendingRun events → HasSeenToOneState first events v }
+        → Reaches first events v → HasNoPendingRun events → ReachesOneState first events v }
 
     // Then the next run is all or nothing.
-    ensures atomic { (v : TreeState) (run : Run) → IsRunFrom v run → IsAtomicBehindAll v run }
+    ensures atomic { (v : TreeState) (run : Run) → IsRunFrom v run → IsAtomicAfterAnyEvents v run }
 {
-    a_crash_leaves_an_orderly_settled_tree();
-    a_crash_may_leave_the_files_as_read();
+    a_crash_leaves_a_durable_settled_tree();
     more_names_may_be_ignored();
     an_outcome_is_unique();
     a_command_that_makes_commits_unless_refused();
@@ -93,20 +92,20 @@ pub fn a_root_that_commits_nothing_keeps_its_state()
     // Crashes, and runs that commit nothing, ended or stopped, leave the state unchanged, apart
     // from names that others touched.
     ensures again { (ignored : List ℕ → Bool) (v w : TreeState) (events : List Event)
-        → IsAtRest ignored (files_of v) v → HasSeenIdly v events w
-        → IsAtRest (with_all_touched events ignored) (files_of v) w }
+        → IsDurableState ignored (files_of v) v → ReachesWithoutCommit v events w
+        → IsDurableState (with_all_touched events ignored) (files_of v) w }
 
     // So two recoveries of a root agree, whatever happened between them.
     ensures agree { (ignored names : List ℕ → Bool) (v w u : TreeState)
-        (events others : List Event) → IsAtRest ignored (files_of v) v
-        → HasSeenIdly v events w → HasSeenIdly v others u
+        (events others : List Event) → IsDurableState ignored (files_of v) v
+        → ReachesWithoutCommit v events w → ReachesWithoutCommit v others u
         → AreAmong (with_all_touched events ignored) names
         → AreAmong (with_all_touched others ignored) names
         → state_of names (files_of w) ≡ state_of names (files_of u) }
 
     // A run commits nothing if its command only reads.
     ensures readers { (v : TreeState) (run : Run) → IsTrue (reads_only (command_of run.words))
-        → IsIdleRun v run }
+        → IsRunWithoutCommit v run }
 
     // The state has the recovered files under each name except those ignored.
     ensures read { (ignored : List ℕ → Bool) (files : Files) (q : List ℕ)
@@ -117,11 +116,10 @@ pub fn a_root_that_commits_nothing_keeps_its_state()
     ensures recovers { (v : TreeState) (run : Run) → IsRunFrom v run
         → does_recover (effect_by (command_of run.words)) ≡ true
         → recovery_fault (effect_by (command_of run.words)) (files_of v) ≡ None
-        → AnswersOutcome run.answer → HasIdleOutcome (IsOutcomeFrom v run)
-        → HasNow run.now (λ w. files_of w ≡ unstaged_files (files_of v)) }
+        → AnswersOutcome run.answer → HasOutcomeWithoutCommit (IsOutcomeFrom v run)
+        → HoldsNow run.now (λ w. files_of w ≡ unstaged_files (files_of v)) }
 {
-    a_crash_leaves_an_orderly_settled_tree();
-    a_crash_may_leave_the_files_as_read();
+    a_crash_leaves_a_durable_settled_tree();
     an_outcome_is_unique();
     a_command_that_reads_leaves_the_files();
     a_command_that_commits_nothing_leaves_the_files();
@@ -137,45 +135,44 @@ pub fn each_name_keeps_old_recovered_or_new_bytes()
 
     // An outcome that commits leaves no file under the intent's name.
     ensures commits { (words : List (List ℕ)) (files : Files) (o : Outcome)
-        → IsOutcome words files o → o.commits ≡ true → o.files intent_name ≡ None }
+        → IsOutcome (command_of words) files o → o.commits ≡ true → o.files intent_name ≡ None }
 
-    // A property of a name holds after each of the runs, and at each moment at which one is
-    // stopped, if it holds at first, as read and as recovered, and in the files of each outcome
-    // that commits. An example is that there is a file.
+    // Suppose that a test of a name's file (say, that it exists) holds at first, both as read and
+    // as recovered, and in each outcome that commits. Then it holds after each run, and wherever
+    // one is stopped.
     ensures along { (test : Option (List ℕ) → Bool) (q : List ℕ) (first w : TreeState)
-        (events : List Event) → (IsWaitingName q → ⊥) → IsTrueAt test q (files_of first)
-        → HasSeenRuns (LeavesTrueAt test q) first events w
+        (events : List Event) → (IsJournalName q → ⊥) → IsTrueAt test q (files_of first)
+        → ReachesByRuns (LeavesTrueAt test q) first events w
         → IsTrueAt test q (files_of w) }
 {
     a_command_that_reads_leaves_the_files();
-    a_command_that_tells_leaves_the_files();
-    a_change_keeps_room();
+    a_reporting_command_leaves_the_files();
+    a_change_keeps_paths_free();
     an_intent_is_read_from_a_sound_container();
 }
 
 /// If the intent is bad, no run writes anything, whatever its arguments and its answer.
-pub fn a_bad_intent_and_all_files_stay()
+pub fn a_bad_intent_and_all_files_are_kept()
     ensures run { (v : TreeState) (run : Run) → IsRunFrom v run → HasBadIntent (files_of v)
         → run.now ≡ run.old }
 
     // So runs alone, ended or stopped, leave the tree as it was.
     ensures along { (first w : TreeState) (events : List Event) → HasBadIntent (files_of first)
-        → HasSeenRuns IsAnyRun first events w → w ≡ first }
+        → ReachesByRuns IsAnyRun first events w → w ≡ first }
 {}
 
 /// An intent's change is durable at each moment of the next run at which no intent is read, also if
 /// the run is stopped. Each name has its recovered bytes, or those of an outcome of the run, and
 /// each crash leaves exactly these.
-pub fn what_an_intent_said_is_done_for_good()
+pub fn the_actions_of_an_intent_are_durably_done()
     ensures { (ignored : List ℕ → Bool) (first v m : TreeState) (events : List Event) (run : Run)
-        → ignored intent_name ≡ false → IsOrderly (RestsOn ignored) first
-        → HasSeen first events v → IsRunFrom v run → IsSome (v.names intent_name)
+        → ignored intent_name ≡ false → IsDurable (StateDependsOn ignored) first
+        → Reaches first events v → IsRunFrom v run → IsSome (v.names intent_name)
         → IsMomentOf run m → m.names intent_name ≡ None
-        → (q : List ℕ) → IsLastingName (ignored_behind ignored events) run q
-        → IsDoneForGood v run m q }
+        → (q : List ℕ) → IsOrdinaryName (ignored_after ignored events) run q
+        → IsDurablyDone v run m q }
 {
-    a_crash_leaves_an_orderly_settled_tree();
-    a_crash_may_leave_the_files_as_read();
+    a_crash_leaves_a_durable_settled_tree();
     more_names_may_be_ignored();
     an_outcome_is_unique();
     a_command_that_makes_commits_unless_refused();
@@ -185,11 +182,11 @@ pub fn what_an_intent_said_is_done_for_good()
 /// A crash never leaves a corrupt intent on a root that has none. This holds after whatever list of
 /// runs, stops and crashes, and of changes by others that put none there. So the next run can
 /// recover, and is not refused for an intent.
-pub fn no_list_leaves_a_bad_intent()
+pub fn no_events_leave_a_bad_intent()
     // A run that is stopped at a moment is an event too.
     ensures along { (ignored : List ℕ → Bool) (first v : TreeState) (events : List Event)
-        → ignored intent_name ≡ false → IsOrderly (RestsOn ignored) first
-        → LeavesNoBadIntent first → HasSeenNoBadIntent first events v → LeavesNoBadIntent v }
+        → ignored intent_name ≡ false → IsDurable (StateDependsOn ignored) first
+        → LeavesNoBadIntent first → ReachesWithoutBadIntent first events v → LeavesNoBadIntent v }
 
     // Then no run is refused the recovery.
     ensures recovers { (v : TreeState) (words : List (List ℕ)) → LeavesNoBadIntent v
@@ -197,10 +194,9 @@ pub fn no_list_leaves_a_bad_intent()
     // Nor does it answer that an intent is bad.
     ensures unrefused { (v : TreeState) (run : Run) → IsRunFrom v run
         → does_recover (effect_by (command_of run.words)) ≡ true → LeavesNoBadIntent v
-        → IsUnrefused run }
+        → IsNotRefusedForIntent run }
 {
-    a_crash_leaves_an_orderly_settled_tree();
-    a_crash_may_leave_the_files_as_read();
+    a_crash_leaves_a_durable_settled_tree();
     more_names_may_be_ignored();
     a_state_shows_a_bad_intent();
     an_outcome_is_unique();
@@ -218,31 +214,30 @@ pub fn a_stopped_run_is_recovered()
     // The next run that recovers works on recovered files.
     ensures recovered { (ignored : List ℕ → Bool) (first v m w : TreeState)
         (events later : List Event) (run next : Run) → ignored intent_name ≡ false
-        → IsOrderly (RestsOn ignored) first
-        → LeavesNoBadIntent first → HasSeenNoBadIntent first events v
-        → IsRunFrom v run → IsStopOf run m → HasSeenIdly m later w
+        → IsDurable (StateDependsOn ignored) first
+        → LeavesNoBadIntent first → ReachesWithoutBadIntent first events v
+        → IsRunFrom v run → IsStopOf run m → ReachesWithoutCommit m later w
         → IsRunFrom w next → does_recover (effect_by (command_of next.words)) ≡ true
-        → let names = ignored_in run (ignored_behind ignored events) in
+        → let names = ignored_in run (ignored_after ignored events) in
         IsRecoveredBy (HasStateBeforeOrOutcome (with_all_touched later names) v run) w next }
 
     // These have the state of files that a crash might have left at that moment.
     ensures left { (ignored : List ℕ → Bool) (first v m w : TreeState)
         (events later : List Event) (run next : Run) → ignored intent_name ≡ false
-        → IsOrderly (RestsOn ignored) first
-        → LeavesNoBadIntent first → HasSeenNoBadIntent first events v
-        → IsRunFrom v run → IsStopOf run m → HasSeenIdly m later w
+        → IsDurable (StateDependsOn ignored) first
+        → LeavesNoBadIntent first → ReachesWithoutBadIntent first events v
+        → IsRunFrom v run → IsStopOf run m → ReachesWithoutCommit m later w
         → IsRunFrom w next → does_recover (effect_by (command_of next.words)) ≡ true
-        → let names = ignored_in run (ignored_behind ignored events) in
-        (image : Files) × IsImage m image
+        → let names = ignored_in run (ignored_after ignored events) in
+        (image : Files) × IsCrashImage m image
         × IsRecoveredBy (HasStateOf (with_all_touched later names) image) w next }
 
     // If the root had one state when the run began, these are two: the old one and the outcome's.
     ensures two { (ignored : List ℕ → Bool) (v : TreeState) (run : Run) (files : Files)
-        → IsSettled ignored (files_of v) v → HasStateBeforeOrOutcome ignored v run files
+        → EachCrashLeaves ignored (files_of v) v → HasStateBeforeOrOutcome ignored v run files
         → HasOldOrOutcome ignored v run files }
 {
-    a_crash_leaves_an_orderly_settled_tree();
-    a_crash_may_leave_the_files_as_read();
+    a_crash_leaves_a_durable_settled_tree();
     more_names_may_be_ignored();
     a_state_shows_a_bad_intent();
     an_intent_is_read_from_a_sound_container();

@@ -11,9 +11,9 @@ mod laws;
 mod root;
 
 pub use laws::{
-    a_bad_intent_and_all_files_stay, a_root_that_commits_nothing_keeps_its_state,
-    a_stopped_run_is_recovered, each_name_keeps_old_recovered_or_new_bytes,
-    no_list_leaves_a_bad_intent, what_an_intent_said_is_done_for_good,
-    whatever_a_root_has_seen_a_run_is_safe,
+    a_bad_intent_and_all_files_are_kept, a_root_that_commits_nothing_keeps_its_state,
+    a_run_is_safe_after_any_events, a_stopped_run_is_recovered,
+    each_name_keeps_old_recovered_or_new_bytes, no_events_leave_a_bad_intent,
+    the_actions_of_an_intent_are_durably_done,
 };
 pub use root::run_on_a_root;

@@ -3,9 +3,9 @@
 ghost use Rattle.base_core.specs.Calls.{IfObservable};
 ghost use Rattle.base_core.specs.Sink.{sink_change};
 ghost use Rattle.run_lists.specs.Events.{IsRunFrom, Run};
-ghost use Rattle.run_lists.specs.Safety.{IsAtomicBehindAll, IsSafeBehindAll};
+ghost use Rattle.run_lists.specs.Safety.{IsAtomicAfterAnyEvents, IsSafeAfterAnyEvents};
 
-use crate::laws::whatever_a_root_has_seen_a_run_is_safe;
+use crate::laws::a_run_is_safe_after_any_events;
 use apk_front::{Answer, apk};
 use base_core::{Sink, Tree, Words};
 use std::alloc::Global;
@@ -29,8 +29,8 @@ pub fn run_on_a_root<T: Tree, O: Sink, E: Sink>(
       out = sink_change O.bytes O.counts out.old out.new;
       err = sink_change E.bytes E.counts err.old err.new;
       answer = result;
-    } in IsRunFrom v run × IsSafeBehindAll v run × IsAtomicBehindAll v run) }
+    } in IsRunFrom v run × IsSafeAfterAnyEvents v run × IsAtomicAfterAnyEvents v run) }
 {
-    whatever_a_root_has_seen_a_run_is_safe();
+    a_run_is_safe_after_any_events();
     apk(alloc, words, tree, out, err)
 }

@@ -74,7 +74,7 @@ pub(crate) fn add_faults(
     before.push(0x1000_0001)?;
     add_outcome(
         alloc,
-        fault_behind(alloc, &before, 0xffff_ffff, which)?,
+        fault_after(alloc, &before, 0xffff_ffff, which)?,
         answer,
     )
 }
@@ -88,8 +88,8 @@ fn has_both_faults(
 ) -> Result<bool, AllocError> {
     let another = of_another_kind(field.kind);
     let far = outside(field.kind);
-    let of_another = fault_behind(alloc, before, another, which)?;
-    let of_far = fault_behind(alloc, before, far, which)?;
+    let of_another = fault_after(alloc, before, another, which)?;
+    let of_far = fault_after(alloc, before, far, which)?;
     Ok(
         of_another == Err(Cause::WrongKind { word: another })
             && of_far == Err(Cause::Outside { word: far }),
@@ -97,7 +97,7 @@ fn has_both_faults(
 }
 
 /// The fault of an object with these words and one after them.
-fn fault_behind(
+fn fault_after(
     alloc: Global,
     before: &[u32],
     word: u32,

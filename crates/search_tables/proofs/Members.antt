@@ -7,8 +7,8 @@ use Rattle.search_tables.proofs.Theory.{in_left, in_right, in_append}
 pub same_trans : (xs ys zs : List ℕ) → HasSameMembers xs ys → HasSameMembers ys zs → HasSameMembers xs zs
 same_trans xs ys zs a b = (λ c h. b.0 c (a.0 c h), λ c h. a.1 c (b.1 c h))
 
-pub same_behind : (xs ys zs : List ℕ) → HasSameMembers xs ys → HasSameMembers (xs ++ zs) (ys ++ zs)
-same_behind xs ys zs a = (
+pub same_after : (xs ys zs : List ℕ) → HasSameMembers xs ys → HasSameMembers (xs ++ zs) (ys ++ zs)
+same_after xs ys zs a = (
   λ c h. elim (in_append c xs zs h) [ inl l ↦ in_left c ys zs (a.0 c l) | inr r ↦ in_right c ys zs r ],
   λ c h. elim (in_append c ys zs h) [ inl l ↦ in_left c xs zs (a.1 c l) | inr r ↦ in_right c xs zs r ],
 )
@@ -28,7 +28,7 @@ pub same_more : (new now old done : List ℕ) (id : ℕ) (more : List ℕ) → H
 same_more new now old done id more was is e =
     subst (λ (z : List ℕ). HasSameMembers new (old ++ z)) (sym e)
     (subst (λ (z : List ℕ). HasSameMembers new z) (append_assoc old done (id ∷ []))
-    (same_trans new (now ++ id ∷ []) ((old ++ done) ++ id ∷ []) is (same_behind now (old ++ done) (id ∷ []) was)))
+    (same_trans new (now ++ id ∷ []) ((old ++ done) ++ id ∷ []) is (same_after now (old ++ done) (id ∷ []) was)))
 
 pub same_self : (xs : List ℕ) → HasSameMembers xs (xs ++ [])
 same_self xs = subst (λ (z : List ℕ). HasSameMembers xs z) (sym (append-nil xs)) (λ c h. h, λ c h. h)
@@ -42,4 +42,4 @@ pub same_more_all : (new now old done next more : List ℕ) → HasSameMembers n
 same_more_all new now old done next more was is e =
     subst (λ (z : List ℕ). HasSameMembers new (old ++ z)) (sym e)
     (subst (λ (z : List ℕ). HasSameMembers new z) (append_assoc old done next)
-    (same_trans new (now ++ next) ((old ++ done) ++ next) is (same_behind now (old ++ done) next was)))
+    (same_trans new (now ++ next) ((old ++ done) ++ next) is (same_after now (old ++ done) next was)))

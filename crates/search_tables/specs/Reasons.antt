@@ -69,8 +69,8 @@ choices_in [] = []
 choices_in (turn ∷ turns) = turn.1 ∷ choices_in turns
 
 -- the frame is that of the next need after some choices, and no option of it is left
-abbrev pub IsSpentFrame : SealedPool → List ℕ → FrameValue → Type 0
-IsSpentFrame pool chosen f = IsFrameOf pool chosen f × (f.1 ≡ [])
+abbrev pub IsExhaustedFrame : SealedPool → List ℕ → FrameValue → Type 0
+IsExhaustedFrame pool chosen f = IsFrameOf pool chosen f × (f.1 ≡ [])
 
 -- the other members of the reasons of all options that are ruled out
 abbrev pub others_in : List (ℕ × List ℕ) → List ℕ

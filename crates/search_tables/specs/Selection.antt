@@ -146,16 +146,16 @@ IsWalk pool selection walk = IsWalkFrom pool selection [] walk
 
 -- after some choices: the rest of one walk is preferred to that of another if it has the better rank at
 -- the first place where they differ, for the need there
-abbrev pub ComesBeforeFrom : SealedPool → List ℕ → List ℕ → List ℕ → Type 0
-ComesBeforeFrom pool chosen [] other = ⊥
-ComesBeforeFrom pool chosen (c ∷ rest) [] = ⊥
-ComesBeforeFrom pool chosen (c ∷ rest) (d ∷ other) =
+abbrev pub IsPreferredFrom : SealedPool → List ℕ → List ℕ → List ℕ → Type 0
+IsPreferredFrom pool chosen [] other = ⊥
+IsPreferredFrom pool chosen (c ∷ rest) [] = ⊥
+IsPreferredFrom pool chosen (c ∷ rest) (d ∷ other) =
     ((need : Need) × (next_need pool chosen ≡ Some need) × (is_better pool need c d ≡ true))
-    ⊎ ((c ≡ d) × ComesBeforeFrom pool (chosen ++ c ∷ []) rest other)
+    ⊎ ((c ≡ d) × IsPreferredFrom pool (chosen ++ c ∷ []) rest other)
 
 -- one walk is preferred to another, from the first need on
-abbrev pub ComesBefore : SealedPool → List ℕ → List ℕ → Type 0
-ComesBefore pool walk other = ComesBeforeFrom pool [] walk other
+abbrev pub IsPreferredTo : SealedPool → List ℕ → List ℕ → Type 0
+IsPreferredTo pool walk other = IsPreferredFrom pool [] walk other
 
 -- the preferred solution: it satisfies the world, is its own walk, and is preferred to the walk of each
 -- other satisfying selection
@@ -164,4 +164,4 @@ pub record IsFirstSelection (pool : SealedPool) (trace : List ℕ) : Type 0 wher
   pub walked : IsWalk pool trace trace
   pub first :
       (selection walk : List ℕ) → IsSatisfying pool selection → IsWalk pool selection walk →
-      (walk ≡ trace) ⊎ ComesBefore pool trace walk
+      (walk ≡ trace) ⊎ IsPreferredTo pool trace walk

@@ -24,7 +24,7 @@ use std::alloc::AllocError;
 /// # Errors
 ///
 /// Out of memory.
-pub fn choice_meeting_held(
+pub fn choice_meeting_own(
     pool: &Sealed<'_>,
     choices: &CandidateSet,
     held: &PackageDep<'_>,
@@ -70,7 +70,7 @@ pub fn is_held_met(
         let need = NeedRef::Entry(held.dep);
         return Ok(is_met_by_latest_or_other(pool, choices, &need));
     }
-    let found = choice_meeting_held(pool, choices, held, matches)?;
+    let found = choice_meeting_own(pool, choices, held, matches)?;
     Ok(found.is_some())
 }
 

@@ -21,7 +21,7 @@ mod queue;
 pub use candidate_set::CandidateSet;
 pub use conflicts::{Conflicts, ListedConflict};
 pub use frame::{Frame, RuledOutOption};
-pub use held_deps::{choice_meeting_held, is_held_met};
+pub use held_deps::{choice_meeting_own, is_held_met};
 pub use install_ifs::InstallIfs;
 pub use name_table::NameTable;
 pub use needs::{asks_for_name, choice_meeting, is_met_by_latest_or_other, occupant, raisers};

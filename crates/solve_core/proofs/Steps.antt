@@ -5,7 +5,7 @@ use Rattle.candidate_core.specs.Candidates.{Need}
 use Rattle.candidate_core.specs.Rank.{SealedPool}
 use Rattle.candidate_core.specs.Options.{IsIn, options_for}
 use Rattle.search_tables.specs.Selection.{AreMembers, AreDistinct, exclude_each_other}
-use Rattle.search_tables.specs.Reasons.{AreCompatible, IsReason, RulesOut, FrameValue, options_in, AreRuledOut, IsFrameOf, IsSpentFrame, IsFrameTaking, AreTurnsFrom, choices_in, others_in, dead_end_reason, HasSameMembers}
+use Rattle.search_tables.specs.Reasons.{AreCompatible, IsReason, RulesOut, FrameValue, options_in, AreRuledOut, IsFrameOf, IsExhaustedFrame, IsFrameTaking, AreTurnsFrom, choices_in, others_in, dead_end_reason, HasSameMembers}
 use Rattle.search_tables.specs.Reasons.{HasOptions}
 use Rattle.search_choices.specs.Choices.{IsSearch, IsConsistent, choices_of, pool_of}
 use Rattle.search_choices.specs.declared.choices.Choices.{Choices}
@@ -23,7 +23,7 @@ module _ (pool : SealedPool) where
       (subst (λ (z : List ℕ). IsFrameOf pool t (g.0, f.1, z)) (sym by)
       (subst (λ (z : List (ℕ × List ℕ)). IsFrameOf pool t (z, f.1, f.2)) (sym front) is_unmet_dep))
 
-  pub spent_of_open : (t : List ℕ) (f g : FrameValue) → IsFrameOf pool t f → g.0 ≡ f.0 → f.1 ≡ [] → g.1 ≡ [] → g.2 ≡ f.2 → IsSpentFrame pool t g
+  pub spent_of_open : (t : List ℕ) (f g : FrameValue) → IsFrameOf pool t f → g.0 ≡ f.0 → f.1 ≡ [] → g.1 ≡ [] → g.2 ≡ f.2 → IsExhaustedFrame pool t g
   spent_of_open t f g is_unmet_dep front left none by = (
     subst (λ (z : List ℕ). IsFrameOf pool t (g.0, z, g.2)) (left ∙ sym none)
         (subst (λ (z : List ℕ). IsFrameOf pool t (g.0, f.1, z)) (sym by)
@@ -56,7 +56,7 @@ module _ (pool : SealedPool) where
   why_of has t (p ∷ ps) = ap (λ (z : List ℕ). p.1 ++ z) (why_of has t ps)
 
   -- what is to blame for a dead end
-  pub dead_end : ((need : Need) → HasOptions pool need) → (t : List ℕ) (f : FrameValue) → IsSpentFrame pool t f → AreMembers (dead_end_reason f) t × IsReason pool (dead_end_reason f)
+  pub dead_end : ((need : Need) → HasOptions pool need) → (t : List ℕ) (f : FrameValue) → IsExhaustedFrame pool t f → AreMembers (dead_end_reason f) t × IsReason pool (dead_end_reason f)
   dead_end has t f spent =
       let facts = pool_facts pool has in
       let o = spent.0 in

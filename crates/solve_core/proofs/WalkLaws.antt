@@ -9,7 +9,7 @@ use Rattle.candidate_core.specs.Candidates.{Need, is_eligible}
 use Rattle.candidate_core.specs.Rank.{SealedPool, is_better, meets_at, rank_cmp}
 use Rattle.candidate_core.specs.Options.{IsBestFirst, IsIn, options_for, places_from}
 use Rattle.search_tables.specs.Reasons.{HasOptions}
-use Rattle.search_tables.specs.Selection.{AreMembers, ComesBefore, ComesBeforeFrom, IsFirstSelection, IsSatisfying, IsWalk, IsWalkFrom, next_need}
+use Rattle.search_tables.specs.Selection.{AreMembers, IsPreferredTo, IsPreferredFrom, IsFirstSelection, IsSatisfying, IsWalk, IsWalkFrom, next_need}
 use Rattle.search_tables.proofs.Theory as law
 use Rattle.search_tables.proofs.Turns.{PoolFacts}
 use Rattle.search_tables.proofs.PoolFacts.{pool_facts}
@@ -47,7 +47,7 @@ module _ (pool : SealedPool) (total : (need : Need) → IsTotalOrder (rank_cmp p
   same_need : (q r : Need) (t : List ℕ) → next_need pool t ≡ Some q → next_need pool t ≡ Some r → q ≡ r
   same_need q r t a b = cc
 
-  before_chain : (u v w x : List ℕ) → ComesBeforeFrom pool u v w → ComesBeforeFrom pool u w x → ComesBeforeFrom pool u v x
+  before_chain : (u v w x : List ℕ) → IsPreferredFrom pool u v w → IsPreferredFrom pool u w x → IsPreferredFrom pool u v x
   before_chain u [] w x a b = absurd a
   before_chain u (c ∷ v) [] x a b = absurd a
   before_chain u (c ∷ v) (d ∷ w) [] a b = absurd b
@@ -56,7 +56,7 @@ module _ (pool : SealedPool) (total : (need : Need) → IsTotalOrder (rank_cmp p
   before_chain u (c ∷ v) (d ∷ w) (e ∷ x) (inl a) (inr b) = inl (a.0, a.1, subst (λ (z : ℕ). is_better pool a.0 c z ≡ true) b.0 a.2)
   before_chain u (c ∷ v) (d ∷ w) (e ∷ x) (inr a) (inl b) = inl (b.0, b.1, subst (λ (z : ℕ). is_better pool b.0 z e ≡ true) (sym a.0) b.2)
   before_chain u (c ∷ v) (d ∷ w) (e ∷ x) (inr a) (inr b) =
-      inr (a.0 ∙ b.0, before_chain (u ++ c ∷ []) v w x a.1 (subst (λ (z : ℕ). ComesBeforeFrom pool (u ++ z ∷ []) w x) (sym a.0) b.1))
+      inr (a.0 ∙ b.0, before_chain (u ++ c ∷ []) v w x a.1 (subst (λ (z : ℕ). IsPreferredFrom pool (u ++ z ∷ []) w x) (sym a.0) b.1))
 
   module _ (has : (need : Need) → HasOptions pool need) where
     facts : PoolFacts pool
@@ -75,19 +75,19 @@ module _ (pool : SealedPool) (total : (need : Need) → IsTotalOrder (rank_cmp p
     pub has_one_walk : (selection walk other : List ℕ) → IsWalk pool selection walk → IsWalk pool selection other → walk ≡ other
     has_one_walk selection walk other a b = law.walk_unique facts one_way selection [] walk other a b
 
-    pub walks_compare : (selection other walk second : List ℕ) → IsSatisfying pool selection → IsSatisfying pool other → IsWalk pool selection walk → IsWalk pool other second → (walk ≡ second) ⊎ (ComesBefore pool walk second ⊎ ComesBefore pool second walk)
+    pub walks_compare : (selection other walk second : List ℕ) → IsSatisfying pool selection → IsSatisfying pool other → IsWalk pool selection walk → IsWalk pool other second → (walk ≡ second) ⊎ (IsPreferredTo pool walk second ⊎ IsPreferredTo pool second walk)
     walks_compare selection other walk second s o a b =
         law.before_total facts (λ q c d gc gd mc md. one_of q c d) selection other [] walk second (closed_of_satisfying pool selection s) (closed_of_satisfying pool other o) a b
 
-    pub not_both_before : (walk second : List ℕ) → ComesBefore pool walk second → ComesBefore pool second walk → ⊥
+    pub not_both_before : (walk second : List ℕ) → IsPreferredTo pool walk second → IsPreferredTo pool second walk → ⊥
     not_both_before walk second a b = law.before_asym facts one_way [] walk second a b
 
-    pub before_is_transitive : (a b c : List ℕ) → ComesBefore pool a b → ComesBefore pool b c → ComesBefore pool a c
+    pub before_is_transitive : (a b c : List ℕ) → IsPreferredTo pool a b → IsPreferredTo pool b c → IsPreferredTo pool a c
     before_is_transitive a b c x y = before_chain [] a b c x y
 
     -- of a selection that has the choices in front and another option, the walk takes these choices
     -- too, and then none that is better than the option
-    as_good : (trace selection u front rest w : List ℕ) (c o : ℕ) (need : Need) → IsWalkFrom pool trace u (front ++ c ∷ rest) → IsWalkFrom pool selection u w → (w ≡ front ++ c ∷ rest) ⊎ ComesBeforeFrom pool u (front ++ c ∷ rest) w → next_need pool (u ++ front) ≡ Some need → AreMembers (front ++ o ∷ []) selection → meets_at pool o need ≡ true → (o ≡ c) ⊎ (is_better pool need c o ≡ true)
+    as_good : (trace selection u front rest w : List ℕ) (c o : ℕ) (need : Need) → IsWalkFrom pool trace u (front ++ c ∷ rest) → IsWalkFrom pool selection u w → (w ≡ front ++ c ∷ rest) ⊎ IsPreferredFrom pool u (front ++ c ∷ rest) w → next_need pool (u ++ front) ≡ Some need → AreMembers (front ++ o ∷ []) selection → meets_at pool o need ≡ true → (o ≡ c) ⊎ (is_better pool need c o ≡ true)
     as_good trace selection u [] rest [] c o need tw sw first next in_it meets = elim first [
       | inl e ↦ absurd (cc)
       | inr b ↦ absurd b
@@ -115,7 +115,7 @@ module _ (pool : SealedPool) (total : (need : Need) → IsTotalOrder (rank_cmp p
     ]
     as_good trace selection u (f ∷ front) rest (d ∷ w) c o need tw sw first next in_it meets =
         let further : next_need pool ((u ++ f ∷ []) ++ front) ≡ Some need = subst (λ (z : List ℕ). next_need pool z ≡ Some need) (sym (append_assoc u (f ∷ []) front)) next in
-        let on : f ≡ d → (w ≡ front ++ c ∷ rest) ⊎ ComesBeforeFrom pool (u ++ f ∷ []) (front ++ c ∷ rest) w → (o ≡ c) ⊎ (is_better pool need c o ≡ true) = λ e after.
+        let on : f ≡ d → (w ≡ front ++ c ∷ rest) ⊎ IsPreferredFrom pool (u ++ f ∷ []) (front ++ c ∷ rest) w → (o ≡ c) ⊎ (is_better pool need c o ≡ true) = λ e after.
         as_good trace selection (u ++ f ∷ []) front rest w c o need tw.3 (subst (λ (z : ℕ). IsWalkFrom pool selection (u ++ z ∷ []) w) (sym e) sw.3) after further (λ k h. in_it k (inr h)) meets in
         elim first [
           | inl e ↦ let is : f ≡ d = cc in let rest_is : w ≡ front ++ c ∷ rest = cc in on is (inl rest_is)

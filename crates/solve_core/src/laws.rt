@@ -4,7 +4,7 @@
 ghost use Rattle.std.specs.Prelude.{◌≡◌, ◌⊎◌, ℕ, true, List, [], ◌∷◌, ◌++◌, Some};
 ghost use Rattle.candidate_core.specs.Candidates.{Need};
 ghost use Rattle.candidate_core.specs.Rank.{SealedPool, is_better, meets_at};
-ghost use Rattle.search_tables.specs.Selection.{AreMembers, ComesBefore, IsFirstSelection, IsSatisfying, IsWalk, next_need};
+ghost use Rattle.search_tables.specs.Selection.{AreMembers, IsPreferredTo, IsFirstSelection, IsSatisfying, IsWalk, next_need};
 
 use crate::selection::options_are_as_promised;
 use pool_core::rank_is_total;
@@ -33,15 +33,15 @@ pub fn each_selection_has_one_walk()
 
 /// The walks of satisfying selections have one order. Of two different ones, one is preferred to
 /// the other, at a place where both choose, and not the other way round. The order is transitive.
-pub fn walks_stand_in_one_order()
+pub fn walks_have_one_order()
     ensures one_of { (pool : SealedPool) (selection other walk second : List ℕ) →
         IsSatisfying pool selection → IsSatisfying pool other →
         IsWalk pool selection walk → IsWalk pool other second →
-        (walk ≡ second) ⊎ (ComesBefore pool walk second ⊎ ComesBefore pool second walk) }
+        (walk ≡ second) ⊎ (IsPreferredTo pool walk second ⊎ IsPreferredTo pool second walk) }
     ensures not_both { (pool : SealedPool) (walk second : List ℕ) →
-        ComesBefore pool walk second → ComesBefore pool second walk → ⊥ }
+        IsPreferredTo pool walk second → IsPreferredTo pool second walk → ⊥ }
     ensures transitive { (pool : SealedPool) (a b c : List ℕ) →
-        ComesBefore pool a b → ComesBefore pool b c → ComesBefore pool a c }
+        IsPreferredTo pool a b → IsPreferredTo pool b c → IsPreferredTo pool a c }
 {
     options_are_as_promised();
     rank_is_total();

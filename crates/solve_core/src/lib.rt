@@ -12,8 +12,8 @@ mod selection;
 
 pub use laws::{
     a_first_selection_exists, each_choice_is_the_best_that_can_be_completed,
-    each_selection_has_one_walk, the_first_selection_is_unique, walks_satisfy,
-    walks_stand_in_one_order,
+    each_selection_has_one_walk, the_first_selection_is_unique, walks_have_one_order,
+    walks_satisfy,
 };
 pub use search_choices::Trace;
 pub use selection::solve;

@@ -4,7 +4,7 @@ ghost use Rattle.std.specs.Prelude.{◌≡◌, ◌<◌, ◌^◌, ◌≤◌, ◌=
 ghost use Rattle.candidate_core.specs.Options.{IsIn};
 ghost use Rattle.candidate_core.specs.PackageMatches.{AreMatchesAmong};
 ghost use Rattle.search_tables.specs.Selection.{AreMembers, exclude_each_other, next_need};
-ghost use Rattle.search_tables.specs.Reasons.{AreCompatible, FrameValue, IsReason, HasSameMembers, RulesOut, IsFrameOf, IsSpentFrame, IsFrameTaking, dead_end_reason};
+ghost use Rattle.search_tables.specs.Reasons.{AreCompatible, FrameValue, IsReason, HasSameMembers, RulesOut, IsFrameOf, IsExhaustedFrame, IsFrameTaking, dead_end_reason};
 ghost use Rattle.solve_core.specs.Measure.{weight_of};
 ghost use Rattle.search_choices.specs.Choices.{IsSearch, choices_of, pool_of};
 
@@ -199,7 +199,7 @@ impl<'p> Search<'p> {
         ensures turns { self.new.turns.items ≡ self.old.turns.items }
         ensures matches { OnOk result
             (AreMatchesAmong (pool_of self.old.chosen).candidates self.new.matches) }
-        ensures found { IfOk result (λ found. MatchOption found (IsSpentFrame
+        ensures found { IfOk result (λ found. MatchOption found (IsExhaustedFrame
             (pool_of self.old.chosen) (choices_of self.old.chosen) top.new)
             (λ id. IsFrameTaking (pool_of self.old.chosen) (choices_of self.old.chosen) top.new id
             × AreCompatible (pool_of self.old.chosen)
@@ -248,7 +248,8 @@ impl<'p> Search<'p> {
     /// choice, so that no selection satisfies world.
     pub(crate) fn step_back(&mut self, spent: Frame) -> Result<Option<Frame>, AllocError>
         requires search { IsSearch self.old.chosen self.old.turns.items }
-        requires spent { IsSpentFrame (pool_of self.old.chosen) (choices_of self.old.chosen) spent }
+        requires spent { IsExhaustedFrame (pool_of self.old.chosen) (choices_of self.old.chosen)
+            spent }
         ensures pool { pool_of self.new.chosen ≡ pool_of self.old.chosen }
         ensures matches { self.new.matches ≡ self.old.matches }
         ensures found { IfOk result (λ found. MatchOption found (IsReason

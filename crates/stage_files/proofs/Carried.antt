@@ -1,11 +1,11 @@
 -- From a new stage on.
 use Rattle.std.proofs.Common.{◌≡◌, List, [], ◌∷◌, ℕ, None, sym, subst}
-use Rattle.base_core.specs.Calls.{HasNow, IfObservable}
+use Rattle.base_core.specs.Calls.{HoldsNow, IfObservable}
 use Rattle.base_core.specs.Tree.{TreeState, files_of}
 use Rattle.journal_core.specs.Recovery.{intent_name}
 use Rattle.journal_core.specs.Staged.{IsEmptyStage, Staging, new_stage}
 use Rattle.journal_core.proofs.History.{History}
-use Rattle.stage_files.specs.Sources.{StandForEach}
+use Rattle.stage_files.specs.Sources.{EachDenotes}
 use Rattle.stage_files.specs.declared.writes.StagedWrite.{StagedWrite}
 use Rattle.stage_run.specs.StageRun.{IsStaging}
 
@@ -15,12 +15,12 @@ NewIsStaging = (removals writes : List (List ℕ)) (now : History) → IfObserva
 
 -- where nothing waits in front of it, and only reads came
 pub carried : NewIsStaging → (h h1 : History) (stage : Staging) (removals names : List (List ℕ)) (writes : List StagedWrite) → stage ≡ new_stage removals names → h1 ≡ h → (P : TreeState → List (List ℕ) → Type 0)
-    → ((v : TreeState) (contents : List (List ℕ)) → IsStaging stage [] None v h h1 → StandForEach (files_of v) writes contents → P v contents)
-    → IfObservable h (λ v. (contents : List (List ℕ)) → v.names intent_name ≡ None → IsEmptyStage (files_of v) → StandForEach (files_of v) writes contents → P v contents)
+    → ((v : TreeState) (contents : List (List ℕ)) → IsStaging stage [] None v h h1 → EachDenotes (files_of v) writes contents → P v contents)
+    → IfObservable h (λ v. (contents : List (List ℕ)) → v.names intent_name ≡ None → IsEmptyStage (files_of v) → EachDenotes (files_of v) writes contents → P v contents)
 carried law h h1 stage removals names writes new same P make = go h (law removals names h)
   where
     go : (k : History) → IfObservable k (λ v. v.names intent_name ≡ None → IsEmptyStage (files_of v) → IsStaging (new_stage removals names) [] None v h h)
-        → IfObservable k (λ v. (contents : List (List ℕ)) → v.names intent_name ≡ None → IsEmptyStage (files_of v) → StandForEach (files_of v) writes contents → P v contents)
+        → IfObservable k (λ v. (contents : List (List ℕ)) → v.names intent_name ≡ None → IsEmptyStage (files_of v) → EachDenotes (files_of v) writes contents → P v contents)
     go [] starts = tt
     go (v ∷ earlier) starts = λ contents unread empty stand.
         make v contents (subst (λ (s : Staging). IsStaging s [] None v h h1) (sym new) (subst (λ (k : History). IsStaging (new_stage removals names) [] None v h k) (sym same) (starts unread empty))) stand
@@ -45,6 +45,6 @@ pub of_each : (h : History) (P : TreeState → Type 0) → ((v : TreeState) → 
 of_each [] P all = tt
 of_each (v ∷ earlier) P all = all v
 
-pub where_seen : (h : History) (v : TreeState) (A : Type 0) → HasNow h (λ w. w ≡ v) → IfObservable h (λ w. A) → A
+pub where_seen : (h : History) (v : TreeState) (A : Type 0) → HoldsNow h (λ w. w ≡ v) → IfObservable h (λ w. A) → A
 where_seen [] v A now a = absurd now
 where_seen (w ∷ earlier) v A now a = a

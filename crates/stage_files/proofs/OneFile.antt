@@ -3,31 +3,31 @@ use Rattle.std.proofs.Common.{◌≡◌, ◌⊎◌, inl, inr, ℕ, Bool, true, f
 use Rattle.std.proofs.lemmas.List.{append-nil}
 use Rattle.std.specs.Prelude.{OnErr, OnOk, IfErr}
 use Rattle.std.specs.Result.{IsErrAnd}
-use Rattle.base_core.specs.Calls.{HasNow, IfObservable}
-use Rattle.base_core.specs.Faults.{Counts, GoesOn, IsNoFault}
+use Rattle.base_core.specs.Calls.{HoldsNow, IfObservable}
+use Rattle.base_core.specs.Faults.{Counts, CountsOnlyRise, IsNoFault}
 use Rattle.base_core.specs.Files.{Files}
 use Rattle.base_core.specs.Tree.{TreeState, files_of}
 use Rattle.base_core.specs.declared.cause.Cause.{Cause}
 use Rattle.journal_core.specs.Recovery.{is_staged}
-use Rattle.journal_core.specs.Staged.{HasRoomBeside, IsEmptyStage, Staging}
+use Rattle.journal_core.specs.Staged.{AreJournalPathsFree, IsEmptyStage, Staging}
 use Rattle.journal_core.proofs.Chain.{by_now}
 use Rattle.journal_core.proofs.History.{History, now_map, now_since}
-use Rattle.piece_reader.specs.FileReading.{AreAsDue, ComesBehind, GivesBytes, HaveCome, HaveOtherDigest, IsFileReading, file_due, kept_fault, len_around_file, package_of_file}
+use Rattle.piece_reader.specs.FileReading.{AreAsExpected, IsTestedReturn, GivesBytes, HaveBeenReturned, HaveOtherDigest, IsFileReading, expected_file_of, kept_fault, len_around_file, package_name_of_file}
 use Rattle.piece_reader.specs.declared.piece.PieceFault.{PieceFault}
 use Rattle.piece_reader.specs.declared.piece.PieceFault.TheVariants.{Bad, Disk}
 use Rattle.piece_reader.specs.declared.one_file.FilePieces.{FilePieces}
 use Rattle.pkg_core.specs.Contents.{Expected}
 use Rattle.pkg_core.specs.Seen.{IsSoLong}
-use Rattle.stage_run.specs.StageRun.{IsReadButWaiting, IsStaging, IsStagingRun}
+use Rattle.stage_run.specs.StageRun.{IsReadExceptStaged, IsStaging, IsStagingRun}
 use Rattle.stage_run.proofs.Joins.{start_is}
 use Rattle.stage_files.specs.Reading.{IsReadingIn}
 
 -- ---- what is read while files come to wait
 
-pub shown_now : (stage : Staging) (contents : List (List ℕ)) (begun : Option (List ℕ)) (v : TreeState) (first now : History) → IsStaging stage contents begun v first now → HasNow now (IsReadButWaiting (files_of v))
+pub shown_now : (stage : Staging) (contents : List (List ℕ)) (begun : Option (List ℕ)) (v : TreeState) (first now : History) → IsStaging stage contents begun v first now → HoldsNow now (IsReadExceptStaged (files_of v))
 shown_now stage contents begun v first now staging =
     let (rest, is) = start_is first v staging.start in
-    now_since (IsReadButWaiting (files_of v)) first now v rest is (λ q off. refl) staging.run.reads
+    now_since (IsReadExceptStaged (files_of v)) first now v rest is (λ q off. refl) staging.run.reads
 
 -- a file that stood there before is none that waits
 pub no_waiting : (files : Files) (name pkg : List ℕ) → IsEmptyStage files → files name ≡ Some pkg → is_staged name ≡ false
@@ -38,9 +38,9 @@ no_waiting files name pkg empty there = by (is_staged name) refl
     by false is = refl
 
 pub package_now : (stage : Staging) (contents : List (List ℕ)) (begun : Option (List ℕ)) (v : TreeState) (first now : History) (name pkg : List ℕ) → IsStaging stage contents begun v first now → files_of v name ≡ Some pkg
-    → HasNow now (λ w. files_of w name ≡ Some pkg)
+    → HoldsNow now (λ w. files_of w name ≡ Some pkg)
 package_now stage contents begun v first now name pkg staging there =
-    now_map now (IsReadButWaiting (files_of v)) (λ w. files_of w name ≡ Some pkg) (shown_now stage contents begun v first now staging)
+    now_map now (IsReadExceptStaged (files_of v)) (λ w. files_of w name ≡ Some pkg) (shown_now stage contents begun v first now staging)
     (λ w shown. shown name (no_waiting (files_of v) name pkg staging.empty there) ∙ there)
 
 -- ---- whatever the tree shows
@@ -89,7 +89,7 @@ IsReadOn start stage whole file old now =
 abbrev pub IsProperOn : Staging → FilePieces → History → ℕ → ℕ → Type 0
 IsProperOn start whole old before now =
     (contents : List (List ℕ)) (v : TreeState) (first : List TreeState) (bytes : List ℕ) → IsStaging start contents None v first old
-    → IsReadingIn (files_of v) whole bytes → HasRoomBeside (files_of v) → now ≡ before
+    → IsReadingIn (files_of v) whole bytes → AreJournalPathsFree (files_of v) → now ≡ before
 
 -- ---- a piece is read
 
@@ -99,18 +99,18 @@ only_disk A left piece Disk g = refl
 
 abbrev Gives : FilePieces → FilePieces → List ℕ → History → Result Bool PieceFault → Type 0
 Gives file next piece now result =
-    IfObservable now (λ w. (pkg left : List ℕ) → files_of w (package_of_file file) ≡ Some pkg → IsFileReading file pkg left → GivesBytes (IsFileReading next pkg) left piece result)
+    IfObservable now (λ w. (pkg left : List ℕ) → files_of w (package_name_of_file file) ≡ Some pkg → IsFileReading file pkg left → GivesBytes (IsFileReading next pkg) left piece result)
 
 module _ (start stage : Staging) (whole file next : FilePieces) (piece : List ℕ) (old now later : History) (result : Result Bool PieceFault)
     (read : IsReadOn start stage whole file old now) (gives : Gives file next piece now result) where
   given : (contents : List (List ℕ)) (v : TreeState) (first : List TreeState) (bytes : List ℕ) (half : IsHalfway stage file contents bytes v first now)
       → GivesBytes (IsFileReading next half.reading.pkg) half.left piece result
   given contents v first bytes half =
-      by_now now (λ w. files_of w (package_of_file file) ≡ Some half.reading.pkg) (GivesBytes (IsFileReading next half.reading.pkg) half.left piece result)
-      (package_now stage contents (Some half.so_far) v first now (package_of_file file) half.reading.pkg half.staging half.reading.there)
+      by_now now (λ w. files_of w (package_name_of_file file) ≡ Some half.reading.pkg) (GivesBytes (IsFileReading next half.reading.pkg) half.left piece result)
+      (package_now stage contents (Some half.so_far) v first now (package_name_of_file file) half.reading.pkg half.staging half.reading.there)
       (observed now gives)
     where
-      observed : (h : History) → Gives file next piece h result → IfObservable h (λ w. files_of w (package_of_file file) ≡ Some half.reading.pkg → GivesBytes (IsFileReading next half.reading.pkg) half.left piece result)
+      observed : (h : History) → Gives file next piece h result → IfObservable h (λ w. files_of w (package_name_of_file file) ≡ Some half.reading.pkg → GivesBytes (IsFileReading next half.reading.pkg) half.left piece result)
       observed [] g = tt
       observed (w ∷ earlier) g = λ there. g half.reading.pkg half.left there half.reading.reading
 
@@ -121,7 +121,7 @@ module _ (start stage : Staging) (whole file next : FilePieces) (piece : List �
       let half = read contents v first bytes staging reading in
       only_disk (IsFileReading next half.reading.pkg) half.left piece fault (subst (GivesBytes (IsFileReading next half.reading.pkg) half.left piece) is (given contents v first bytes half))
 
-  module _ (name : package_of_file next ≡ package_of_file file) (len : len_around_file next ≡ len_around_file file) where
+  module _ (name : package_name_of_file next ≡ package_name_of_file file) (len : len_around_file next ≡ len_around_file file) where
     next_reading : (v : TreeState) (left rest : List ℕ) (reading : IsReadingIn (files_of v) file left) → IsFileReading next reading.pkg rest → IsReadingIn (files_of v) next rest
     next_reading v left rest reading is = record {
       pkg = reading.pkg;
@@ -159,8 +159,8 @@ module _ (start stage : Staging) (whole file next : FilePieces) (piece : List �
 -- just the bytes wait that came
 abbrev pub IsListedOn : Staging → Staging → FilePieces → FilePieces → History → History → Type 0
 IsListedOn start stage whole file old now =
-    HaveCome whole [] → (contents : List (List ℕ)) (v : TreeState) (first : List TreeState) → IsStaging start contents None v first old
-    → (so_far : List ℕ) × HaveCome file so_far × IsStaging stage contents (Some so_far) v first now
+    HaveBeenReturned whole [] → (contents : List (List ℕ)) (v : TreeState) (first : List TreeState) → IsStaging start contents None v first old
+    → (so_far : List ℕ) × HaveBeenReturned file so_far × IsStaging stage contents (Some so_far) v first now
 
 pub begun_listed : (start stage : Staging) (whole : FilePieces) (old now : History)
     → ((contents : List (List ℕ)) (v : TreeState) (first : List TreeState) → IsStaging start contents None v first old → IsStaging stage contents (Some []) v first now)
@@ -168,44 +168,44 @@ pub begun_listed : (start stage : Staging) (whole : FilePieces) (old now : Histo
 begun_listed start stage whole old now begun come contents v first staging = ([], come, begun contents v first staging)
 
 module _ (start stage : Staging) (whole file next : FilePieces) (piece : List ℕ) (old now later : History) (result : Result Bool PieceFault)
-    (listed : IsListedOn start stage whole file old now) (tested : (so_far : List ℕ) → HaveCome file so_far → ComesBehind file so_far piece result next) where
+    (listed : IsListedOn start stage whole file old now) (tested : (so_far : List ℕ) → HaveBeenReturned file so_far → IsTestedReturn file so_far piece result next) where
   pub listed_more : (grown : Staging) → result ≡ Ok true
       → ((contents : List (List ℕ)) (so_far : List ℕ) (v : TreeState) (first : List TreeState) → IsStaging stage contents (Some so_far) v first now → IsStaging grown contents (Some (so_far ++ piece)) v first later)
       → IsListedOn start grown whole next old later
   listed_more grown is appended come contents v first staging =
       let (so_far, came, half) = listed come contents v first staging in
-      let behind = subst (λ (r : Result Bool PieceFault). ComesBehind file so_far piece r next) is (tested so_far came) in
+      let behind = subst (λ (r : Result Bool PieceFault). IsTestedReturn file so_far piece r next) is (tested so_far came) in
       (so_far ++ piece, behind.1, appended contents so_far v first half)
 
-  pub listed_whole : file_due file ≡ file_due whole → result ≡ Ok false → HaveCome whole [] → (contents : List (List ℕ)) (v : TreeState) (first : List TreeState) → IsStaging start contents None v first old
-      → (bytes : List ℕ) × AreAsDue (file_due whole) bytes × IsStaging stage contents (Some bytes) v first now
+  pub listed_whole : expected_file_of file ≡ expected_file_of whole → result ≡ Ok false → HaveBeenReturned whole [] → (contents : List (List ℕ)) (v : TreeState) (first : List TreeState) → IsStaging start contents None v first old
+      → (bytes : List ℕ) × AreAsExpected (expected_file_of whole) bytes × IsStaging stage contents (Some bytes) v first now
   listed_whole due is come contents v first staging =
       let (so_far, came, half) = listed come contents v first staging in
-      let behind = subst (λ (r : Result Bool PieceFault). ComesBehind file so_far piece r next) is (tested so_far came) in
-      (so_far, subst (λ (d : Option Expected). AreAsDue d so_far) due behind.1, half)
+      let behind = subst (λ (r : Result Bool PieceFault). IsTestedReturn file so_far piece r next) is (tested so_far came) in
+      (so_far, subst (λ (d : Option Expected). AreAsExpected d so_far) due behind.1, half)
 
 -- ---- a test that fails
 
 -- no test failed, and just some bytes came
 abbrev pub HasComeOn : FilePieces → FilePieces → Type 0
-HasComeOn whole file = HaveCome whole [] → kept_fault whole ≡ None → (so_far : List ℕ) × HaveCome file so_far × (kept_fault file ≡ None)
+HasComeOn whole file = HaveBeenReturned whole [] → kept_fault whole ≡ None → (so_far : List ℕ) × HaveBeenReturned file so_far × (kept_fault file ≡ None)
 
 pub come_first : (whole : FilePieces) → HasComeOn whole whole
 come_first whole come none = ([], come, none)
 
-module _ (whole file next : FilePieces) (piece : List ℕ) (result : Result Bool PieceFault) (has : HasComeOn whole file) (tested : (so_far : List ℕ) → HaveCome file so_far → ComesBehind file so_far piece result next) where
+module _ (whole file next : FilePieces) (piece : List ℕ) (result : Result Bool PieceFault) (has : HasComeOn whole file) (tested : (so_far : List ℕ) → HaveBeenReturned file so_far → IsTestedReturn file so_far piece result next) where
   pub come_more : result ≡ Ok true → HasComeOn whole next
   come_more is come none =
       let (so_far, came, kept) = has come none in
-      let behind = subst (λ (r : Result Bool PieceFault). ComesBehind file so_far piece r next) is (tested so_far came) in
+      let behind = subst (λ (r : Result Bool PieceFault). IsTestedReturn file so_far piece r next) is (tested so_far came) in
       (so_far ++ piece, behind.1, behind.0)
 
-  pub come_bad : file_due file ≡ file_due whole → HaveCome whole [] → kept_fault whole ≡ None → (cause : Cause) → result ≡ Err (Bad cause) → (bytes : List ℕ) × HaveOtherDigest (file_due whole) bytes cause
+  pub come_bad : expected_file_of file ≡ expected_file_of whole → HaveBeenReturned whole [] → kept_fault whole ≡ None → (cause : Cause) → result ≡ Err (Bad cause) → (bytes : List ℕ) × HaveOtherDigest (expected_file_of whole) bytes cause
   come_bad due come none cause is =
       let (so_far, came, kept) = has come none in
-      by so_far kept (subst (λ (r : Result Bool PieceFault). ComesBehind file so_far piece r next) is (tested so_far came))
+      by so_far kept (subst (λ (r : Result Bool PieceFault). IsTestedReturn file so_far piece r next) is (tested so_far came))
     where
-      by : (so_far : List ℕ) → kept_fault file ≡ None → (kept_fault file ≡ Some cause) ⊎ HaveOtherDigest (file_due file) (so_far ++ piece) cause → (bytes : List ℕ) × HaveOtherDigest (file_due whole) bytes cause
+      by : (so_far : List ℕ) → kept_fault file ≡ None → (kept_fault file ≡ Some cause) ⊎ HaveOtherDigest (expected_file_of file) (so_far ++ piece) cause → (bytes : List ℕ) × HaveOtherDigest (expected_file_of whole) bytes cause
       by so_far kept (inl before) = absurd (let e : None ≡ Some cause = sym kept ∙ before in cc (e))
       by so_far kept (inr other) = (so_far ++ piece, subst (λ (d : Option Expected). HaveOtherDigest d (so_far ++ piece) cause) due other)
 
@@ -232,16 +232,16 @@ module _ (start stage : Staging) (whole file : FilePieces) (old now later : Hist
       one contents half.so_far v first half.staging ∙ proper contents v first bytes staging reading room
 
   pub read_proper : (before between after : ℕ) → IsProperOn start whole old before between
-      → IfObservable now (λ w. IsSoLong (package_of_file file) (len_around_file file) w → after ≡ between) → IsProperOn start whole old before after
+      → IfObservable now (λ w. IsSoLong (package_name_of_file file) (len_around_file file) w → after ≡ between) → IsProperOn start whole old before after
   read_proper before between after proper one contents v first bytes staging reading room =
       let half = read contents v first bytes staging reading in
-      by_now now (λ w. files_of w (package_of_file file) ≡ Some half.reading.pkg) (after ≡ between)
-      (package_now stage contents (Some half.so_far) v first now (package_of_file file) half.reading.pkg half.staging half.reading.there)
+      by_now now (λ w. files_of w (package_name_of_file file) ≡ Some half.reading.pkg) (after ≡ between)
+      (package_now stage contents (Some half.so_far) v first now (package_name_of_file file) half.reading.pkg half.staging half.reading.there)
       (long now one half)
       ∙ proper contents v first bytes staging reading room
     where
-      long : {contents : List (List ℕ)} {bytes : List ℕ} {v : TreeState} {first : List TreeState} (h : History) → IfObservable h (λ w. IsSoLong (package_of_file file) (len_around_file file) w → after ≡ between)
-          → (half : IsHalfway stage file contents bytes v first now) → IfObservable h (λ w. files_of w (package_of_file file) ≡ Some half.reading.pkg → after ≡ between)
+      long : {contents : List (List ℕ)} {bytes : List ℕ} {v : TreeState} {first : List TreeState} (h : History) → IfObservable h (λ w. IsSoLong (package_name_of_file file) (len_around_file file) w → after ≡ between)
+          → (half : IsHalfway stage file contents bytes v first now) → IfObservable h (λ w. files_of w (package_name_of_file file) ≡ Some half.reading.pkg → after ≡ between)
       long [] p half = tt
       long (w ∷ earlier) p half = λ there. p (record { file = half.reading.pkg; present = there; long = half.reading.long })
 
@@ -267,13 +267,13 @@ pub on_err : {A E : Type 0} (r : Result A E) (Q : Type 0) → Q → OnErr r Q
 on_err (Ok a) Q is = tt
 on_err (Err e) Q is = is
 
-pub goes_through : (a b c : Counts) → GoesOn a b → GoesOn b c → GoesOn a c
+pub goes_through : (a b c : Counts) → CountsOnlyRise a b → CountsOnlyRise b c → CountsOnlyRise a c
 goes_through a b c one two = record {
   faults = (let p = one.faults in let q = two.faults in omega (arith, p, q));
   misuses = (let p = one.misuses in let q = two.misuses in omega (arith, p, q));
-  wants = (let p = one.wants in let q = two.wants in omega (arith, p, q));
+  memory_faults = (let p = one.memory_faults in let q = two.memory_faults in omega (arith, p, q));
   fallible = λ t. one.fallible (two.fallible t);
 }
 
 pub kept_through : (a b c : Counts) → IsNoFault a b → IsNoFault b c → IsNoFault a c
-kept_through a b c one two = record { faults = two.faults ∙ one.faults; wants = two.wants ∙ one.wants }
+kept_through a b c one two = record { faults = two.faults ∙ one.faults; memory_faults = two.memory_faults ∙ one.memory_faults }

@@ -13,11 +13,11 @@ use Rattle.adb_block.specs.Container.{IsHead, IsPadding, Spells, SpellsBlocks}
 use Rattle.adb_block.specs.Header.{header_of}
 use Rattle.adb_block.specs.Piece.{Piece, least_payload}
 use Rattle.adb_block.specs.Reading.{Reading, done, fault, more, reading_of}
-use Rattle.adb_block.specs.Standing.{start_of}
+use Rattle.adb_block.specs.ReaderPosition.{start_of}
 use Rattle.adb_block.specs.declared.block.BlockKind.{BlockKind}
 use Rattle.adb_block.specs.declared.block.BlockKind.TheVariants as Kinds
 use Rattle.adb_block.proofs.WholeFiles.{read_is_spelled, spelled_is_read, whole_from}
-use Rattle.adb_schema.specs.Soundness.{blocks_fault, file_fault, file_pair, first_payload, payload_behind, payload_fault, payload_in, root_value, schema_fault}
+use Rattle.adb_schema.specs.Soundness.{blocks_fault, file_fault, file_pair, first_payload, payload_after_header, payload_fault, payload_in, root_value, schema_fault}
 use Rattle.adb_view.specs.Schema.{shape_of}
 use Rattle.adb_view.specs.Values.{value_at}
 use Rattle.std.specs.Option.{option_or}
@@ -30,7 +30,7 @@ use Rattle.base_core.specs.declared.cause.Digest.TheVariants.{Sha1, Sha256, Sha5
 use Rattle.pkg_core.proofs.Opened.{pair_alike}
 use Rattle.pkg_core.specs.Contents.{Expected, FilesRead, contents_block_fault, contents_bytes, contents_by, contents_fault, digest_fault, expected_contents, fault_in, files_at_block, files_by_blocks, given, has_positions_of, hash_fault, next_fault, no_more, unless_fault}
 use Rattle.pkg_core.specs.Opened.{expected_with_positions, has_positions}
-use Rattle.pkg_core.specs.Whole.{behind_fault, package_fault, whole_fault}
+use Rattle.pkg_core.specs.Whole.{fault_after_first, package_fault, whole_fault}
 use Rattle.stage_files.specs.Spoiled.{IsSpoiledFile}
 
 -- ---- one block gets another payload of the same length
@@ -206,8 +206,8 @@ one_before e es left b at r same h = record {
 abbrev HasPieces : Reading → Type 0
 HasPieces r = (bs : List Piece) × (pieces_of r ≡ Ok bs)
 
-pieces_behind : (b : Piece) (at : ℕ) (r : Reading) → HasPieces r → HasPieces (more b at r)
-pieces_behind b at r (bs, is) = (b ∷ bs, ap (with_block b) is)
+pieces_after : (b : Piece) (at : ℕ) (r : Reading) → HasPieces r → HasPieces (more b at r)
+pieces_after b at r (bs, is) = (b ∷ bs, ap (with_block b) is)
 
 pieces_at_kind : (kind : BlockKind) (payload : List ℕ) (at : ℕ) (r : Reading) → ((left : List Expected) → contents_fault left r ≡ None → HasPieces r) → (es : List Expected) → fault_in (files_at_block kind payload at (λ left. files_by_blocks left r) es) ≡ None → HasPieces r
 pieces_at_kind Kinds.Adb payload at r ih es h = ih es h
@@ -220,7 +220,7 @@ has_pieces : (es : List Expected) (r : Reading) → contents_fault es r ≡ None
 unfolding files_by_blocks
 has_pieces es done h = ([], refl)
 has_pieces es (fault c) h = absurd (cc (h))
-has_pieces es (more b at r) h = pieces_behind b at r (pieces_at_kind b.kind b.payload at r (λ left. has_pieces left r) es h)
+has_pieces es (more b at r) h = pieces_after b at r (pieces_at_kind b.kind b.payload at r (λ left. has_pieces left r) es h)
 
 -- the block at hand is the one
 this_block : (e : Expected) (es : List Expected) (payload : List ℕ) (at : ℕ) (r : Reading) → PassesBlock payload e → HasPieces r → HasContents e (e ∷ es) (more (record { kind = Kinds.Contents; payload = payload }) at r)
@@ -347,9 +347,9 @@ IsGood file = IsGoodPackage file ⊎ (expected_contents (root_value Package (pay
 
 payload_by : (file : List ℕ) (schema : ℕ) (r : Reading) → header_of file ≡ Ok schema → reading_of (start_of schema file) ≡ r → payload_in file ≡ first_payload r
 unfolding payload_in
-payload_by file schema r header reading = ap (payload_behind file) header ∙ ap first_payload reading
+payload_by file schema r header reading = ap (payload_after_header file) header ∙ ap first_payload reading
 
-good_by_reading : (file : List ℕ) (schema : ℕ) (r : Reading) → header_of file ≡ Ok schema → schema_fault Package schema ≡ None → reading_of (start_of schema file) ≡ r → blocks_fault (behind_fault Package) Package r ≡ None → IsGood file
+good_by_reading : (file : List ℕ) (schema : ℕ) (r : Reading) → header_of file ≡ Ok schema → schema_fault Package schema ≡ None → reading_of (start_of schema file) ≡ r → blocks_fault (fault_after_first Package) Package r ≡ None → IsGood file
 good_by_reading file schema done header wanted reading h =
     inr (ap (λ (p : List ℕ). expected_contents (root_value Package p)) (payload_by file schema done header reading) ∙ nothing_expected)
 good_by_reading file schema (fault c) header wanted reading h = absurd (cc (h))
@@ -357,7 +357,7 @@ good_by_reading file schema (more b at r) header wanted reading h =
     let (values, contents) = both_pass (payload_fault Package b.payload) _ h in
     inl (record { schema = schema; header = header; wanted = wanted; block = b; at = at; further = r; reading = reading; values = values; contents = contents })
 
-good_by_header : (file : List ℕ) (header : Result ℕ Cause) → header_of file ≡ header → file_fault (behind_fault Package) Package file header ≡ None → IsGood file
+good_by_header : (file : List ℕ) (header : Result ℕ Cause) → header_of file ≡ header → file_fault (fault_after_first Package) Package file header ≡ None → IsGood file
 good_by_header file (Err c) is h = absurd (cc (h))
 good_by_header file (Ok schema) is h =
     let (wanted, blocks) = both_pass (schema_fault Package schema) _ h in
@@ -372,9 +372,9 @@ refused_for : (file : List ℕ) (schema : ℕ) (b : Piece) (at : ℕ) (r : Readi
     → contents_fault (expected_contents (root_value Package b.payload)) r ≡ Some c → package_fault file ≡ Some c
 unfolding whole_fault
 refused_for file schema b at r c header wanted reading values bad =
-    ap (file_fault (behind_fault Package) Package file) header
+    ap (file_fault (fault_after_first Package) Package file) header
     ∙ first_then (schema_fault Package schema) _ c wanted
-    (ap (blocks_fault (behind_fault Package) Package) reading ∙ first_then (payload_fault Package b.payload) _ c values bad)
+    (ap (blocks_fault (fault_after_first Package) Package) reading ∙ first_then (payload_fault Package b.payload) _ c values bad)
 
 pieces_from_start : (file : List ℕ) (schema : ℕ) (bs : List Piece) → header_of file ≡ Ok schema → blocks_of file ≡ Ok bs → pieces_of (reading_of (start_of schema file)) ≡ Ok bs
 unfolding rest_of

@@ -5,11 +5,11 @@ use Rattle.base_core.specs.Files.{Files}
 use Rattle.base_core.specs.Tree.{TreeState}
 use Rattle.stage_files.specs.declared.writes.StageFault.{StageFault}
 use Rattle.stage_files.specs.declared.writes.StageFault.TheVariants.{Disk}
-use Rattle.stage_run.specs.StageRun.{IsStageRun, IsStageRunDone}
+use Rattle.stage_run.specs.StageRun.{IsStageRun, IsStageRunComplete}
 
 -- a change is carried through to these files, or the tree failed on the way
 pub record IsCarriedTo {A : Type 0} (files : Files) (v : TreeState) (old now : List TreeState)
     (result : Result A StageFault) : Type 0 where
   pub run : IsStageRun files v old now
-  pub ok : OnOk result (IsStageRunDone files v now)
+  pub ok : OnOk result (IsStageRunComplete files v now)
   pub err : IfErr result (λ fault. fault ≡ Disk)

@@ -4,7 +4,7 @@ use Rattle.std.specs.Prelude.{◌≡◌, ℕ, List, [], ◌∷◌, Some, length,
 use Rattle.base_core.specs.Files.{Files}
 use Rattle.file_guard.specs.AsListed.{link_to}
 use Rattle.package_test.specs.Tested.{IsTestedOf, tested_value}
-use Rattle.piece_reader.specs.FileReading.{AreAsDue}
+use Rattle.piece_reader.specs.FileReading.{AreAsExpected}
 use Rattle.pkg_core.specs.Contents.{bytes_of_file, contents_in, expected_contents}
 use Rattle.pkg_core.specs.Opened.{expected_with_positions}
 use Rattle.pkg_core.specs.Whole.{files_in_file}
@@ -24,37 +24,38 @@ pub record IsFileSource (files : Files) (f : PackagedFile) (bytes : List ℕ) : 
   pub is : bytes ≡ bytes_of_file f.folder f.file (contents_in (files_in_file pkg))
 
 -- over these files a source denotes these bytes
-abbrev pub StandsForBytes : Files → Source → List ℕ → Type 0
-StandsForBytes files (Bytes own) bytes = bytes ≡ own.now
-StandsForBytes files (Link target) bytes = bytes ≡ link_to target.now
-StandsForBytes files (File f) bytes = IsFileSource files f bytes
+abbrev pub DenotesBytes : Files → Source → List ℕ → Type 0
+DenotesBytes files (Bytes own) bytes = bytes ≡ own.now
+DenotesBytes files (Link target) bytes = bytes ≡ link_to target.now
+DenotesBytes files (File f) bytes = IsFileSource files f bytes
 
 -- bytes have the size and the digest that the package's value lists for a file of it; none if it lists
 -- no contents
 abbrev pub AreListedFor : PackagedFile → List ℕ → Type 0
 AreListedFor f bytes =
-    AreAsDue (expected_with_positions f.folder f.file (expected_contents (tested_value f.package.now)))
+    AreAsExpected (expected_with_positions f.folder f.file (expected_contents (tested_value
+    f.package.now)))
     bytes
 
 -- over some files, a source may denote these bytes
-abbrev pub MayStandFor : Source → List ℕ → Type 0
-MayStandFor (Bytes own) bytes = bytes ≡ own.now
-MayStandFor (Link target) bytes = bytes ≡ link_to target.now
-MayStandFor (File f) bytes = AreListedFor f bytes
+abbrev pub MayDenote : Source → List ℕ → Type 0
+MayDenote (Bytes own) bytes = bytes ≡ own.now
+MayDenote (Link target) bytes = bytes ≡ link_to target.now
+MayDenote (File f) bytes = AreListedFor f bytes
 
 -- ---- those of several writes
 
 -- the source of each write denotes the bytes at its place
-pub record StandForEach (files : Files) (writes : List StagedWrite) (contents : List (List ℕ)) :
+pub record EachDenotes (files : Files) (writes : List StagedWrite) (contents : List (List ℕ)) :
     Type 0 where
   pub same : length contents ≡ length writes
   pub each : (i : ℕ) (w : StagedWrite) (bytes : List ℕ) → slice_get writes i ≡ Some w
-      → slice_get contents i ≡ Some bytes → StandsForBytes files w.source bytes
+      → slice_get contents i ≡ Some bytes → DenotesBytes files w.source bytes
 
 -- the source of each write may denote the bytes at its place
-abbrev pub MayStandForEach : List StagedWrite → List (List ℕ) → Type 0
-MayStandForEach [] [] = Unit {0}
-MayStandForEach [] (bytes ∷ others) = ⊥
-MayStandForEach (w ∷ writes) [] = ⊥
-MayStandForEach (w ∷ writes) (bytes ∷ others) =
-    MayStandFor w.source bytes × MayStandForEach writes others
+abbrev pub EachMayDenote : List StagedWrite → List (List ℕ) → Type 0
+EachMayDenote [] [] = Unit {0}
+EachMayDenote [] (bytes ∷ others) = ⊥
+EachMayDenote (w ∷ writes) [] = ⊥
+EachMayDenote (w ∷ writes) (bytes ∷ others) =
+    MayDenote w.source bytes × EachMayDenote writes others

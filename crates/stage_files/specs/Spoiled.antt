@@ -24,15 +24,15 @@ pub record IsSpoiledFile (tested file : List ℕ) (cause : Cause) : Type 0 where
   pub fault : package_fault file ≡ Some cause
 
 -- whatever a file's package was when it was tested, there is a spoiled file for it with this cause
-abbrev pub IsSpoiledSince : PackagedFile → Cause → Type 0
-IsSpoiledSince f cause = (name tested : List ℕ) → IsTestedOf name tested f.package.now
+abbrev pub IsSpoiledForEachTested : PackagedFile → Cause → Type 0
+IsSpoiledForEachTested f cause = (name tested : List ℕ) → IsTestedOf name tested f.package.now
     → (file : List ℕ) × IsSpoiledFile tested file cause
 
 -- a source is a file of the package at this place, which is spoiled with this cause
 abbrev pub IsSpoiledAt : ℕ → Cause → Source → Type 0
 IsSpoiledAt member cause (Bytes own) = ⊥
 IsSpoiledAt member cause (Link target) = ⊥
-IsSpoiledAt member cause (File f) = (f.member ≡ member) × IsSpoiledSince f cause
+IsSpoiledAt member cause (File f) = (f.member ≡ member) × IsSpoiledForEachTested f cause
 
 -- one of the writes is a file of the package at this place, which is spoiled with this cause
 pub record HasSpoiledFile (member : ℕ) (cause : Cause) (writes : List StagedWrite) : Type 0 where

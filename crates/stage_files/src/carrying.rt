@@ -2,18 +2,18 @@
 //! are in `docs/crash-safety.md`, "A change of several files".
 ghost use Rattle.std.specs.Prelude.{◌≡◌, ◌<◌, ◌+◌, ◌++◌, ◌∷◌, ◌⊎◌, [], ℕ, false, List, None, length, take, IfErr, IsErrOf, OnErr, OnOk};
 ghost use Rattle.base_core.specs.Calls.{IfObservable};
-ghost use Rattle.base_core.specs.Faults.{GoesOn, HasCause, IsNoFault};
+ghost use Rattle.base_core.specs.Faults.{CountsOnlyRise, HasCause, IsNoFault};
 ghost use Rattle.base_core.specs.Tree.{TreeState, files_of};
 ghost use Rattle.base_core.specs.declared.cause.Cause.{Cause};
 ghost use Rattle.journal_core.specs.Recovery.{after_actions, intent_name};
-ghost use Rattle.journal_core.specs.Staged.{HasRoomBeside, IsEmptyStage, new_stage, with_staged};
+ghost use Rattle.journal_core.specs.Staged.{AreJournalPathsFree, IsEmptyStage, new_stage, with_staged};
 ghost use Rattle.journal_core.specs.Targets.{AreAccepted};
 ghost use Rattle.stage_files.specs.Carried.{IsCarriedTo};
-ghost use Rattle.stage_files.specs.Sources.{MayStandForEach, StandForEach};
+ghost use Rattle.stage_files.specs.Sources.{EachMayDenote, EachDenotes};
 ghost use Rattle.stage_files.specs.Spoiled.{HasSpoiledFile};
 ghost use Rattle.stage_files.specs.declared.writes.StageFault.TheVariants.{Bad, Disk as DiskFault};
-ghost use Rattle.stage_run.specs.Asked.{IsAskedRun};
-ghost use Rattle.stage_run.specs.StageRun.{IsStageRun, IsStageRunDone, IsStaging, IsStagingRun};
+ghost use Rattle.stage_run.specs.Asked.{TargetsAreAccepted};
+ghost use Rattle.stage_run.specs.StageRun.{IsStageRun, IsStageRunComplete, IsStaging, IsStagingRun};
 
 use crate::writes::{StageFault, StagedWrite, stage_write};
 use base_core::Tree;
@@ -37,27 +37,27 @@ fn stage_each<T: Tree>(
         → IsStagingRun v first (T.history tree.new) }
     ensures staging { (contents : List (List ℕ)) (v : TreeState) (first : List TreeState)
         → IsStaging stage.old [] None v first (T.history tree.old)
-        → StandForEach (files_of v) writes.now contents
+        → EachDenotes (files_of v) writes.now contents
         → OnOk result (IsStaging stage.new contents None v first (T.history tree.new)) }
     ensures good { (contents : List (List ℕ)) (v : TreeState) (first : List TreeState)
         → IsStaging stage.old [] None v first (T.history tree.old)
-        → StandForEach (files_of v) writes.now contents
+        → EachDenotes (files_of v) writes.now contents
         → IfErr result (λ fault. fault ≡ DiskFault) }
     ensures listed { (v : TreeState) (first : List TreeState)
         → IsStaging stage.old [] None v first (T.history tree.old)
-        → OnOk result ((contents : List (List ℕ)) × MayStandForEach writes.now contents
+        → OnOk result ((contents : List (List ℕ)) × EachMayDenote writes.now contents
         × IsStaging stage.new contents None v first (T.history tree.new)) }
     ensures bad { (member : ℕ) (cause : Cause) → IsErrOf result (Bad member cause)
         → HasSpoiledFile member cause writes.now }
     ensures view { OnOk result (stage.new ≡ record stage.old { staged = length writes.now }) }
-    ensures goes_on { GoesOn (T.counts tree.old) (T.counts tree.new) }
+    ensures goes_on { CountsOnlyRise (T.counts tree.old) (T.counts tree.new) }
     ensures disk { IsErrOf result DiskFault → HasCause (T.counts tree.old) (T.counts tree.new) }
     ensures kept { OnOk result (IsNoFault (T.counts tree.old) (T.counts tree.new)) }
     ensures others { IfErr result (λ fault. (fault ≡ DiskFault → ⊥)
         → IsNoFault (T.counts tree.old) (T.counts tree.new)) }
     ensures proper { (contents : List (List ℕ)) (v : TreeState) (first : List TreeState)
         → IsStaging stage.old [] None v first (T.history tree.old)
-        → StandForEach (files_of v) writes.now contents → HasRoomBeside (files_of v)
+        → EachDenotes (files_of v) writes.now contents → AreJournalPathsFree (files_of v)
         → (T.counts tree.new).misuses ≡ (T.counts tree.old).misuses }
 {
     for write in writes {
@@ -87,15 +87,15 @@ pub fn carry_out<T: Tree>(
     // change leads to the files with these bytes under the writes' names.
     ensures run { IfObservable (T.history tree.old) (λ v. (contents : List (List ℕ))
         → v.names intent_name ≡ None → IsEmptyStage (files_of v)
-        → StandForEach (files_of v) writes.now contents
+        → EachDenotes (files_of v) writes.now contents
         → IsCarriedTo (after_actions stage.old.intent (with_staged 1 contents (files_of v)))
         v (T.history tree.old) (T.history tree.new) result) }
     // Whatever else the tree returns: the result are files with bytes that the sources may denote,
     // so those of a package have the size and the digest that its value lists.
     ensures listed { IfObservable (T.history tree.old) (λ v.
         v.names intent_name ≡ None → IsEmptyStage (files_of v)
-        → OnOk result ((contents : List (List ℕ)) × MayStandForEach writes.now contents
-        × IsStageRunDone (after_actions stage.old.intent (with_staged 1 contents (files_of v)))
+        → OnOk result ((contents : List (List ℕ)) × EachMayDenote writes.now contents
+        × IsStageRunComplete (after_actions stage.old.intent (with_staged 1 contents (files_of v)))
         v (T.history tree.new))) }
     // Nor is it half done after an error: if a package is bad, only staged files have changed.
     ensures unpublished { IfObservable (T.history tree.old) (λ v.
@@ -107,7 +107,7 @@ pub fn carry_out<T: Tree>(
     ensures cut_off { IfObservable (T.history tree.old) (λ v.
         v.names intent_name ≡ None → IsEmptyStage (files_of v)
         → OnErr result (IsStagingRun v (T.history tree.old) (T.history tree.new)
-        ⊎ ((contents : List (List ℕ)) × MayStandForEach writes.now contents
+        ⊎ ((contents : List (List ℕ)) × EachMayDenote writes.now contents
         × IsStageRun (after_actions stage.old.intent (with_staged 1 contents (files_of v)))
         v (T.history tree.old) (T.history tree.new)))) }
     // All targets are asked for first: either nothing has happened, or the tree accepts each. Ok is
@@ -116,14 +116,14 @@ pub fn carry_out<T: Tree>(
         ⊎ AreAccepted T.accepts stage.old.intent }
     ensures accepted { OnOk result (AreAccepted T.accepts stage.old.intent) }
     // So at each moment the tree accepts each name to which a recovery gives other bytes.
-    ensures promised { IsAskedRun T.accepts (T.history tree.old) (T.history tree.new) }
+    ensures promised { TargetsAreAccepted T.accepts (T.history tree.old) (T.history tree.new) }
     // A package is reported bad only with the cause of some file that has the values of the tested
     // one, and other contents.
     ensures bad { (member : ℕ) (cause : Cause) → IsErrOf result (Bad member cause)
         → HasSpoiledFile member cause writes.now }
     // How the tree's counts explain the result: no count falls, a fault has its cause, and any
     // other result hides none.
-    ensures goes_on { GoesOn (T.counts tree.old) (T.counts tree.new) }
+    ensures goes_on { CountsOnlyRise (T.counts tree.old) (T.counts tree.new) }
     ensures disk { IsErrOf result DiskFault → HasCause (T.counts tree.old) (T.counts tree.new) }
     ensures kept { OnOk result (IsNoFault (T.counts tree.old) (T.counts tree.new)) }
     ensures others { IfErr result (λ fault. (fault ≡ DiskFault → ⊥)
@@ -131,8 +131,8 @@ pub fn carry_out<T: Tree>(
     // No call is a misuse if the paths of the stage are free, before and after the change.
     ensures proper { IfObservable (T.history tree.old) (λ v. (contents : List (List ℕ))
         → v.names intent_name ≡ None → IsEmptyStage (files_of v)
-        → StandForEach (files_of v) writes.now contents → HasRoomBeside (files_of v)
-        → HasRoomBeside (after_actions stage.old.intent (with_staged 1 contents (files_of v)))
+        → EachDenotes (files_of v) writes.now contents → AreJournalPathsFree (files_of v)
+        → AreJournalPathsFree (after_actions stage.old.intent (with_staged 1 contents (files_of v)))
         → (T.counts tree.new).misuses ≡ (T.counts tree.old).misuses) }
 {
     // Laws that the proof needs; they compute nothing.

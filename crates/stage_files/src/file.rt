@@ -1,11 +1,11 @@
 //! A file of a package is staged, piece by piece. The rules are in `docs/crash-safety.md`,
 //! "A change of several files", and of the pieces in `docs/formats.md`, "The other blocks".
 ghost use Rattle.std.specs.Prelude.{◌≡◌, ◌<◌, ◌+◌, ◌++◌, ◌∷◌, [], ℕ, false, List, None, length, IfErr, IsErrOf, OnOk};
-ghost use Rattle.base_core.specs.Faults.{GoesOn, HasCause, IsNoFault};
+ghost use Rattle.base_core.specs.Faults.{CountsOnlyRise, HasCause, IsNoFault};
 ghost use Rattle.base_core.specs.Tree.{TreeState, files_of};
-ghost use Rattle.journal_core.specs.Staged.{HasRoomBeside};
+ghost use Rattle.journal_core.specs.Staged.{AreJournalPathsFree};
 ghost use Rattle.base_core.specs.declared.cause.Cause.{Cause};
-ghost use Rattle.piece_reader.specs.FileReading.{AreAsDue, HaveCome, HaveOtherDigest, file_due, kept_fault};
+ghost use Rattle.piece_reader.specs.FileReading.{AreAsExpected, HaveBeenReturned, HaveOtherDigest, expected_file_of, kept_fault};
 ghost use Rattle.piece_reader.specs.declared.piece.PieceFault.TheVariants.{Bad, Disk as DiskFault};
 ghost use Rattle.stage_files.specs.Reading.{IsReadingIn};
 ghost use Rattle.stage_run.specs.StageRun.{IsStaging, IsStagingRun};
@@ -46,27 +46,27 @@ pub(crate) fn stage_file<T: Tree>(
         → IfErr result (λ fault. fault ≡ DiskFault) }
     // Whatever the tree returns for the package: bytes with the expected size and digest are
     // staged.
-    ensures listed { HaveCome file.entry [] → (contents : List (List ℕ)) (v : TreeState)
+    ensures listed { HaveBeenReturned file.entry [] → (contents : List (List ℕ)) (v : TreeState)
         (first : List TreeState) → IsStaging stage.old contents None v first (T.history tree.old)
-        → OnOk result ((bytes : List ℕ) × AreAsDue (file_due file.entry) bytes
+        → OnOk result ((bytes : List ℕ) × AreAsExpected (expected_file_of file.entry) bytes
         × IsStaging stage.new (contents ++ bytes ∷ []) None v first (T.history tree.new)) }
     // If it was not refused from the start: a test fails only for bytes that have the expected
     // size, and another digest.
-    ensures bad { HaveCome file.entry [] → kept_fault file.entry ≡ None → (cause : Cause)
+    ensures bad { HaveBeenReturned file.entry [] → kept_fault file.entry ≡ None → (cause : Cause)
         → IsErrOf result (Bad cause)
-        → (bytes : List ℕ) × HaveOtherDigest (file_due file.entry) bytes cause }
+        → (bytes : List ℕ) × HaveOtherDigest (expected_file_of file.entry) bytes cause }
     // The next write of the stage has its file then.
     ensures view { OnOk result (stage.new ≡ record stage.old { staged = stage.old.staged + 1 }) }
     // How the tree's counts explain the result: no count falls, a fault has its cause, and any
     // other result hides none.
-    ensures goes_on { GoesOn (T.counts tree.old) (T.counts tree.new) }
+    ensures goes_on { CountsOnlyRise (T.counts tree.old) (T.counts tree.new) }
     ensures disk { IsErrOf result DiskFault → HasCause (T.counts tree.old) (T.counts tree.new) }
     ensures kept { OnOk result (IsNoFault (T.counts tree.old) (T.counts tree.new)) }
     ensures others { IfErr result (λ fault. (fault ≡ DiskFault → ⊥)
         → IsNoFault (T.counts tree.old) (T.counts tree.new)) }
     ensures proper { (contents : List (List ℕ)) (v : TreeState) (first : List TreeState)
         (bytes : List ℕ) → IsStaging stage.old contents None v first (T.history tree.old)
-        → IsReadingIn (files_of v) file.entry bytes → HasRoomBeside (files_of v)
+        → IsReadingIn (files_of v) file.entry bytes → AreJournalPathsFree (files_of v)
         → (T.counts tree.new).misuses ≡ (T.counts tree.old).misuses }
 {
     begin_file(stage, tree)?;

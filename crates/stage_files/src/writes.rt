@@ -3,13 +3,13 @@
 //! files", and in `docs/crash-safety.md`, "A change of several files".
 
 ghost use Rattle.std.specs.Prelude.{◌≡◌, ◌<◌, ◌+◌, ◌++◌, ◌∷◌, [], ℕ, false, List, None, length, IfErr, IsErrOf, OnOk, OnErr};
-ghost use Rattle.base_core.specs.Faults.{GoesOn, HasCause, IsNoFault};
+ghost use Rattle.base_core.specs.Faults.{CountsOnlyRise, HasCause, IsNoFault};
 ghost use Rattle.base_core.specs.Files.{Files};
 ghost use Rattle.base_core.specs.Tree.{TreeState, files_of};
 ghost use Rattle.base_core.specs.declared.cause.Cause.{Cause};
-ghost use Rattle.journal_core.specs.Staged.{HasRoomBeside};
-ghost use Rattle.stage_files.specs.Sources.{AreListedFor, IsFileSource, MayStandFor, StandsForBytes};
-ghost use Rattle.stage_files.specs.Spoiled.{IsSpoiledAt, IsSpoiledSince};
+ghost use Rattle.journal_core.specs.Staged.{AreJournalPathsFree};
+ghost use Rattle.stage_files.specs.Sources.{AreListedFor, IsFileSource, MayDenote, DenotesBytes};
+ghost use Rattle.stage_files.specs.Spoiled.{IsSpoiledAt, IsSpoiledForEachTested};
 ghost use Rattle.stage_files.specs.declared.writes.StageFault.TheVariants.{Bad, Disk as DiskFault};
 ghost use Rattle.stage_run.specs.StageRun.{IsStaging, IsStagingRun};
 
@@ -52,16 +52,16 @@ fn stage_packaged<T: Tree>(
         × IsStaging stage.new (contents ++ bytes ∷ []) None v first (T.history tree.new)) }
     // The cause is that of a file with the values of the tested one.
     ensures bad { (member : ℕ) (cause : Cause) → IsErrOf result (Bad member cause)
-        → (f.now.member ≡ member) × IsSpoiledSince f.now cause }
+        → (f.now.member ≡ member) × IsSpoiledForEachTested f.now cause }
     ensures view { OnOk result (stage.new ≡ record stage.old { staged = stage.old.staged + 1 }) }
-    ensures goes_on { GoesOn (T.counts tree.old) (T.counts tree.new) }
+    ensures goes_on { CountsOnlyRise (T.counts tree.old) (T.counts tree.new) }
     ensures disk { IsErrOf result DiskFault → HasCause (T.counts tree.old) (T.counts tree.new) }
     ensures kept { OnOk result (IsNoFault (T.counts tree.old) (T.counts tree.new)) }
     ensures others { IfErr result (λ fault. (fault ≡ DiskFault → ⊥)
         → IsNoFault (T.counts tree.old) (T.counts tree.new)) }
     ensures proper { (contents : List (List ℕ)) (v : TreeState) (first : List TreeState)
         (bytes : List ℕ) → IsStaging stage.old contents None v first (T.history tree.old)
-        → IsFileSource (files_of v) f.now bytes → HasRoomBeside (files_of v)
+        → IsFileSource (files_of v) f.now bytes → AreJournalPathsFree (files_of v)
         → (T.counts tree.new).misuses ≡ (T.counts tree.old).misuses }
 {
     let file = f.package.file(f.folder, f.file);
@@ -97,17 +97,17 @@ pub(crate) fn stage_write<T: Tree>(
     // If the source denotes bytes, these are staged then, after those that were staged before.
     ensures staging { (contents : List (List ℕ)) (v : TreeState) (first : List TreeState)
         (bytes : List ℕ) → IsStaging stage.old contents None v first (T.history tree.old)
-        → StandsForBytes (files_of v) source.now bytes
+        → DenotesBytes (files_of v) source.now bytes
         → OnOk result (IsStaging stage.new (contents ++ bytes ∷ []) None v first
         (T.history tree.new)) }
     // And only the tree may fail.
     ensures good { (contents : List (List ℕ)) (v : TreeState) (first : List TreeState)
         (bytes : List ℕ) → IsStaging stage.old contents None v first (T.history tree.old)
-        → StandsForBytes (files_of v) source.now bytes → IfErr result (λ fault. fault ≡ DiskFault) }
+        → DenotesBytes (files_of v) source.now bytes → IfErr result (λ fault. fault ≡ DiskFault) }
     // Whatever the tree returns: bytes that the source may denote are staged.
     ensures listed { (contents : List (List ℕ)) (v : TreeState) (first : List TreeState)
         → IsStaging stage.old contents None v first (T.history tree.old)
-        → OnOk result ((bytes : List ℕ) × MayStandFor source.now bytes
+        → OnOk result ((bytes : List ℕ) × MayDenote source.now bytes
         × IsStaging stage.new (contents ++ bytes ∷ []) None v first (T.history tree.new)) }
     // A package is reported bad only if the source is a file of it that is spoiled with this cause.
     ensures bad { (member : ℕ) (cause : Cause) → IsErrOf result (Bad member cause)
@@ -116,14 +116,14 @@ pub(crate) fn stage_write<T: Tree>(
     ensures view { OnOk result (stage.new ≡ record stage.old { staged = stage.old.staged + 1 }) }
     // How the tree's counts explain the result: no count falls, a fault has its cause, and any
     // other result hides none.
-    ensures goes_on { GoesOn (T.counts tree.old) (T.counts tree.new) }
+    ensures goes_on { CountsOnlyRise (T.counts tree.old) (T.counts tree.new) }
     ensures disk { IsErrOf result DiskFault → HasCause (T.counts tree.old) (T.counts tree.new) }
     ensures kept { OnOk result (IsNoFault (T.counts tree.old) (T.counts tree.new)) }
     ensures others { IfErr result (λ fault. (fault ≡ DiskFault → ⊥)
         → IsNoFault (T.counts tree.old) (T.counts tree.new)) }
     ensures proper { (contents : List (List ℕ)) (v : TreeState) (first : List TreeState)
         (bytes : List ℕ) → IsStaging stage.old contents None v first (T.history tree.old)
-        → StandsForBytes (files_of v) source.now bytes → HasRoomBeside (files_of v)
+        → DenotesBytes (files_of v) source.now bytes → AreJournalPathsFree (files_of v)
         → (T.counts tree.new).misuses ≡ (T.counts tree.old).misuses }
 {
     match source {

@@ -14,8 +14,8 @@ use Rattle.journal_core.proofs.History.{History, none_since, since_weaker}
 use Rattle.journal_intent.proofs.AtName.{name_cases, other_name}
 use Rattle.journal_intent.proofs.StageNames.{stage_name_staged}
 use Rattle.journal_intent.specs.FreeNames.{AreFreeNames, HasFreeNames, IsNoneOf, IsOneOf}
-use Rattle.stage_run.specs.Asked.{IsAccepted, IsAskedRun, PromisesAccepted}
-use Rattle.stage_run.specs.StageRun.{IsReadButWaiting, IsReadInChange, IsStageRun, IsStagingRun}
+use Rattle.stage_run.specs.Asked.{IsAccepted, TargetsAreAccepted, HasAcceptedTargets}
+use Rattle.stage_run.specs.StageRun.{IsReadExceptStaged, IsReadDuringChange, IsStageRun, IsStagingRun}
 use Rattle.stage_run.proofs.Waits.{shown_off}
 
 true_false : true ≡ false → ⊥
@@ -47,16 +47,16 @@ module _ (accepts : Option (List ℕ) → List ℕ → Type 0) (v : TreeState) (
   none_read : files_of v intent_name ≡ None
   none_read = ap (bytes_at v.files) unread
 
-  same_waiting : (w : TreeState) → IsReadButWaiting (files_of v) w → (q : List ℕ) (b : Bool) → is_staged q ≡ b → unstaged_files (files_of w) q ≡ files_of v q
+  same_waiting : (w : TreeState) → IsReadExceptStaged (files_of v) w → (q : List ℕ) (b : Bool) → is_staged q ≡ b → unstaged_files (files_of w) q ≡ files_of v q
   same_waiting w keeps q true is = unstaged_at (files_of w) q true is ∙ sym (empty q is)
   same_waiting w keeps q false is =
       unstaged_at (files_of w) q false is ∙ unread_recovered (files_of w) q (keeps intent_name refl ∙ none_read) ∙ keeps q is
 
-  waiting_promises : (w : TreeState) → IsReadButWaiting (files_of v) w → PromisesAccepted accepts (files_of v) w
+  waiting_promises : (w : TreeState) → IsReadExceptStaged (files_of v) w → HasAcceptedTargets accepts (files_of v) w
   waiting_promises w keeps name differs = absurd (differs (same_waiting w keeps name (is_staged name) refl))
 
-  pub staging_promises : (old now : History) → IsStagingRun v old now → Since (PromisesAccepted accepts (files_of v)) old now
-  staging_promises old now run = since_weaker (IsReadButWaiting (files_of v)) (PromisesAccepted accepts (files_of v)) old now waiting_promises run.reads
+  pub staging_promises : (old now : History) → IsStagingRun v old now → Since (HasAcceptedTargets accepts (files_of v)) old now
+  staging_promises old now run = since_weaker (IsReadExceptStaged (files_of v)) (HasAcceptedTargets accepts (files_of v)) old now waiting_promises run.reads
 
   module _ (intent : Intent) (contents : List (List ℕ)) (free : HasFreeNames intent) (accepted : AreAccepted accepts intent) where
     abbrev New : Files
@@ -79,7 +79,7 @@ module _ (accepts : Option (List ℕ) → List ℕ → Type 0) (v : TreeState) (
         untouched_others intent (with_staged 1 contents (files_of v)) intent_name refl (intent_not_among intent.removals free.removals) (intent_not_among intent.writes free.writes)
         ∙ shown_staged intent_name refl ∙ none_read
 
-    in_change : (w : TreeState) → IsReadInChange New (files_of v) w → PromisesAccepted accepts (files_of v) w
+    in_change : (w : TreeState) → IsReadDuringChange New (files_of v) w → HasAcceptedTargets accepts (files_of v) w
     in_change w (inl keeps) name differs = waiting_promises w keeps name differs
     in_change w (inr (inl leads)) name differs = by (is_staged name) refl
       where
@@ -93,17 +93,17 @@ module _ (accepts : Option (List ℕ) → List ℕ → Type 0) (v : TreeState) (
         by false is = changed_accepted name is (λ same.
             differs (ap (λ (files : Files). unstaged_files files name) read ∙ unstaged_at New name false is ∙ unread_recovered New name new_unread ∙ same))
 
-    pub change_promises : (old now : History) → IsStageRun New v old now → Since (PromisesAccepted accepts (files_of v)) old now
-    change_promises old now run = since_weaker (IsReadInChange New (files_of v)) (PromisesAccepted accepts (files_of v)) old now in_change run.reads
+    pub change_promises : (old now : History) → IsStageRun New v old now → Since (HasAcceptedTargets accepts (files_of v)) old now
+    change_promises old now run = since_weaker (IsReadDuringChange New (files_of v)) (HasAcceptedTargets accepts (files_of v)) old now in_change run.reads
 
 -- ---- runs that begin with reads
 
-asked_none : (accepts : Option (List ℕ) → List ℕ → Type 0) (h : History) → IsAskedRun accepts h h
+asked_none : (accepts : Option (List ℕ) → List ℕ → Type 0) (h : History) → TargetsAreAccepted accepts h h
 asked_none accepts [] = tt
-asked_none accepts (v ∷ earlier) = λ unread empty. none_since (PromisesAccepted accepts (files_of v)) (v ∷ earlier)
+asked_none accepts (v ∷ earlier) = λ unread empty. none_since (HasAcceptedTargets accepts (files_of v)) (v ∷ earlier)
 
-pub asked_same : (accepts : Option (List ℕ) → List ℕ → Type 0) (old now : History) → now ≡ old → IsAskedRun accepts old now
-asked_same accepts old now same = subst (λ (h : History). IsAskedRun accepts old h) (sym same) (asked_none accepts old)
+pub asked_same : (accepts : Option (List ℕ) → List ℕ → Type 0) (old now : History) → now ≡ old → TargetsAreAccepted accepts old now
+asked_same accepts old now same = subst (λ (h : History). TargetsAreAccepted accepts old h) (sym same) (asked_none accepts old)
 
-pub asked_later : (accepts : Option (List ℕ) → List ℕ → Type 0) (old mid now : History) → mid ≡ old → IsAskedRun accepts mid now → IsAskedRun accepts old now
-asked_later accepts old mid now same run = subst (λ (h : History). IsAskedRun accepts h now) same run
+pub asked_later : (accepts : Option (List ℕ) → List ℕ → Type 0) (old mid now : History) → mid ≡ old → TargetsAreAccepted accepts mid now → TargetsAreAccepted accepts old now
+asked_later accepts old mid now same run = subst (λ (h : History). TargetsAreAccepted accepts h now) same run

@@ -4,7 +4,7 @@ use Rattle.std.specs.List.{All}
 use Rattle.std.proofs.lemmas.List.Elements.{All-nil, All-cons, All-head, All-tail}
 use Rattle.std.proofs.lemmas.List.{append_cancel_right}
 use Rattle.std.proofs.Common.{sym, subst, ◌∙◌}
-use Rattle.base_core.specs.Calls.{HasNow, IfObservable}
+use Rattle.base_core.specs.Calls.{HoldsNow, IfObservable}
 use Rattle.base_core.specs.Crash.{Since}
 use Rattle.base_core.specs.Tree.{TreeState}
 use Rattle.journal_core.proofs.Chain.{by_now, now_both}
@@ -12,22 +12,22 @@ use Rattle.journal_core.proofs.History.{History, now_since, observable_map, sinc
 
 -- ---- the start, and the newest state
 
-pub start_is : (h : History) (v : TreeState) → HasNow h (λ w. w ≡ v) → (rest : History) × (h ≡ v ∷ rest)
+pub start_is : (h : History) (v : TreeState) → HoldsNow h (λ w. w ≡ v) → (rest : History) × (h ≡ v ∷ rest)
 start_is [] v is = absurd is
 start_is (w ∷ rest) v is = (rest, ap (λ (u : TreeState). u ∷ rest) is)
 
 -- what is said of the newest state holds of it, if there is one
-pub now_of : (h : History) (P Q : TreeState → Type 0) → HasNow h P → IfObservable h Q → HasNow h Q
+pub now_of : (h : History) (P Q : TreeState → Type 0) → HoldsNow h P → IfObservable h Q → HoldsNow h Q
 now_of [] P Q p q = absurd p
 now_of (v ∷ h) P Q p q = q
 
 -- what holds at the start and at each moment so far, and from the newest state on at each moment of
 -- a call
-module _ (P Q : TreeState → Type 0) (v : TreeState) (first mid new : History) (start : HasNow first (λ w. w ≡ v)) (here : P v) (so_far : Since P first mid) where
-  pub so_far_now : HasNow mid P
+module _ (P Q : TreeState → Type 0) (v : TreeState) (first mid new : History) (start : HoldsNow first (λ w. w ≡ v)) (here : P v) (so_far : Since P first mid) where
+  pub so_far_now : HoldsNow mid P
   so_far_now = let (rest, is) = start_is first v start in now_since P first mid v rest is here so_far
 
-  pub since_more : HasNow mid Q → IfObservable mid (λ u. P u → Q u → Since P mid new) → Since P first new
+  pub since_more : HoldsNow mid Q → IfObservable mid (λ u. P u → Q u → Since P mid new) → Since P first new
   since_more now more =
       since_on P first mid new so_far
       (by_now mid (λ u. P u × Q u) (Since P mid new) (now_both mid P Q so_far_now now)

@@ -1,29 +1,30 @@
 -- The publishing of an intent and all its actions behind it lead to the new files.
 use Rattle.std.proofs.Common.{◌≡◌, ◌⊎◌, ℕ, ◌≤◌, Bool, List, ◌∷◌, [], ◌++◌, None, Some, Option, IsSome, Result, Ok, Err, OnOk, length, refl, sym, subst, ◌∙◌}
-use Rattle.base_core.specs.Calls.{HasNow, IfObservable}
-use Rattle.base_core.specs.Crash.{IsOrderly, Since}
+use Rattle.base_core.specs.Calls.{HoldsNow, IfObservable}
+use Rattle.base_core.specs.Crash.{Since}
+use Rattle.base_core.specs.Undone.{IsDurable}
 use Rattle.base_core.specs.Files.{Files}
 use Rattle.base_core.specs.Restart.{EachMoment, SinceBy}
 use Rattle.base_core.specs.Tree.{TreeState, File, bytes_at, files_of}
-use Rattle.journal_core.specs.Kept.{HasOldOrNewBytes, IsInNoMap, KeepsFilesBut, KeepsMapsBut, KeepsOldOrNewBytes, RecoversTo, ShownNamesLast}
-use Rattle.journal_core.specs.Quiet.{IsStill}
-use Rattle.journal_core.specs.Recovery.{Intent, IsSettled, RestsOn, after_actions, intent_at, intent_name, stage_name}
-use Rattle.journal_core.specs.Staged.{HasPublished, IsActing, IsEmptyStage, IsOnTheWay, IsStaged, PublishedBy, Staging}
+use Rattle.journal_core.specs.Kept.{HasOldOrNewBytes, IsInNoMap, KeepsFilesExcept, KeepsMapsExcept, KeepsOldOrNewBytes, RecoversTo, ShownNamesAreDurable}
+use Rattle.journal_core.specs.Quiet.{StateIsUnchanged}
+use Rattle.journal_core.specs.Recovery.{Intent, EachCrashLeaves, StateDependsOn, after_actions, intent_at, intent_name, stage_name}
+use Rattle.journal_core.specs.Staged.{WasCommittedFor, IsActing, IsEmptyStage, IsOldUntilCommit, IsStaged, CommittedBy, Staging}
 use Rattle.journal_core.proofs.Between.{no_intent_read}
 use Rattle.journal_core.proofs.Chain.{by_now, now_both}
 use Rattle.journal_core.proofs.History.{History, now_map, now_since, observable_at, observable_map, on_observable, since_on, since_weaker}
 use Rattle.journal_core.proofs.Lasting.{some_none}
-use Rattle.journal_core.proofs.OnTheWay.{way_behind}
+use Rattle.journal_core.proofs.OnTheWay.{way_after}
 use Rattle.journal_intent.specs.FreeNames.{HasFreeNames}
-use Rattle.stage_run.specs.StageRun.{IsReadInChange, IsStageRun, IsStageRunDone, IsStaging, LastsUnread}
+use Rattle.stage_run.specs.StageRun.{IsReadDuringChange, IsStageRun, IsStageRunComplete, IsStaging, NamesAreDurableWithoutIntent}
 use Rattle.stage_run.proofs.Empty.{change_empties}
 use Rattle.stage_run.proofs.Joins.{now_of, since_and}
 use Rattle.stage_run.proofs.Waits.{none_entering, shown_last}
-use Rattle.stage_run.proofs.Ways.{G, Lasts, Reads, Waits, Way, entered_bytes, read_behind, read_entering, run_led, same_files, still_now}
+use Rattle.stage_run.proofs.Ways.{G, Lasts, Reads, Waits, Way, entered_bytes, append_file_to, read_entering, run_led, same_files, still_now}
 
-way_now : (ignored : List ℕ → Bool) (files : Files) (u : TreeState) (added old : History) → HasPublished ignored files u.made added → EachMoment (IsOnTheWay ignored files u) added → HasNow (added ++ old) (λ x. IsOrderly (RestsOn ignored) x × (u.made ≤ x.made))
+way_now : (ignored : List ℕ → Bool) (files : Files) (u : TreeState) (added old : History) → WasCommittedFor ignored files u.made added → EachMoment (IsOldUntilCommit ignored files u) added → HoldsNow (added ++ old) (λ x. IsDurable (StateDependsOn ignored) x × (u.made ≤ x.made))
 way_now ignored files u [] old published each = absurd published
-way_now ignored files u (w ∷ added) old published each = (each.0.orderly, each.0.made)
+way_now ignored files u (w ∷ added) old published each = (each.0.is_durable, each.0.made)
 
 names_some : (files : ℕ → File) (o : Option ℕ) (intent : Intent) → intent_at (bytes_at files o) ≡ Some intent → IsSome o
 names_some files None intent is = absurd (cc (is))
@@ -45,21 +46,21 @@ module _ (stage : Staging) (contents : List (List ℕ)) (v : TreeState) (first m
   -- ---- the publishing, whatever it answers
 
   module _ (now : History) where
-    abbrev pub Publishes : Type 0
-    Publishes = IfObservable mid (λ u. (ignored : List ℕ → Bool) (cs : List (List ℕ)) (base : Files) → IsOrderly (RestsOn ignored) u → IsStaged stage cs None base u → SinceBy (IsOnTheWay ignored (after_actions stage.intent (files_of u)) u) mid now)
+    abbrev pub IsCommittedFor : Type 0
+    IsCommittedFor = IfObservable mid (λ u. (ignored : List ℕ → Bool) (cs : List (List ℕ)) (base : Files) → IsDurable (StateDependsOn ignored) u → IsStaged stage cs None base u → SinceBy (IsOldUntilCommit ignored (after_actions stage.intent (files_of u)) u) mid now)
 
-    publish_way : Publishes → Way stage contents v first mid s now
-    publish_way moments = observable_map mid _ (λ u. (ignored : List ℕ → Bool) → IsOrderly (RestsOn ignored) u → W u → SinceBy (IsOnTheWay ignored H u) mid now) moments (λ u t ignored orderly waits.
-        subst (λ (F : Files). SinceBy (IsOnTheWay ignored F u) mid now) (same u waits) (t ignored contents (files_of v) orderly waits))
+    publish_way : IsCommittedFor → Way stage contents v first mid s now
+    publish_way moments = observable_map mid _ (λ u. (ignored : List ℕ → Bool) → IsDurable (StateDependsOn ignored) u → W u → SinceBy (IsOldUntilCommit ignored H u) mid now) moments (λ u t ignored is_durable waits.
+        subst (λ (F : Files). SinceBy (IsOldUntilCommit ignored F u) mid now) (same u waits) (t ignored contents (files_of v) is_durable waits))
 
     abbrev pub PublishReads : Type 0
     PublishReads = IfObservable mid (λ u. (cs : List (List ℕ)) (base : Files) → IsStaged stage cs None base u → Since (λ w. IsSome (w.names intent_name) → RecoversTo (after_actions stage.intent (files_of u)) w) mid now)
 
     abbrev pub PublishOthers : Type 0
-    PublishOthers = IfObservable mid (λ u. Since (KeepsFilesBut (λ q. (q ≡ intent_name) ⊎ (q ≡ stage_name 0)) u) mid now)
+    PublishOthers = IfObservable mid (λ u. Since (KeepsFilesExcept (λ q. (q ≡ intent_name) ⊎ (q ≡ stage_name 0)) u) mid now)
 
     abbrev pub PublishMaps : Type 0
-    PublishMaps = IfObservable mid (λ u. Since (KeepsMapsBut (intent_name ∷ stage_name 0 ∷ []) u) mid now)
+    PublishMaps = IfObservable mid (λ u. Since (KeepsMapsExcept (intent_name ∷ stage_name 0 ∷ []) u) mid now)
 
     both : (h : History) (A B C : TreeState → Type 0) → IfObservable h A → IfObservable h B → ((u : TreeState) → A u → B u → C u) → IfObservable h C
     both [] A B C a b f = tt
@@ -67,64 +68,64 @@ module _ (stage : Staging) (contents : List (List ℕ)) (v : TreeState) (first m
 
     publish_reads : PublishReads → PublishOthers → Reads stage contents v first mid s now
     publish_reads reads others =
-        both mid _ _ (λ u. W u → Since (IsReadInChange H (files_of u)) mid now) reads others (λ u read keeps waits.
+        both mid _ _ (λ u. W u → Since (IsReadDuringChange H (files_of u)) mid now) reads others (λ u read keeps waits.
         let recovers = subst (λ (F : Files). Since (λ w. IsSome (w.names intent_name) → RecoversTo F w) mid now) (same u waits) (read contents (files_of v) waits) in
-        since_weaker (λ w. KeepsFilesBut (λ q. (q ≡ intent_name) ⊎ (q ≡ stage_name 0)) u w × (IsSome (w.names intent_name) → RecoversTo H w)) (IsReadInChange H (files_of u)) mid now
+        since_weaker (λ w. KeepsFilesExcept (λ q. (q ≡ intent_name) ⊎ (q ≡ stage_name 0)) u w × (IsSome (w.names intent_name) → RecoversTo H w)) (IsReadDuringChange H (files_of u)) mid now
         (λ w q. read_entering H (empty u waits) u w (no_intent_read stage contents (files_of v) u waits) q.0 q.1)
-        (since_and (KeepsFilesBut (λ q. (q ≡ intent_name) ⊎ (q ≡ stage_name 0)) u) (λ w. IsSome (w.names intent_name) → RecoversTo H w) mid now keeps recovers))
+        (since_and (KeepsFilesExcept (λ q. (q ≡ intent_name) ⊎ (q ≡ stage_name 0)) u) (λ w. IsSome (w.names intent_name) → RecoversTo H w) mid now keeps recovers))
 
     publish_lasts : PublishMaps → Lasts stage contents v first mid s now
-    publish_lasts maps = observable_map mid _ (λ u. W u → ShownNamesLast u → Since LastsUnread mid now) maps (λ u t waits last.
-        since_weaker (KeepsMapsBut (intent_name ∷ stage_name 0 ∷ []) u) LastsUnread mid now (λ w keeps none. shown_last (intent_name ∷ stage_name 0 ∷ []) none_entering u w keeps last) t)
+    publish_lasts maps = observable_map mid _ (λ u. W u → ShownNamesAreDurable u → Since NamesAreDurableWithoutIntent mid now) maps (λ u t waits last.
+        since_weaker (KeepsMapsExcept (intent_name ∷ stage_name 0 ∷ []) u) NamesAreDurableWithoutIntent mid now (λ w keeps none. shown_last (intent_name ∷ stage_name 0 ∷ []) none_entering u w keeps last) t)
 
-    pub publish_run : Publishes → PublishReads → PublishOthers → PublishMaps → IsStageRun H v first now
+    pub publish_run : IsCommittedFor → PublishReads → PublishOthers → PublishMaps → IsStageRun H v first now
     publish_run moments reads others maps = run_led stage contents v first mid s now (publish_way moments) (publish_reads reads others) (publish_lasts maps)
 
     -- ---- and all actions behind it
 
     module _ (next : Staging)
-        (published : IfObservable mid (λ u. (ignored : List ℕ → Bool) (cs : List (List ℕ)) (base : Files) → IsOrderly (RestsOn ignored) u → IsStaged stage cs None base u → PublishedBy ignored (after_actions stage.intent (files_of u)) u mid now))
-        (settled : IfObservable mid (λ u. (ignored : List ℕ → Bool) (cs : List (List ℕ)) (base : Files) → IsOrderly (RestsOn ignored) u → IsStaged stage cs None base u → HasNow now (IsSettled ignored (after_actions stage.intent (files_of u)))))
-        (acting : IfObservable mid (λ u. (cs : List (List ℕ)) (base : Files) → IsStaged stage cs None base u → HasNow now (IsActing next (after_actions stage.intent (files_of u)))))
+        (published : IfObservable mid (λ u. (ignored : List ℕ → Bool) (cs : List (List ℕ)) (base : Files) → IsDurable (StateDependsOn ignored) u → IsStaged stage cs None base u → CommittedBy ignored (after_actions stage.intent (files_of u)) u mid now))
+        (settled : IfObservable mid (λ u. (ignored : List ℕ → Bool) (cs : List (List ℕ)) (base : Files) → IsDurable (StateDependsOn ignored) u → IsStaged stage cs None base u → HoldsNow now (EachCrashLeaves ignored (after_actions stage.intent (files_of u)))))
+        (acting : IfObservable mid (λ u. (cs : List (List ℕ)) (base : Files) → IsStaged stage cs None base u → HoldsNow now (IsActing next (after_actions stage.intent (files_of u)))))
         (new : History) where
       abbrev Acts : TreeState → Type 0
       Acts = IsActing next H
 
-      acts_now : HasNow now Acts
+      acts_now : HoldsNow now Acts
       acts_now =
-          by_now mid W (HasNow now Acts) s.waiting
-          (observable_map mid _ (λ u. W u → HasNow now Acts) acting (λ u t waits. subst (λ (F : Files). HasNow now (IsActing next F)) (same u waits) (t contents (files_of v) waits)))
+          by_now mid W (HoldsNow now Acts) s.waiting
+          (observable_map mid _ (λ u. W u → HoldsNow now Acts) acting (λ u t waits. subst (λ (F : Files). HoldsNow now (IsActing next F)) (same u waits) (t contents (files_of v) waits)))
 
       abbrev pub EnactMoments : Type 0
-      EnactMoments = IfObservable now (λ x. (ignored : List ℕ → Bool) (files : Files) → IsOrderly (RestsOn ignored) x → IsActing next files x → Since (IsStill ignored x) now new)
+      EnactMoments = IfObservable now (λ x. (ignored : List ℕ → Bool) (files : Files) → IsDurable (StateDependsOn ignored) x → IsActing next files x → Since (StateIsUnchanged ignored x) now new)
 
       -- behind the publishing
-      module _ (ignored : List ℕ → Bool) (u : TreeState) (waits : W u) (by_publish : PublishedBy ignored H u mid now) (here : HasNow now (IsSettled ignored H)) where
+      module _ (ignored : List ℕ → Bool) (u : TreeState) (waits : W u) (by_publish : CommittedBy ignored H u mid now) (here : HoldsNow now (EachCrashLeaves ignored H)) where
         abbrev Here : TreeState → Type 0
-        Here x = (IsOrderly (RestsOn ignored) x × (u.made ≤ x.made)) × (IsSettled ignored H x × Acts x)
+        Here x = (IsDurable (StateDependsOn ignored) x × (u.made ≤ x.made)) × (EachCrashLeaves ignored H x × Acts x)
 
-        all_here : HasNow now Here
+        all_here : HoldsNow now Here
         all_here =
             now_both now _ _
-            (subst (λ (l : History). HasNow l (λ x. IsOrderly (RestsOn ignored) x × (u.made ≤ x.made))) (sym by_publish.is) (way_now ignored H u by_publish.added mid by_publish.published by_publish.each))
-            (now_both now (IsSettled ignored H) Acts here acts_now)
+            (subst (λ (l : History). HoldsNow l (λ x. IsDurable (StateDependsOn ignored) x × (u.made ≤ x.made))) (sym by_publish.is) (way_now ignored H u by_publish.added mid by_publish.published by_publish.each))
+            (now_both now (EachCrashLeaves ignored H) Acts here acts_now)
 
-        enact_way_at : EnactMoments → SinceBy (IsOnTheWay ignored H u) mid new
-        enact_way_at moments = by_now now Here (SinceBy (IsOnTheWay ignored H u) mid new) all_here
-            (observable_map now _ (λ x. Here x → SinceBy (IsOnTheWay ignored H u) mid new) moments (λ x t at. way_behind ignored H u x at.1.0 at.0.1 mid now new by_publish (t ignored H at.0.0 at.1.1)))
+        enact_way_at : EnactMoments → SinceBy (IsOldUntilCommit ignored H u) mid new
+        enact_way_at moments = by_now now Here (SinceBy (IsOldUntilCommit ignored H u) mid new) all_here
+            (observable_map now _ (λ x. Here x → SinceBy (IsOldUntilCommit ignored H u) mid new) moments (λ x t at. way_after ignored H u x at.1.0 at.0.1 mid now new by_publish (t ignored H at.0.0 at.1.1)))
 
-        orderly_at : HasNow now (IsOrderly (RestsOn ignored))
-        orderly_at = now_map now Here (IsOrderly (RestsOn ignored)) all_here (λ x at. at.0.0)
+        durable_at : HoldsNow now (IsDurable (StateDependsOn ignored))
+        durable_at = now_map now Here (IsDurable (StateDependsOn ignored)) all_here (λ x at. at.0.0)
 
-      published_at : (ignored : List ℕ → Bool) (u : TreeState) → W u → PublishedBy ignored (after_actions stage.intent (files_of u)) u mid now → PublishedBy ignored H u mid now
-      published_at ignored u waits by_publish = subst (λ (F : Files). PublishedBy ignored F u mid now) (same u waits) by_publish
+      published_at : (ignored : List ℕ → Bool) (u : TreeState) → W u → CommittedBy ignored (after_actions stage.intent (files_of u)) u mid now → CommittedBy ignored H u mid now
+      published_at ignored u waits by_publish = subst (λ (F : Files). CommittedBy ignored F u mid now) (same u waits) by_publish
 
-      settled_at : (ignored : List ℕ → Bool) (u : TreeState) → W u → HasNow now (IsSettled ignored (after_actions stage.intent (files_of u))) → HasNow now (IsSettled ignored H)
-      settled_at ignored u waits here = subst (λ (F : Files). HasNow now (IsSettled ignored F)) (same u waits) here
+      settled_at : (ignored : List ℕ → Bool) (u : TreeState) → W u → HoldsNow now (EachCrashLeaves ignored (after_actions stage.intent (files_of u))) → HoldsNow now (EachCrashLeaves ignored H)
+      settled_at ignored u waits here = subst (λ (F : Files). HoldsNow now (EachCrashLeaves ignored F)) (same u waits) here
 
       enact_way : EnactMoments → Way stage contents v first mid s new
-      enact_way moments = both mid _ _ (λ u. (ignored : List ℕ → Bool) → IsOrderly (RestsOn ignored) u → W u → SinceBy (IsOnTheWay ignored H u) mid new) published settled (λ u p h ignored orderly waits.
-          enact_way_at ignored u waits (published_at ignored u waits (p ignored contents (files_of v) orderly waits)) (settled_at ignored u waits (h ignored contents (files_of v) orderly waits)) moments)
+      enact_way moments = both mid _ _ (λ u. (ignored : List ℕ → Bool) → IsDurable (StateDependsOn ignored) u → W u → SinceBy (IsOldUntilCommit ignored H u) mid new) published settled (λ u p h ignored is_durable waits.
+          enact_way_at ignored u waits (published_at ignored u waits (p ignored contents (files_of v) is_durable waits)) (settled_at ignored u waits (h ignored contents (files_of v) is_durable waits)) moments)
 
       abbrev pub EnactReads : Type 0
       EnactReads = IfObservable now (λ x. (files : Files) → IsActing next files x → Since (RecoversTo files) now new)
@@ -133,30 +134,30 @@ module _ (stage : Staging) (contents : List (List ℕ)) (v : TreeState) (first m
       EnactBytes = IfObservable now (λ x. (files : Files) → IsActing next files x → KeepsOldOrNewBytes files x now new)
 
       enact_reads : PublishReads → PublishOthers → EnactReads → EnactBytes → Reads stage contents v first mid s new
-      enact_reads reads others more bytes = on_observable mid (λ u. W u → Since (IsReadInChange H (files_of u)) mid new) (λ u rest is waits.
-          let Keeps = KeepsFilesBut (λ q. (q ≡ intent_name) ⊎ (q ≡ stage_name 0)) u in
-          let keeps = observable_at mid u rest is (λ x. Since (KeepsFilesBut (λ q. (q ≡ intent_name) ⊎ (q ≡ stage_name 0)) x) mid now) others in
-          since_on (IsReadInChange H (files_of u)) mid now new
-          (observable_at mid u rest is (λ x. W x → Since (IsReadInChange H (files_of x)) mid now) (publish_reads reads others) waits)
-          (by_now now (λ x. Acts x × Keeps x) (Since (IsReadInChange H (files_of u)) now new) (now_both now Acts Keeps acts_now (now_since Keeps mid now u rest is (λ q off. refl) keeps))
-          (both now _ _ (λ x. Acts x × Keeps x → Since (IsReadInChange H (files_of u)) now new) more bytes (λ x k b q.
-          since_weaker (λ w. RecoversTo H w × HasOldOrNewBytes (files_of u) H w) (IsReadInChange H (files_of u)) now new (λ w r. read_behind H (files_of u) (empty u waits) w r.0 r.1)
+      enact_reads reads others more bytes = on_observable mid (λ u. W u → Since (IsReadDuringChange H (files_of u)) mid new) (λ u rest is waits.
+          let Keeps = KeepsFilesExcept (λ q. (q ≡ intent_name) ⊎ (q ≡ stage_name 0)) u in
+          let keeps = observable_at mid u rest is (λ x. Since (KeepsFilesExcept (λ q. (q ≡ intent_name) ⊎ (q ≡ stage_name 0)) x) mid now) others in
+          since_on (IsReadDuringChange H (files_of u)) mid now new
+          (observable_at mid u rest is (λ x. W x → Since (IsReadDuringChange H (files_of x)) mid now) (publish_reads reads others) waits)
+          (by_now now (λ x. Acts x × Keeps x) (Since (IsReadDuringChange H (files_of u)) now new) (now_both now Acts Keeps acts_now (now_since Keeps mid now u rest is (λ q off. refl) keeps))
+          (both now _ _ (λ x. Acts x × Keeps x → Since (IsReadDuringChange H (files_of u)) now new) more bytes (λ x k b q.
+          since_weaker (λ w. RecoversTo H w × HasOldOrNewBytes (files_of u) H w) (IsReadDuringChange H (files_of u)) now new (λ w r. append_file_to H (files_of u) (empty u waits) w r.0 r.1)
           (since_and (RecoversTo H) (HasOldOrNewBytes (files_of u) H) now new (k H q.0) (b H q.0 (files_of u) (entered_bytes H u x q.1)))))))
 
       abbrev pub EnactLasts : Type 0
-      EnactLasts = IfObservable now (λ x. IsSome (x.names intent_name) → Since LastsUnread now new)
+      EnactLasts = IfObservable now (λ x. IsSome (x.names intent_name) → Since NamesAreDurableWithoutIntent now new)
 
       has_intent : (x : TreeState) → Acts x → IsSome (x.names intent_name)
-      has_intent x acts = names_some x.files (x.names intent_name) stage_intent acts.stands
+      has_intent x acts = names_some x.files (x.names intent_name) stage_intent acts.located
         where
           stage_intent : Intent
           stage_intent = next.intent
 
-      more_lasts : EnactLasts → Since LastsUnread now new
-      more_lasts more = by_now now Acts (Since LastsUnread now new) acts_now (observable_map now _ (λ x. Acts x → Since LastsUnread now new) more (λ x k acts. k (has_intent x acts)))
+      more_lasts : EnactLasts → Since NamesAreDurableWithoutIntent now new
+      more_lasts more = by_now now Acts (Since NamesAreDurableWithoutIntent now new) acts_now (observable_map now _ (λ x. Acts x → Since NamesAreDurableWithoutIntent now new) more (λ x k acts. k (has_intent x acts)))
 
       enact_lasts : PublishMaps → EnactLasts → Lasts stage contents v first mid s new
-      enact_lasts maps more = observable_map mid _ (λ u. W u → ShownNamesLast u → Since LastsUnread mid new) (publish_lasts maps) (λ u t waits last. since_on LastsUnread mid now new (t waits last) (more_lasts more))
+      enact_lasts maps more = observable_map mid _ (λ u. W u → ShownNamesAreDurable u → Since NamesAreDurableWithoutIntent mid new) (publish_lasts maps) (λ u t waits last. since_on NamesAreDurableWithoutIntent mid now new (t waits last) (more_lasts more))
 
       pub enact_run : PublishReads → PublishOthers → PublishMaps → EnactMoments → EnactReads → EnactBytes → EnactLasts → IsStageRun H v first new
       enact_run reads others maps moments more bytes lasts = run_led stage contents v first mid s new (enact_way moments) (enact_reads reads others more bytes) (enact_lasts maps lasts)
@@ -164,41 +165,41 @@ module _ (stage : Staging) (contents : List (List ℕ)) (v : TreeState) (first m
       -- ---- and its end
 
       -- at the end no intent is read, so the names last
-      end_lasts : EnactLasts → HasNow new (λ w. (files_of w ≡ H) × (w.names intent_name ≡ None)) → HasNow new ShownNamesLast
-      end_lasts lasts reads = now_map new (λ w. LastsUnread w × ((files_of w ≡ H) × (w.names intent_name ≡ None))) ShownNamesLast
-          (now_both new LastsUnread (λ w. (files_of w ≡ H) × (w.names intent_name ≡ None)) (by now acts_now (more_lasts lasts)) reads) (λ w q. q.0 q.1.1)
+      end_lasts : EnactLasts → HoldsNow new (λ w. (files_of w ≡ H) × (w.names intent_name ≡ None)) → HoldsNow new ShownNamesAreDurable
+      end_lasts lasts reads = now_map new (λ w. NamesAreDurableWithoutIntent w × ((files_of w ≡ H) × (w.names intent_name ≡ None))) ShownNamesAreDurable
+          (now_both new NamesAreDurableWithoutIntent (λ w. (files_of w ≡ H) × (w.names intent_name ≡ None)) (by now acts_now (more_lasts lasts)) reads) (λ w q. q.0 q.1.1)
         where
-          by : (h : History) → HasNow h Acts → Since LastsUnread h new → HasNow new LastsUnread
+          by : (h : History) → HoldsNow h Acts → Since NamesAreDurableWithoutIntent h new → HoldsNow new NamesAreDurableWithoutIntent
           by [] acts since = absurd acts
-          by (x ∷ h) acts since = now_since LastsUnread (x ∷ h) new x h refl (λ none. absurd (some_none (x.names intent_name) none (has_intent x acts))) since
+          by (x ∷ h) acts since = now_since NamesAreDurableWithoutIntent (x ∷ h) new x h refl (λ none. absurd (some_none (x.names intent_name) none (has_intent x acts))) since
 
       module _ {T E : Type 0} where
         abbrev pub EnactFiles : Result T E → Type 0
-        EnactFiles r = IfObservable now (λ x. (files : Files) → IsActing next files x → OnOk r (HasNow new (λ w. (files_of w ≡ files) × (w.names intent_name ≡ None))))
+        EnactFiles r = IfObservable now (λ x. (files : Files) → IsActing next files x → OnOk r (HoldsNow new (λ w. (files_of w ≡ files) × (w.names intent_name ≡ None))))
 
         abbrev pub EnactSettled : Result T E → Type 0
-        EnactSettled r = IfObservable now (λ x. (ignored : List ℕ → Bool) (files : Files) → IsOrderly (RestsOn ignored) x → IsActing next files x → OnOk r (HasNow new (IsSettled ignored files)))
+        EnactSettled r = IfObservable now (λ x. (ignored : List ℕ → Bool) (files : Files) → IsDurable (StateDependsOn ignored) x → IsActing next files x → OnOk r (HoldsNow new (EachCrashLeaves ignored files)))
 
-        end_files : (r : Result T E) → EnactFiles r → OnOk r (HasNow new (λ w. (files_of w ≡ H) × (w.names intent_name ≡ None)))
-        end_files r files = by_now now Acts (OnOk r (HasNow new (λ w. (files_of w ≡ H) × (w.names intent_name ≡ None)))) acts_now
-            (observable_map now _ (λ x. Acts x → OnOk r (HasNow new (λ w. (files_of w ≡ H) × (w.names intent_name ≡ None)))) files (λ x k acts. k H acts))
+        end_files : (r : Result T E) → EnactFiles r → OnOk r (HoldsNow new (λ w. (files_of w ≡ H) × (w.names intent_name ≡ None)))
+        end_files r files = by_now now Acts (OnOk r (HoldsNow new (λ w. (files_of w ≡ H) × (w.names intent_name ≡ None)))) acts_now
+            (observable_map now _ (λ x. Acts x → OnOk r (HoldsNow new (λ w. (files_of w ≡ H) × (w.names intent_name ≡ None)))) files (λ x k acts. k H acts))
 
-        end_settled : (r : Result T E) → EnactSettled r → (ignored : List ℕ → Bool) → IsOrderly (RestsOn ignored) v → OnOk r (HasNow new (IsSettled ignored H))
-        end_settled r ends ignored orderly =
-            by_now now (λ x. IsOrderly (RestsOn ignored) x × Acts x) (OnOk r (HasNow new (IsSettled ignored H))) (now_both now (IsOrderly (RestsOn ignored)) Acts orderly_now acts_now)
-            (observable_map now _ (λ x. IsOrderly (RestsOn ignored) x × Acts x → OnOk r (HasNow new (IsSettled ignored H))) ends (λ x k q. k ignored H q.0 q.1))
+        end_settled : (r : Result T E) → EnactSettled r → (ignored : List ℕ → Bool) → IsDurable (StateDependsOn ignored) v → OnOk r (HoldsNow new (EachCrashLeaves ignored H))
+        end_settled r ends ignored is_durable =
+            by_now now (λ x. IsDurable (StateDependsOn ignored) x × Acts x) (OnOk r (HoldsNow new (EachCrashLeaves ignored H))) (now_both now (IsDurable (StateDependsOn ignored)) Acts durable_now acts_now)
+            (observable_map now _ (λ x. IsDurable (StateDependsOn ignored) x × Acts x → OnOk r (HoldsNow new (EachCrashLeaves ignored H))) ends (λ x k q. k ignored H q.0 q.1))
           where
-            orderly_now : HasNow now (IsOrderly (RestsOn ignored))
-            orderly_now =
-                by_now mid (λ u. IsStill ignored v u × W u) (HasNow now (IsOrderly (RestsOn ignored))) (now_both mid (IsStill ignored v) W (still_now stage contents v first mid s new ignored orderly) s.waiting)
-                (both mid _ _ (λ u. IsStill ignored v u × W u → HasNow now (IsOrderly (RestsOn ignored))) published settled (λ u p h q.
-                orderly_at ignored u q.1 (published_at ignored u q.1 (p ignored contents (files_of v) q.0.orderly q.1)) (settled_at ignored u q.1 (h ignored contents (files_of v) q.0.orderly q.1))))
+            durable_now : HoldsNow now (IsDurable (StateDependsOn ignored))
+            durable_now =
+                by_now mid (λ u. StateIsUnchanged ignored v u × W u) (HoldsNow now (IsDurable (StateDependsOn ignored))) (now_both mid (StateIsUnchanged ignored v) W (still_now stage contents v first mid s new ignored is_durable) s.waiting)
+                (both mid _ _ (λ u. StateIsUnchanged ignored v u × W u → HoldsNow now (IsDurable (StateDependsOn ignored))) published settled (λ u p h q.
+                durable_at ignored u q.1 (published_at ignored u q.1 (p ignored contents (files_of v) q.0.is_durable q.1)) (settled_at ignored u q.1 (h ignored contents (files_of v) q.0.is_durable q.1))))
 
-        pub enact_done : (r : Result T E) → EnactLasts → EnactFiles r → EnactSettled r → OnOk r (IfObservable new (IsInNoMap intent_name)) → OnOk r (IsStageRunDone H v new)
+        pub enact_done : (r : Result T E) → EnactLasts → EnactFiles r → EnactSettled r → OnOk r (IfObservable new (IsInNoMap intent_name)) → OnOk r (IsStageRunComplete H v new)
         enact_done r lasts files ends gone = by r (end_files r files) (end_settled r ends) gone
           where
-            by : (x : Result T E) → OnOk x (HasNow new (λ w. (files_of w ≡ H) × (w.names intent_name ≡ None))) → ((ignored : List ℕ → Bool) → IsOrderly (RestsOn ignored) v → OnOk x (HasNow new (IsSettled ignored H)))
-                → OnOk x (IfObservable new (IsInNoMap intent_name)) → OnOk x (IsStageRunDone H v new)
+            by : (x : Result T E) → OnOk x (HoldsNow new (λ w. (files_of w ≡ H) × (w.names intent_name ≡ None))) → ((ignored : List ℕ → Bool) → IsDurable (StateDependsOn ignored) v → OnOk x (HoldsNow new (EachCrashLeaves ignored H)))
+                → OnOk x (IfObservable new (IsInNoMap intent_name)) → OnOk x (IsStageRunComplete H v new)
             by (Ok x) reads settles none = record {
               reads = reads;
               settled = settles;

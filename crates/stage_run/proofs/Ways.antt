@@ -1,15 +1,16 @@
 -- Where files came to wait, the moments behind them lead to the new files.
 use Rattle.std.proofs.Common.{◌≡◌, ◌⊎◌, inl, inr, ⊎_elim, ℕ, Bool, List, ◌∷◌, [], ◌++◌, None, refl, sym, ap, subst, ◌∙◌, append_assoc}
 use Rattle.std.proofs.Common.{IsSome, Option, Some, true, false, cond}
-use Rattle.base_core.specs.Calls.{HasNow, IfObservable}
-use Rattle.base_core.specs.Crash.{IsOrderly, Since}
+use Rattle.base_core.specs.Calls.{HoldsNow, IfObservable}
+use Rattle.base_core.specs.Crash.{Since}
+use Rattle.base_core.specs.Undone.{IsDurable}
 use Rattle.base_core.specs.Files.{Files}
 use Rattle.base_core.specs.Restart.{EachMoment, SinceBy}
 use Rattle.base_core.specs.Tree.{TreeState, bytes_at, files_of}
-use Rattle.journal_core.specs.Kept.{HasOldOrNewBytes, IsWaitingName, KeepsFilesBut, RecoversTo, ShownNamesLast}
-use Rattle.journal_core.specs.Quiet.{IsStill}
-use Rattle.journal_core.specs.Recovery.{RestsOn, after_actions, intent_at, intent_name, is_staged, recovered_files, recovered_files_by, stage_name}
-use Rattle.journal_core.specs.Staged.{IsEmptyStage, IsOnTheWay, IsStaged, Staging, unstaged_files, with_staged}
+use Rattle.journal_core.specs.Kept.{HasOldOrNewBytes, IsJournalName, KeepsFilesExcept, RecoversTo, ShownNamesAreDurable}
+use Rattle.journal_core.specs.Quiet.{StateIsUnchanged}
+use Rattle.journal_core.specs.Recovery.{StateDependsOn, after_actions, intent_at, intent_name, is_staged, recovered_files, recovered_files_by, stage_name}
+use Rattle.journal_core.specs.Staged.{IsEmptyStage, IsOldUntilCommit, IsStaged, Staging, unstaged_files, with_staged}
 use Rattle.journal_core.proofs.Chain.{by_now, now_both}
 use Rattle.journal_core.proofs.History.{History, observable_map, since_on, since_weaker}
 use Rattle.journal_core.proofs.OnTheWay.{way_before}
@@ -17,33 +18,33 @@ use Rattle.journal_core.proofs.Published.{since_by, still_on_the_way}
 use Rattle.journal_core.proofs.Waiting.{still_self}
 use Rattle.journal_intent.proofs.AtName.{name_cases, off_name}
 use Rattle.journal_intent.proofs.StageNames.{stage_name_staged}
-use Rattle.stage_run.specs.StageRun.{IsReadButWaiting, IsReadInChange, IsStageRun, IsStaging, IsStagingRun, LastsUnread}
+use Rattle.stage_run.specs.StageRun.{IsReadExceptStaged, IsReadDuringChange, IsStageRun, IsStaging, IsStagingRun, NamesAreDurableWithoutIntent}
 use Rattle.stage_run.proofs.Joins.{so_far_now}
 use Rattle.stage_run.proofs.Waits.{shown_off}
 
 -- ---- moments with those before them
 
-module _ (ignored : List ℕ → Bool) (G : Files) (v u : TreeState) (still : IsStill ignored v u) where
-  each_before : (added first : History) → EachMoment (IsOnTheWay ignored G u) added → EachMoment (IsOnTheWay ignored G v) first → EachMoment (IsOnTheWay ignored G v) (added ++ first)
+module _ (ignored : List ℕ → Bool) (G : Files) (v u : TreeState) (is_unchanged : StateIsUnchanged ignored v u) where
+  each_before : (added first : History) → EachMoment (IsOldUntilCommit ignored G u) added → EachMoment (IsOldUntilCommit ignored G v) first → EachMoment (IsOldUntilCommit ignored G v) (added ++ first)
   each_before [] first each so_far = so_far
-  each_before (w ∷ added) first each so_far = (way_before ignored G v u w added first still each.0, each_before added first each.1 so_far)
+  each_before (w ∷ added) first each so_far = (way_before ignored G v u w added first is_unchanged each.0, each_before added first each.1 so_far)
 
-  pub way_from : (first mid new : History) → SinceBy (IsOnTheWay ignored G v) first mid → SinceBy (IsOnTheWay ignored G u) mid new → SinceBy (IsOnTheWay ignored G v) first new
+  pub way_from : (first mid new : History) → SinceBy (IsOldUntilCommit ignored G v) first mid → SinceBy (IsOldUntilCommit ignored G u) mid new → SinceBy (IsOldUntilCommit ignored G v) first new
   way_from first mid new before then = record {
     added = then.added ++ before.added;
     is = then.is ∙ ap (λ (l : History). then.added ++ l) before.is ∙ sym (append_assoc then.added before.added first);
     each = each_before then.added before.added then.each before.each;
   }
 
-pub still_way : (ignored : List ℕ → Bool) (G : Files) (v : TreeState) (old new : History) → Since (IsStill ignored v) old new → SinceBy (IsOnTheWay ignored G v) old new
-still_way ignored G v old new since = since_by (IsOnTheWay ignored G v) old new (since_weaker (IsStill ignored v) (λ w. (earlier : History) → IsOnTheWay ignored G v earlier w) old new (still_on_the_way ignored G v) since)
+pub still_way : (ignored : List ℕ → Bool) (G : Files) (v : TreeState) (old new : History) → Since (StateIsUnchanged ignored v) old new → SinceBy (IsOldUntilCommit ignored G v) old new
+still_way ignored G v old new since = since_by (IsOldUntilCommit ignored G v) old new (since_weaker (StateIsUnchanged ignored v) (λ w. (earlier : History) → IsOldUntilCommit ignored G v earlier w) old new (still_on_the_way ignored G v) since)
 
 -- what only stages leads to any files
 pub staging_leads : (G : Files) (v : TreeState) (first now : History) → IsStagingRun v first now → IsStageRun G v first now
 staging_leads G v first now run = record {
-  moments = λ ignored orderly. still_way ignored G v first now (run.moments ignored orderly);
-  reads = since_weaker (IsReadButWaiting (files_of v)) (IsReadInChange G (files_of v)) first now (λ w reads. inl reads) run.reads;
-  last = λ last. since_weaker ShownNamesLast LastsUnread first now (λ w lasts none. lasts) (run.last last);
+  moments = λ ignored is_durable. still_way ignored G v first now (run.moments ignored is_durable);
+  reads = since_weaker (IsReadExceptStaged (files_of v)) (IsReadDuringChange G (files_of v)) first now (λ w reads. inl reads) run.reads;
+  last = λ last. since_weaker ShownNamesAreDurable NamesAreDurableWithoutIntent first now (λ w lasts none. lasts) (run.last last);
 }
 
 -- ---- what is read
@@ -59,24 +60,24 @@ recovered_unread : (w : TreeState) → w.names intent_name ≡ None → recovere
 recovered_unread w none = ap (λ o. recovered_files_by o (files_of w)) (ap intent_at (ap (bytes_at w.files) none))
 
 -- the intent is read and leads to the files, or they are read
-pub read_behind : (G old : Files) → IsEmptyStage G → (w : TreeState) → RecoversTo G w → HasOldOrNewBytes old G w → IsReadInChange G old w
-read_behind G old empty w recovers bytes = by (w.names intent_name) refl
+pub append_file_to : (G old : Files) → IsEmptyStage G → (w : TreeState) → RecoversTo G w → HasOldOrNewBytes old G w → IsReadDuringChange G old w
+append_file_to G old empty w recovers bytes = by (w.names intent_name) refl
   where
-    by : (o : Option ℕ) → w.names intent_name ≡ o → IsReadInChange G old w
+    by : (o : Option ℕ) → w.names intent_name ≡ o → IsReadDuringChange G old w
     by None none = inr (inr (sym (recovered_unread w none) ∙ recovers))
     by (Some n) some = inr (inl (record { intent = subst IsSome (sym some) refl; leads = emptied_at G empty w recovers; bytes = bytes }))
 
-Entering : List ℕ → Type 0
-Entering q = (q ≡ intent_name) ⊎ (q ≡ stage_name 0)
+Committing : List ℕ → Type 0
+Committing q = (q ≡ intent_name) ⊎ (q ≡ stage_name 0)
 
-pub entered_bytes : (G : Files) (u w : TreeState) → KeepsFilesBut (λ q. (q ≡ intent_name) ⊎ (q ≡ stage_name 0)) u w → HasOldOrNewBytes (files_of u) G w
+pub entered_bytes : (G : Files) (u w : TreeState) → KeepsFilesExcept (λ q. (q ≡ intent_name) ⊎ (q ≡ stage_name 0)) u w → HasOldOrNewBytes (files_of u) G w
 entered_bytes G u w keeps q shown = inl (keeps q (λ either. shown (⊎_elim (λ intent. inl intent) (λ place. inr (ap is_staged place ∙ stage_name_staged 0)) either)))
 
 -- at a moment at which the intent moves to its name
-pub read_entering : (G : Files) → IsEmptyStage G → (u w : TreeState) → files_of u intent_name ≡ None → KeepsFilesBut (λ q. (q ≡ intent_name) ⊎ (q ≡ stage_name 0)) u w → (IsSome (w.names intent_name) → RecoversTo G w) → IsReadInChange G (files_of u) w
+pub read_entering : (G : Files) → IsEmptyStage G → (u w : TreeState) → files_of u intent_name ≡ None → KeepsFilesExcept (λ q. (q ≡ intent_name) ⊎ (q ≡ stage_name 0)) u w → (IsSome (w.names intent_name) → RecoversTo G w) → IsReadDuringChange G (files_of u) w
 read_entering G empty u w unread keeps reads = by (w.names intent_name) refl
   where
-    by : (o : Option ℕ) → w.names intent_name ≡ o → IsReadInChange G (files_of u) w
+    by : (o : Option ℕ) → w.names intent_name ≡ o → IsReadDuringChange G (files_of u) w
     by None none = inl (λ q shown. ⊎_elim
         (λ is. ap (files_of w) is ∙ ap (bytes_at w.files) none ∙ sym (ap (files_of u) is ∙ unread))
         (λ off. keeps q (λ either. ⊎_elim (off_name q intent_name off) (shown_off (stage_name 0) q refl shown) either))
@@ -85,11 +86,11 @@ read_entering G empty u w unread keeps reads = by (w.names intent_name) refl
         let has = subst IsSome (sym some) refl in
         inr (inl (record { intent = has; leads = emptied_at G empty w (reads has); bytes = entered_bytes G u w keeps }))
 
-pub read_from : (G old : Files) (u w : TreeState) → IsReadButWaiting old u → IsReadInChange G (files_of u) w → IsReadInChange G old w
+pub read_from : (G old : Files) (u w : TreeState) → IsReadExceptStaged old u → IsReadDuringChange G (files_of u) w → IsReadDuringChange G old w
 read_from G old u w before (inl reads) = inl (λ q shown. reads q shown ∙ before q shown)
 read_from G old u w before (inr (inl leads)) = inr (inl (record { intent = leads.intent; leads = leads.leads; bytes = bytes }))
   where
-    unstaged : (q : List ℕ) → (IsWaitingName q → ⊥) → (b : Bool) → is_staged q ≡ b → is_staged q ≡ false
+    unstaged : (q : List ℕ) → (IsJournalName q → ⊥) → (b : Bool) → is_staged q ≡ b → is_staged q ≡ false
     unstaged q shown true is = absurd (shown (inr is))
     unstaged q shown false is = is
 
@@ -112,34 +113,34 @@ module _ (stage : Staging) (contents : List (List ℕ)) (v : TreeState) (first m
   module _ (new : History) where
     -- what calls behind the staging say of the state u before them
     abbrev pub Way : Type 0
-    Way = IfObservable mid (λ u. (ignored : List ℕ → Bool) → IsOrderly (RestsOn ignored) u → Waits u → SinceBy (IsOnTheWay ignored G u) mid new)
+    Way = IfObservable mid (λ u. (ignored : List ℕ → Bool) → IsDurable (StateDependsOn ignored) u → Waits u → SinceBy (IsOldUntilCommit ignored G u) mid new)
 
     abbrev pub Reads : Type 0
-    Reads = IfObservable mid (λ u. Waits u → Since (IsReadInChange G (files_of u)) mid new)
+    Reads = IfObservable mid (λ u. Waits u → Since (IsReadDuringChange G (files_of u)) mid new)
 
     abbrev pub Lasts : Type 0
-    Lasts = IfObservable mid (λ u. Waits u → ShownNamesLast u → Since LastsUnread mid new)
+    Lasts = IfObservable mid (λ u. Waits u → ShownNamesAreDurable u → Since NamesAreDurableWithoutIntent mid new)
 
-    pub still_now : (ignored : List ℕ → Bool) → IsOrderly (RestsOn ignored) v → HasNow mid (IsStill ignored v)
-    still_now ignored orderly = so_far_now (IsStill ignored v) Waits v first mid mid s.start (still_self ignored v orderly) (s.run.moments ignored orderly)
+    pub still_now : (ignored : List ℕ → Bool) → IsDurable (StateDependsOn ignored) v → HoldsNow mid (StateIsUnchanged ignored v)
+    still_now ignored is_durable = so_far_now (StateIsUnchanged ignored v) Waits v first mid mid s.start (still_self ignored v is_durable) (s.run.moments ignored is_durable)
 
     pub run_led : Way → Reads → Lasts → IsStageRun G v first new
     run_led way reads lasts = record {
-      moments = λ ignored orderly.
-          by_now mid (λ u. IsStill ignored v u × Waits u) (SinceBy (IsOnTheWay ignored G v) first new) (now_both mid (IsStill ignored v) Waits (still_now ignored orderly) s.waiting)
-          (observable_map mid _ (λ u. IsStill ignored v u × Waits u → SinceBy (IsOnTheWay ignored G v) first new) way (λ u t q.
-          way_from ignored G v u q.0 first mid new (still_way ignored G v first mid (s.run.moments ignored orderly)) (t ignored q.0.orderly q.1)));
+      moments = λ ignored is_durable.
+          by_now mid (λ u. StateIsUnchanged ignored v u × Waits u) (SinceBy (IsOldUntilCommit ignored G v) first new) (now_both mid (StateIsUnchanged ignored v) Waits (still_now ignored is_durable) s.waiting)
+          (observable_map mid _ (λ u. StateIsUnchanged ignored v u × Waits u → SinceBy (IsOldUntilCommit ignored G v) first new) way (λ u t q.
+          way_from ignored G v u q.0 first mid new (still_way ignored G v first mid (s.run.moments ignored is_durable)) (t ignored q.0.is_durable q.1)));
       reads =
-          since_on (IsReadInChange G (files_of v)) first mid new
-          (since_weaker (IsReadButWaiting (files_of v)) (IsReadInChange G (files_of v)) first mid (λ w reads. inl reads) s.run.reads)
-          (by_now mid (λ u. IsReadButWaiting (files_of v) u × Waits u) (Since (IsReadInChange G (files_of v)) mid new)
-          (now_both mid (IsReadButWaiting (files_of v)) Waits (so_far_now (IsReadButWaiting (files_of v)) Waits v first mid mid s.start (λ q shown. refl) s.run.reads) s.waiting)
-          (observable_map mid _ (λ u. IsReadButWaiting (files_of v) u × Waits u → Since (IsReadInChange G (files_of v)) mid new) reads (λ u t q.
-          since_weaker (IsReadInChange G (files_of u)) (IsReadInChange G (files_of v)) mid new (λ w. read_from G (files_of v) u w q.0) (t q.1))));
+          since_on (IsReadDuringChange G (files_of v)) first mid new
+          (since_weaker (IsReadExceptStaged (files_of v)) (IsReadDuringChange G (files_of v)) first mid (λ w reads. inl reads) s.run.reads)
+          (by_now mid (λ u. IsReadExceptStaged (files_of v) u × Waits u) (Since (IsReadDuringChange G (files_of v)) mid new)
+          (now_both mid (IsReadExceptStaged (files_of v)) Waits (so_far_now (IsReadExceptStaged (files_of v)) Waits v first mid mid s.start (λ q shown. refl) s.run.reads) s.waiting)
+          (observable_map mid _ (λ u. IsReadExceptStaged (files_of v) u × Waits u → Since (IsReadDuringChange G (files_of v)) mid new) reads (λ u t q.
+          since_weaker (IsReadDuringChange G (files_of u)) (IsReadDuringChange G (files_of v)) mid new (λ w. read_from G (files_of v) u w q.0) (t q.1))));
       last = λ last.
-          since_on LastsUnread first mid new
-          (since_weaker ShownNamesLast LastsUnread first mid (λ w lasts none. lasts) (s.run.last last))
-          (by_now mid (λ u. ShownNamesLast u × Waits u) (Since LastsUnread mid new)
-          (now_both mid ShownNamesLast Waits (so_far_now ShownNamesLast Waits v first mid mid s.start last (s.run.last last)) s.waiting)
-          (observable_map mid _ (λ u. ShownNamesLast u × Waits u → Since LastsUnread mid new) lasts (λ u t q. t q.1 q.0)));
+          since_on NamesAreDurableWithoutIntent first mid new
+          (since_weaker ShownNamesAreDurable NamesAreDurableWithoutIntent first mid (λ w lasts none. lasts) (s.run.last last))
+          (by_now mid (λ u. ShownNamesAreDurable u × Waits u) (Since NamesAreDurableWithoutIntent mid new)
+          (now_both mid ShownNamesAreDurable Waits (so_far_now ShownNamesAreDurable Waits v first mid mid s.start last (s.run.last last)) s.waiting)
+          (observable_map mid _ (λ u. ShownNamesAreDurable u × Waits u → Since NamesAreDurableWithoutIntent mid new) lasts (λ u t q. t q.1 q.0)));
     }

@@ -13,14 +13,14 @@ abbrev pub IsAccepted : (Option (List ℕ) → List ℕ → Type 0) → List ℕ
 IsAccepted accepts name = (source : Option (List ℕ)) × accepts source name
 
 -- at a moment the tree accepts each name to which a recovery gives other bytes than these files have
-abbrev pub PromisesAccepted :
+abbrev pub HasAcceptedTargets :
     (Option (List ℕ) → List ℕ → Type 0) → Files → TreeState → Type 0
-PromisesAccepted accepts old w =
+HasAcceptedTargets accepts old w =
     (name : List ℕ) → unstaged_files (files_of w) name ≢ old name → IsAccepted accepts name
 
--- a run from a state on without an intent and without staged files: at each moment the tree accepts each
--- name to which a recovery gives other bytes than it had
-abbrev pub IsAskedRun :
+-- a run from a state on without an intent and without staged files: at each moment the tree accepts
+-- each name to which a recovery gives other bytes than it had
+abbrev pub TargetsAreAccepted :
     (Option (List ℕ) → List ℕ → Type 0) → List TreeState → List TreeState → Type 0
-IsAskedRun accepts old now = IfObservable old (λ v. v.names intent_name ≡ None
-    → IsEmptyStage (files_of v) → Since (PromisesAccepted accepts (files_of v)) old now)
+TargetsAreAccepted accepts old now = IfObservable old (λ v. v.names intent_name ≡ None
+    → IsEmptyStage (files_of v) → Since (HasAcceptedTargets accepts (files_of v)) old now)

@@ -10,6 +10,7 @@ mod staging;
 
 pub use carrying::carry_through;
 pub use staging::{
-    a_change_leaves_nothing_waiting, a_new_stage_is_staging, a_staging_run_is_a_stage_run,
-    append_piece, asked_runs_begin_with_reads, begin_file, end_file, stage_bytes, stage_pieces,
+    a_change_leaves_nothing_staged, a_new_stage_is_staging, a_staging_run_is_a_stage_run,
+    append_piece, begin_file, end_file, runs_with_accepted_targets_begin_with_reads, stage_bytes,
+    stage_pieces,
 };

@@ -3,10 +3,10 @@
 //! table.
 
 ghost use Rattle.std.specs.Prelude.{◌≡◌, ◌<◌, ◌+◌, ◌++◌, ◌∷◌, [], ℕ, true, false, List, Some, None, length, OnOk, OnErr};
-ghost use Rattle.base_core.specs.Faults.{GoesOn, HasCause, IsNoFault};
+ghost use Rattle.base_core.specs.Faults.{CountsOnlyRise, HasCause, IsNoFault};
 ghost use Rattle.base_core.specs.Tree.{TreeState, files_of};
-ghost use Rattle.journal_core.specs.Staged.{HasRoomBeside, IsEmptyStage, new_stage, with_staged};
-ghost use Rattle.stage_run.specs.Asked.{IsAskedRun};
+ghost use Rattle.journal_core.specs.Staged.{AreJournalPathsFree, IsEmptyStage, new_stage, with_staged};
+ghost use Rattle.stage_run.specs.Asked.{TargetsAreAccepted};
 ghost use Rattle.stage_run.specs.StageRun.{IsStaging, IsStagingRun, IsStageRun};
 ghost use Rattle.base_core.specs.Calls.{IfObservable};
 ghost use Rattle.base_core.specs.Files.{Files};
@@ -34,13 +34,13 @@ pub fn begin_file<T: Tree>(stage: &mut Stage, tree: &mut T) -> Result<(), Disk>
     ensures err { OnErr result (stage.new ≡ stage.old) }
     // How the tree's counts explain the result: no count falls, and a fault is returned exactly if
     // a count of faults rose.
-    ensures goes_on { GoesOn (T.counts tree.old) (T.counts tree.new) }
+    ensures goes_on { CountsOnlyRise (T.counts tree.old) (T.counts tree.new) }
     ensures cause { OnErr result (HasCause (T.counts tree.old) (T.counts tree.new)) }
     ensures kept { OnOk result (IsNoFault (T.counts tree.old) (T.counts tree.new)) }
     // No call is a misuse if the paths of the stage are free.
     ensures proper { (contents : List (List ℕ)) (v : TreeState) (first : List TreeState)
         → IsStaging stage.old contents None v first (T.history tree.old)
-        → HasRoomBeside (files_of v)
+        → AreJournalPathsFree (files_of v)
         → (T.counts tree.new).misuses ≡ (T.counts tree.old).misuses }
 {
     stage.file_begin(tree)
@@ -60,7 +60,7 @@ pub fn append_piece<T: Tree>(stage: &mut Stage, tree: &mut T, piece: &[u8]) -> R
         → OnOk result (IsStaging stage.new contents (Some (so_far ++ piece.now)) v first
         (T.history tree.new)) }
     ensures view { stage.new ≡ stage.old }
-    ensures goes_on { GoesOn (T.counts tree.old) (T.counts tree.new) }
+    ensures goes_on { CountsOnlyRise (T.counts tree.old) (T.counts tree.new) }
     ensures cause { OnErr result (HasCause (T.counts tree.old) (T.counts tree.new)) }
     ensures kept { OnOk result (IsNoFault (T.counts tree.old) (T.counts tree.new)) }
     ensures proper { (contents : List (List ℕ)) (so_far : List ℕ) (v : TreeState)
@@ -87,7 +87,7 @@ pub fn end_file<T: Tree>(stage: &mut Stage, tree: &mut T) -> Result<(), Disk>
     ensures view { OnOk result
         (stage.new ≡ record stage.old { staged = stage.old.staged + 1; is_open = false }) }
     ensures err { OnErr result (stage.new ≡ stage.old) }
-    ensures goes_on { GoesOn (T.counts tree.old) (T.counts tree.new) }
+    ensures goes_on { CountsOnlyRise (T.counts tree.old) (T.counts tree.new) }
     ensures cause { OnErr result (HasCause (T.counts tree.old) (T.counts tree.new)) }
     ensures kept { OnOk result (IsNoFault (T.counts tree.old) (T.counts tree.new)) }
     ensures proper { (contents : List (List ℕ)) (so_far : List ℕ) (v : TreeState)
@@ -111,12 +111,12 @@ pub fn stage_bytes<T: Tree>(stage: &mut Stage, tree: &mut T, bytes: &[u8]) -> Re
         → OnOk result (IsStaging stage.new (contents ++ bytes.now ∷ []) None v first
         (T.history tree.new)) }
     ensures view { OnOk result (stage.new ≡ record stage.old { staged = stage.old.staged + 1 }) }
-    ensures goes_on { GoesOn (T.counts tree.old) (T.counts tree.new) }
+    ensures goes_on { CountsOnlyRise (T.counts tree.old) (T.counts tree.new) }
     ensures cause { OnErr result (HasCause (T.counts tree.old) (T.counts tree.new)) }
     ensures kept { OnOk result (IsNoFault (T.counts tree.old) (T.counts tree.new)) }
     ensures proper { (contents : List (List ℕ)) (v : TreeState) (first : List TreeState)
         → IsStaging stage.old contents None v first (T.history tree.old)
-        → HasRoomBeside (files_of v)
+        → AreJournalPathsFree (files_of v)
         → (T.counts tree.new).misuses ≡ (T.counts tree.old).misuses }
 {
     begin_file(stage, tree)?;
@@ -142,12 +142,12 @@ pub fn stage_pieces<T: Tree>(
         → OnOk result (IsStaging stage.new (contents ++ (first_piece.now ++ last_piece.now) ∷ [])
         None v first (T.history tree.new)) }
     ensures view { OnOk result (stage.new ≡ record stage.old { staged = stage.old.staged + 1 }) }
-    ensures goes_on { GoesOn (T.counts tree.old) (T.counts tree.new) }
+    ensures goes_on { CountsOnlyRise (T.counts tree.old) (T.counts tree.new) }
     ensures cause { OnErr result (HasCause (T.counts tree.old) (T.counts tree.new)) }
     ensures kept { OnOk result (IsNoFault (T.counts tree.old) (T.counts tree.new)) }
     ensures proper { (contents : List (List ℕ)) (v : TreeState) (first : List TreeState)
         → IsStaging stage.old contents None v first (T.history tree.old)
-        → HasRoomBeside (files_of v)
+        → AreJournalPathsFree (files_of v)
         → (T.counts tree.new).misuses ≡ (T.counts tree.old).misuses }
 {
     begin_file(stage, tree)?;
@@ -158,10 +158,11 @@ pub fn stage_pieces<T: Tree>(
 
 /// A run that has done nothing to the tree promises nothing. A run that begins with reads alone is
 /// as the run after them.
-pub fn asked_runs_begin_with_reads<T: Tree>()
-    ensures same { (old now : List TreeState) → now ≡ old → IsAskedRun T.accepts old now }
-    ensures later { (old mid now : List TreeState) → mid ≡ old → IsAskedRun T.accepts mid now
-        → IsAskedRun T.accepts old now }
+pub fn runs_with_accepted_targets_begin_with_reads<T: Tree>()
+    ensures same { (old now : List TreeState) → now ≡ old → TargetsAreAccepted T.accepts old now }
+    ensures later { (old mid now : List TreeState) → mid ≡ old
+        → TargetsAreAccepted T.accepts mid now
+        → TargetsAreAccepted T.accepts old now }
 {}
 
 /// A new stage begins a staging run, if no intent is read and nothing is staged.
@@ -178,7 +179,7 @@ pub fn a_staging_run_is_a_stage_run()
 {}
 
 /// Once all actions are done nothing is staged, if only the files of the writes were.
-pub fn a_change_leaves_nothing_waiting()
+pub fn a_change_leaves_nothing_staged()
     ensures { (intent : Intent) (contents : List (List ℕ)) (files : Files)
         → HasFreeNames intent → length contents ≡ length intent.writes → IsEmptyStage files
         → IsEmptyStage (after_actions intent (with_staged 1 contents files)) }

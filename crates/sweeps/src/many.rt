@@ -22,9 +22,9 @@ const MOST_BYTES: usize = 268_435_455;
 /// The most writes of a row, and the most that wait.
 const MOST: u64 = 65_536;
 
-/// Answers `many WRITES WAITING`: whether an intent of so many writes is read back, name by name,
-/// and what a recovery makes of it, if the last so many files wait and the others were moved
-/// before: how many calls of it write, and how many of the files then are under their names.
+/// Answers `many WRITES WAITING`: whether an intent of WRITES writes is read back, name by name.
+/// Then a recovery finishes it, when the last WAITING files still are to be moved: how many of its
+/// calls write, and how many files are then under their names.
 pub(crate) fn add_many(
     alloc: Global,
     words: &Words,

@@ -255,9 +255,8 @@ struct Recoveries {
     found: Recovered,
 }
 
-/// Answers `fault CHANGE CALL (NAME BYTES)..`: how far a change comes whose call with this number
-/// fails, and what a third recovery leaves, after one and a second that fail, each at each of its
-/// calls.
+/// Answers `fault CHANGE CALL (NAME BYTES)..`: how far a change comes if its call CALL fails. Then
+/// two recoveries fail, each at every call in turn; what the third leaves.
 pub(crate) fn add_fault(
     alloc: Global,
     words: &Words,

@@ -12,14 +12,14 @@ use Rattle.change_inputs.specs.Seen.{installed_seen}
 use Rattle.change_inputs.specs.declared.installed.Installed.{Installed}
 use Rattle.change_inputs.specs.declared.root.Refused.{Refused}
 use Rattle.command_core.specs.Command.{CommandLine}
-use Rattle.installed_info.specs.Info.{info_done}
-use Rattle.installed_info.specs.declared.telling.InfoDone.{InfoDone}
+use Rattle.installed_info.specs.Info.{report_and_refusal}
+use Rattle.installed_info.specs.declared.telling.ReportAndRefusal.{ReportAndRefusal}
 use Rattle.make_info.specs.Reads.{Reads}
 use Rattle.package_files.proofs.ReadLemmas.{explained, explained_as}
 use Rattle.package_files.specs.Runs.{AreObserved, Explains}
 use Rattle.report_core.specs.declared.refusal.Refusal.{Refusal}
 use Rattle.tell_core.proofs.ReportSteps.{IsPartRead, IsReported}
-use Rattle.tell_core.specs.AuditTold.{audit_of, first_audit_read}
+use Rattle.tell_core.specs.AuditResult.{audit_of, first_audit_read}
 
 -- the reads of the databases, and then others
 reads_then : Reads → Reads → Reads
@@ -51,7 +51,7 @@ same_database first others command = refl
 abbrev RestsOnItsReads : Type 0
 RestsOnItsReads = (read other : Reads) (first : ℕ) (packages : List Plain) → ((n : ℕ) (name : List ℕ) → first ≤ n → read n name ≡ other n name) → audit_report read first packages ≡ audit_report other first packages
 
-pub audit_read : RestsOnItsReads → (history : List TreeState) (command : CommandLine) (result : Result InfoDone Refused) (installed : Installed) → IsPartRead installed_seen (database_for command) history (Ok installed)
+pub audit_read : RestsOnItsReads → (history : List TreeState) (command : CommandLine) (result : Result ReportAndRefusal Refused) (installed : Installed) → IsPartRead installed_seen (database_for command) history (Ok installed)
     → Explains history (λ read. AgreesUnlessDisk (λ done. done) result (audit_of read (installed_seen installed))) → IsReported installed_seen (database_for command) history audit_of result
 audit_read rests history command result installed seen audited =
     let read = reads_then seen.read audited.read in
@@ -61,19 +61,19 @@ audit_read rests history command result installed seen audited =
       observed = are_observed history seen.read audited.read seen.observed audited.observed;
       is = passed_part (AgreesUnlessDisk (λ done. done) result) (database_for command read) (installed_seen installed) (audit_of read)
           (subst (λ (d : Result Database Refusal). d ≡ Ok (installed_seen installed)) (sym (same_database seen.read audited.read command)) seen.is)
-          (subst (λ (report : List ℕ). AgreesUnlessDisk (λ done. done) result (Ok (info_done report None)))
+          (subst (λ (report : List ℕ). AgreesUnlessDisk (λ done. done) result (Ok (report_and_refusal report None)))
           (rests audited.read read first_audit_read packages (others_are seen.read audited.read)) audited.is);
     }
 
 -- ---- of a database that is read
 
 module _ (history : List TreeState) (database : Database) where
-  abbrev IsAuditOf : Result InfoDone Refused → Type 0
-  IsAuditOf result = Explains history (λ read. AgreesUnlessDisk (λ (done : InfoDone). done) result (audit_of read database))
+  abbrev IsAuditOf : Result ReportAndRefusal Refused → Type 0
+  IsAuditOf result = Explains history (λ read. AgreesUnlessDisk (λ (done : ReportAndRefusal). done) result (audit_of read database))
 
-  pub audit_made : (packages : List Plain) (report : List ℕ) → packages ≡ database.packages → Explains history (λ read. report ≡ audit_report read first_audit_read packages) → IsAuditOf (Ok (info_done report None))
-  audit_made packages report same made = explained_as history (λ read. report ≡ audit_report read first_audit_read packages) (λ read. AgreesUnlessDisk (λ (done : InfoDone). done) (Ok (info_done report None)) (audit_of read database)) made
-      (λ read is. ap (λ (ps : List Plain). Ok (info_done (audit_report read first_audit_read ps) None)) (sym same) ∙ ap (λ (r : List ℕ). Ok (info_done r None)) (sym is))
+  pub audit_made : (packages : List Plain) (report : List ℕ) → packages ≡ database.packages → Explains history (λ read. report ≡ audit_report read first_audit_read packages) → IsAuditOf (Ok (report_and_refusal report None))
+  audit_made packages report same made = explained_as history (λ read. report ≡ audit_report read first_audit_read packages) (λ read. AgreesUnlessDisk (λ (done : ReportAndRefusal). done) (Ok (report_and_refusal report None)) (audit_of read database)) made
+      (λ read is. ap (λ (ps : List Plain). Ok (report_and_refusal (audit_report read first_audit_read ps) None)) (sym same) ∙ ap (λ (r : List ℕ). Ok (report_and_refusal r None)) (sym is))
 
-  pub audit_failed : (result : Result InfoDone Refused) (fault : Refused) → IsErrAnd result (λ e. e ≡ fault) → IsFailure fault → IsAuditOf result
-  audit_failed result fault is failed = explained history (λ read. AgreesUnlessDisk (λ (done : InfoDone). done) result (audit_of read database)) (λ read. failure_agrees (λ (done : InfoDone). done) (audit_of read database) result fault is failed)
+  pub audit_failed : (result : Result ReportAndRefusal Refused) (fault : Refused) → IsErrAnd result (λ e. e ≡ fault) → IsFailure fault → IsAuditOf result
+  audit_failed result fault is failed = explained history (λ read. AgreesUnlessDisk (λ (done : ReportAndRefusal). done) result (audit_of read database)) (λ read. failure_agrees (λ (done : ReportAndRefusal). done) (audit_of read database) result fault is failed)

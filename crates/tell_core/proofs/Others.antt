@@ -6,17 +6,17 @@ use Rattle.change_inputs.specs.declared.root.Refused.{Refused}
 use Rattle.command_core.specs.Command.{CommandLine}
 use Rattle.command_core.specs.declared.command.Applet.{Applet}
 use Rattle.command_core.specs.declared.command.Applet.TheVariants.{Audit, Info, List as ListApplet, Manifest, Policy, Search}
-use Rattle.installed_info.specs.Info.{info_done}
-use Rattle.installed_info.specs.declared.telling.InfoDone.{InfoDone}
+use Rattle.installed_info.specs.Info.{report_and_refusal}
+use Rattle.installed_info.specs.declared.telling.ReportAndRefusal.{ReportAndRefusal}
 use Rattle.make_info.specs.Reads.{Reads}
 use Rattle.package_files.proofs.ReadLemmas.{explained}
 use Rattle.package_files.specs.Runs.{Explains}
-use Rattle.tell_core.specs.ToldBy.{told_by, told_for}
+use Rattle.tell_core.specs.ReportForCommand.{report_for_command, report_for_applet}
 
-abbrev pub IsTold : List TreeState → CommandLine → Applet → Result InfoDone Refused → Type 0
-IsTold history command applet result = Explains history (λ read. AgreesUnlessDisk (λ (done : InfoDone). done) result (told_for applet command read))
+abbrev pub IsTold : List TreeState → CommandLine → Applet → Result ReportAndRefusal Refused → Type 0
+IsTold history command applet result = Explains history (λ read. AgreesUnlessDisk (λ (done : ReportAndRefusal). done) result (report_for_applet applet command read))
 
-module _ (history : List TreeState) (command : CommandLine) (result : Result InfoDone Refused) where
+module _ (history : List TreeState) (command : CommandLine) (result : Result ReportAndRefusal Refused) where
   pub told_as : (applet read_applet : Applet) → read_applet ≡ command.applet → read_applet ≡ applet → IsTold history command applet result → IsTold history command command.applet result
   told_as applet read_applet same is told = subst (λ (a : Applet). IsTold history command a result) (sym is ∙ same) told
 
@@ -30,7 +30,7 @@ abbrev pub IsOther : Applet → Type 0
 IsOther applet =
     (applet ≡ Info → ⊥) × (applet ≡ Audit → ⊥) × (applet ≡ Manifest → ⊥) × (applet ≡ ListApplet → ⊥) × (applet ≡ Search → ⊥) × (applet ≡ Policy → ⊥)
 
-nothing_for : (applet : Applet) (command : CommandLine) (read : Reads) → IsOther applet → told_for applet command read ≡ Ok (info_done [] None)
+nothing_for : (applet : Applet) (command : CommandLine) (read : Reads) → IsOther applet → report_for_applet applet command read ≡ Ok (report_and_refusal [] None)
 nothing_for Info command read (info, audit, manifest, list, search, policy) = absurd (info refl)
 nothing_for Audit command read (info, audit, manifest, list, search, policy) = absurd (audit refl)
 nothing_for Manifest command read (info, audit, manifest, list, search, policy) = absurd (manifest refl)
@@ -39,8 +39,8 @@ nothing_for Search command read (info, audit, manifest, list, search, policy) = 
 nothing_for Policy command read (info, audit, manifest, list, search, policy) = absurd (policy refl)
 nothing_for other command read (info, audit, manifest, list, search, policy) = refl
 
-pub nothing_told : (history : List TreeState) (command : CommandLine) (applet : Applet) (done : InfoDone) → applet ≡ command.applet → IsOther applet → done ≡ info_done [] None
-    → Explains history (λ read. AgreesUnlessDisk (λ (d : InfoDone). d) (Ok done) (told_by command read))
+pub nothing_told : (history : List TreeState) (command : CommandLine) (applet : Applet) (done : ReportAndRefusal) → applet ≡ command.applet → IsOther applet → done ≡ report_and_refusal [] None
+    → Explains history (λ read. AgreesUnlessDisk (λ (d : ReportAndRefusal). d) (Ok done) (report_for_command command read))
 nothing_told history command applet done same others empty =
     let never = subst IsOther same others in
-    explained history (λ read. told_by command read ≡ Ok done) (λ read. nothing_for command.applet command read never ∙ ap (λ (d : InfoDone). Ok d) (sym empty))
+    explained history (λ read. report_for_command command read ≡ Ok done) (λ read. nothing_for command.applet command read never ∙ ap (λ (d : ReportAndRefusal). Ok d) (sym empty))

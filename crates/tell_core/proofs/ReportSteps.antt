@@ -8,7 +8,7 @@ use Rattle.change_inputs.proofs.Handed.{handed_on_disk, passed_part, refused_par
 use Rattle.change_inputs.specs.Answers.{Agrees, AgreesUnlessDisk}
 use Rattle.change_inputs.specs.Chains.{and_then}
 use Rattle.change_inputs.specs.declared.root.Refused.{Refused}
-use Rattle.installed_info.specs.declared.telling.InfoDone.{InfoDone}
+use Rattle.installed_info.specs.declared.telling.ReportAndRefusal.{ReportAndRefusal}
 use Rattle.make_info.specs.Reads.{Reads}
 use Rattle.package_files.specs.Runs.{Explains}
 use Rattle.report_core.specs.declared.refusal.Refusal.{Refusal}
@@ -20,23 +20,23 @@ module _ {A B : Type 0} (view : A → B) (part : Reads → Result B Refusal) whe
   IsPartRead history found = Explains history (λ read. AgreesUnlessDisk view found (part read))
 
   -- a result is the report of the part, which may rest on further reads
-  abbrev pub IsReported : List TreeState → (Reads → B → Result InfoDone Refusal) → Result InfoDone Refused → Type 0
-  IsReported history report result = Explains history (λ read. AgreesUnlessDisk (λ (done : InfoDone). done) result (and_then (part read) (report read)))
+  abbrev pub IsReported : List TreeState → (Reads → B → Result ReportAndRefusal Refusal) → Result ReportAndRefusal Refused → Type 0
+  IsReported history report result = Explains history (λ read. AgreesUnlessDisk (λ (done : ReportAndRefusal). done) result (and_then (part read) (report read)))
 
-  module _ (history : List TreeState) (result : Result InfoDone Refused) where
-    pub report_unread : (report : Reads → B → Result InfoDone Refusal) (fault : Refused) → IsErrAnd result (λ e. e ≡ fault) → IsPartRead history (Err fault) → IsReported history report result
+  module _ (history : List TreeState) (result : Result ReportAndRefusal Refused) where
+    pub report_unread : (report : Reads → B → Result ReportAndRefusal Refusal) (fault : Refused) → IsErrAnd result (λ e. e ≡ fault) → IsPartRead history (Err fault) → IsReported history report result
     report_unread report fault is seen = record {
       read = seen.read;
       observed = seen.observed;
-      is = handed_on_disk (λ (done : InfoDone). done) (and_then (part seen.read) (report seen.read)) result fault is
-          (refused_part_disk view (λ (done : InfoDone). done) (report seen.read) fault (part seen.read) seen.is);
+      is = handed_on_disk (λ (done : ReportAndRefusal). done) (and_then (part seen.read) (report seen.read)) result fault is
+          (refused_part_disk view (λ (done : ReportAndRefusal). done) (report seen.read) fault (part seen.read) seen.is);
     }
 
     -- of a report that rests on the part alone
-    pub report_read : (report : B → Result InfoDone Refusal) (found : A) → IsPartRead history (Ok found) → Agrees (λ (done : InfoDone). done) result (report (view found)) → IsReported history (λ read. report) result
+    pub report_read : (report : B → Result ReportAndRefusal Refusal) (found : A) → IsPartRead history (Ok found) → Agrees (λ (done : ReportAndRefusal). done) result (report (view found)) → IsReported history (λ read. report) result
     report_read report found seen agrees = record {
       read = seen.read;
       observed = seen.observed;
-      is = passed_part (AgreesUnlessDisk (λ (done : InfoDone). done) result) (part seen.read) (view found) report seen.is
-          (unless_disk (λ (done : InfoDone). done) (report (view found)) result agrees);
+      is = passed_part (AgreesUnlessDisk (λ (done : ReportAndRefusal). done) result) (part seen.read) (view found) report seen.is
+          (unless_disk (λ (done : ReportAndRefusal). done) (report (view found)) result agrees);
     }

@@ -1,5 +1,5 @@
 -- cited by the contract of `apk`
-pub mod ToldBy
-pub mod InfoTold
-pub mod AuditTold
-pub mod QueryTold
+pub mod ReportForCommand
+pub mod InfoResult
+pub mod AuditResult
+pub mod QueryResult

@@ -4,13 +4,13 @@ ghost use Rattle.base_core.specs.Read.{OnlyReads};
 ghost use Rattle.change_inputs.specs.Answers.{Agrees, AgreesUnlessDisk};
 ghost use Rattle.change_inputs.specs.Seen.{installed_seen};
 ghost use Rattle.package_files.specs.Runs.{Explains};
-ghost use Rattle.tell_core.specs.AuditTold.{audit_of, audit_told, manifest_report, manifest_told};
+ghost use Rattle.tell_core.specs.AuditResult.{audit_of, audit_result, manifest_report, manifest_result};
 
-use audit_core::{audit, audits_rest_on_their_own_reads, manifest};
-use base_core::{Tree, TreeFault, readings_in_a_row_join};
+use audit_core::{audit, audits_depend_on_their_own_reads, manifest};
+use base_core::{Tree, TreeFault, consecutive_reads_compose};
 use change_inputs::{Installed, Refused};
 use command_core::Command;
-use installed_info::InfoDone;
+use installed_info::ReportAndRefusal;
 use std::alloc::Global;
 
 /// Reports the installed files that differ from their records. The database of the root is read,
@@ -19,19 +19,19 @@ use std::alloc::Global;
 /// # Errors
 ///
 /// The refusals of the database. `Disk` if the tree failed, and `Memory`.
-pub(crate) fn tell_audit<T: Tree>(
+pub(crate) fn report_audit<T: Tree>(
     alloc: Global,
     command: &Command,
     tree: &mut T,
-) -> Result<InfoDone, Refused>
+) -> Result<ReportAndRefusal, Refused>
     ensures told { Explains (T.history tree.old) (λ read.
-        AgreesUnlessDisk (λ done. done) result (audit_told command.now read)) }
+        AgreesUnlessDisk (λ done. done) result (audit_result command.now read)) }
     ensures tree { OnlyReads Refused.Disk (T.history tree.old) (T.history tree.new)
         (T.counts tree.old) (T.counts tree.new) result }
 {
     // Laws that the proof needs; they have no effect at run time.
-    readings_in_a_row_join::<Installed, InfoDone, Refused>();
-    audits_rest_on_their_own_reads();
+    consecutive_reads_compose::<Installed, ReportAndRefusal, Refused>();
+    audits_depend_on_their_own_reads();
     let installed = Installed::read(alloc, command, tree)?;
     audit_installed(alloc, &installed, tree)
 }
@@ -41,7 +41,7 @@ fn audit_installed<T: Tree>(
     alloc: Global,
     installed: &Installed,
     tree: &mut T,
-) -> Result<InfoDone, Refused>
+) -> Result<ReportAndRefusal, Refused>
     ensures told { Explains (T.history tree.old) (λ read.
         AgreesUnlessDisk (λ done. done) result (audit_of read (installed_seen installed.now))) }
     ensures tree { OnlyReads Refused.Disk (T.history tree.old) (T.history tree.new)
@@ -49,7 +49,10 @@ fn audit_installed<T: Tree>(
 {
     let db = installed.db(alloc)?;
     match audit(alloc, &db, tree) {
-        Ok(report) => Ok(InfoDone { report, late: None }),
+        Ok(report) => Ok(ReportAndRefusal {
+            report,
+            following_refusal: None,
+        }),
         Err(TreeFault::Disk) => Err(Refused::Disk),
         Err(TreeFault::Memory) => Err(Refused::Memory),
     }
@@ -62,13 +65,13 @@ fn audit_installed<T: Tree>(
 ///
 /// The refusals of the database; then `NotInstalled` at the first operand that names no installed
 /// package. `Disk` if the tree failed, and `Memory`.
-pub(crate) fn tell_manifest<T: Tree>(
+pub(crate) fn report_manifest<T: Tree>(
     alloc: Global,
     command: &Command,
     tree: &mut T,
-) -> Result<InfoDone, Refused>
+) -> Result<ReportAndRefusal, Refused>
     ensures told { Explains (T.history tree.old) (λ read.
-        AgreesUnlessDisk (λ done. done) result (manifest_told command.now read)) }
+        AgreesUnlessDisk (λ done. done) result (manifest_result command.now read)) }
     ensures tree { OnlyReads Refused.Disk (T.history tree.old) (T.history tree.new)
         (T.counts tree.old) (T.counts tree.new) result }
 {
@@ -82,13 +85,16 @@ fn manifest_installed(
     alloc: Global,
     command: &Command,
     installed: &Installed,
-) -> Result<InfoDone, Refused>
+) -> Result<ReportAndRefusal, Refused>
     ensures { Agrees (λ done. done) result
         (manifest_report command.now (installed_seen installed.now)) }
 {
     let db = installed.db(alloc)?;
     match manifest(alloc, &db, command.operands())? {
-        Ok(report) => Ok(InfoDone { report, late: None }),
+        Ok(report) => Ok(ReportAndRefusal {
+            report,
+            following_refusal: None,
+        }),
         Err(refusal) => Err(Refused::Refusal(refusal)),
     }
 }

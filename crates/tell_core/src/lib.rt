@@ -1,9 +1,9 @@
 //! The results of the commands that only report on an installed root: `info`, `audit`, `manifest`,
 //! `list`, `search` and `policy`.
 //!
-//! The contract of `tell` cites `ToldBy` of `specs/` (what each of these commands reports, or why
-//! it is refused) and with it `InfoTold`, `AuditTold` and `QueryTold`. Each command's rules are in
-//! `docs/commands.md`, under its name.
+//! The contract of `tell` cites `ReportForCommand` of `specs/` (what each of these commands
+//! reports, or why it is refused) and with it `InfoResult`, `AuditResult` and `QueryResult`. Each
+//! command's rules are in `docs/commands.md`, under its name.
 #![tactic(auto)]
 
 mod audit;
@@ -12,5 +12,5 @@ mod query;
 mod telling;
 
 pub use change_inputs::Refused;
-pub use installed_info::InfoDone;
+pub use installed_info::ReportAndRefusal;
 pub use telling::tell;

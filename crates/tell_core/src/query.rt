@@ -6,14 +6,14 @@ ghost use Rattle.change_inputs.specs.Seen.{inputs_seen};
 ghost use Rattle.package_files.specs.Runs.{Explains};
 ghost use Rattle.query_core.specs.Queries.{queried};
 ghost use Rattle.std.specs.Prelude.{◌≡◌, IfOk};
-ghost use Rattle.tell_core.specs.QueryTold.{query_report, query_told};
+ghost use Rattle.tell_core.specs.QueryResult.{query_report, query_result};
 
 use base_core::{Text, Tree};
 use candidate_core::Upgrade;
 use change_inputs::{Loaded, Refused};
 use command_core::{Applet, Command};
 use dep_core::Repos;
-use installed_info::InfoDone;
+use installed_info::ReportAndRefusal;
 use pool_core::Sealed;
 use query_core::{list, policy, search};
 use std::alloc::{AllocError, Global};
@@ -25,13 +25,13 @@ use std::alloc::{AllocError, Global};
 ///
 /// The refusals of these files, and `TooMany` if there are more candidates than a pool holds.
 /// `Disk` if the tree failed, and `Memory`.
-pub(crate) fn tell_query<T: Tree>(
+pub(crate) fn report_query<T: Tree>(
     alloc: Global,
     command: &Command,
     tree: &mut T,
-) -> Result<InfoDone, Refused>
+) -> Result<ReportAndRefusal, Refused>
     ensures told { Explains (T.history tree.old) (λ read.
-        AgreesUnlessDisk (λ done. done) result (query_told command.now read)) }
+        AgreesUnlessDisk (λ done. done) result (query_result command.now read)) }
     ensures tree { OnlyReads Refused.Disk (T.history tree.old) (T.history tree.new)
         (T.counts tree.old) (T.counts tree.new) result }
 {
@@ -41,13 +41,20 @@ pub(crate) fn tell_query<T: Tree>(
 }
 
 // The report of a query of what was loaded.
-fn query_loaded(alloc: Global, command: &Command, loaded: &Loaded) -> Result<InfoDone, Refused>
+fn query_loaded(
+    alloc: Global,
+    command: &Command,
+    loaded: &Loaded,
+) -> Result<ReportAndRefusal, Refused>
     ensures { Agrees (λ done. done) result
         (query_report command.now (inputs_seen loaded.now)) }
 {
     let pool = loaded.pool(alloc, Upgrade::Nothing)?;
     let report = query(alloc, command, &pool, loaded.repositories())?;
-    Ok(InfoDone { report, late: None })
+    Ok(ReportAndRefusal {
+        report,
+        following_refusal: None,
+    })
 }
 
 // The report of a query of candidates and repositories, by its applet.

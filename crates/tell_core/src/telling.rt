@@ -2,18 +2,18 @@
 //! under its name.
 ghost use Rattle.base_core.specs.Read.{OnlyReads};
 ghost use Rattle.change_inputs.specs.Answers.{AgreesUnlessDisk};
-ghost use Rattle.installed_info.specs.Info.{info_done};
+ghost use Rattle.installed_info.specs.Info.{report_and_refusal};
 ghost use Rattle.package_files.specs.Runs.{Explains};
 ghost use Rattle.std.specs.Prelude.{◌≡◌, [], None};
-ghost use Rattle.tell_core.specs.ToldBy.{told_by};
+ghost use Rattle.tell_core.specs.ReportForCommand.{report_for_command};
 
-use crate::audit::{tell_audit, tell_manifest};
-use crate::info::tell_info;
-use crate::query::tell_query;
+use crate::audit::{report_audit, report_manifest};
+use crate::info::report_info;
+use crate::query::report_query;
 use base_core::{Text, Tree};
 use change_inputs::Refused;
 use command_core::{Applet, Command};
-use installed_info::InfoDone;
+use installed_info::ReportAndRefusal;
 use std::alloc::Global;
 
 /// Reports on a root as one of these commands asks for it: `info`, `audit`, `manifest`, `list`,
@@ -22,30 +22,34 @@ use std::alloc::Global;
 ///
 /// # Errors
 ///
-/// The refusal of the command; a refusal may also follow the report, in `late`. `Disk` if the tree
-/// failed, and `Memory`.
-pub fn tell<T: Tree>(alloc: Global, command: &Command, tree: &mut T) -> Result<InfoDone, Refused>
+/// The refusal of the command; a refusal may also follow the report, in `following_refusal`. `Disk`
+/// if the tree failed, and `Memory`.
+pub fn tell<T: Tree>(
+    alloc: Global,
+    command: &Command,
+    tree: &mut T,
+) -> Result<ReportAndRefusal, Refused>
     ensures told { Explains (T.history tree.old) (λ read.
-        AgreesUnlessDisk (λ done. done) result (told_by command.now read)) }
+        AgreesUnlessDisk (λ done. done) result (report_for_command command.now read)) }
     ensures tree { OnlyReads Refused.Disk (T.history tree.old) (T.history tree.new)
         (T.counts tree.old) (T.counts tree.new) result }
 {
     match command.applet() {
-        Applet::Info => tell_info(alloc, command, tree),
-        Applet::Audit => tell_audit(alloc, command, tree),
-        Applet::Manifest => tell_manifest(alloc, command, tree),
-        Applet::List | Applet::Search | Applet::Policy => tell_query(alloc, command, tree),
+        Applet::Info => report_info(alloc, command, tree),
+        Applet::Audit => report_audit(alloc, command, tree),
+        Applet::Manifest => report_manifest(alloc, command, tree),
+        Applet::List | Applet::Search | Applet::Policy => report_query(alloc, command, tree),
         // Ok(no_report(alloc)) => No other applet is asked for a report.
         _ => Ok(no_report(alloc)),
     }
 }
 
 // An empty report.
-fn no_report(alloc: Global) -> InfoDone
-    ensures { result ≡ info_done [] None }
+fn no_report(alloc: Global) -> ReportAndRefusal
+    ensures { result ≡ report_and_refusal [] None }
 {
-    InfoDone {
+    ReportAndRefusal {
         report: Text::from_vec(Vec::new(alloc)),
-        late: None,
+        following_refusal: None,
     }
 }

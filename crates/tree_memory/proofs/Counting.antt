@@ -5,9 +5,9 @@ use Rattle.std.specs.Option.{option_map}
 use Rattle.std.proofs.lemmas.Bool.Decides.{nat_tests}
 use Rattle.base_core.specs.Tree.{TreeState}
 use Rattle.base_core.specs.Calls.{IsCounted}
-use Rattle.base_core.specs.Faults.{GoesOn, HasCause}
+use Rattle.base_core.specs.Faults.{CountsOnlyRise, HasCause}
 use Rattle.tree_memory.specs.Plans.{PlanState, is_listed, is_stopped, is_next, has_more, listed_on, one_on}
-use Rattle.tree_memory.specs.Tallies.{with_call, with_fault, with_misuse, with_want, with_begun_call, goes_on, HasGrown}
+use Rattle.tree_memory.specs.Tallies.{with_call, with_fault, with_misuse, with_memory_fault, with_begun_call, goes_on, HasGrown}
 use Rattle.tree_memory.specs.Memory.{counts_by}
 use Rattle.tree_memory.specs.declared.calls.Calls.{Calls}
 use Rattle.tree_memory.specs.declared.calls.Tally.{Tally}
@@ -77,8 +77,8 @@ says b P both = record { good = both.0; back = both.1 }
 pub always : (v : TreeState) → Says true (Unit {0})
 always v = record { good = λ _. tt; back = λ _. refl }
 
-on : (old new : Calls) → HasGrown old.tally new.tally → new.plan ≡ one_on old.plan → GoesOn (counts_by old) (counts_by new)
-on old new grown nearer = record { faults = grown.faults; misuses = grown.misuses; wants = grown.wants; fallible = λ f. more_is_more old.plan (subst (λ (p : PlanState). has_more p ≡ true) nearer f) }
+on : (old new : Calls) → HasGrown old.tally new.tally → new.plan ≡ one_on old.plan → CountsOnlyRise (counts_by old) (counts_by new)
+on old new grown nearer = record { faults = grown.faults; misuses = grown.misuses; memory_faults = grown.memory_faults; fallible = λ f. more_is_more old.plan (subst (λ (p : PlanState). has_more p ≡ true) nearer f) }
 
 -- ---- one that goes on
 
@@ -116,7 +116,7 @@ module _ (b : Bool) (writes : ℕ) (old new : Calls) (h : IsBegun b writes old n
   pub has_failed : goes_on b (is_next old.plan) ≡ false → IsMisused ⊎ IsPlanned
   has_failed stays = ⊎_elim (λ m. inl (record { cannot = m.0; tally = h.tally ∙ m.1 })) (λ p. inr (record { can = p.0; next = p.1; tally = h.tally ∙ p.2 })) (failed b (is_next old.plan) stays)
 
-  pub begun_on : GoesOn (counts_by old) (counts_by new)
+  pub begun_on : CountsOnlyRise (counts_by old) (counts_by new)
   begun_on = on old new h.grown h.plan
 
 no_true : (b : Bool) → b ≡ false → b ≡ true → ⊥
@@ -159,7 +159,7 @@ module _ (can : TreeState → Type 0) (v : TreeState) (earlier : List TreeState)
   done_counts x goes = let tally = free_tally b writes old new h goes in let can_do = s.good (is_free b writes old new h goes).0 in record {
     goes_on = on old new h.grown h.plan;
     cause = tt;
-    kept = record { faults = ap (λ (u : Tally). u.faults) tally; wants = ap (λ (u : Tally). u.wants) tally };
+    kept = record { faults = ap (λ (u : Tally). u.faults) tally; memory_faults = ap (λ (u : Tally). u.memory_faults) tally };
     allowed = can_do;
     proper = λ _. ap (λ (u : Tally). u.misuses) tally;
     misuse = λ cannot. absurd (cannot can_do);
@@ -170,34 +170,34 @@ module _ (can : TreeState → Type 0) (v : TreeState) (earlier : List TreeState)
 -- the end of a call, for which there was memory or not
 pub record IsEnded (there : Bool) (mid new : Calls) : Type 0 where
   pub plan : new.plan ≡ mid.plan
-  pub tally : new.tally ≡ cond there mid.tally (with_want mid.tally)
+  pub tally : new.tally ≡ cond there mid.tally (with_memory_fault mid.tally)
   pub grown : HasGrown mid.tally new.tally
 
 module _ (can : TreeState → Type 0) (v : TreeState) (earlier : List TreeState) (b : Bool) (s : Says b (can v)) (writes : ℕ) (old mid new : Calls) (h : IsBegun b writes old mid) (goes : goes_on b (is_next old.plan) ≡ true) where
   can_do : can v
   can_do = s.good (is_free b writes old mid h goes).0
 
-  ended_on : (there : Bool) → IsEnded there mid new → GoesOn (counts_by old) (counts_by new)
+  ended_on : (there : Bool) → IsEnded there mid new → CountsOnlyRise (counts_by old) (counts_by new)
   ended_on there end = on old new (record {
     faults = omega (arith, h.grown.faults, end.grown.faults);
     misuses = omega (arith, h.grown.misuses, end.grown.misuses);
-    wants = omega (arith, h.grown.wants, end.grown.wants);
+    memory_faults = omega (arith, h.grown.memory_faults, end.grown.memory_faults);
   }) (end.plan ∙ h.plan)
 
   pub ended_counts : {T E : Type 0} (there : Bool) (r : Result T E) → IsEnded there mid new → is_ok r ≡ there → IsCounted can (v ∷ earlier) (counts_by old) (counts_by new) r
   ended_counts true (Ok x) end is = let tally = end.tally ∙ free_tally b writes old mid h goes in record {
     goes_on = ended_on true end;
     cause = tt;
-    kept = record { faults = ap (λ (u : Tally). u.faults) tally; wants = ap (λ (u : Tally). u.wants) tally };
+    kept = record { faults = ap (λ (u : Tally). u.faults) tally; memory_faults = ap (λ (u : Tally). u.memory_faults) tally };
     allowed = can_do;
     proper = λ _. ap (λ (u : Tally). u.misuses) tally;
     misuse = λ cannot. absurd (cannot can_do);
   }
   ended_counts true (Err e) end is = absurd (cc (is))
   ended_counts false (Ok x) end is = absurd (cc (is))
-  ended_counts false (Err e) end is = let tally = end.tally ∙ ap with_want (free_tally b writes old mid h goes) in record {
+  ended_counts false (Err e) end is = let tally = end.tally ∙ ap with_memory_fault (free_tally b writes old mid h goes) in record {
     goes_on = ended_on false end;
-    cause = record { fault = omega (arith, ap (λ (u : Tally). u.faults) tally); reason = inr (inr (omega (arith, ap (λ (u : Tally). u.wants) tally))) };
+    cause = record { fault = omega (arith, ap (λ (u : Tally). u.faults) tally); reason = inr (inr (omega (arith, ap (λ (u : Tally). u.memory_faults) tally))) };
     kept = tt;
     allowed = tt;
     proper = λ _. ap (λ (u : Tally). u.misuses) tally;

@@ -14,10 +14,10 @@ use Rattle.std.specs.declared.cmp.Ordering.TheVariants.{Less, Equal, Greater}
 use Rattle.std.proofs.lemmas.Cmp.{nat_cmp_total, tied_itself}
 use Rattle.std.proofs.lemmas.Map.Lookups.{exact_bytes, exact_unsigned}
 use Rattle.std.proofs.lemmas.Bool.{cases_lt, cases_eq}
-use Rattle.base_core.specs.Files.{IsFolderOf, IsFolderLike, NameMap, put_name, drop_name}
+use Rattle.base_core.specs.Files.{IsFolderOf, HasNoFileAsFolder, NameMap, put_name, drop_name}
 use Rattle.tree_memory.specs.Table.{IsTable, lookup, IsStart, IsFit, IsBelow, HasBelowBut}
 use Rattle.tree_memory.proofs.AtName.{name_cases, other_name, off_name, put-at, put-off, drop_name-at, drop_name-off}
-use Rattle.tree_memory.proofs.Placed.{searchable, stands, looked_up}
+use Rattle.tree_memory.proofs.Placed.{searchable, located, looked_up}
 use Rattle.tree_memory.specs.declared.table.NameAndFile.{NameAndFile}
 
 abbrev cmp : List ℕ → List ℕ → Ordering
@@ -152,7 +152,7 @@ pub has_none : (es : List NameAndFile) (start i : ℕ) (folder but : List ℕ) �
     → ((k : ℕ) (d : NameAndFile) → i ≤ k → k < length es → IsFolderOf folder (get_or es k d).name → ⊥) → HasBelowBut es folder but → ⊥
 has_none es start i folder but table is from out behind (name, below, (some, off)) =
     let d : NameAndFile = record { name = name; file = 0 } in
-    let at = stands es name d some in
+    let at = located es name d some in
     let here : IsFolderOf folder (get_or es at.0 d).name = subst (IsFolderOf folder) (sym at.2) below in
     let later = behind_start es start at.0 d folder is at.1 here in
     ⊎_elim (λ early. off_name name but off (sym at.2 ∙ out.each at.0 d later early)) (λ late. behind at.0 d late at.1 here) (cases_lt at.0 i)
@@ -206,7 +206,7 @@ listed_below es start i folder names table is upto so_far behind = record { risi
     back : (q : List ℕ) → IsSome (lookup es q) × IsFolderOf folder q → Contains names q
     back q (some, below) =
         let e : NameAndFile = record { name = q; file = 0 } in
-        let at = stands es q e some in
+        let at = located es q e some in
         let here : IsFolderOf folder (get_or es at.0 e).name = subst (IsFolderOf folder) (sym at.2) below in
         let from = behind_start es start at.0 e folder is at.1 here in
         let before : at.0 < i = ⊎_elim (λ early. early) (λ late. absurd (behind at.0 e late at.1 here)) (cases_lt at.0 i) in
@@ -220,7 +220,7 @@ listed_below es start i folder names table is upto so_far behind = record { risi
 abbrev IsApart : List ℕ → List ℕ → Type 0
 IsApart name q = (IsFolderOf q name → ⊥) × (IsFolderOf name q → ⊥)
 
-folder_like_put : (names : NameMap) (name : List ℕ) (n : ℕ) → IsFolderLike names → ((q : List ℕ) → IsSome (names q) → q ≢ name → IsApart name q) → IsFolderLike (put_name names name n)
+folder_like_put : (names : NameMap) (name : List ℕ) (n : ℕ) → HasNoFileAsFolder names → ((q : List ℕ) → IsSome (names q) → q ≢ name → IsApart name q) → HasNoFileAsFolder (put_name names name n)
 folder_like_put names name n folders apart p q folder has_p has_q = ⊎_elim
     (λ p_is. ⊎_elim
     (λ q_is. not_itself name (subst (λ (l : List ℕ). IsFolderOf l name) p_is (subst (IsFolderOf p) q_is folder)))
@@ -232,7 +232,7 @@ folder_like_put names name n folders apart p q folder has_p has_q = ⊎_elim
     (name_cases q name))
     (name_cases p name)
 
-apart_from_put : (names : NameMap) (name : List ℕ) (n : ℕ) → IsFolderLike (put_name names name n) → (q : List ℕ) → IsSome (names q) → IsApart name q
+apart_from_put : (names : NameMap) (name : List ℕ) (n : ℕ) → HasNoFileAsFolder (put_name names name n) → (q : List ℕ) → IsSome (names q) → IsApart name q
 apart_from_put names name n folders q some = ⊎_elim
     (λ is. (λ folder. not_itself name (subst (λ (l : List ℕ). IsFolderOf l name) is folder), λ folder. not_itself name (subst (IsFolderOf name) is folder)))
     (λ off. let has : IsSome (put_name names name n q) = subst IsSome (sym (put-off names name n q (off_name q name off))) some in
@@ -241,7 +241,7 @@ apart_from_put names name n folders q some = ⊎_elim
     (name_cases q name)
 
 -- fewer names, or others in their places
-pub folder_like_fewer : (m n : NameMap) → ((q : List ℕ) → IsSome (n q) → IsSome (m q)) → IsFolderLike m → IsFolderLike n
+pub folder_like_fewer : (m n : NameMap) → ((q : List ℕ) → IsSome (n q) → IsSome (m q)) → HasNoFileAsFolder m → HasNoFileAsFolder n
 folder_like_fewer m n fewer folders p q folder has_p has_q = folders p q folder (fewer p has_p) (fewer q has_q)
 
 some_dropped : (names : NameMap) (name q : List ℕ) → IsSome (drop_name names name q) → IsSome (names q) × (q ≢ name)
@@ -260,7 +260,7 @@ other_number names name m n q = by (bytes_eq q name) (names q)
     by true r some = refl
     by false r some = some
 
-pub folder_like_number : (names : NameMap) (name : List ℕ) (m n : ℕ) → IsFolderLike (put_name names name m) → IsFolderLike (put_name names name n)
+pub folder_like_number : (names : NameMap) (name : List ℕ) (m n : ℕ) → HasNoFileAsFolder (put_name names name m) → HasNoFileAsFolder (put_name names name n)
 folder_like_number names name m n = folder_like_fewer (put_name names name m) (put_name names name n) (other_number names name n m)
 
 -- a name that is put is dropped no less
@@ -272,13 +272,13 @@ put_anyway names name n q = by (bytes_eq q name) (names q)
     by false r = refl
 
 module _ (names : NameMap) (es : List NameAndFile) (same : (q : List ℕ) → names q ≡ lookup es q) where
-  pub fits_moved : (from to : List ℕ) (n : ℕ) → IsFolderLike names → IsFit es to from → IsFolderLike (put_name (drop_name names from) to n)
+  pub fits_moved : (from to : List ℕ) (n : ℕ) → HasNoFileAsFolder names → IsFit es to from → HasNoFileAsFolder (put_name (drop_name names from) to n)
   fits_moved from to n folders fit =
       folder_like_put (drop_name names from) to n (folder_like_fewer names (drop_name names from) (fewer_dropped names from) folders)
       (λ q some ne. let was = some_dropped names from q some in let here : IsSome (lookup es q) = subst IsSome (same q) was.0 in
       (λ above. fit.above (q, above, (here, other_name q from was.1)), λ below. fit.below (q, below, (here, other_name q from was.1))))
 
-  pub moved_fits : (from to : List ℕ) (n : ℕ) → IsFolderLike (put_name (drop_name names from) to n) → IsFit es to from
+  pub moved_fits : (from to : List ℕ) (n : ℕ) → HasNoFileAsFolder (put_name (drop_name names from) to n) → IsFit es to from
   moved_fits from to n folders = record {
     above = λ (q, above, (some, off)). (apart_from_put (drop_name names from) to n folders q (there q some off)).0 above;
     below = λ (q, below, (some, off)). (apart_from_put (drop_name names from) to n folders q (there q some off)).1 below;
@@ -287,8 +287,8 @@ module _ (names : NameMap) (es : List NameAndFile) (same : (q : List ℕ) → na
       there : (q : List ℕ) → IsSome (lookup es q) → bytes_eq q from ≡ false → IsSome (drop_name names from q)
       there q some off = subst IsSome (sym (drop_name-off names from q (off_name q from off) ∙ same q)) some
 
-  pub fits_put : (name : List ℕ) (n : ℕ) → IsFolderLike names → IsFit es name name → IsFolderLike (put_name names name n)
+  pub fits_put : (name : List ℕ) (n : ℕ) → HasNoFileAsFolder names → IsFit es name name → HasNoFileAsFolder (put_name names name n)
   fits_put name n folders fit = folder_like_fewer (put_name (drop_name names name) name n) (put_name names name n) (λ q some. subst IsSome (sym (put_anyway names name n q)) some) (fits_moved name name n folders fit)
 
-  pub put_fits : (name : List ℕ) (n : ℕ) → IsFolderLike (put_name names name n) → IsFit es name name
+  pub put_fits : (name : List ℕ) (n : ℕ) → HasNoFileAsFolder (put_name names name n) → IsFit es name name
   put_fits name n folders = moved_fits name name n (folder_like_fewer (put_name names name n) (put_name (drop_name names name) name n) (λ q some. subst IsSome (put_anyway names name n q) some) folders)

@@ -4,16 +4,16 @@ use Rattle.std.proofs.lemmas.List.{take_more, take_all, drop_all, get_or-map, ge
 use Rattle.std.proofs.lemmas.Bool.{cases_eq, eq-eqb, ne_eqb}
 use Rattle.std.specs.Str.{bytes_eq}
 use Rattle.std.specs.Option.{option_map}
-use Rattle.base_core.specs.Crash.{MayLeave}
-use Rattle.base_core.specs.Restart.{IsCrashOf}
-use Rattle.base_core.specs.Files.{Files, NameMap, no_names, put_name, IsFolderLike}
+use Rattle.base_core.specs.Crash.{CrashMayLeave}
+use Rattle.base_core.specs.Restart.{IsAfterCrashInOrder}
+use Rattle.base_core.specs.Files.{Files, NameMap, no_names, put_name, HasNoFileAsFolder}
 use Rattle.base_core.specs.Tree.{TreeState, IsMapOf, bytes_at, files_of, set_file}
 use Rattle.std.proofs.lemmas.Nat.{mod_below}
 use Rattle.tree_memory.specs.Changes.{empty_state, after_put, state_on, is_record}
 use Rattle.tree_memory.specs.Images.{maps_of, newest_first, picked_map, crash_bytes, image_of, stored_file}
 use Rattle.tree_memory.specs.Kept.{IsKept, CanPut}
 use Rattle.tree_memory.specs.Table.{IsTable, lookup}
-use Rattle.tree_memory.specs.WholeLaw.{AreBounded}
+use Rattle.tree_memory.specs.WellFormedLaw.{AreBounded}
 use Rattle.tree_memory.proofs.AtName.{name_cases, off_name, put-at, put-off}
 use Rattle.tree_memory.proofs.Keeping.{read-after_put, stored_bytes}
 use Rattle.tree_memory.proofs.Picking.{among_at}
@@ -72,7 +72,7 @@ module _ (v : TreeState) (way : ℕ) (es : List NameAndFile) (table : IsTable es
 
   module _ (e : NameAndFile) (within : i < length es) (here : e ≡ get_or es i e) where
     -- the next name fits
-    pub can_next : (map : NameMap) → IsFolderLike map → ((q : List ℕ) → map q ≡ lookup es q) → CanPut e.name w
+    pub can_next : (map : NameMap) → HasNoFileAsFolder map → ((q : List ℕ) → map q ≡ lookup es q) → CanPut e.name w
     can_next map folders same = record { folders = λ p q folder has_p has_q. folders p q folder (there p has_p) (there q has_q) }
       where
         there : (q : List ℕ) → IsSome (put_name w.names e.name w.made q) → IsSome (map q)
@@ -117,13 +117,13 @@ module _ (v : TreeState) (way : ℕ) (es : List NameAndFile) (map : NameMap) (sa
   pub image_files : (q : List ℕ) → files_of w q ≡ option_map (λ n. crash_bytes way (v.files n)) (map q)
   image_files q = so_far.files q ∙ ap (λ (l : List NameAndFile). option_map (λ n. crash_bytes way (v.files n)) (lookup l q)) (take_all i es all) ∙ sym (ap (option_map (λ n. crash_bytes way (v.files n))) (same q))
 
-  may : (o : Option ℕ) → MayLeave v.files o (option_map (λ n. crash_bytes way (v.files n)) o)
+  may : (o : Option ℕ) → CrashMayLeave v.files o (option_map (λ n. crash_bytes way (v.files n)) o)
   may None = refl
   may (Some n) = λ synced. ap (λ b. cond (b || (way == 0)) (v.files n).bytes (cond (way == 1) [] (replicate (length (v.files n).bytes) 255))) synced
 
-  pub image_crash : IsMapOf v map → IsCrashOf v w
+  pub image_crash : IsMapOf v map → IsAfterCrashInOrder v w
   image_crash is = record {
-    left = (map, is, λ q. subst (MayLeave v.files (map q)) (sym (image_files q)) (may (map q)));
+    left = (map, is, λ q. subst (CrashMayLeave v.files (map q)) (sym (image_files q)) (may (map q)));
     one_map = so_far.one_map;
     synced = so_far.synced;
   }

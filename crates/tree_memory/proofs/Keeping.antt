@@ -10,17 +10,17 @@ use Rattle.std.proofs.Math.Seq.{get_or-append_seam, take-length}
 use Rattle.std.proofs.lemmas.List.{get_or-map, get_or_past, length-map, length-set, map-set, get_or-set_same, get_or-set_other}
 use Rattle.std.proofs.lemmas.List.Elements.{All-nil, All-cons, All-head}
 use Rattle.std.proofs.lemmas.Bool.{cases_eq, cases_lt, eq-eqb, ne_eqb}
-use Rattle.base_core.specs.Files.{NameMap, AreNames, IsFile, IsFolderLike, drop_name, put_name}
+use Rattle.base_core.specs.Files.{NameMap, AreNames, IsFile, HasNoFileAsFolder, drop_name, put_name}
 use Rattle.base_core.specs.Name.{IsName}
 use Rattle.base_core.specs.Listed.{IsNamesOf}
 use Rattle.base_core.specs.Tree.{TreeState, File, IsMapOf, CanCreate, bytes_at, files_of, set_file, change_at, with_names, after_create}
 use Rattle.tree_memory.specs.Table.{IsTable, lookup, names_of}
 use Rattle.tree_memory.specs.Changes.{empty_state, after_put, step, state_on, earlier_on, contents_of, synced_flags}
 use Rattle.tree_memory.specs.Kept.{IsKept, IsSoundState, IsStore, CanPut}
-use Rattle.tree_memory.specs.WholeLaw.{AreBounded, bounded_state}
+use Rattle.tree_memory.specs.WellFormedLaw.{AreBounded, bounded_state}
 use Rattle.tree_memory.proofs.AtName.{name_cases, off_name, put-at, put-off}
 use Rattle.tree_memory.proofs.Growing.{front_is, Grows, grows_push, IsPushed, pushed_state, pushed_record, pushed_history}
-use Rattle.tree_memory.proofs.Placed.{stands, looked_up}
+use Rattle.tree_memory.proofs.Placed.{located, looked_up}
 use Rattle.tree_memory.specs.declared.store.Change.{Change}
 use Rattle.tree_memory.specs.declared.store.Change.TheVariants.{Put, Create}
 use Rattle.tree_memory.specs.declared.store.Stored.{Stored}
@@ -98,7 +98,7 @@ sound_empty = All-cons IsSoundState empty_state [] (record { folders = folders; 
     none map (inl is) q some = let absent : map q ≡ None = ap (λ (m : NameMap). m q) is in absurd (cc (absent, some))
     none map (inr other) q some = other
 
-    folders : (map : NameMap) → IsMapOf empty_state map → IsFolderLike map
+    folders : (map : NameMap) → IsMapOf empty_state map → HasNoFileAsFolder map
     folders map is p q folder has_p has_q = none map is p has_p
 
     named : (map : NameMap) → IsMapOf empty_state map → AreNames map
@@ -115,22 +115,22 @@ named_drop names name named q some = by (bytes_eq q name) some
     by true here = absurd (cc (here))
     by false here = named q here
 
-pub sound_with : (v : TreeState) (new : NameMap) → IsSoundState v → IsFolderLike new → AreNames new → IsSoundState (with_names v new)
+pub sound_with : (v : TreeState) (new : NameMap) → IsSoundState v → HasNoFileAsFolder new → AreNames new → IsSoundState (with_names v new)
 sound_with v new old good names = record { folders = folders; named = named; bytes = old.bytes }
   where
-    folders : (map : NameMap) → IsMapOf (with_names v new) map → IsFolderLike map
-    folders map (inl is) = subst IsFolderLike (sym is) good
+    folders : (map : NameMap) → IsMapOf (with_names v new) map → HasNoFileAsFolder map
+    folders map (inl is) = subst HasNoFileAsFolder (sym is) good
     folders map (inr other) = old.folders map other
 
     named : (map : NameMap) → IsMapOf (with_names v new) map → AreNames map
     named map (inl is) = subst AreNames (sym is) names
     named map (inr other) = old.named map other
 
-pub sound_one : (v : TreeState) → v.older ≡ [] → IsFolderLike v.names → AreNames v.names → ((n : ℕ) → IsFile (v.files n).bytes) → IsSoundState v
+pub sound_one : (v : TreeState) → v.older ≡ [] → HasNoFileAsFolder v.names → AreNames v.names → ((n : ℕ) → IsFile (v.files n).bytes) → IsSoundState v
 sound_one v none good names bytes = record { folders = λ map is. folders v.older none map is; named = λ map is. named v.older none map is; bytes = bytes }
   where
-    folders : (older : List NameMap) → older ≡ [] → (map : NameMap) → IsMapOf (record v { older = older }) map → IsFolderLike map
-    folders [] none map (inl is) = subst IsFolderLike (sym is) good
+    folders : (older : List NameMap) → older ≡ [] → (map : NameMap) → IsMapOf (record v { older = older }) map → HasNoFileAsFolder map
+    folders [] none map (inl is) = subst HasNoFileAsFolder (sym is) good
     folders [] none map (inr other) = absurd other
     folders (x ∷ xs) none map is = absurd (cc (none))
 
@@ -240,8 +240,8 @@ module _ (name : List ℕ) (cs ds : List Change) (es fs : List NameAndFile) (fil
   pub create_sound : IsName name → CanCreate name was → IsSoundState (after_create name was)
   create_sound name_is can = record { folders = folders; named = named; bytes = set_bytes was.files was.made (record { bytes = []; synced = false }) was_sound.bytes empty_file }
     where
-      folders : (map : NameMap) → IsMapOf (after_create name was) map → IsFolderLike map
-      folders map (inl is) = subst IsFolderLike (sym is) can.folders
+      folders : (map : NameMap) → IsMapOf (after_create name was) map → HasNoFileAsFolder map
+      folders map (inl is) = subst HasNoFileAsFolder (sym is) can.folders
       folders map (inr other) = was_sound.folders map other
 
       named : (map : NameMap) → IsMapOf (after_create name was) map → AreNames map
@@ -315,7 +315,7 @@ names_listed names es same table = record { rising = rising; each = λ q. (there
     back : (q : List ℕ) → IsSome (names q) → Contains (names_of es) q
     back q some =
         let e : NameAndFile = record { name = q; file = 0 } in
-        let at = stands es q e (subst IsSome (same q) some) in
+        let at = located es q e (subst IsSome (same q) some) in
         (at.0, omega (arith, length-map es (λ (f : NameAndFile). f.name), at.1), get_or-map (λ (f : NameAndFile). f.name) es at.0 e q at.1 ∙ at.2)
 
 -- the newest of some states

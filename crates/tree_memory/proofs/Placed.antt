@@ -70,11 +70,11 @@ pub lookup_placed : (es : List NameAndFile) (i : ℕ) (q : List ℕ) → IsPlace
 lookup_placed es i q place = let d : NameAndFile = record { name = q; file = 0 } in lookup_off es q d (off_place es i q d place)
 
 -- a name that is looked up stands somewhere
-pub stands : (es : List NameAndFile) (q : List ℕ) (d : NameAndFile) → IsSome (lookup es q) → (i : ℕ) × (i < length es) × ((get_or es i d).name ≡ q)
-stands [] q d some = absurd (cc)
-stands (e ∷ es) q d some =
+pub located : (es : List NameAndFile) (q : List ℕ) (d : NameAndFile) → IsSome (lookup es q) → (i : ℕ) × (i < length es) × ((get_or es i d).name ≡ q)
+located [] q d some = absurd (cc)
+located (e ∷ es) q d some =
     ⊎_elim (λ is. (0, omega arith, sym is))
-    (λ off. let rest = stands es q d (subst IsSome (ap (λ b. cond b (Some e.file) (lookup es q)) off) some) in (suc rest.0, omega (arith, rest.1), rest.2))
+    (λ off. let rest = located es q d (subst IsSome (ap (λ b. cond b (Some e.file) (lookup es q)) off) some) in (suc rest.0, omega (arith, rest.1), rest.2))
     (name_cases q e.name)
 
 -- and one that stands somewhere is looked up
@@ -99,9 +99,9 @@ swapped true false x y r apart = refl
 swapped false b x y r apart = refl
 
 -- the step behind an entry of another name
-behind_other : (f e : NameAndFile) (q : List ℕ) (new old : Option ℕ) → f.name ≢ e.name → new ≡ cond (bytes_eq q e.name) (Some e.file) old
+after_other : (f e : NameAndFile) (q : List ℕ) (new old : Option ℕ) → f.name ≢ e.name → new ≡ cond (bytes_eq q e.name) (Some e.file) old
     → cond (bytes_eq q f.name) (Some f.file) new ≡ cond (bytes_eq q e.name) (Some e.file) (cond (bytes_eq q f.name) (Some f.file) old)
-behind_other f e q new old other is =
+after_other f e q new old other is =
     ap (cond (bytes_eq q f.name) (Some f.file)) is
     ∙ swapped (bytes_eq q f.name) (bytes_eq q e.name) (Some f.file) (Some e.file) old (λ at here. other (sym (is_name q f.name at) ∙ is_name q e.name here))
 
@@ -109,7 +109,7 @@ lookup_set : (es : List NameAndFile) (i : ℕ) (e d : NameAndFile) → i < lengt
 lookup_set [] i e d within here others q = absurd (omega arith)
 lookup_set (f ∷ es) zero e d within here others q = shadowed (bytes_eq q e.name) (bytes_eq q f.name) (Some e.file) (Some f.file) (lookup es q) (ap (bytes_eq q) here)
 lookup_set (f ∷ es) (suc i) e d within here others q =
-    behind_other f e q (lookup (set es i e) q) (lookup es q) (λ is. others 0 (omega arith) is) (lookup_set es i e d (omega arith) here (λ j below. others (suc j) (omega arith)) q)
+    after_other f e q (lookup (set es i e) q) (lookup es q) (λ is. others 0 (omega arith) is) (lookup_set es i e d (omega arith) here (λ j below. others (suc j) (omega arith)) q)
 
 -- another number at a name that stands
 pub lookup-set : (es : List NameAndFile) (i : ℕ) (e d : NameAndFile) → IsTable es → IsNamed es i e.name → (q : List ℕ) → lookup (set es i e) q ≡ put_name (lookup es) e.name e.file q
@@ -125,7 +125,7 @@ lookup_insert [] (suc i) e none q = refl
 lookup_insert (f ∷ es) zero e none q = refl
 lookup_insert (f ∷ es) (suc i) e none q =
     let rest = none_at (bytes_eq e.name f.name) f.file (lookup es e.name) none in
-    behind_other f e q (lookup (take i es ++ e ∷ drop i es) q) (lookup es q) (λ is. let at = same_name e.name f.name (sym is) in cc (at, rest.0)) (lookup_insert es i e rest.1 q)
+    after_other f e q (lookup (take i es ++ e ∷ drop i es) q) (lookup es q) (λ is. let at = same_name e.name f.name (sym is) in cc (at, rest.0)) (lookup_insert es i e rest.1 q)
 
 -- a name that was absent
 pub lookup-insert : (es : List NameAndFile) (i : ℕ) (e : NameAndFile) → IsPlace es i e.name → (q : List ℕ) → lookup (insert es i e) q ≡ put_name (lookup es) e.name e.file q
@@ -136,10 +136,10 @@ pub table-insert : (es : List NameAndFile) (i : ℕ) (e : NameAndFile) → IsTab
 table-insert es i e table place a b d below within =
     ⊎_elim (λ b_below. ordered _ _ _ _ (at_below a (omega arith)) (at_below b b_below) (table a b d below (omega arith)))
     (λ b_above. ⊎_elim (λ b_here. ordered _ _ _ _ (at_below a (omega arith)) (at_here b b_here) (place.before a d (omega arith) (omega arith)))
-    (λ b_behind. let above : i ≤ b - 1 = omega arith in let inside : b - 1 < length es = omega (arith, long) in
+    (λ b_after. let above : i ≤ b - 1 = omega arith in let inside : b - 1 < length es = omega (arith, long) in
     ⊎_elim (λ a_below. ordered _ _ _ _ (at_below a a_below) (at_above b (omega arith)) (table a (b - 1) d (omega arith) inside))
     (λ a_above. ⊎_elim (λ a_here. ordered _ _ _ _ (at_here a a_here) (at_above b (omega arith)) (flipped (get_or es (b - 1) d).name e.name Greater (place.behind (b - 1) d above inside)))
-    (λ a_behind. ordered _ _ _ _ (at_above a (omega arith)) (at_above b (omega arith)) (table (a - 1) (b - 1) d (omega arith) inside))
+    (λ a_after. ordered _ _ _ _ (at_above a (omega arith)) (at_above b (omega arith)) (table (a - 1) (b - 1) d (omega arith) inside))
     (cases_eq a i)) (cases_lt a i))
     (cases_eq b i)) (cases_lt b i)
   where

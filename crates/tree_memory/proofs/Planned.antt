@@ -21,9 +21,9 @@ listed_later (n ∷ listed) k = by (ltb 0 (n - 1)) refl (listed_later listed k)
     by true is rest = ap₂ ◌||◌ (less_at n k is) rest
     by false is rest = rest ∙ sym (ap (λ b. b || list_any (λ m. eqb m (k + 2)) listed) (not_at n k is))
 
-behind_later : (stop : Option ℕ) (k : ℕ) → is_behind (option_map (λ n. n - 1) stop) (k + 1) ≡ is_behind stop (k + 2)
-behind_later None k = refl
-behind_later (Some n) k = less n k
+after_later : (stop : Option ℕ) (k : ℕ) → is_behind (option_map (λ n. n - 1) stop) (k + 1) ≡ is_behind stop (k + 2)
+after_later None k = refl
+after_later (Some n) k = less n k
   where
     less : (n k : ℕ) → ltb (n - 1) (k + 1) ≡ ltb n (k + 2)
     less n k = grind (arith, nat_tests)
@@ -37,4 +37,4 @@ stopped_first (Some n) = first n
 
 pub next-plan_after : (plan : PlanState) (k : ℕ) → is_next (plan_after k plan) ≡ is_to_fail plan (k + 1)
 next-plan_after plan zero = ap (λ b. is_listed plan.listed || b) (stopped_first plan.stop)
-next-plan_after plan (suc k) = next-plan_after (one_on plan) k ∙ ap₂ ◌||◌ (listed_later plan.listed k) (behind_later plan.stop k) ∙ ap (is_to_fail plan) (omega arith)
+next-plan_after plan (suc k) = next-plan_after (one_on plan) k ∙ ap₂ ◌||◌ (listed_later plan.listed k) (after_later plan.stop k) ∙ ap (is_to_fail plan) (omega arith)

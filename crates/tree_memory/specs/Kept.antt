@@ -2,7 +2,7 @@
 -- They serve the invariant of `Store`; *CanPut* the contract of `put`. `docs/crash-safety.md`, "A tree
 -- at one moment", says when a state is sound.
 use Rattle.std.specs.Prelude.{◌≡◌, ℕ, true, false, List, [], ◌∷◌, length, slice_index_or, All}
-use Rattle.base_core.specs.Files.{NameMap, put_name, AreNames, IsFile, IsFolderLike}
+use Rattle.base_core.specs.Files.{NameMap, put_name, AreNames, IsFile, HasNoFileAsFolder}
 use Rattle.base_core.specs.Tree.{TreeState, IsMapOf}
 use Rattle.tree_memory.specs.Changes.{contents_of, synced_flags, empty_state, state_on, earlier_on, is_record}
 use Rattle.tree_memory.specs.Table.{lookup}
@@ -20,7 +20,7 @@ pub record IsKept (v : TreeState) (entries : List NameAndFile) (files : List Sto
 -- a state is sound: in each map that a crash may leave no name is a folder of another and each is a
 -- name, and each file has the content of one
 pub record IsSoundState (v : TreeState) : Type 0 where
-  pub folders : (map : NameMap) → IsMapOf v map → IsFolderLike map
+  pub folders : (map : NameMap) → IsMapOf v map → HasNoFileAsFolder map
   pub named : (map : NameMap) → IsMapOf v map → AreNames map
   pub bytes : (n : ℕ) → IsFile (v.files n).bytes
 
@@ -35,4 +35,4 @@ pub record IsStore (changes : List Change) (entries : List NameAndFile)
 
 -- a file may be put under this name: no present name becomes a folder of another
 pub record CanPut (name : List ℕ) (v : TreeState) : Type 0 where
-  pub folders : IsFolderLike (put_name v.names name v.made)
+  pub folders : HasNoFileAsFolder (put_name v.names name v.made)

@@ -10,4 +10,4 @@ pub mod Sink
 pub mod Stores
 pub mod Table
 pub mod Tallies
-pub mod WholeLaw
+pub mod WellFormedLaw

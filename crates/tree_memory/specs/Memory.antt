@@ -23,7 +23,7 @@ plan_of tree = tree.calls.plan
 
 -- no call has failed, and no failure is planned
 abbrev pub no_faults : Counts
-no_faults = record { faults = 0; misuses = 0; wants = 0; fallible = false }
+no_faults = record { faults = 0; misuses = 0; memory_faults = 0; fallible = false }
 
 -- the counts of a tree, given its calls; it may fail for an outside reason (`fallible`) only while a
 -- failure is planned
@@ -31,7 +31,7 @@ abbrev pub counts_by : Calls → Counts
 counts_by calls = record {
   faults = calls.tally.faults;
   misuses = calls.tally.misuses;
-  wants = calls.tally.wants;
+  memory_faults = calls.tally.memory_faults;
   fallible = has_more calls.plan;
 }
 
@@ -61,7 +61,7 @@ pub record IsRead {T E : Type 0} (old new : MemoryTree) (result : Result T E) : 
   pub plan : plan_of new ≡ one_on (plan_of old)
   pub faults : (counts_of new).faults ≡ (if is_ok result then (counts_of old).faults else next_count
       (counts_of old).faults)
-  pub wants : (counts_of new).wants ≡ (counts_of old).wants
+  pub memory_faults : (counts_of new).memory_faults ≡ (counts_of old).memory_faults
 
 -- ---- a call that writes
 
@@ -73,12 +73,12 @@ pub record IsFree (can : TreeState → Type 0) (old : MemoryTree) : Type 0 where
 -- a call failed because that was planned, or because it was a misuse
 pub record HadToFail (can : TreeState → Type 0) (old new : MemoryTree) : Type 0 where
   pub reason : (is_next (plan_of old) ≡ true) ⊎ (can (tree_state old) → ⊥)
-  pub wants : (counts_of new).wants ≡ (counts_of old).wants
+  pub memory_faults : (counts_of new).memory_faults ≡ (counts_of old).memory_faults
 
 -- a call failed only because the tree was out of memory
-pub record FailedForWant (can : TreeState → Type 0) (old new : MemoryTree) : Type 0 where
+pub record FailedForMemory (can : TreeState → Type 0) (old new : MemoryTree) : Type 0 where
   pub free : IsFree can old
-  pub wants : (counts_of new).wants ≡ next_count (counts_of old).wants
+  pub memory_faults : (counts_of new).memory_faults ≡ next_count (counts_of old).memory_faults
 
 -- a call that writes: it is counted, and the plan is one call nearer; an error is a fault, has one of
 -- these reasons, and changes nothing else
@@ -91,6 +91,6 @@ pub record IsWrite {T E : Type 0} (can : TreeState → Type 0) (old new : Memory
   pub faults : (counts_of new).faults ≡ (if is_ok result then (counts_of old).faults else next_count
       (counts_of old).faults)
   pub free : OnOk result (IsFree can old)
-  pub wants : OnOk result ((counts_of new).wants ≡ (counts_of old).wants)
-  pub reason : OnErr result (HadToFail can old new ⊎ FailedForWant can old new)
+  pub memory_faults : OnOk result ((counts_of new).memory_faults ≡ (counts_of old).memory_faults)
+  pub reason : OnErr result (HadToFail can old new ⊎ FailedForMemory can old new)
   pub unchanged : OnErr result (history_of new ≡ history_of old)

@@ -12,18 +12,18 @@ pub record SinkState : Type 0 where
   pub room : Option ℕ
   pub most : Option ℕ
   pub faults : ℕ
-  pub wants : ℕ
+  pub memory_faults : ℕ
 
 -- an empty sink without a planned end
 abbrev pub new_sink : SinkState
-new_sink = record { bytes = []; room = None; most = None; faults = 0; wants = 0 }
+new_sink = record { bytes = []; room = None; most = None; faults = 0; memory_faults = 0 }
 
 -- the counts of a sink: it may fail for an outside reason (`fallible`) only if an end is planned
 abbrev pub sink_counts : SinkState → Counts
 sink_counts sink = record {
   faults = sink.faults;
   misuses = 0;
-  wants = sink.wants;
+  memory_faults = sink.memory_faults;
   fallible =
       is_some sink.room;
 }
@@ -58,10 +58,14 @@ pub record IsFull (old : SinkState) (piece : List ℕ) (new : SinkState) : Type 
   pub counted : new ≡ record old { faults = next_count old.faults }
 
 -- a write of some bytes if the sink is out of memory
-pub record IsWanting (old : SinkState) (piece : List ℕ) (new : SinkState) : Type 0 where
+pub record IsOutOfMemory (old : SinkState) (piece : List ℕ) (new : SinkState) : Type 0 where
   pub some : 0 < share_of old piece
-  pub counted : new ≡ record old { faults = next_count old.faults; wants = next_count old.wants }
+  pub counted : new ≡ record old {
+    faults = next_count old.faults;
+    memory_faults = next_count
+        old.memory_faults;
+  }
 
 -- a write that fails: there is no room, or the sink is out of memory
 abbrev pub Refuses : SinkState → List ℕ → SinkState → Type 0
-Refuses old piece new = IsFull old piece new ⊎ IsWanting old piece new
+Refuses old piece new = IsFull old piece new ⊎ IsOutOfMemory old piece new

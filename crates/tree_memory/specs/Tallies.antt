@@ -7,7 +7,7 @@ use Rattle.tree_memory.specs.declared.calls.Tally.{Tally}
 
 -- the counts before the first call
 abbrev pub no_calls : Tally
-no_calls = record { calls = 0; writes = 0; faults = 0; misuses = 0; wants = 0 }
+no_calls = record { calls = 0; writes = 0; faults = 0; misuses = 0; memory_faults = 0 }
 
 -- the counts with one call more
 abbrev pub with_call : Tally → Tally
@@ -22,8 +22,12 @@ abbrev pub with_misuse : Tally → Tally
 with_misuse t = record t { faults = next_count t.faults; misuses = next_count t.misuses }
 
 -- the counts if the tree was out of memory: one more fault, and one more lack of memory
-abbrev pub with_want : Tally → Tally
-with_want t = record t { faults = next_count t.faults; wants = next_count t.wants }
+abbrev pub with_memory_fault : Tally → Tally
+with_memory_fault t = record t {
+  faults = next_count t.faults;
+  memory_faults = next_count
+      t.memory_faults;
+}
 
 -- the counts after the begin of a call, given whether the state allows it and whether it is planned to
 -- fail. A misuse that is planned to fail counts as a misuse alone.
@@ -43,4 +47,4 @@ goes_on true false = true
 pub record HasGrown (old new : Tally) : Type 0 where
   pub faults : old.faults ≤ new.faults
   pub misuses : old.misuses ≤ new.misuses
-  pub wants : old.wants ≤ new.wants
+  pub memory_faults : old.memory_faults ≤ new.memory_faults

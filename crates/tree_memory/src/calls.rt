@@ -4,7 +4,7 @@
 ghost use Rattle.std.specs.Prelude.{◌≡◌, [], None, Some, OnOk, OnErr, is_ok, if◌then◌else◌, ◌⊎◌, ◌+◌, ℕ, false};
 ghost use Rattle.base_core.specs.Faults.{next_count, HasCause, Rose};
 ghost use Rattle.tree_memory.specs.Plans.{PlanState, no_plan, is_next, is_listed, one_on, listed_on, has_more, is_to_fail, plan_after};
-ghost use Rattle.tree_memory.specs.Tallies.{no_calls, with_call, with_fault, with_misuse, with_want, with_begun_call, goes_on, HasGrown};
+ghost use Rattle.tree_memory.specs.Tallies.{no_calls, with_call, with_fault, with_misuse, with_memory_fault, with_begun_call, goes_on, HasGrown};
 ghost use Rattle.tree_memory.specs.Memory.{plan_of, counts_of};
 ghost use Rattle.tree_memory.specs.Sink.{SinkState, sink_counts};
 ghost use Rattle.tree_memory.specs.declared.tree.MemoryTree.{MemoryTree};
@@ -101,7 +101,7 @@ pub struct Tally {
     /// Of these, the misuses.
     pub misuses: u64,
     /// Calls that failed because the tree itself was out of memory.
-    pub wants: u64,
+    pub memory_faults: u64,
 }
 
 impl Tally {
@@ -114,7 +114,7 @@ impl Tally {
             writes: 0,
             faults: 0,
             misuses: 0,
-            wants: 0,
+            memory_faults: 0,
         }
     }
 
@@ -151,11 +151,11 @@ impl Tally {
 
     /// Counts the call as out of memory, which is a fault too.
     pub fn want(&mut self)
-        ensures is { self.new ≡ with_want self.old }
+        ensures is { self.new ≡ with_memory_fault self.old }
         ensures grown { HasGrown self.old self.new }
     {
         self.fault();
-        self.wants = self.wants.saturating_add(1);
+        self.memory_faults = self.memory_faults.saturating_add(1);
     }
 }
 
@@ -218,7 +218,7 @@ impl Calls {
     pub fn finish(&mut self, done: Result<(), AllocError>) -> Result<(), Disk>
         ensures plan { self.new.plan ≡ self.old.plan }
         ensures tally { self.new.tally
-            ≡ (if is_ok done then self.old.tally else with_want self.old.tally) }
+            ≡ (if is_ok done then self.old.tally else with_memory_fault self.old.tally) }
         ensures grown { HasGrown self.old.tally self.new.tally }
         ensures when { is_ok result ≡ is_ok done }
     {
@@ -237,13 +237,14 @@ pub fn an_unplanned_fault_has_its_reason()
     ensures { (before now : MemoryTree) → has_more (plan_of before) ≡ false
         → HasCause (counts_of before) (counts_of now)
         → Rose (counts_of before).misuses (counts_of now).misuses
-        ⊎ Rose (counts_of before).wants (counts_of now).wants }
+        ⊎ Rose (counts_of before).memory_faults (counts_of now).memory_faults }
 {}
 
 /// If no end of a sink in memory is planned, a fault means that the sink is out of memory.
-pub fn an_endless_sink_fails_for_want_of_memory()
+pub fn an_endless_sink_runs_out_of_memory()
     ensures { (before now : SinkState) → before.room ≡ None
-        → HasCause (sink_counts before) (sink_counts now) → Rose before.wants now.wants }
+        → HasCause (sink_counts before) (sink_counts now)
+        → Rose before.memory_faults now.memory_faults }
 {}
 
 /// Apart from misuses and out of memory, call k from now on fails exactly if it is listed or after

@@ -2,7 +2,7 @@
 //! The rule is in `docs/crash-safety.md`, "Images of the tree in memory".
 ghost use Rattle.std.specs.Prelude.{◌≡◌, ◌+◌, ◌-◌, ◌<◌, ◌≤◌, ◌^◌, ℕ, List, true, IfOk, length, take, slice_index_or};
 ghost use Rattle.base_core.specs.Files.{no_names};
-ghost use Rattle.base_core.specs.Restart.{IsCrashOf};
+ghost use Rattle.base_core.specs.Restart.{IsAfterCrashInOrder};
 ghost use Rattle.base_core.specs.Tree.{TreeState, files_of};
 ghost use Rattle.tree_memory.specs.Changes.{empty_state, state_on, is_record, step};
 ghost use Rattle.tree_memory.specs.Images.{maps_of, newest_first, adds_map, maps_on, image_of, crash_bytes, stored_file, HasNames};
@@ -32,7 +32,7 @@ impl Store {
         ensures files { IfOk result (λ image.
             files_of (store_state image) ≡ image_of choice (store_state self.now)) }
         ensures crash { IfOk result (λ image.
-            IsCrashOf (store_state self.now) (store_state image)) }
+            IsAfterCrashInOrder (store_state self.now) (store_state image)) }
     {
         let maps = self.maps();
         let back = maps - 1 - choice % maps;

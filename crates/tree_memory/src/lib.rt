@@ -17,7 +17,7 @@ mod table;
 mod tree;
 
 pub use calls::{
-    a_call_fails_where_it_is_planned, an_endless_sink_fails_for_want_of_memory,
+    a_call_fails_where_it_is_planned, an_endless_sink_runs_out_of_memory,
     an_unplanned_fault_has_its_reason,
 };
 pub use sink::MemorySink;

@@ -21,7 +21,7 @@ pub struct MemorySink {
     // How many writes failed.
     faults: u64,
     // How many of these failed because the sink was out of memory.
-    wants: u64,
+    memory_faults: u64,
 }
 
 impl Model for MemorySink {
@@ -35,7 +35,7 @@ impl Model for MemorySink {
       most =
           sink.most;
       faults = sink.faults;
-      wants = sink.wants;
+      memory_faults = sink.memory_faults;
     } };
 }
 
@@ -49,7 +49,7 @@ impl MemorySink {
             room: None,
             most: None,
             faults: 0,
-            wants: 0,
+            memory_faults: 0,
         }
     }
 
@@ -77,9 +77,9 @@ impl MemorySink {
 
     /// How many writes failed because the sink was out of memory.
     pub fn wants(&self) -> u64
-        ensures { result ≡ self.now.wants }
+        ensures { result ≡ self.now.memory_faults }
     {
-        self.wants
+        self.memory_faults
     }
 
     /// Counts a write that failed.
@@ -95,13 +95,13 @@ impl MemorySink {
     fn want(&mut self) -> SinkFault
         ensures is { self.new ≡ record self.old {
           faults = next_count self.old.faults;
-          wants =
-              next_count self.old.wants;
+          memory_faults =
+              next_count self.old.memory_faults;
         } }
         ensures later { self.old.faults ≤ self.new.faults }
-        ensures more { self.old.wants ≤ self.new.wants }
+        ensures more { self.old.memory_faults ≤ self.new.memory_faults }
     {
-        self.wants = self.wants.saturating_add(1);
+        self.memory_faults = self.memory_faults.saturating_add(1);
         self.fault()
     }
 }

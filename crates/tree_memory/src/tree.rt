@@ -3,12 +3,12 @@
 //! "What each call does" and "Misuses, faults and counts".
 ghost use Rattle.std.specs.Prelude.{◌≡◌, ◌↔◌, [], ◌∷◌, List, Some, None, IsTrue, IsOk, IfOk, IfSome, IsErrOf, OnOk, OnErr, false, true, length, max, take, drop, if◌then◌else◌};
 ghost use Rattle.std.specs.Option.{option_map, option_copied};
-ghost use Rattle.base_core.specs.Calls.{IsCounted, Moves, IfObservable};
-ghost use Rattle.base_core.specs.Restart.{IsCrashOf};
-ghost use Rattle.base_core.specs.Faults.{GoesOn, HasCause, IsNoFault, next_count};
+ghost use Rattle.base_core.specs.Calls.{IsCounted, ChangesHistory, IfObservable};
+ghost use Rattle.base_core.specs.Restart.{IsAfterCrashInOrder};
+ghost use Rattle.base_core.specs.Faults.{CountsOnlyRise, HasCause, IsNoFault, next_count};
 ghost use Rattle.base_core.specs.Files.{put_name};
 ghost use Rattle.base_core.specs.Listed.{AreNamesBelow, IsNamesOf, IsListOf};
-ghost use Rattle.base_core.specs.Tree.{files_of, after_create, after_append, after_failed_append, after_sync, after_rename, after_remove, after_sync_names, same_state, Anywhere, HasName, CanRead, CanCreate, CanRename};
+ghost use Rattle.base_core.specs.Tree.{files_of, after_create, after_append, after_failed_append, after_sync, after_rename, after_remove, after_sync_names, same_state, IsAlwaysAllowed, HasName, CanRead, CanCreate, CanRename};
 ghost use Rattle.base_core.specs.declared.tree.TreeFault.TheVariants.{Memory, Disk as DiskFault};
 ghost use Rattle.tree_memory.specs.Changes.{empty_state, after_put};
 ghost use Rattle.tree_memory.specs.Images.{maps_of, image_of};
@@ -127,7 +127,8 @@ impl MemoryTree {
     pub fn pick_image(&self, alloc: Global, choice: u64) -> Result<MemoryTree, AllocError>
         ensures files { IfOk result (λ image.
             files_of (tree_state image) ≡ image_of choice (tree_state self.now)) }
-        ensures crash { IfOk result (λ image. IsCrashOf (tree_state self.now) (tree_state image)) }
+        ensures crash { IfOk result (λ image. IsAfterCrashInOrder (tree_state self.now) (tree_state
+            image)) }
         ensures counts { IfOk result (λ image. counts_of image ≡ no_faults) }
         ensures plan { IfOk result (λ image. plan_of image ≡ no_plan) }
         ensures calls { IfOk result (λ image. calls_of image ≡ 0) }
@@ -165,9 +166,9 @@ impl MemoryTree {
 
     /// How many of its calls failed because the tree was out of memory.
     pub fn wants(&self) -> u64
-        ensures { result ≡ (counts_of self.now).wants }
+        ensures { result ≡ (counts_of self.now).memory_faults }
     {
-        self.calls.tally.wants
+        self.calls.tally.memory_faults
     }
 
     /// The greatest length that a `read_at` asked for, in bytes. A test sees by it that no file is
@@ -188,13 +189,13 @@ impl MemoryTree {
 
 impl Tree for MemoryTree {
     ghost use Rattle.tree_memory.specs.Memory.{tree_state, history_of, counts_of, calls_of, writes_of, plan_of, longest_of, IsRead, IsWrite};
-    ghost use Rattle.tree_memory.specs.WholeLaw.{whole_history};
+    ghost use Rattle.tree_memory.specs.WellFormedLaw.{well_formed_history};
 
     ghost history = { λ tree. history_of tree };
 
     ghost counts = { λ tree. counts_of tree };
 
-    ghost whole = { λ tree. whole_history tree };
+    ghost whole = { λ tree. well_formed_history tree };
 
     // A tree in memory takes a file under each name, and allows each name to be removed.
     ghost accepts = { λ source name. Unit {0} };
@@ -202,7 +203,7 @@ impl Tree for MemoryTree {
     /// The length of a file in bytes, or None if the name is absent.
     fn size(&mut self, name: &Name) -> Result<Option<u64>, Disk>
         ensures same { history_of self.new ≡ history_of self.old }
-        ensures counts { IsCounted Anywhere (history_of self.old) (counts_of self.old)
+        ensures counts { IsCounted IsAlwaysAllowed (history_of self.old) (counts_of self.old)
             (counts_of self.new) result }
         ensures value { IfOk result (λ size.
             IfObservable (history_of self.old)
@@ -245,7 +246,8 @@ impl Tree for MemoryTree {
 
     /// Makes an empty file under an absent name.
     fn create(&mut self, name: &Name) -> Result<(), Disk>
-        ensures moves { Moves (CanCreate name.now) (after_create name.now) (after_create name.now)
+        ensures moves { ChangesHistory (CanCreate name.now) (after_create name.now) (after_create
+            name.now)
             (history_of self.old) (history_of self.new) result }
         ensures counts { IsCounted (CanCreate name.now) (history_of self.old) (counts_of self.old)
             (counts_of self.new) result }
@@ -262,7 +264,7 @@ impl Tree for MemoryTree {
 
     /// Adds a piece at the end of a file.
     fn append(&mut self, name: &Name, piece: &[u8]) -> Result<(), Disk>
-        ensures moves { Moves (HasName name.now) (after_append name.now piece.now)
+        ensures moves { ChangesHistory (HasName name.now) (after_append name.now piece.now)
             (after_failed_append name.now) (history_of self.old) (history_of self.new) result }
         ensures counts { IsCounted (HasName name.now) (history_of self.old) (counts_of self.old)
             (counts_of self.new) result }
@@ -276,7 +278,7 @@ impl Tree for MemoryTree {
 
     /// Makes the bytes of a file durable.
     fn sync(&mut self, name: &Name) -> Result<(), Disk>
-        ensures moves { Moves (HasName name.now) (after_sync name.now) same_state
+        ensures moves { ChangesHistory (HasName name.now) (after_sync name.now) same_state
             (history_of self.old) (history_of self.new) result }
         ensures counts { IsCounted (HasName name.now) (history_of self.old) (counts_of self.old)
             (counts_of self.new) result }
@@ -290,7 +292,7 @@ impl Tree for MemoryTree {
 
     /// Moves the file of one name to another.
     fn rename(&mut self, from: &Name, to: &Name) -> Result<(), Disk>
-        ensures moves { Moves (CanRename from.now to.now) (after_rename from.now to.now)
+        ensures moves { ChangesHistory (CanRename from.now to.now) (after_rename from.now to.now)
             (after_rename from.now to.now) (history_of self.old) (history_of self.new) result }
         ensures counts { IsCounted (CanRename from.now to.now) (history_of self.old)
             (counts_of self.old) (counts_of self.new) result }
@@ -304,11 +306,12 @@ impl Tree for MemoryTree {
 
     /// Removes a name; an absent one is no fault.
     fn remove(&mut self, name: &Name) -> Result<(), Disk>
-        ensures moves { Moves Anywhere (after_remove name.now) (after_remove name.now)
+        ensures moves { ChangesHistory IsAlwaysAllowed (after_remove name.now) (after_remove
+            name.now)
             (history_of self.old) (history_of self.new) result }
-        ensures counts { IsCounted Anywhere (history_of self.old) (counts_of self.old)
+        ensures counts { IsCounted IsAlwaysAllowed (history_of self.old) (counts_of self.old)
             (counts_of self.new) result }
-        ensures call { IsWrite Anywhere self.old self.new result }
+        ensures call { IsWrite IsAlwaysAllowed self.old self.new result }
     {
         self.calls.begin_write(true)?;
         let done = self.store.remove(name);
@@ -317,11 +320,12 @@ impl Tree for MemoryTree {
 
     /// Makes all names durable.
     fn sync_names(&mut self) -> Result<(), Disk>
-        ensures moves { Moves Anywhere after_sync_names same_state (history_of self.old)
+        ensures moves { ChangesHistory IsAlwaysAllowed after_sync_names same_state (history_of
+            self.old)
             (history_of self.new) result }
-        ensures counts { IsCounted Anywhere (history_of self.old) (counts_of self.old)
+        ensures counts { IsCounted IsAlwaysAllowed (history_of self.old) (counts_of self.old)
             (counts_of self.new) result }
-        ensures call { IsWrite Anywhere self.old self.new result }
+        ensures call { IsWrite IsAlwaysAllowed self.old self.new result }
     {
         self.calls.begin_write(true)?;
         let done = self.store.sync_names();
@@ -332,7 +336,7 @@ impl Tree for MemoryTree {
     /// the tree.
     fn list(&mut self, alloc: Global, folder: &Name) -> Result<Names, TreeFault>
         ensures same { history_of self.new ≡ history_of self.old }
-        ensures goes_on { GoesOn (counts_of self.old) (counts_of self.new) }
+        ensures goes_on { CountsOnlyRise (counts_of self.old) (counts_of self.new) }
         ensures disk { IsErrOf result DiskFault
             → HasCause (counts_of self.old) (counts_of self.new) }
         ensures kept { OnOk result (IsNoFault (counts_of self.old) (counts_of self.new)) }
@@ -351,7 +355,8 @@ impl Tree for MemoryTree {
         ensures faults { (counts_of self.new).faults
             ≡ (if is_next (plan_of self.old) then next_count (counts_of self.old).faults else
             (counts_of self.old).faults) }
-        ensures wants { (counts_of self.new).wants ≡ (counts_of self.old).wants }
+        ensures memory_faults { (counts_of self.new).memory_faults
+            ≡ (counts_of self.old).memory_faults }
         ensures longest { longest_of self.new ≡ longest_of self.old }
     {
         self.calls.begin(true)?;
@@ -364,7 +369,7 @@ impl Tree for MemoryTree {
     /// Returns Ok unless a failure is planned: a tree in memory has no folders that refuse.
     fn check_target(&mut self, name: &Name, source: Option<&Name>) -> Result<(), Disk>
         ensures same { history_of self.new ≡ history_of self.old }
-        ensures counts { IsCounted Anywhere (history_of self.old) (counts_of self.old)
+        ensures counts { IsCounted IsAlwaysAllowed (history_of self.old) (counts_of self.old)
             (counts_of self.new) result }
 
         // It fails exactly if that is planned.

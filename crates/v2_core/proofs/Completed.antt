@@ -54,8 +54,8 @@ or_false false true h = h
 has_same : (f : InfoField) (info : List InfoLine) (line : InfoLine) → is_line_of f line ≡ false → has_line_of f (info ++ line ∷ []) ≡ has_line_of f info
 has_same f info line h = list_any-append (is_line_of f) info (line ∷ []) ∙ or_false (has_line_of f info) (is_line_of f line) h
 
-completed_behind : (n : ℕ) (r s : Record) (x : List ℕ) → eqb (length x) 0 ≡ false → with_text r x ≡ Some s → Completed (n + 1) s [] → Completed n r []
-completed_behind n r s x e t c = record {
+completed_after : (n : ℕ) (r s : Record) (x : List ℕ) → eqb (length x) 0 ≡ false → with_text r x ≡ Some s → Completed (n + 1) s [] → Completed n r []
+completed_after n r s x e t c = record {
   more = x ∷ c.more;
   records = c.records;
   is_read = at_good_line n r s x c.more e t ∙ c.is_read;
@@ -74,7 +74,7 @@ completed_named version good n r true a h = completed_end n r r.has_line refl (l
 completed_named version good n r false a h =
     let line : InfoLine = info_by Fields.Version (text version ∷ []) in
     let s : Record = record_by true (r.info ++ line ∷ []) r.folders in
-    completed_behind n r s (86 ∷ 58 ∷ version) (not_zero 86 (58 ∷ version))
+    completed_after n r s (86 ∷ 58 ∷ version) (not_zero 86 (58 ∷ version))
     (ap (option_and_then (with_record_line r)) (version_line version good) ∙ with_one r Fields.Version (text version ∷ []) refl h)
     (completed_end (n + 1) s true refl (lacks_none s.info (has_same Fields.Name r.info line refl ∙ a) (has_new Fields.Version r.info line refl)))
 
@@ -84,7 +84,7 @@ completed_by name version named good n r true h =
 completed_by name version named good n r false h =
     let line : InfoLine = info_by Fields.Name (text name ∷ []) in
     let s : Record = record_by true (r.info ++ line ∷ []) r.folders in
-    completed_behind n r s (80 ∷ 58 ∷ name) (not_zero 80 (58 ∷ name))
+    completed_after n r s (80 ∷ 58 ∷ name) (not_zero 80 (58 ∷ name))
     (ap (option_and_then (with_record_line r)) (name_line name named) ∙ with_one r Fields.Name (text name ∷ []) refl h)
     (completed_named version good (n + 1) s (has_line_of Fields.Version s.info) (has_new Fields.Name r.info line refl) refl)
 
@@ -94,21 +94,21 @@ completed_by name version named good n r false h =
 abbrev AreCompleted : Type 0
 AreCompleted = (n : ℕ) (r : Record) → Completed n r []
 
-begins_behind : (n : ℕ) (r s : Record) (x : List ℕ) (front : List (List ℕ)) → ((others : List (List ℕ)) (records : List Record) → records_from (n + 1) s others ≡ Ok records → (found : List Record) × (records_from n r (x ∷ others) ≡ Ok found)) → Completed (n + 1) s front → Completed n r (x ∷ front)
-begins_behind n r s x front step c =
+begins_after : (n : ℕ) (r s : Record) (x : List ℕ) (front : List (List ℕ)) → ((others : List (List ℕ)) (records : List Record) → records_from (n + 1) s others ≡ Ok records → (found : List Record) × (records_from n r (x ∷ others) ≡ Ok found)) → Completed (n + 1) s front → Completed n r (x ∷ front)
+begins_after n r s x front step c =
     let found = step (front ++ c.more) c.records c.is_read in
     record { more = c.more; records = found.0; is_read = found.1 }
 
 begins_empty : (n : ℕ) (r : Record) (x : List ℕ) (lines : List (List ℕ)) (m k : ℕ) (line lacks : Bool) → eqb (length x) 0 ≡ true → r.has_line ≡ line → lacks_needed_line r.info ≡ lacks → n + suc k < m → records_from n r (x ∷ lines) ≡ Err m → (records_from (n + 1) empty_record lines ≡ Err m → Completed (n + 1) empty_record (take k lines)) → Completed n r (x ∷ take k lines)
 begins_empty n r x lines m k false lacks e a b l h on =
-    begins_behind n r empty_record x (take k lines)
+    begins_after n r empty_record x (take k lines)
     (λ others records read. (records, at_empty_line n r x others e ∙ (none_ends n r (records_from (n + 1) empty_record others) a ∙ read)))
     (on (sym (none_ends n r (records_from (n + 1) empty_record lines) a) ∙ (sym (at_empty_line n r x lines e) ∙ h)))
 begins_empty n r x lines m k true true e a b l h on =
     let p : n ≡ m = same_number n m (sym (bad_end n r (records_from (n + 1) empty_record lines) a b) ∙ (sym (at_empty_line n r x lines e) ∙ h)) in
     absurd (omega (arith, p, l))
 begins_empty n r x lines m k true false e a b l h on =
-    begins_behind n r empty_record x (take k lines)
+    begins_after n r empty_record x (take k lines)
     (λ others records read. (r ∷ records, at_empty_line n r x others e ∙ (good_end n r (records_from (n + 1) empty_record others) a b ∙ ap (with_records (r ∷ [])) read)))
     (on (err_is (r ∷ []) (records_from (n + 1) empty_record lines) m (sym (good_end n r (records_from (n + 1) empty_record lines) a b) ∙ (sym (at_empty_line n r x lines e) ∙ h))))
 
@@ -117,7 +117,7 @@ begins_line n r x lines m k None e t l h on =
     let p : n + 1 ≡ m = same_number (n + 1) m (sym (at_bad_line n r x lines e t) ∙ h) in
     absurd (omega (arith, p, l))
 begins_line n r x lines m k (Some s) e t l h on =
-    begins_behind n r s x (take k lines)
+    begins_after n r s x (take k lines)
     (λ others records read. (records, at_good_line n r s x others e t ∙ read))
     (on s (sym (at_good_line n r s x lines e t) ∙ h))
 

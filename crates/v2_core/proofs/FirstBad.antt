@@ -9,7 +9,7 @@ use Rattle.v2_core.proofs.TextLines.{at_bad_line, at_empty_line, at_good_line}
 pub record ToldFrom (n : ℕ) (r : Record) (lines : List (List ℕ)) (m : ℕ) : Type 0 where
   pub front : List (List ℕ)
   pub rest : List (List ℕ)
-  pub stands : lines ≡ front ++ rest
+  pub located : lines ≡ front ++ rest
   pub up_to : n + length front ≡ m
   pub bad : (more : List (List ℕ)) → records_from n r (front ++ [] ∷ more) ≡ Err m
 
@@ -25,17 +25,17 @@ told_here : (n : ℕ) (r : Record) (lines : List (List ℕ)) (m : ℕ) → r.has
 told_here n r lines m line lacks p = record {
   front = [];
   rest = lines;
-  stands = refl;
+  located = refl;
   up_to = omega (arith, p);
   bad = λ more. at_empty_line n r [] more refl ∙ (bad_end n r (records_from (n + 1) empty_record more) line lacks ∙ ap Err p);
 }
 
 -- one line before what is told
-told_behind : (n : ℕ) (r s : Record) (x : List ℕ) (lines : List (List ℕ)) (m : ℕ) → ((others : List (List ℕ)) → records_from (n + 1) s others ≡ Err m → records_from n r (x ∷ others) ≡ Err m) → ToldFrom (n + 1) s lines m → ToldFrom n r (x ∷ lines) m
-told_behind n r s x lines m step t = record {
+told_after : (n : ℕ) (r s : Record) (x : List ℕ) (lines : List (List ℕ)) (m : ℕ) → ((others : List (List ℕ)) → records_from (n + 1) s others ≡ Err m → records_from n r (x ∷ others) ≡ Err m) → ToldFrom (n + 1) s lines m → ToldFrom n r (x ∷ lines) m
+told_after n r s x lines m step t = record {
   front = x ∷ t.front;
   rest = t.rest;
-  stands = ap (λ ls. x ∷ ls) t.stands;
+  located = ap (λ ls. x ∷ ls) t.located;
   up_to = omega (arith, t.up_to);
   bad = λ more. step (t.front ++ [] ∷ more) (t.bad more);
 }
@@ -51,13 +51,13 @@ told_empty : (n : ℕ) (r : Record) (x : List ℕ) (lines : List (List ℕ)) (m 
 told_empty n r x lines m false lacks e a b on h =
     let rest : records_from (n + 1) empty_record lines ≡ Err m =
     sym (none_ends n r (records_from (n + 1) empty_record lines) a) ∙ (sym (at_empty_line n r x lines e) ∙ h) in
-    told_behind n r empty_record x lines m (λ others told. at_empty_line n r x others e ∙ (none_ends n r (records_from (n + 1) empty_record others) a ∙ told)) (on tt rest)
+    told_after n r empty_record x lines m (λ others told. at_empty_line n r x others e ∙ (none_ends n r (records_from (n + 1) empty_record others) a ∙ told)) (on tt rest)
 told_empty n r x lines m true true e a b on h =
     told_here n r (x ∷ lines) m a b (same_number n m (sym (bad_end n r (records_from (n + 1) empty_record lines) a b) ∙ (sym (at_empty_line n r x lines e) ∙ h)))
 told_empty n r x lines m true false e a b on h =
     let rest : records_from (n + 1) empty_record lines ≡ Err m =
     err_is (r ∷ []) (records_from (n + 1) empty_record lines) m (sym (good_end n r (records_from (n + 1) empty_record lines) a b) ∙ (sym (at_empty_line n r x lines e) ∙ h)) in
-    told_behind n r empty_record x lines m (λ others told. at_empty_line n r x others e ∙ (good_end n r (records_from (n + 1) empty_record others) a b ∙ ap (with_records (r ∷ [])) told)) (on tt rest)
+    told_after n r empty_record x lines m (λ others told. at_empty_line n r x others e ∙ (good_end n r (records_from (n + 1) empty_record others) a b ∙ ap (with_records (r ∷ [])) told)) (on tt rest)
 
 told_line : (n : ℕ) (r : Record) (x : List ℕ) (lines : List (List ℕ)) (m : ℕ) (o : Option Record) → eqb (length x) 0 ≡ false → with_text r x ≡ o → ((s : Record) → records_from (n + 1) s lines ≡ Err m → ToldFrom (n + 1) s lines m) → records_from n r (x ∷ lines) ≡ Err m → ToldFrom n r (x ∷ lines) m
 told_line n r x lines m None e t on h =
@@ -65,18 +65,18 @@ told_line n r x lines m None e t on h =
     record {
       front = x ∷ [];
       rest = lines;
-      stands = refl;
+      located = refl;
       up_to = omega (arith, p);
       bad = λ more. at_bad_line n r x ([] ∷ more) e t ∙ ap Err p;
     }
 told_line n r x lines m (Some s) e t on h =
-    told_behind n r s x lines m (λ others told. at_good_line n r s x others e t ∙ told) (on s (sym (at_good_line n r s x lines e t) ∙ h))
+    told_after n r s x lines m (λ others told. at_good_line n r s x others e t ∙ told) (on s (sym (at_good_line n r s x lines e t) ∙ h))
 
-told_by : (n : ℕ) (r : Record) (x : List ℕ) (lines : List (List ℕ)) (m : ℕ) (b : Bool) → eqb (length x) 0 ≡ b → ((s : Record) → records_from (n + 1) s lines ≡ Err m → ToldFrom (n + 1) s lines m) → records_from n r (x ∷ lines) ≡ Err m → ToldFrom n r (x ∷ lines) m
-told_by n r x lines m true e on h = told_empty n r x lines m r.has_line (lacks_needed_line r.info) e refl refl (λ _. on empty_record) h
-told_by n r x lines m false e on h = told_line n r x lines m (with_text r x) e refl on h
+report_for_command : (n : ℕ) (r : Record) (x : List ℕ) (lines : List (List ℕ)) (m : ℕ) (b : Bool) → eqb (length x) 0 ≡ b → ((s : Record) → records_from (n + 1) s lines ≡ Err m → ToldFrom (n + 1) s lines m) → records_from n r (x ∷ lines) ≡ Err m → ToldFrom n r (x ∷ lines) m
+report_for_command n r x lines m true e on h = told_empty n r x lines m r.has_line (lacks_needed_line r.info) e refl refl (λ _. on empty_record) h
+report_for_command n r x lines m false e on h = told_line n r x lines m (with_text r x) e refl on h
 
 pub told_from : (n : ℕ) (r : Record) (lines : List (List ℕ)) (m : ℕ) → records_from n r lines ≡ Err m → ToldFrom n r lines m
 told_from n r [] m h = told_end n r m r.has_line (lacks_needed_line r.info) refl refl h
 told_from n r (x ∷ lines) m h =
-    told_by n r x lines m (eqb (length x) 0) refl (λ s. told_from (n + 1) s lines m) h
+    report_for_command n r x lines m (eqb (length x) 0) refl (λ s. told_from (n + 1) s lines m) h

@@ -12,7 +12,7 @@ use Rattle.v2_lines.specs.InfoFields.{adds_to_list}
 use Rattle.v2_lines.specs.Lines.{RecordLine, info_line, folder_access_line, file_line, file_access_line, file_hash_line, record_line_of}
 use Rattle.v2_core.specs.Reading.{records_from, records_of, with_records}
 use Rattle.v2_core.specs.Records.{InfoLine, ListedFile, ListedFolder, Record, empty_record, file_by, file_with_access, file_with_hash, folder_by, folder_with_access, folder_with_file, folder_with_last, has_line_of, lacks_needed_line, record_by, record_of_parts, with_last_changed, with_record_line}
-use Rattle.v2_core.specs.Spelling.{AreLines, SpellsRecord, SpellsText, access_lines, file_lines, folder_lines, hash_lines, info_lines, is_one_line, lines_before, record_lines, stand_once}
+use Rattle.v2_core.specs.Spelling.{AreLines, SpellsRecord, SpellsText, access_lines, file_lines, folder_lines, hash_lines, info_lines, is_one_line, lines_before, record_lines, have_no_repeated_field}
 use Rattle.v2_core.proofs.Lists.{with_last-push}
 use Rattle.v2_core.proofs.RecordEnds.{good_end}
 use Rattle.v2_core.proofs.TextLines.{at_empty_line, at_good_line, not_zero}
@@ -110,18 +110,18 @@ with_info_line : (has_line : Bool) (info : List InfoLine) (folders : List Listed
 with_info_line has_line info folders l h =
     ap (λ i. record_of_parts i (Some folders)) (taken (adds_to_list l.field) (has_line_of l.field info) info (info ++ l ∷ []) h)
 
-after_info : (done info : List InfoLine) → stand_once done info ≡ true → after (record_by true done []) (info_lines info) ≡ Some (record_by true (done ++ info) [])
+after_info : (done info : List InfoLine) → have_no_repeated_field done info ≡ true → after (record_by true done []) (info_lines info) ≡ Some (record_by true (done ++ info) [])
 after_info done [] h = ap (λ i. Some (record_by true i [])) (sym (append-nil done))
 after_info done (l ∷ ls) h =
-    let once = and_parts (adds_to_list l.field || not (has_line_of l.field done)) (stand_once (done ++ l ∷ []) ls) h in
+    let once = and_parts (adds_to_list l.field || not (has_line_of l.field done)) (have_no_repeated_field (done ++ l ∷ []) ls) h in
     after_more (record_by true done []) (record_by true (done ++ l ∷ []) []) (info_line l.field l.values) (info_lines ls) (with_info_line true done [] l once.0)
     ∙ (after_info (done ++ l ∷ []) ls once.1
     ∙ ap (λ i. Some (record_by true i [])) (append_assoc done (l ∷ []) ls))
 
-after_first : (info : List InfoLine) → lacks_needed_line info ≡ false → stand_once [] info ≡ true → after empty_record (info_lines info) ≡ Some (record_by true info [])
+after_first : (info : List InfoLine) → lacks_needed_line info ≡ false → have_no_repeated_field [] info ≡ true → after empty_record (info_lines info) ≡ Some (record_by true info [])
 after_first [] complete h = cc
 after_first (l ∷ ls) complete h =
-    let once = and_parts (adds_to_list l.field || not (has_line_of l.field [])) (stand_once (l ∷ []) ls) h in
+    let once = and_parts (adds_to_list l.field || not (has_line_of l.field [])) (have_no_repeated_field (l ∷ []) ls) h in
     after_more empty_record (record_by true (l ∷ []) []) (info_line l.field l.values) (info_lines ls) (with_info_line false [] [] l once.0)
     ∙ after_info (l ∷ []) ls once.1
 

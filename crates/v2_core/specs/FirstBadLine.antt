@@ -21,7 +21,7 @@ pub record BeginsText (front : List (List ℕ)) : Type 0 where
 pub record IsReportedLine (lines : List (List ℕ)) (number : ℕ) : Type 0 where
   pub front : List (List ℕ)
   pub rest : List (List ℕ)
-  pub stands : lines ≡ front ++ rest
+  pub located : lines ≡ front ++ rest
   pub up_to : length front ≡ number
   pub bad : (more : List (List ℕ)) → read_lines (front ++ [] ∷ more) ≡ Err number
   pub earlier : (k : ℕ) → k < number → BeginsText (take k lines)

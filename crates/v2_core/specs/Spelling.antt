@@ -40,10 +40,11 @@ record_lines r = info_lines r.info ++ flat_map folder_lines r.folders
 
 -- whether each of these lines is the first one of its field, unless the field is a list, given the
 -- lines before them
-abbrev pub stand_once : List InfoLine → List InfoLine → Bool
-stand_once before [] = true
-stand_once before (l ∷ ls) =
-    (adds_to_list l.field || not (has_line_of l.field before)) && stand_once (before ++ l ∷ []) ls
+abbrev pub have_no_repeated_field : List InfoLine → List InfoLine → Bool
+have_no_repeated_field before [] = true
+have_no_repeated_field before (l ∷ ls) =
+    (adds_to_list l.field || not (has_line_of l.field before)) && have_no_repeated_field (before ++ l ∷
+    []) ls
 
 -- whether a text holds no line end
 abbrev pub is_one_line : List ℕ → Bool
@@ -61,7 +62,7 @@ AreLines (t ∷ ts) (l ∷ ls) =
 pub record SpellsRecord (lines : List (List ℕ)) (r : Record) : Type 0 where
   pub begun : r.has_line ≡ true
   pub complete : lacks_needed_line r.info ≡ false
-  pub once : stand_once [] r.info ≡ true
+  pub once : have_no_repeated_field [] r.info ≡ true
   pub lines_say : AreLines lines (record_lines r)
 
 -- the text of some lines, each with its line end (10), followed by another text

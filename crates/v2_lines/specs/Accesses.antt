@@ -28,8 +28,8 @@ abbrev pub before_colon : List ℕ → List ℕ
 before_colon text = before_first (λ b. b == COLON) text
 
 -- the text after the first colon; nothing if there is none
-abbrev pub behind_colon : List ℕ → List ℕ
-behind_colon text = after_first (λ b. b == COLON) text
+abbrev pub after_colon : List ℕ → List ℕ
+after_colon text = after_first (λ b. b == COLON) text
 
 -- whether a text is the number of a user or a group: one or more decimal digits
 abbrev pub is_id : List ℕ → Bool
@@ -53,7 +53,7 @@ octal_number digits =
 abbrev pub access_in : List ℕ → Option Access
 access_in text =
     let user = before_colon text in
-    let group = before_colon (behind_colon text) in
-    let mode = before_colon (behind_colon (behind_colon text)) in
+    let group = before_colon (after_colon text) in
+    let mode = before_colon (after_colon (after_colon text)) in
     if is_id user && is_id group then option_map (access_by user group) (octal_number mode)
     else None

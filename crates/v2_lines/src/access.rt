@@ -5,7 +5,7 @@ ghost use Rattle.std.specs.List.{list_all};
 ghost use Rattle.std.specs.Option.{option_map};
 ghost use Rattle.std.specs.Prelude.{◌≡◌, ◌==◌, ◌<◌, IfSome, length, position, true};
 ghost use Rattle.std.specs.Char.{is_ascii_digit};
-ghost use Rattle.v2_lines.specs.Accesses.{access_in, access_view, before_colon, behind_colon, is_id, is_octal, is_octal_digit, octal_number};
+ghost use Rattle.v2_lines.specs.Accesses.{access_in, access_view, before_colon, after_colon, is_id, is_octal, is_octal_digit, octal_number};
 
 use std::str;
 
@@ -29,12 +29,12 @@ pub(crate) fn read_access(text: &[u8]) -> Option<Access<'_>>
     ensures { option_map access_view result ≡ access_in text.now }
 {
     let user = before_colon(text);
-    let rest = behind_colon(text);
+    let rest = after_colon(text);
     let group = before_colon(rest);
     if !is_id(user) || !is_id(group) {
         return None;
     }
-    let mode = read_octal(before_colon(behind_colon(rest)))?;
+    let mode = read_octal(before_colon(after_colon(rest)))?;
     Some(Access { user, group, mode })
 }
 
@@ -57,8 +57,8 @@ fn before_colon(text: &[u8]) -> &[u8]
 }
 
 // The text after the first colon; nothing if there is none.
-fn behind_colon(text: &[u8]) -> &[u8]
-    ensures { result.now ≡ behind_colon text.now }
+fn after_colon(text: &[u8]) -> &[u8]
+    ensures { result.now ≡ after_colon text.now }
 {
     match colon_in(text) {
         Some(at) => &text[at + 1..],

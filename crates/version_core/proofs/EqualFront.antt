@@ -15,7 +15,7 @@ use Rattle.std.proofs.lemmas.List.Sums.{take_while-cons}
 use Rattle.version_core.specs.declared.token.Class.{Class}
 use Rattle.version_core.specs.declared.token.Class.TheVariants.{Revision, Hash, SuffixNumber, Letter, Component}
 use Rattle.version_core.specs.Token.{Token, Lexeme, number_token, text_token, lexeme, stray_lexeme, is_component, is_suffix, is_before_hash, is_before_revision, is_hex_digit, leading_digits, leading_hex_digits, leading_letters, number_lexeme, component_lexeme, suffix_lexeme, hash_lexeme, revision_lexeme, next_lexeme, lexeme_at}
-use Rattle.version_core.specs.Order.{are_in_grammar, is_last, is_stray, is_version, token_cmp, tokens, tokens_behind, version_cmp}
+use Rattle.version_core.specs.Order.{are_in_grammar, is_last, is_stray, is_version, token_cmp, tokens, tokens_after, version_cmp}
 use Rattle.version_core.specs.Matching.{all_fit, begins_with, fits, is_fuzzy_match, is_zero_component}
 use Rattle.version_core.specs.Reading.{AreEqualUpTo, IsLastMark, begins_with_mark, hash_cmp, hash_fits, is_token_mark, is_unmarked}
 use Rattle.version_core.proofs.OrderLaws.{token_cmp-total}
@@ -98,7 +98,7 @@ mark_lexeme (Some last) m x mark h =
 -- ---- the tokens of a text that is in the grammar
 
 abbrev pub IsGood : Option Class → ℕ → List ℕ → Type 0
-IsGood last inside text = are_in_grammar (tokens_behind last inside text) ≡ true
+IsGood last inside text = are_in_grammar (tokens_after last inside text) ≡ true
 
 no_end : (last : Option Class) (b : ℕ) (rest : List ℕ) → NoEnd (lexeme_at last (b ∷ rest))
 no_end None b rest = number_no_end Component 0 (leading_digits (b ∷ rest)) (λ h. h)
@@ -113,12 +113,12 @@ goes_on last b rest good = bool_by _ (λ h. sym (stray_first last (b ∷ rest) (
 
 -- the tokens after a token, if it begins a text of which so much follows its first byte
 abbrev tokens_by : List ℕ → Lexeme → List Token
-tokens_by rest found = found.token ∷ cond (is_last found.token.class) [] (tokens_behind (Some found.token.class) (found.width - 1) rest)
+tokens_by rest found = found.token ∷ cond (is_last found.token.class) [] (tokens_after (Some found.token.class) (found.width - 1) rest)
 
-pub good_behind : (rest : List ℕ) (found : Lexeme) (stray : Bool) (last : Bool) → last ≡ false → (not stray && are_in_grammar (cond last [] (tokens_behind (Some found.token.class) (found.width - 1) rest))) ≡ true → IsGood (Some found.token.class) (found.width - 1) rest
-good_behind rest found true last e h = absurd (false≢true h)
-good_behind rest found false true e h = absurd (false≢true (sym e))
-good_behind rest found false false e h = h
+pub good_after : (rest : List ℕ) (found : Lexeme) (stray : Bool) (last : Bool) → last ≡ false → (not stray && are_in_grammar (cond last [] (tokens_after (Some found.token.class) (found.width - 1) rest))) ≡ true → IsGood (Some found.token.class) (found.width - 1) rest
+good_after rest found true last e h = absurd (false≢true h)
+good_after rest found false true e h = absurd (false≢true (sym e))
+good_after rest found false false e h = h
 
 -- what is made of two lists of tokens, where a token that both begin with makes no difference
 abbrev pub PassesEqual : {X : Type 0} → (List Token → List Token → X) → Type 0
@@ -126,22 +126,22 @@ PassesEqual make = (token : Token) (ts us : List Token) → is_last token.class 
 
 -- what is made of the tokens of two texts after a token of some class
 abbrev made_at : {X : Type 0} → (List Token → List Token → X) → Option Class → ℕ → List ℕ → List ℕ → X
-made_at make last inside left right = make (tokens_behind last inside left) (tokens_behind last inside right)
+made_at make last inside left right = make (tokens_after last inside left) (tokens_after last inside right)
 
 module _ {X : Type 0} (make : List Token → List Token → X) (passes : PassesEqual make) where
   -- of two texts that begin with one token the same is made as of what follows it
   same_token : (found : Lexeme) (x y : List ℕ) → is_last found.token.class ≡ false → make (tokens_by x found) (tokens_by y found) ≡ made_at make (Some found.token.class) (found.width - 1) x y
   same_token found x y h =
-      ap (λ b. make (found.token ∷ cond b [] (tokens_behind (Some found.token.class) (found.width - 1) x)) (found.token ∷ cond b [] (tokens_behind (Some found.token.class) (found.width - 1) y))) h
-      ∙ passes found.token (tokens_behind (Some found.token.class) (found.width - 1) x) (tokens_behind (Some found.token.class) (found.width - 1) y) h
+      ap (λ b. make (found.token ∷ cond b [] (tokens_after (Some found.token.class) (found.width - 1) x)) (found.token ∷ cond b [] (tokens_after (Some found.token.class) (found.width - 1) y))) h
+      ∙ passes found.token (tokens_after (Some found.token.class) (found.width - 1) x) (tokens_after (Some found.token.class) (found.width - 1) y) h
 
   -- the same with an equal front, after which both go on with a mark
-  made_behind : (last : Option Class) (inside : ℕ) (a : List ℕ) (m : ℕ) (x y : List ℕ) → is_token_mark m ≡ true → inside ≤ length a → IsGood last inside (a ++ m ∷ x) → IsGood last inside (a ++ m ∷ y) → made_at make last inside (a ++ m ∷ x) (a ++ m ∷ y) ≡ made_at make (Some Component) 0 (m ∷ x) (m ∷ y)
-  made_behind last zero [] m x y mark room left right = λ i.
+  made_after : (last : Option Class) (inside : ℕ) (a : List ℕ) (m : ℕ) (x y : List ℕ) → is_token_mark m ≡ true → inside ≤ length a → IsGood last inside (a ++ m ∷ x) → IsGood last inside (a ++ m ∷ y) → made_at make last inside (a ++ m ∷ x) (a ++ m ∷ y) ≡ made_at make (Some Component) 0 (m ∷ x) (m ∷ y)
+  made_after last zero [] m x y mark room left right = λ i.
       make (tokens_by x (mark_lexeme last m x mark (goes_on last m x left) i)) (tokens_by y (mark_lexeme last m y mark (goes_on last m y right) i))
-  made_behind last (suc inside) [] m x y mark room left right = absurd (omega arith)
-  made_behind last (suc inside) (b ∷ a) m x y mark room left right = made_behind last inside a m x y mark (omega arith) left right
-  made_behind last zero (b ∷ a) m x y mark room left right =
+  made_after last (suc inside) [] m x y mark room left right = absurd (omega arith)
+  made_after last (suc inside) (b ∷ a) m x y mark room left right = made_after last inside a m x y mark (omega arith) left right
+  made_after last zero (b ∷ a) m x y mark room left right =
       let found = lexeme_at last (b ∷ a) in
       let e = lexeme_front last b a m x mark in
       let f = lexeme_front last b a m y mark in
@@ -149,9 +149,9 @@ module _ {X : Type 0} (make : List Token → List Token → X) (passes : PassesE
       let most = (lexeme_at_within last (b ∷ a)).most in
       (λ i. make (tokens_by (a ++ m ∷ x) (e i)) (tokens_by (a ++ m ∷ y) (f i)))
       ∙ same_token found (a ++ m ∷ x) (a ++ m ∷ y) on
-      ∙ made_behind (Some found.token.class) (found.width - 1) a m x y mark (omega arith)
-      (good_behind (a ++ m ∷ x) found (is_stray found.token.class) (is_last found.token.class) on (ap (λ (l : Lexeme). are_in_grammar (tokens_by (a ++ m ∷ x) l)) (sym e) ∙ left))
-      (good_behind (a ++ m ∷ y) found (is_stray found.token.class) (is_last found.token.class) on (ap (λ (l : Lexeme). are_in_grammar (tokens_by (a ++ m ∷ y) l)) (sym f) ∙ right))
+      ∙ made_after (Some found.token.class) (found.width - 1) a m x y mark (omega arith)
+      (good_after (a ++ m ∷ x) found (is_stray found.token.class) (is_last found.token.class) on (ap (λ (l : Lexeme). are_in_grammar (tokens_by (a ++ m ∷ x) l)) (sym e) ∙ left))
+      (good_after (a ++ m ∷ y) found (is_stray found.token.class) (is_last found.token.class) on (ap (λ (l : Lexeme). are_in_grammar (tokens_by (a ++ m ∷ y) l)) (sym f) ∙ right))
 
 -- and each is in the grammar from the mark on
 pub good_front : (last : Option Class) (inside : ℕ) (a : List ℕ) (m : ℕ) (x : List ℕ) → is_token_mark m ≡ true → inside ≤ length a → IsGood last inside (a ++ m ∷ x) → IsGood (Some Component) 0 (m ∷ x)
@@ -165,7 +165,7 @@ good_front last zero (b ∷ a) m x mark room good =
     let on : is_last found.token.class ≡ false = ap (λ (l : Lexeme). is_last l.token.class) (sym e) ∙ goes_on last b (a ++ m ∷ x) good in
     let most = (lexeme_at_within last (b ∷ a)).most in
     good_front (Some found.token.class) (found.width - 1) a m x mark (omega arith)
-    (good_behind (a ++ m ∷ x) found (is_stray found.token.class) (is_last found.token.class) on (ap (λ (l : Lexeme). are_in_grammar (tokens_by (a ++ m ∷ x) l)) (sym e) ∙ good))
+    (good_after (a ++ m ∷ x) found (is_stray found.token.class) (is_last found.token.class) on (ap (λ (l : Lexeme). are_in_grammar (tokens_by (a ++ m ∷ x) l)) (sym e) ∙ good))
 
 -- ---- within the hash of both
 
@@ -199,18 +199,18 @@ no_hash_byte b rest h = λ i.
 -- the digits of a hash up to a place within it
 record AreHashDigits (digits rest : List ℕ) : Type 0 where
   text : leading_hex_digits (digits ++ rest) ≡ digits ++ leading_hex_digits rest
-  behind : tokens_behind (Some Hash) (length (leading_hex_digits (digits ++ rest))) (digits ++ rest) ≡ tokens_behind (Some Hash) (length (leading_hex_digits rest)) rest
+  behind : tokens_after (Some Hash) (length (leading_hex_digits (digits ++ rest))) (digits ++ rest) ≡ tokens_after (Some Hash) (length (leading_hex_digits rest)) rest
 
 hash_digits_by : (b : ℕ) (digits rest : List ℕ) (hex : Bool) → is_hex_digit b ≡ hex → not (is_token_mark b) ≡ true → IsGood (Some Hash) (length (leading_hex_digits (b ∷ (digits ++ rest)))) (b ∷ (digits ++ rest))
     → (IsGood (Some Hash) (length (leading_hex_digits (digits ++ rest))) (digits ++ rest) → AreHashDigits digits rest) → AreHashDigits (b ∷ digits) rest
 hash_digits_by b digits rest true h plain good later =
     let run : leading_hex_digits (b ∷ (digits ++ rest)) ≡ b ∷ leading_hex_digits (digits ++ rest) = take_while-cons is_hex_digit b (digits ++ rest) ∙ ap (λ c. cond c (b ∷ leading_hex_digits (digits ++ rest)) []) h in
-    let there : tokens_behind (Some Hash) (length (leading_hex_digits (b ∷ (digits ++ rest)))) (b ∷ (digits ++ rest)) ≡ tokens_behind (Some Hash) (length (leading_hex_digits (digits ++ rest))) (digits ++ rest) = ap (λ ds. tokens_behind (Some Hash) (length ds) (b ∷ (digits ++ rest))) run in
+    let there : tokens_after (Some Hash) (length (leading_hex_digits (b ∷ (digits ++ rest)))) (b ∷ (digits ++ rest)) ≡ tokens_after (Some Hash) (length (leading_hex_digits (digits ++ rest))) (digits ++ rest) = ap (λ ds. tokens_after (Some Hash) (length ds) (b ∷ (digits ++ rest))) run in
     let more = later (ap are_in_grammar (sym there) ∙ good) in
     record { text = run ∙ ap (λ ds. b ∷ ds) more.text; behind = there ∙ more.behind }
 hash_digits_by b digits rest false h plain good later =
     let run : leading_hex_digits (b ∷ (digits ++ rest)) ≡ [] = take_while-cons is_hex_digit b (digits ++ rest) ∙ ap (λ c. cond c (b ∷ leading_hex_digits (digits ++ rest)) []) h in
-    let here : IsGood (Some Hash) 0 (b ∷ (digits ++ rest)) = ap (λ ds. are_in_grammar (tokens_behind (Some Hash) (length ds) (b ∷ (digits ++ rest)))) (sym run) ∙ good in
+    let here : IsGood (Some Hash) 0 (b ∷ (digits ++ rest)) = ap (λ ds. are_in_grammar (tokens_after (Some Hash) (length ds) (b ∷ (digits ++ rest)))) (sym run) ∙ good in
     let stray : is_last (lexeme_at (Some Hash) (b ∷ (digits ++ rest))).token.class ≡ true = ap (λ (l : Lexeme). is_last l.token.class) (no_hash_byte b (digits ++ rest) plain) in
     absurd (false≢true (sym (goes_on (Some Hash) b (digits ++ rest) here) ∙ stray))
 
@@ -219,24 +219,24 @@ hash_digits [] rest plain good = record { text = refl; behind = refl }
 hash_digits (b ∷ digits) rest plain good =
     hash_digits_by b digits rest (is_hex_digit b) refl (and_left (not (is_token_mark b)) (is_unmarked digits) plain) good (hash_digits digits rest (and_right (not (is_token_mark b)) (is_unmarked digits) plain))
 
-hash_first : (rest : List ℕ) → IsGood (Some Component) 0 (126 ∷ rest) → tokens_behind (Some Component) 0 (126 ∷ rest) ≡ text_token Hash (leading_hex_digits rest) ∷ tokens_behind (Some Hash) (length (leading_hex_digits rest)) rest
+hash_first : (rest : List ℕ) → IsGood (Some Component) 0 (126 ∷ rest) → tokens_after (Some Component) 0 (126 ∷ rest) ≡ text_token Hash (leading_hex_digits rest) ∷ tokens_after (Some Hash) (length (leading_hex_digits rest)) rest
 unfolding next_lexeme hash_lexeme
 hash_first rest good =
     let len = length (leading_hex_digits rest) in
     let less : 1 + len - 1 ≡ len = omega arith in
     ap (tokens_by rest) (plain_by (ltb 0 len) (lexeme (text_token Hash (leading_hex_digits rest)) (1 + len)) (goes_on (Some Component) 126 rest good))
-    ∙ ap (λ n. text_token Hash (leading_hex_digits rest) ∷ tokens_behind (Some Hash) n rest) less
+    ∙ ap (λ n. text_token Hash (leading_hex_digits rest) ∷ tokens_after (Some Hash) n rest) less
 
 same_digits : (a x y : List ℕ) → slice_cmp nat_cmp (a ++ x) (a ++ y) ≡ slice_cmp nat_cmp x y
 same_digits [] x y = refl
 same_digits (b ∷ a) x y = ap (λ o. ordering_then o (slice_cmp nat_cmp (a ++ x) (a ++ y))) (tied_itself nat_cmp_total b) ∙ same_digits a x y
 
 -- the tokens from a hash on, whose digits are these and those that a text begins with
-abbrev hash_and_behind : List ℕ → List ℕ → List Token
-hash_and_behind digits rest =
-    text_token Hash (digits ++ leading_hex_digits rest) ∷ tokens_behind (Some Hash) (length (leading_hex_digits rest)) rest
+abbrev hash_and_after : List ℕ → List ℕ → List Token
+hash_and_after digits rest =
+    text_token Hash (digits ++ leading_hex_digits rest) ∷ tokens_after (Some Hash) (length (leading_hex_digits rest)) rest
 
-hash_tokens : (digits rest : List ℕ) → is_unmarked digits ≡ true → IsGood (Some Component) 0 (126 ∷ (digits ++ rest)) → tokens_behind (Some Component) 0 (126 ∷ (digits ++ rest)) ≡ hash_and_behind digits rest
+hash_tokens : (digits rest : List ℕ) → is_unmarked digits ≡ true → IsGood (Some Component) 0 (126 ∷ (digits ++ rest)) → tokens_after (Some Component) 0 (126 ∷ (digits ++ rest)) ≡ hash_and_after digits rest
 hash_tokens digits rest plain good =
     let first = hash_first (digits ++ rest) good in
     let inner = hash_digits digits rest plain (ap are_in_grammar (sym first) ∙ good) in
@@ -273,7 +273,7 @@ pub cmp_whole : (left right : List ℕ) → slice_cmp token_cmp (tokens left) (t
 unfolding version_cmp
 cmp_whole left right = refl
 
-tokens_whole : (text : List ℕ) → tokens text ≡ tokens_behind None 0 text
+tokens_whole : (text : List ℕ) → tokens text ≡ tokens_after None 0 text
 unfolding tokens
 tokens_whole text = refl
 
@@ -282,7 +282,7 @@ unfolding is_version tokens
 good_whole text h = h
 
 module _ {X : Type 0} (make : List Token → List Token → X) (passes : PassesEqual make) (left right : List ℕ) (len at : ℕ) (equal : AreEqualUpTo left right len) (found : IsLastMark (take len left) at) (one : is_version left ≡ true) (two : is_version right ≡ true) where
-  pub made_from_mark : make (tokens left) (tokens right) ≡ make (tokens_behind (Some Component) 0 (drop at left)) (tokens_behind (Some Component) 0 (drop at right))
+  pub made_from_mark : make (tokens left) (tokens right) ≡ make (tokens_after (Some Component) 0 (drop at left)) (tokens_after (Some Component) 0 (drop at right))
   made_from_mark =
       let front = take len left in
       with_mark _ (drop at front) found.mark (λ m plain h mark.
@@ -292,10 +292,10 @@ module _ {X : Type 0} (make : List Token → List Token → X) (passes : PassesE
       let y = plain ++ drop len right in
       (λ i. make (tokens_whole left i) (tokens_whole right i))
       ∙ (λ i. made_at make None 0 (l.whole i) (r.whole i))
-      ∙ made_behind make passes None 0 (take at front) m x y mark (omega arith) (subst (IsGood None 0) l.whole (good_whole left one)) (subst (IsGood None 0) r.whole (good_whole right two))
+      ∙ made_after make passes None 0 (take at front) m x y mark (omega arith) (subst (IsGood None 0) l.whole (good_whole left one)) (subst (IsGood None 0) r.whole (good_whole right two))
       ∙ (λ i. made_at make (Some Component) 0 (sym l.rest i) (sym r.rest i)))
 
-  pub made_from_hash : (inner : List ℕ → List ℕ → X) → ((digits x y : List ℕ) → make (hash_and_behind digits x) (hash_and_behind digits y) ≡ inner x y) → at < length left → get_or left at 0 ≡ 126 → make (tokens left) (tokens right) ≡ inner (drop len left) (drop len right)
+  pub made_from_hash : (inner : List ℕ → List ℕ → X) → ((digits x y : List ℕ) → make (hash_and_after digits x) (hash_and_after digits y) ≡ inner x y) → at < length left → get_or left at 0 ≡ 126 → make (tokens left) (tokens right) ≡ inner (drop len left) (drop len right)
   made_from_hash inner drops within tilde =
       let front = take len left in
       with_mark _ (drop at front) found.mark (λ m plain h mark.
@@ -318,12 +318,12 @@ module _ {X : Type 0} (make : List Token → List Token → X) (passes : PassesE
 cmp_passes : PassesEqual (slice_cmp token_cmp)
 cmp_passes token ts us h = ap (λ o. ordering_then o (slice_cmp token_cmp ts us)) (tied_itself token_cmp-total token)
 
-cmp_drops : (digits x y : List ℕ) → slice_cmp token_cmp (hash_and_behind digits x) (hash_and_behind digits y) ≡ hash_cmp x y
+cmp_drops : (digits x y : List ℕ) → slice_cmp token_cmp (hash_and_after digits x) (hash_and_after digits y) ≡ hash_cmp x y
 cmp_drops digits x y =
-    ap (λ o. ordering_then o (slice_cmp token_cmp (tokens_behind (Some Hash) (length (leading_hex_digits x)) x) (tokens_behind (Some Hash) (length (leading_hex_digits y)) y)))
+    ap (λ o. ordering_then o (slice_cmp token_cmp (tokens_after (Some Hash) (length (leading_hex_digits x)) x) (tokens_after (Some Hash) (length (leading_hex_digits y)) y)))
     (same_digits digits (leading_hex_digits x) (leading_hex_digits y))
 
-pub cmp_from_mark : (left right : List ℕ) (len at : ℕ) → AreEqualUpTo left right len → IsLastMark (take len left) at → is_version left ≡ true → is_version right ≡ true → version_cmp left right ≡ slice_cmp token_cmp (tokens_behind (Some Component) 0 (drop at left)) (tokens_behind (Some Component) 0 (drop at right))
+pub cmp_from_mark : (left right : List ℕ) (len at : ℕ) → AreEqualUpTo left right len → IsLastMark (take len left) at → is_version left ≡ true → is_version right ≡ true → version_cmp left right ≡ slice_cmp token_cmp (tokens_after (Some Component) 0 (drop at left)) (tokens_after (Some Component) 0 (drop at right))
 cmp_from_mark left right len at equal found one two =
     sym (cmp_whole left right) ∙ made_from_mark (slice_cmp token_cmp) cmp_passes left right len at equal found one two
 
@@ -346,17 +346,17 @@ pub fit_passes : PassesEqual all_fit
 fit_passes token ts us h =
     (λ i. h i || (fits token token && all_fit ts us)) ∙ ap (λ b. b && all_fit ts us) (equal_fits token)
 
-fit_drops : (digits x y : List ℕ) → all_fit (hash_and_behind digits x) (hash_and_behind digits y) ≡ hash_fits x y
+fit_drops : (digits x y : List ℕ) → all_fit (hash_and_after digits x) (hash_and_after digits y) ≡ hash_fits x y
 unfolding fits
 fit_drops digits x y =
-    ap (λ o. is_eq o && all_fit (tokens_behind (Some Hash) (length (leading_hex_digits x)) x) (tokens_behind (Some Hash) (length (leading_hex_digits y)) y))
+    ap (λ o. is_eq o && all_fit (tokens_after (Some Hash) (length (leading_hex_digits x)) x) (tokens_after (Some Hash) (length (leading_hex_digits y)) y))
     (same_digits digits (leading_hex_digits y) (leading_hex_digits x))
 
 pub fit_whole : (wanted found : List ℕ) → all_fit (tokens wanted) (tokens found) ≡ is_fuzzy_match found wanted
 unfolding is_fuzzy_match
 fit_whole wanted found = refl
 
-pub fit_from_mark : (wanted found : List ℕ) (len at : ℕ) → AreEqualUpTo wanted found len → IsLastMark (take len wanted) at → is_version wanted ≡ true → is_version found ≡ true → is_fuzzy_match found wanted ≡ all_fit (tokens_behind (Some Component) 0 (drop at wanted)) (tokens_behind (Some Component) 0 (drop at found))
+pub fit_from_mark : (wanted found : List ℕ) (len at : ℕ) → AreEqualUpTo wanted found len → IsLastMark (take len wanted) at → is_version wanted ≡ true → is_version found ≡ true → is_fuzzy_match found wanted ≡ all_fit (tokens_after (Some Component) 0 (drop at wanted)) (tokens_after (Some Component) 0 (drop at found))
 fit_from_mark wanted found len at equal last one two =
     sym (fit_whole wanted found) ∙ made_from_mark all_fit fit_passes wanted found len at equal last one two
 

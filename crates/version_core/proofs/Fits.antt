@@ -70,8 +70,8 @@ all_fit-step : (w f : Token) (ws fs : List Token) → is_last w.class ≡ false 
 all_fit-step w f ws fs last h = rw (fits_not_last w f last h, last, h) refl
 
 -- after two tokens that fit, the others decide
-pub all_fit_behind : (wanted found : List Token) (w f : Token) (ws fs : List Token) → wanted ≡ w ∷ cond (is_last w.class) [] ws → found ≡ f ∷ cond (is_last f.class) [] fs → is_last w.class ≡ false → fits w f ≡ true → all_fit wanted found ≡ all_fit ws fs
-all_fit_behind wanted found w f ws fs first second last h =
+pub all_fit_after : (wanted found : List Token) (w f : Token) (ws fs : List Token) → wanted ≡ w ∷ cond (is_last w.class) [] ws → found ≡ f ∷ cond (is_last f.class) [] fs → is_last w.class ≡ false → fits w f ≡ true → all_fit wanted found ≡ all_fit ws fs
+all_fit_after wanted found w f ws fs first second last h =
     (λ i. all_fit (first i) (second i))
     ∙ ap (λ b. all_fit (w ∷ cond b [] ws) (f ∷ cond (is_last f.class) [] fs)) last
     ∙ all_fit-step w f ws fs last h

@@ -8,9 +8,9 @@ use Rattle.version_core.specs.declared.token.Class.{Class}
 use Rattle.version_core.specs.declared.token.Class.TheVariants as Classes
 use Rattle.version_core.specs.declared.overlapping.Place.{Place}
 use Rattle.version_core.specs.Token.{Token, Lexeme, number_token, text_token, lexeme, stray_lexeme, is_number, is_component, is_suffix, is_before_hash, is_before_revision, begins_with_zero, leading_digits, leading_hex_digits, leading_letters, number_lexeme, component_lexeme, suffix_rank, suffix_lexeme, suffix_lexeme_by, hash_lexeme, revision_lexeme, next_lexeme, lexeme_at}
-use Rattle.version_core.specs.Order.{are_in_grammar, is_last, is_stray, is_version, tokens, tokens_behind}
+use Rattle.version_core.specs.Order.{are_in_grammar, is_last, is_stray, is_version, tokens, tokens_after}
 use Rattle.version_core.specs.Overlapping.{IsNextPlace, IsLeap, can_follow, is_good_rest, passed_len}
-use Rattle.version_core.proofs.Walk.{after, lexeme_at_within, tokens_behind-step}
+use Rattle.version_core.proofs.Walk.{after, lexeme_at_within, tokens_after-step}
 use Rattle.version_core.specs.Reading.{is_hash, unread_len}
 use Rattle.version_core.proofs.Local.{drop_range, token_local}
 use Rattle.version_core.proofs.HashDigits.{digits_follow, hash_follow, hash_room, unread_none}
@@ -47,8 +47,8 @@ grammar_by false true ts l s = absurd (false≢true (sym s))
 
 -- ---- places that are not between the digits of a hash
 
-follow_by : (bytes : List ℕ) (place : Place) (end n : ℕ) → unread_len (Some place.class) (slice_range bytes place.at end) ≡ n → can_follow bytes place end ≡ are_in_grammar (tokens_behind (Some place.class) n (slice_range bytes place.at end))
-follow_by bytes place end n e = ap (λ u. are_in_grammar (tokens_behind (Some place.class) u (slice_range bytes place.at end))) e
+follow_by : (bytes : List ℕ) (place : Place) (end n : ℕ) → unread_len (Some place.class) (slice_range bytes place.at end) ≡ n → can_follow bytes place end ≡ are_in_grammar (tokens_after (Some place.class) n (slice_range bytes place.at end))
+follow_by bytes place end n e = ap (λ u. are_in_grammar (tokens_after (Some place.class) u (slice_range bytes place.at end))) e
 
 no_hash_unread : (class : Class) (rest : List ℕ) → is_hash class ≡ false → unread_len (Some class) rest ≡ 0
 no_hash_unread class rest h = ap (λ b. cond b (length (leading_hex_digits rest)) 0) h
@@ -56,11 +56,11 @@ no_hash_unread class rest h = ap (λ b. cond b (length (leading_hex_digits rest)
 -- what is in a range is in the grammar exactly if what follows its first token, no hash, may follow
 -- there
 behind_first : (bytes : List ℕ) (last : Option Class) (at end : ℕ) (found : Lexeme) → lexeme_at last (slice_range bytes at end) ≡ found → is_last found.token.class ≡ false → is_hash found.token.class ≡ false → at + found.width ≤ end
-    → are_in_grammar (tokens_behind last 0 (slice_range bytes at end)) ≡ can_follow bytes (record { at = at + found.width; class = found.token.class }) end
+    → are_in_grammar (tokens_after last 0 (slice_range bytes at end)) ≡ can_follow bytes (record { at = at + found.width; class = found.token.class }) end
 behind_first bytes last at end found is token plain fits =
-    ap are_in_grammar (tokens_behind-step last (slice_range bytes at end) ∙ ap (λ (l : Lexeme). l.token ∷ after (slice_range bytes at end) l) is)
-    ∙ grammar_by (is_last found.token.class) (is_stray found.token.class) (tokens_behind (Some found.token.class) 0 (drop found.width (slice_range bytes at end))) token (no_last found.token.class token)
-    ∙ ap (λ ts. are_in_grammar (tokens_behind (Some found.token.class) 0 ts)) (drop_range bytes at end found.width fits)
+    ap are_in_grammar (tokens_after-step last (slice_range bytes at end) ∙ ap (λ (l : Lexeme). l.token ∷ after (slice_range bytes at end) l) is)
+    ∙ grammar_by (is_last found.token.class) (is_stray found.token.class) (tokens_after (Some found.token.class) 0 (drop found.width (slice_range bytes at end))) token (no_last found.token.class token)
+    ∙ ap (λ ts. are_in_grammar (tokens_after (Some found.token.class) 0 ts)) (drop_range bytes at end found.width fits)
     ∙ sym (follow_by bytes (record { at = at + found.width; class = found.token.class }) end 0 (no_hash_unread found.token.class (slice_range bytes (at + found.width) end) plain))
 
 -- ---- no token but at the end of the text is the end
@@ -116,9 +116,9 @@ stray_by : (stray : Bool) (ts : List Token) → stray ≡ true → (not stray &&
 stray_by true ts h = refl
 stray_by false ts h = absurd (false≢true h)
 
-pub stray_first : (last : Option Class) (text : List ℕ) → NoEnd (lexeme_at last text) → is_last (lexeme_at last text).token.class ≡ true → are_in_grammar (tokens_behind last 0 text) ≡ false
+pub stray_first : (last : Option Class) (text : List ℕ) → NoEnd (lexeme_at last text) → is_last (lexeme_at last text).token.class ≡ true → are_in_grammar (tokens_after last 0 text) ≡ false
 stray_first last text no_end h =
-    ap are_in_grammar (tokens_behind-step last text) ∙ stray_by (is_stray (lexeme_at last text).token.class) (after text (lexeme_at last text)) (no_end h)
+    ap are_in_grammar (tokens_after-step last text) ∙ stray_by (is_stray (lexeme_at last text).token.class) (after text (lexeme_at last text)) (no_end h)
 
 -- ---- what the reader finds
 
@@ -173,9 +173,9 @@ first_version bytes at end len class order within is passed h =
 
 -- ---- the next token
 
-behind_plain : (bytes : List ℕ) (place : Place) (end : ℕ) (found : Lexeme) → place.at < end → end ≤ length bytes → unread_len (Some place.class) (slice_range bytes place.at end) ≡ 0 → found ≡ lexeme_at (Some place.class) (slice_range bytes place.at end) → is_last found.token.class ≡ false → is_hash found.token.class ≡ false
+after_plain : (bytes : List ℕ) (place : Place) (end : ℕ) (found : Lexeme) → place.at < end → end ≤ length bytes → unread_len (Some place.class) (slice_range bytes place.at end) ≡ 0 → found ≡ lexeme_at (Some place.class) (slice_range bytes place.at end) → is_last found.token.class ≡ false → is_hash found.token.class ≡ false
     → IsNextPlace bytes end place (record { at = place.at + found.width; class = found.token.class })
-behind_plain bytes place end found order within none is token plain =
+after_plain bytes place end found order within none is token plain =
     let fits = first_width bytes (Some place.class) place.at end found.width (omega arith) within (ap (λ (l : Lexeme). l.width) is) in
     let some = (lexeme_at_within (Some place.class) (slice_range bytes place.at end)).some (ap (λ (l : Lexeme). is_last l.token.class) (sym is) ∙ token) in
     let width : found.width ≡ (lexeme_at (Some place.class) (slice_range bytes place.at end)).width = ap (λ (l : Lexeme). l.width) is in
@@ -193,7 +193,7 @@ behind_plain bytes place end found order within none is token plain =
     }
 
 hash_behind : (bytes : List ℕ) (place : Place) (end other : ℕ) → is_hash (lexeme_at (Some place.class) (slice_range bytes place.at end)).token.class ≡ true → place.at + 2 ≤ other
-    → are_in_grammar (tokens_behind (Some place.class) 0 (slice_range bytes place.at other)) ≡ can_follow bytes (record { at = place.at + 2; class = Classes.Hash }) other
+    → are_in_grammar (tokens_after (Some place.class) 0 (slice_range bytes place.at other)) ≡ can_follow bytes (record { at = place.at + 2; class = Classes.Hash }) other
 hash_behind bytes place end other marked fits =
     hash_follow place.class (drop place.at bytes) (end - place.at) (other - place.at) marked (omega arith)
     ∙ ap (is_good_rest (record { at = place.at + 2; class = Classes.Hash })) (drop_range bytes place.at other 2 fits)
@@ -229,24 +229,24 @@ hash_class Classes.Component h = absurd (false≢true h)
 behind_by : (bytes : List ℕ) (place : Place) (end : ℕ) (found : Lexeme) (b : Bool) → is_hash found.token.class ≡ b → place.at < end → end ≤ length bytes → unread_len (Some place.class) (slice_range bytes place.at end) ≡ 0 → found ≡ lexeme_at (Some place.class) (slice_range bytes place.at end) → is_last found.token.class ≡ false
     → IsNextPlace bytes end place (record { at = place.at + passed_len found; class = found.token.class })
 behind_by bytes place end found false e order within none is token =
-    subst (λ (n : ℕ). IsNextPlace bytes end place (record { at = place.at + n; class = found.token.class })) (sym (passed_plain found e)) (behind_plain bytes place end found order within none is token e)
+    subst (λ (n : ℕ). IsNextPlace bytes end place (record { at = place.at + n; class = found.token.class })) (sym (passed_plain found e)) (after_plain bytes place end found order within none is token e)
 behind_by bytes place end found true e order within none is token =
     let there = behind_hash bytes place end order none (ap (λ (l : Lexeme). is_hash l.token.class) (sym is) ∙ e) in
     let passed : 2 ≡ passed_len found = sym (ap (λ b. cond b 2 found.width) e) in
     let one = subst (λ (n : ℕ). IsNextPlace bytes end place (record { at = place.at + n; class = Classes.Hash })) passed there in
     subst (λ (c : Class). IsNextPlace bytes end place (record { at = place.at + passed_len found; class = c })) (sym (hash_class found.token.class e)) one
 
-pub comes_behind : (bytes : List ℕ) (place : Place) (end len : ℕ) (class : Class) → place.at < end → end ≤ length bytes → unread_len (Some place.class) (slice_range bytes place.at end) ≡ 0 → class ≡ (lexeme_at (Some place.class) (slice_range bytes place.at end)).token.class → len ≡ passed_len (lexeme_at (Some place.class) (slice_range bytes place.at end)) → is_last class ≡ false
+pub is_after_members : (bytes : List ℕ) (place : Place) (end len : ℕ) (class : Class) → place.at < end → end ≤ length bytes → unread_len (Some place.class) (slice_range bytes place.at end) ≡ 0 → class ≡ (lexeme_at (Some place.class) (slice_range bytes place.at end)).token.class → len ≡ passed_len (lexeme_at (Some place.class) (slice_range bytes place.at end)) → is_last class ≡ false
     → IsNextPlace bytes end place (record { at = place.at + len; class = class })
-comes_behind bytes place end len class order within none is passed h =
+is_after_members bytes place end len class order within none is passed h =
     let found = lexeme_at (Some place.class) (slice_range bytes place.at end) in
     let there = behind_by bytes place end found (is_hash found.token.class) refl order within none refl (ap is_last (sym is) ∙ h) in
     let one = subst (λ (n : ℕ). IsNextPlace bytes end place (record { at = place.at + n; class = found.token.class })) (sym passed) there in
     subst (λ (c : Class). IsNextPlace bytes end place (record { at = place.at + len; class = c })) (sym is) one
 
 -- after some more digits of a hash
-pub comes_behind_digits : (bytes : List ℕ) (place : Place) (end n len : ℕ) → n ≤ end - place.at → len ≡ unread_len (Some place.class) (take n (drop place.at bytes)) → len ≤ n → 0 < len → place.at < end → IsNextPlace bytes end place (record { at = place.at + len; class = place.class })
-comes_behind_digits bytes place end n len most is few some order = record {
+pub comes_after_digits : (bytes : List ℕ) (place : Place) (end n len : ℕ) → n ≤ end - place.at → len ≡ unread_len (Some place.class) (take n (drop place.at bytes)) → len ≤ n → 0 < len → place.at < end → IsNextPlace bytes end place (record { at = place.at + len; class = place.class })
+comes_after_digits bytes place end n len most is few some order = record {
   forth = omega arith;
   within = omega arith;
   same = digits_follow bytes place n end len is (omega arith);
@@ -260,6 +260,6 @@ follows_at_end bytes place end past =
     let none : end - place.at ≡ 0 = omega arith in
     ap (λ n. is_good_rest place (take n (drop place.at bytes))) none ∙ good_end (is_hash place.class)
   where
-    good_end : (b : Bool) → are_in_grammar (tokens_behind (Some place.class) (cond b 0 0) []) ≡ true
+    good_end : (b : Bool) → are_in_grammar (tokens_after (Some place.class) (cond b 0 0) []) ≡ true
     good_end true = refl
     good_end false = refl

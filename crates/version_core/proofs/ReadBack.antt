@@ -12,9 +12,9 @@ use Rattle.std.proofs.lemmas.List.Folds.{length-prefix_len}
 use Rattle.version_core.specs.declared.token.Class.{Class}
 use Rattle.version_core.specs.declared.token.Class.TheVariants.{Stray, PreRelease, End, Revision, Hash, SuffixNumber, Suffix, Letter, ZeroComponent, Component}
 use Rattle.version_core.specs.Token.{Token, Lexeme, number_token, text_token, lexeme, stray_lexeme, is_number, is_hex_digit, is_component, is_suffix, is_before_hash, is_before_revision, begins_with_zero, leading_digits, leading_hex_digits, leading_letters, number_lexeme, component_lexeme, suffix_rank, suffix_lexeme, suffix_lexeme_by, hash_lexeme, revision_lexeme, next_lexeme}
-use Rattle.version_core.specs.Order.{are_in_grammar, is_last, is_stray, is_version, tokens, tokens_behind}
+use Rattle.version_core.specs.Order.{are_in_grammar, is_last, is_stray, is_version, tokens, tokens_after}
 use Rattle.version_core.specs.Grammar.{Parts, IsSpelled, if_some, is_numeral, is_hash_text, is_suffix_part, SuffixPart, later_text, letter_text, number_text, suffixes_text, hash_text, revision_text, component_token}
-use Rattle.version_core.proofs.Walk.{after, is_number-pos, tokens_behind-step}
+use Rattle.version_core.proofs.Walk.{after, is_number-pos, tokens_after-step}
 use Rattle.version_core.proofs.Spelled.{first_true, then_true, number_read, component_read, component_is_not_last_by, suffix_whole_by, suffix_class_by, suffix_is_not_last, hash_read, component_before_hash, before_hash_before_revision, suffix_before_hash}
 
 -- ---- runs
@@ -36,42 +36,42 @@ and_true a b h k = rw (h, k) refl
 
 -- ---- what a sound lexeme shows
 
-abbrev GoesOn : List ℕ → Lexeme → Type 0
-GoesOn text found = are_in_grammar (found.token ∷ after text found) ≡ true
+abbrev CountsOnlyRise : List ℕ → Lexeme → Type 0
+CountsOnlyRise text found = are_in_grammar (found.token ∷ after text found) ≡ true
 
-sound_or_stray : (text : List ℕ) (b : Bool) (found : Lexeme) → GoesOn text (cond b found stray_lexeme) → b ≡ true
+sound_or_stray : (text : List ℕ) (b : Bool) (found : Lexeme) → CountsOnlyRise text (cond b found stray_lexeme) → b ≡ true
 sound_or_stray text true found h = refl
 sound_or_stray text false found h = h
 
-number_goes_on : (text : List ℕ) (class : Class) (mark : ℕ) (ds : List ℕ) → GoesOn text (number_lexeme class mark ds) → is_number ds ≡ true
+number_goes_on : (text : List ℕ) (class : Class) (mark : ℕ) (ds : List ℕ) → CountsOnlyRise text (number_lexeme class mark ds) → is_number ds ≡ true
 unfolding number_lexeme
 number_goes_on text class mark ds h =
     sound_or_stray text (is_number ds) (lexeme (number_token class (digits_value 10 ds)) (mark + length ds)) h
 
-component_by : (text ds : List ℕ) (starts : Bool) (found : Lexeme) → GoesOn text (cond (is_number ds && starts) found (number_lexeme Component 1 ds)) → (b : Bool) → (is_number ds && starts) ≡ b → is_number ds ≡ true
+component_by : (text ds : List ℕ) (starts : Bool) (found : Lexeme) → CountsOnlyRise text (cond (is_number ds && starts) found (number_lexeme Component 1 ds)) → (b : Bool) → (is_number ds && starts) ≡ b → is_number ds ≡ true
 component_by text ds starts found h true e = first_true (is_number ds) starts e
-component_by text ds starts found h false e = number_goes_on text Component 1 ds (subst (λ t. GoesOn text (cond t found (number_lexeme Component 1 ds))) e h)
+component_by text ds starts found h false e = number_goes_on text Component 1 ds (subst (λ t. CountsOnlyRise text (cond t found (number_lexeme Component 1 ds))) e h)
 
-component_goes_on : (text ds : List ℕ) → GoesOn text (component_lexeme ds) → is_number ds ≡ true
+component_goes_on : (text ds : List ℕ) → CountsOnlyRise text (component_lexeme ds) → is_number ds ≡ true
 unfolding component_lexeme
 component_goes_on text ds h =
     component_by text ds (begins_with_zero ds) (lexeme (text_token ZeroComponent ds) (1 + length ds)) h (is_number ds && begins_with_zero ds) refl
 
-suffix_by : (text word : List ℕ) (rank : Option ℕ) → GoesOn text (suffix_lexeme_by word rank) → is_some rank ≡ true
+suffix_by : (text word : List ℕ) (rank : Option ℕ) → CountsOnlyRise text (suffix_lexeme_by word rank) → is_some rank ≡ true
 suffix_by text word None h = h
 suffix_by text word (Some rank) h = refl
 
-hash_goes_on : (text ds : List ℕ) → GoesOn text (hash_lexeme ds) → ltb 0 (length ds) ≡ true
+hash_goes_on : (text ds : List ℕ) → CountsOnlyRise text (hash_lexeme ds) → ltb 0 (length ds) ≡ true
 unfolding hash_lexeme
 hash_goes_on text ds h = sound_or_stray text (ltb 0 (length ds)) (lexeme (text_token Hash ds) (1 + length ds)) h
 
 -- what follows a lexeme is sound too
-sound_behind : (text behind : List ℕ) (found : Lexeme) (token : Token) (width : ℕ) → found ≡ lexeme token width → is_last token.class ≡ false → drop width text ≡ behind → GoesOn text found → are_in_grammar (tokens_behind (Some token.class) 0 behind) ≡ true
-sound_behind text behind found token width e h d sound =
-    let here : are_in_grammar (token ∷ after text (lexeme token width)) ≡ true = subst (GoesOn text) e sound in
+sound_after : (text behind : List ℕ) (found : Lexeme) (token : Token) (width : ℕ) → found ≡ lexeme token width → is_last token.class ≡ false → drop width text ≡ behind → CountsOnlyRise text found → are_in_grammar (tokens_after (Some token.class) 0 behind) ≡ true
+sound_after text behind found token width e h d sound =
+    let here : are_in_grammar (token ∷ after text (lexeme token width)) ≡ true = subst (CountsOnlyRise text) e sound in
     let rest = then_true (not (is_stray token.class)) (are_in_grammar (after text (lexeme token width))) here in
-    subst (λ b. are_in_grammar (cond b [] (tokens_behind (Some token.class) 0 behind)) ≡ true) h
-    (subst (λ t. are_in_grammar (cond (is_last token.class) [] (tokens_behind (Some token.class) 0 t)) ≡ true) d rest)
+    subst (λ b. are_in_grammar (cond b [] (tokens_after (Some token.class) 0 behind)) ≡ true) h
+    (subst (λ t. are_in_grammar (cond (is_last token.class) [] (tokens_after (Some token.class) 0 t)) ≡ true) d rest)
 
 -- ---- the end of a version, after a token of some class
 
@@ -290,7 +290,7 @@ with_revision last ds behind h numeral end = record {
 
 -- what holds of shorter texts
 abbrev Shorter : ℕ → Type 0
-Shorter n = (last : Class) (text : List ℕ) → length text ≤ n → are_in_grammar (tokens_behind (Some last) 0 text) ≡ true → IsTail last text
+Shorter n = (last : Class) (text : List ℕ) → length text ≤ n → are_in_grammar (tokens_after (Some last) 0 text) ≡ true → IsTail last text
 
 cond_case : (P : Lexeme → Type 0) (b : Bool) (x y : Lexeme) → (b ≡ true → P x) → P y → P (cond b x y)
 cond_case P true x y f g = f refl
@@ -312,7 +312,7 @@ component_no_suffix_by : (starts : Bool) (text : List ℕ) (n : ℕ) → is_suff
 component_no_suffix_by true text n = refl
 component_no_suffix_by false text n = refl
 
-component_case : (n : ℕ) → Shorter n → (last : Class) (b : ℕ) (rest : List ℕ) → length rest ≤ n → (eqb b 46 && is_component last) ≡ true → GoesOn (b ∷ rest) (component_lexeme (leading_digits rest)) → IsTail last (b ∷ rest)
+component_case : (n : ℕ) → Shorter n → (last : Class) (b : ℕ) (rest : List ℕ) → length rest ≤ n → (eqb b 46 && is_component last) ≡ true → CountsOnlyRise (b ∷ rest) (component_lexeme (leading_digits rest)) → IsTail last (b ∷ rest)
 component_case n shorter last b rest few guard sound =
     let ds : List ℕ = leading_digits rest in
     let behind : List ℕ = drop (length ds) rest in
@@ -321,15 +321,15 @@ component_case n shorter last b rest few guard sound =
     let class : Class = (component_token ds).class in
     let short : length behind ≤ n = omega (arith, length-drop (length ds) rest) in
     let end = shorter class behind short
-    (sound_behind (b ∷ rest) behind (component_lexeme ds) (component_token ds) (1 + length ds) (component_read ds numeral)
+    (sound_after (b ∷ rest) behind (component_lexeme ds) (component_token ds) (1 + length ds) (component_read ds numeral)
     (component_is_not_last_by (begins_with_zero ds) ds (digits_value 10 ds)) (drop_one (length ds) b rest) sound) in
     let tail = with_component last class ds behind (then_true (eqb b 46) (is_component last) guard) (component_no_suffix_by (begins_with_zero ds) ds (digits_value 10 ds)) numeral end in
     subst (IsTail last)
     (λ i. same_byte b 46 (first_true (eqb b 46) (is_component last) guard) i ∷ sym (split_run is_ascii_digit rest) i) tail
 
-letter_case : (n : ℕ) → Shorter n → (last : Class) (b : ℕ) (rest : List ℕ) → length rest ≤ n → (is_ascii_lowercase b && is_component last) ≡ true → GoesOn (b ∷ rest) (lexeme (number_token Letter b) 1) → IsTail last (b ∷ rest)
+letter_case : (n : ℕ) → Shorter n → (last : Class) (b : ℕ) (rest : List ℕ) → length rest ≤ n → (is_ascii_lowercase b && is_component last) ≡ true → CountsOnlyRise (b ∷ rest) (lexeme (number_token Letter b) 1) → IsTail last (b ∷ rest)
 letter_case n shorter last b rest few guard sound =
-    let end = shorter Letter rest few (sound_behind (b ∷ rest) rest (lexeme (number_token Letter b) 1) (number_token Letter b) 1 refl refl refl sound) in
+    let end = shorter Letter rest few (sound_after (b ∷ rest) rest (lexeme (number_token Letter b) 1) (number_token Letter b) 1 refl refl refl sound) in
     with_letter last b rest (then_true (is_ascii_lowercase b) (is_component last) guard) (first_true (is_ascii_lowercase b) (is_component last) guard) end
 
 suffix_no_component : (class : Class) → is_suffix class ≡ true → is_component class ≡ false
@@ -344,7 +344,7 @@ suffix_no_component Letter h = refl
 suffix_no_component ZeroComponent h = absurd (false≢true h)
 suffix_no_component Component h = absurd (false≢true h)
 
-suffix_case : (n : ℕ) → Shorter n → (last : Class) (b : ℕ) (rest : List ℕ) → length rest ≤ n → (eqb b 95 && is_before_hash last) ≡ true → GoesOn (b ∷ rest) (suffix_lexeme (leading_letters rest)) → IsTail last (b ∷ rest)
+suffix_case : (n : ℕ) → Shorter n → (last : Class) (b : ℕ) (rest : List ℕ) → length rest ≤ n → (eqb b 95 && is_before_hash last) ≡ true → CountsOnlyRise (b ∷ rest) (suffix_lexeme (leading_letters rest)) → IsTail last (b ∷ rest)
 suffix_case n shorter last b rest few guard sound =
     let word : List ℕ = leading_letters rest in
     let behind : List ℕ = drop (length word) rest in
@@ -352,14 +352,14 @@ suffix_case n shorter last b rest few guard sound =
     let class = suffix_class_by word (suffix_rank word) known in
     let short : length behind ≤ n = omega (arith, length-drop (length word) rest) in
     let end = shorter (suffix_lexeme word).token.class behind short
-    (sound_behind (b ∷ rest) behind (suffix_lexeme word) (suffix_lexeme word).token (1 + length word) (suffix_whole_by word (suffix_rank word) known)
+    (sound_after (b ∷ rest) behind (suffix_lexeme word) (suffix_lexeme word).token (1 + length word) (suffix_whole_by word (suffix_rank word) known)
     (suffix_is_not_last (suffix_lexeme word).token.class class) (drop_one (length word) b rest) sound) in
     let tail = with_suffix last (suffix_lexeme word).token.class word behind (then_true (eqb b 95) (is_before_hash last) guard)
     (suffix_no_component (suffix_lexeme word).token.class class) known end in
     subst (IsTail last)
     (λ i. same_byte b 95 (first_true (eqb b 95) (is_before_hash last) guard) i ∷ sym (split_run is_ascii_lowercase rest) i) tail
 
-number_case : (n : ℕ) → Shorter n → (last : Class) (b : ℕ) (rest : List ℕ) → length rest ≤ n → (is_ascii_digit b && is_suffix last) ≡ true → GoesOn (b ∷ rest) (number_lexeme SuffixNumber 0 (leading_digits (b ∷ rest))) → IsTail last (b ∷ rest)
+number_case : (n : ℕ) → Shorter n → (last : Class) (b : ℕ) (rest : List ℕ) → length rest ≤ n → (is_ascii_digit b && is_suffix last) ≡ true → CountsOnlyRise (b ∷ rest) (number_lexeme SuffixNumber 0 (leading_digits (b ∷ rest))) → IsTail last (b ∷ rest)
 number_case n shorter last b rest few guard sound =
     let ds : List ℕ = leading_digits (b ∷ rest) in
     let behind : List ℕ = drop (length ds) (b ∷ rest) in
@@ -369,25 +369,25 @@ number_case n shorter last b rest few guard sound =
     let short : length behind ≤ n = omega (arith, length-drop (length ds) (b ∷ rest)) in
     let same : drop (0 + length ds) (b ∷ rest) ≡ behind = let e : 0 + length ds ≡ length ds = omega arith in ap (λ m. drop m (b ∷ rest)) e in
     let end = shorter SuffixNumber behind short
-    (sound_behind (b ∷ rest) behind (number_lexeme SuffixNumber 0 ds) (number_token SuffixNumber (digits_value 10 ds)) (0 + length ds) (number_read SuffixNumber 0 ds numeral) refl same sound) in
+    (sound_after (b ∷ rest) behind (number_lexeme SuffixNumber 0 ds) (number_token SuffixNumber (digits_value 10 ds)) (0 + length ds) (number_read SuffixNumber 0 ds numeral) refl same sound) in
     let suffix = then_true (is_ascii_digit b) (is_suffix last) guard in
     let tail = with_number last ds behind suffix (suffix_no_component last suffix) numeral end in
     subst (IsTail last) (sym (split_run is_ascii_digit (b ∷ rest))) tail
 
-hash_case : (n : ℕ) → Shorter n → (last : Class) (b : ℕ) (rest : List ℕ) → length rest ≤ n → (eqb b 126 && is_before_hash last) ≡ true → GoesOn (b ∷ rest) (hash_lexeme (leading_hex_digits rest)) → IsTail last (b ∷ rest)
+hash_case : (n : ℕ) → Shorter n → (last : Class) (b : ℕ) (rest : List ℕ) → length rest ≤ n → (eqb b 126 && is_before_hash last) ≡ true → CountsOnlyRise (b ∷ rest) (hash_lexeme (leading_hex_digits rest)) → IsTail last (b ∷ rest)
 hash_case n shorter last b rest few guard sound =
     let ds : List ℕ = leading_hex_digits rest in
     let behind : List ℕ = drop (length ds) rest in
     let hash = and_true (ltb 0 (length ds)) (list_all is_hex_digit ds) (hash_goes_on (b ∷ rest) ds sound) (take_while_passes is_hex_digit rest) in
     let short : length behind ≤ n = omega (arith, length-drop (length ds) rest) in
     let end = shorter Hash behind short
-    (sound_behind (b ∷ rest) behind (hash_lexeme ds) (text_token Hash ds) (1 + length ds) (hash_read ds hash) refl (drop_one (length ds) b rest) sound) in
+    (sound_after (b ∷ rest) behind (hash_lexeme ds) (text_token Hash ds) (1 + length ds) (hash_read ds hash) refl (drop_one (length ds) b rest) sound) in
     let tail = with_hash last ds behind (then_true (eqb b 126) (is_before_hash last) guard) hash end in
     subst (IsTail last)
     (λ i. same_byte b 126 (first_true (eqb b 126) (is_before_hash last) guard) i ∷ sym (split_run is_hex_digit rest) i) tail
 
 -- after the `-`
-revision_by : (n : ℕ) → Shorter n → (last : Class) (b : ℕ) (rest : List ℕ) → length rest ≤ n → b ≡ 45 → is_before_revision last ≡ true → GoesOn (b ∷ rest) (revision_lexeme rest) → IsTail last (b ∷ rest)
+revision_by : (n : ℕ) → Shorter n → (last : Class) (b : ℕ) (rest : List ℕ) → length rest ≤ n → b ≡ 45 → is_before_revision last ≡ true → CountsOnlyRise (b ∷ rest) (revision_lexeme rest) → IsTail last (b ∷ rest)
 unfolding revision_lexeme
 revision_by n shorter last b [] few dash guard sound = absurd (false≢true sound)
 revision_by n shorter last b (c ∷ rest) few dash guard sound =
@@ -395,24 +395,24 @@ revision_by n shorter last b (c ∷ rest) few dash guard sound =
     let behind : List ℕ = drop (length ds) rest in
     let text : List ℕ = b ∷ c ∷ rest in
     let letter = sound_or_stray text (eqb c 114) (number_lexeme Revision 2 ds) sound in
-    let here : GoesOn text (number_lexeme Revision 2 ds) = subst (λ t. GoesOn text (cond t (number_lexeme Revision 2 ds) stray_lexeme)) letter sound in
+    let here : CountsOnlyRise text (number_lexeme Revision 2 ds) = subst (λ t. CountsOnlyRise text (cond t (number_lexeme Revision 2 ds) stray_lexeme)) letter sound in
     let numeral = digits_numeral rest (number_goes_on text Revision 2 ds here) in
     let short : length behind ≤ n = omega (arith, length-drop (length ds) rest) in
     let end = shorter Revision behind short
-    (sound_behind text behind (number_lexeme Revision 2 ds) (number_token Revision (digits_value 10 ds)) (2 + length ds) (number_read Revision 2 ds numeral) refl (drop_two (length ds) b c rest) here) in
+    (sound_after text behind (number_lexeme Revision 2 ds) (number_token Revision (digits_value 10 ds)) (2 + length ds) (number_read Revision 2 ds numeral) refl (drop_two (length ds) b c rest) here) in
     let tail = with_revision last ds behind guard numeral end in
     subst (IsTail last)
     (λ i. sym dash i ∷ same_byte c 114 letter i ∷ sym (split_run is_ascii_digit rest) i) tail
 
-revision_case : (n : ℕ) → Shorter n → (last : Class) (b : ℕ) (rest : List ℕ) → length rest ≤ n → (eqb b 45 && is_before_revision last) ≡ true → GoesOn (b ∷ rest) (revision_lexeme rest) → IsTail last (b ∷ rest)
+revision_case : (n : ℕ) → Shorter n → (last : Class) (b : ℕ) (rest : List ℕ) → length rest ≤ n → (eqb b 45 && is_before_revision last) ≡ true → CountsOnlyRise (b ∷ rest) (revision_lexeme rest) → IsTail last (b ∷ rest)
 revision_case n shorter last b rest few guard sound =
     revision_by n shorter last b rest few (sym (same_byte b 45 (first_true (eqb b 45) (is_before_revision last) guard)))
     (then_true (eqb b 45) (is_before_revision last) guard) sound
 
-lexeme_case : (n : ℕ) → Shorter n → (last : Class) (b : ℕ) (rest : List ℕ) → length rest ≤ n → GoesOn (b ∷ rest) (next_lexeme last (b ∷ rest)) → IsTail last (b ∷ rest)
+lexeme_case : (n : ℕ) → Shorter n → (last : Class) (b : ℕ) (rest : List ℕ) → length rest ≤ n → CountsOnlyRise (b ∷ rest) (next_lexeme last (b ∷ rest)) → IsTail last (b ∷ rest)
 unfolding next_lexeme
 lexeme_case n shorter last b rest few =
-    let P : Lexeme → Type 0 = λ found. GoesOn (b ∷ rest) found → IsTail last (b ∷ rest) in
+    let P : Lexeme → Type 0 = λ found. CountsOnlyRise (b ∷ rest) found → IsTail last (b ∷ rest) in
     cond_case P (eqb b 46 && is_component last) (component_lexeme (leading_digits rest)) _ (component_case n shorter last b rest few)
     (cond_case P (is_ascii_lowercase b && is_component last) (lexeme (number_token Letter b) 1) _ (letter_case n shorter last b rest few)
     (cond_case P (eqb b 95 && is_before_hash last) (suffix_lexeme (leading_letters rest)) _ (suffix_case n shorter last b rest few)
@@ -426,18 +426,18 @@ tails zero last [] few sound = at_end last
 tails zero last (b ∷ rest) few sound = absurd (omega arith)
 tails (suc n) last [] few sound = at_end last
 tails (suc n) last (b ∷ rest) few sound =
-    lexeme_case n (tails n) last b rest (omega arith) (ap are_in_grammar (sym (tokens_behind-step (Some last) (b ∷ rest))) ∙ sound)
+    lexeme_case n (tails n) last b rest (omega arith) (ap are_in_grammar (sym (tokens_after-step (Some last) (b ∷ rest))) ∙ sound)
 
 pub spelled : (text : List ℕ) → is_version text ≡ true → IsSpelled text
 unfolding is_version tokens
 spelled text h =
     let ds : List ℕ = leading_digits text in
     let behind : List ℕ = drop (length ds) text in
-    let here : GoesOn text (number_lexeme Component 0 ds) = ap are_in_grammar (sym (tokens_behind-step None text)) ∙ h in
+    let here : CountsOnlyRise text (number_lexeme Component 0 ds) = ap are_in_grammar (sym (tokens_after-step None text)) ∙ h in
     let numeral = digits_numeral text (number_goes_on text Component 0 ds here) in
     let same : drop (0 + length ds) text ≡ behind = let e : 0 + length ds ≡ length ds = omega arith in ap (λ m. drop m text) e in
     let end = tails (length behind) Component behind (omega arith)
-    (sound_behind text behind (number_lexeme Component 0 ds) (number_token Component (digits_value 10 ds)) (0 + length ds) (number_read Component 0 ds numeral) refl same here) in
+    (sound_after text behind (number_lexeme Component 0 ds) (number_token Component (digits_value 10 ds)) (0 + length ds) (number_read Component 0 ds numeral) refl same here) in
     let parts : Parts = record { first = ds; later = end.later; letter = end.letter; suffixes = end.suffixes; hash = end.hash; revision = end.revision } in
     record {
       parts = parts;

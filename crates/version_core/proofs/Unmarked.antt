@@ -14,7 +14,7 @@ use Rattle.version_core.specs.declared.token.Class.TheVariants.{PreRelease, Revi
 use Rattle.version_core.specs.Token.{Lexeme, number_token, text_token, lexeme, stray_lexeme, is_number, is_component, is_suffix, is_before_hash, is_before_revision, begins_with_zero, leading_digits, leading_hex_digits, leading_letters, number_lexeme, component_lexeme, suffix_class, suffix_rank, suffix_lexeme_by, hash_lexeme, revision_lexeme, next_lexeme, lexeme_at}
 use Rattle.version_core.specs.Order.{is_last, is_stray, is_version}
 use Rattle.version_core.specs.Reading.{AreEqualUpTo, ArePartedInHash, HasUnmarkedEnd, IsLastMark, begins_with_mark, is_token_mark, is_unmarked}
-use Rattle.version_core.proofs.EqualFront.{IsGood, and_left, and_right, by_mark, cut_text, good_behind, good_front, good_whole, goes_on, mark_within, with_mark}
+use Rattle.version_core.proofs.EqualFront.{IsGood, and_left, and_right, by_mark, cut_text, good_after, good_front, good_whole, goes_on, mark_within, with_mark}
 use Rattle.version_core.proofs.Walk.{lexeme_at_within}
 
 -- ---- one token
@@ -145,36 +145,36 @@ few_unmarked last zero (b ∷ p) x bare good =
     let some : 0 < found.width = (lexeme_at_within (Some last) (b ∷ (p ++ x))).some token in
     let more : length p ≤ found.width - 1 + room found.token.class =
     few_unmarked found.token.class (found.width - 1) p x (and_right (not (is_token_mark b)) (is_unmarked p) bare)
-    (good_behind (p ++ x) found (is_stray found.token.class) (is_last found.token.class) token good) in
+    (good_after (p ++ x) found (is_stray found.token.class) (is_last found.token.class) token good) in
     omega (arith, short, some, more)
 
 -- after the first byte of a token
-few_behind : (last : Option Class) (b : ℕ) (p x : List ℕ) (most : ℕ) → is_unmarked p ≡ true → IsShort most (lexeme_at last (b ∷ (p ++ x))) → IsGood last 0 (b ∷ (p ++ x)) → length p < most
-few_behind last b p x most bare short good =
+few_after : (last : Option Class) (b : ℕ) (p x : List ℕ) (most : ℕ) → is_unmarked p ≡ true → IsShort most (lexeme_at last (b ∷ (p ++ x))) → IsGood last 0 (b ∷ (p ++ x)) → length p < most
+few_after last b p x most bare short good =
     let found = lexeme_at last (b ∷ (p ++ x)) in
     let token : is_last found.token.class ≡ false = goes_on last b (p ++ x) good in
     let whole : found.width + room found.token.class ≤ most = short token in
     let some : 0 < found.width = (lexeme_at_within last (b ∷ (p ++ x))).some token in
     let more : length p ≤ found.width - 1 + room found.token.class =
-    few_unmarked found.token.class (found.width - 1) p x bare (good_behind (p ++ x) found (is_stray found.token.class) (is_last found.token.class) token good) in
+    few_unmarked found.token.class (found.width - 1) p x bare (good_after (p ++ x) found (is_stray found.token.class) (is_last found.token.class) token good) in
     omega (arith, whole, some, more)
 
 -- at the front of a version
 few_at_front : (p x : List ℕ) → is_unmarked p ≡ true → IsGood None 0 (p ++ x) → length p ≤ 23
 few_at_front [] x bare good = omega arith
 few_at_front (b ∷ p) x bare good =
-    let few : length p < 19 = few_behind None b p x 19 (and_right (not (is_token_mark b)) (is_unmarked p) bare) (number_short Component 0 (leading_digits (b ∷ (p ++ x)))) good in
+    let few : length p < 19 = few_after None b p x 19 (and_right (not (is_token_mark b)) (is_unmarked p) bare) (number_short Component 0 (leading_digits (b ∷ (p ++ x)))) good in
     omega (arith, few)
 
 -- more of them stand after the mark of a hash alone
-many_behind : (m : ℕ) (p x : List ℕ) → is_token_mark m ≡ true → is_unmarked p ≡ true → 23 < length p → IsGood (Some Component) 0 (m ∷ (p ++ x)) → m ≡ 126
+many_after : (m : ℕ) (p x : List ℕ) → is_token_mark m ≡ true → is_unmarked p ≡ true → 23 < length p → IsGood (Some Component) 0 (m ∷ (p ++ x)) → m ≡ 126
 unfolding next_lexeme
-many_behind m p x mark bare many =
+many_after m p x mark bare many =
     by_mark (λ m. IsGood (Some Component) 0 (m ∷ (p ++ x)) → m ≡ 126) m mark
-    (λ good. let few = few_behind (Some Component) 46 p x 20 bare (component_short (leading_digits (p ++ x))) good in absurd (omega arith))
-    (λ good. let few = few_behind (Some Component) 95 p x 24 bare (suffix_short (leading_letters (p ++ x))) good in absurd (omega arith))
+    (λ good. let few = few_after (Some Component) 46 p x 20 bare (component_short (leading_digits (p ++ x))) good in absurd (omega arith))
+    (λ good. let few = few_after (Some Component) 95 p x 24 bare (suffix_short (leading_letters (p ++ x))) good in absurd (omega arith))
     (λ good. refl)
-    (λ good. let few = few_behind (Some Component) 45 p x 20 bare (revision_short (p ++ x)) good in absurd (omega arith))
+    (λ good. let few = few_after (Some Component) 45 p x 20 bare (revision_short (p ++ x)) good in absurd (omega arith))
 
 -- ---- the last mark
 
@@ -222,7 +222,7 @@ tilde_at left len at found end one =
     let bare : is_unmarked plain ≡ true = ap is_unmarked (sym (sym (drop-drop 1 at front) ∙ ap (drop 1) h)) ∙ found.last in
     let long : 23 < length plain = omega (arith, before, length-drop at front, ap length h) in
     let good = good_front None 0 (take at front) m (plain ++ drop len left) mark (omega arith) (subst (IsGood None 0) l.whole (good_whole left one)) in
-    let is : m ≡ 126 = many_behind m plain (drop len left) mark bare long good in
+    let is : m ≡ 126 = many_after m plain (drop len left) mark bare long good in
     sym (ap (λ t. get_or t 0 0) (sym l.rest ∙ drop_more left at 0 (mark_within left len at found))) ∙ is)
 
 -- where the front that they have in common ends without a mark, both are within their hash

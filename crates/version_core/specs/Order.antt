@@ -21,18 +21,18 @@ is_last class = is_stray class
 
 -- the tokens of a text after a token of some class (None: at the front of a version), if its first
 -- `inside` bytes still belong to that token
-abbrev pub tokens_behind : Option Class → ℕ → List ℕ → List Token
-tokens_behind last inside [] = (lexeme_at last []).token ∷ []
-tokens_behind last (suc inside) (b ∷ rest) = tokens_behind last inside rest
-tokens_behind last zero (b ∷ rest) =
+abbrev pub tokens_after : Option Class → ℕ → List ℕ → List Token
+tokens_after last inside [] = (lexeme_at last []).token ∷ []
+tokens_after last (suc inside) (b ∷ rest) = tokens_after last inside rest
+tokens_after last zero (b ∷ rest) =
     let found = lexeme_at last (b ∷ rest) in
     found.token
     ∷ (if is_last found.token.class then []
-    else tokens_behind (Some found.token.class) (found.width - 1) rest)
+    else tokens_after (Some found.token.class) (found.width - 1) rest)
 
 -- the tokens of a text, the end included; at bytes outside the grammar they stop with a stray one
 unfoldable pub tokens : List ℕ → List Token
-tokens text = tokens_behind None 0 text
+tokens text = tokens_after None 0 text
 
 -- whether none of the tokens is stray, so that they are those of a version
 abbrev pub are_in_grammar : List Token → Bool

@@ -117,7 +117,7 @@ impl<'a> OverlappingVersions<'a> {
     {
         match self.leap(place, end) {
             Some(to) => Some(to),
-            None => place_behind(self.bytes, place, end),
+            None => place_after_lexeme(self.bytes, place, end),
         }
     }
 
@@ -203,7 +203,7 @@ fn first_place(bytes: &[u8], from: usize, end: usize) -> Option<Place>
 }
 
 /// The place after the next token, or after some more digits of a hash, at most a block of them.
-fn place_behind(bytes: &[u8], place: Place, end: usize) -> Option<Place>
+fn place_after_lexeme(bytes: &[u8], place: Place, end: usize) -> Option<Place>
     requires order { place.at < end }
     requires within { end ≤ length bytes.now }
     ensures some { IfSome result (IsNextPlace bytes.now end place) }
@@ -217,7 +217,7 @@ fn place_behind(bytes: &[u8], place: Place, end: usize) -> Option<Place>
             class: place.class,
         });
     }
-    place_behind_token(bytes, place, end)
+    place_after_token(bytes, place, end)
 }
 
 /// How many digits at the front of a text belong to a hash before it.
@@ -231,7 +231,7 @@ fn unread_digits(class: Class, text: &[u8]) -> usize
 }
 
 /// The place after the next token, if no digit of a hash is left before it.
-fn place_behind_token(bytes: &[u8], place: Place, end: usize) -> Option<Place>
+fn place_after_token(bytes: &[u8], place: Place, end: usize) -> Option<Place>
     requires order { place.at < end }
     requires within { end ≤ length bytes.now }
     requires none { unread_len (Some place.class) (slice_range bytes.now place.at end) ≡ 0 }

@@ -16,10 +16,10 @@ use Rattle.words_core.specs.declared.options.Meaning.TheVariants.{Flag as Plain}
 use Rattle.words_core.specs.declared.reading.AppletSite.{AppletSite}
 use Rattle.words_core.specs.declared.reading.OptionState.{OptionState}
 use Rattle.words_core.specs.declared.reading.Start.{Start}
-use Rattle.words_core.specs.Grammar.{applet_site, command_from, line_command, command_read, early_flags, first_state, is_end, is_option, line_start, operands_of, option_reading, reading_behind, reading_by, site_at, site_behind_end, site_by, start_by, start_from, start_with, verdict, with_meaning, with_option, with_spec}
+use Rattle.words_core.specs.Grammar.{applet_site, command_from, line_command, command_read, early_flags, first_state, is_double_dash, is_option, line_start, operands_of, option_reading, reading_after_applet, reading_by, site_at, site_after_end, site_by, start_by, start_from, start_with, verdict, with_meaning, with_option, with_spec}
 use Rattle.words_core.specs.Kinds.{can_get_kind}
 use Rattle.words_core.specs.Options.{OptionSpec, applets, common_options, early_words, is_early, option_spelled, options_of}
-use Rattle.words_core.specs.Stuck.{is_stuck_by, suit}
+use Rattle.words_core.specs.Stuck.{is_stuck_by, are_options_of}
 use Rattle.words_core.proofs.GoneOn.{is_not}
 use Rattle.words_core.proofs.LinesRead.{by_early}
 use Rattle.words_core.proofs.KindCompleted.{kind_completes}
@@ -29,9 +29,9 @@ use Rattle.words_core.proofs.StillOffending.{usage_stays}
 use Rattle.words_core.proofs.WordsCompleted.{AreTexts, CanBeCompleted, IsJudgedGood, a_text, completed_from, judged_good, no_texts}
 
 -- what is behind the applet where it is named behind words
-pub named_behind : (words : List (List ℕ)) (word : List ℕ) (more : List (List ℕ)) → drop (1 + length words) (words ++ (word ∷ more)) ≡ more
-named_behind [] word more = refl
-named_behind (w ∷ words) word more = (let same : 1 + length (w ∷ words) ≡ suc (1 + length words) = omega arith in ap (λ k. drop k ((w ∷ words) ++ (word ∷ more))) same ∙ named_behind words word more)
+pub named_after : (words : List (List ℕ)) (word : List ℕ) (more : List (List ℕ)) → drop (1 + length words) (words ++ (word ∷ more)) ≡ more
+named_after [] word more = refl
+named_after (w ∷ words) word more = (let same : 1 + length (w ∷ words) ≡ suc (1 + length words) = omega arith in ap (λ k. drop k ((w ∷ words) ++ (word ∷ more))) same ∙ named_after words word more)
 
 -- ---- options before the applet
 
@@ -80,7 +80,7 @@ suited : (applet : Applet) (flags : Flags) (place : ℕ) (words : List (List ℕ
 suited applet flags place [] each s f = (flags, refl)
 suited applet flags place (word ∷ words) each s f =
     let next : place + length (word ∷ words) ≡ place + 1 + length words = omega arith in
-    elim (is_end word) as (λ b. is_end word ≡ b → IsSuited Add flags place (word ∷ words)) [
+    elim (is_double_dash word) as (λ b. is_double_dash word ≡ b → IsSuited Add flags place (word ∷ words)) [
       | true ↦ λ e. (flags, flags_end (options_of Add) flags place word words e)
       | false ↦ λ e. elim (is_option word) as (λ b. is_option word ≡ b → IsSuited Add flags place (word ∷ words)) [
         | false ↦ λ o. absurd (let same : place + length (word ∷ words) ≡ place = err_here place (place + length (word ∷ words)) false word (sym (seek_here place word words e o) ∙ s) in omega arith)
@@ -97,21 +97,21 @@ suited applet flags place (word ∷ words) each s f =
       ] refl
     ] refl
 
-any_suits : (words : List (List ℕ)) (xs : List Applet) → list_all (λ applet. list_all (is_as_add applet) early_words) xs ≡ true → applet_site 1 words ≡ Err (1 + length words) → list_any (suit words) xs ≡ true → IsSuited Add no_flags 1 words
+any_suits : (words : List (List ℕ)) (xs : List Applet) → list_all (λ applet. list_all (is_as_add applet) early_words) xs ≡ true → applet_site 1 words ≡ Err (1 + length words) → list_any (are_options_of words) xs ≡ true → IsSuited Add no_flags 1 words
 any_suits words [] each s h = absurd (false≢true h)
 any_suits words (x ∷ xs) each s h =
     let parts = and_parts (list_all (is_as_add x) early_words) (list_all (λ applet. list_all (is_as_add applet) early_words) xs) each in
-    elim (early_flags (options_of x) no_flags 1 words) as (λ r. early_flags (options_of x) no_flags 1 words ≡ r → (is_ok r || list_any (suit words) xs) ≡ true → IsSuited Add no_flags 1 words) [
+    elim (early_flags (options_of x) no_flags 1 words) as (λ r. early_flags (options_of x) no_flags 1 words ≡ r → (is_ok r || list_any (are_options_of words) xs) ≡ true → IsSuited Add no_flags 1 words) [
       | Ok more ↦ λ f h. suited x no_flags 1 words parts.0 s (more, f)
       | Err at ↦ λ f h. any_suits words xs parts.1 s h
     ] refl h
 
 -- they are those of `add`, or of `del`
-one_suits : (words : List (List ℕ)) → applet_site 1 words ≡ Err (1 + length words) → list_any (suit words) applets ≡ true → IsSuited Add no_flags 1 words ⊎ IsSuited Del no_flags 1 words
+one_suits : (words : List (List ℕ)) → applet_site 1 words ≡ Err (1 + length words) → list_any (are_options_of words) applets ≡ true → IsSuited Add no_flags 1 words ⊎ IsSuited Del no_flags 1 words
 one_suits words s h =
-    elim (early_flags (options_of Add) no_flags 1 words) as (λ r. early_flags (options_of Add) no_flags 1 words ≡ r → (is_ok r || (suit words Del || list_any (suit words) other_applets)) ≡ true → IsSuited Add no_flags 1 words ⊎ IsSuited Del no_flags 1 words) [
+    elim (early_flags (options_of Add) no_flags 1 words) as (λ r. early_flags (options_of Add) no_flags 1 words ≡ r → (is_ok r || (are_options_of words Del || list_any (are_options_of words) other_applets)) ≡ true → IsSuited Add no_flags 1 words ⊎ IsSuited Del no_flags 1 words) [
       | Ok more ↦ λ f h. inl (more, f)
-      | Err at ↦ λ f h. elim (early_flags (options_of Del) no_flags 1 words) as (λ r. early_flags (options_of Del) no_flags 1 words ≡ r → (is_ok r || list_any (suit words) other_applets) ≡ true → IsSuited Add no_flags 1 words ⊎ IsSuited Del no_flags 1 words) [
+      | Err at ↦ λ f h. elim (early_flags (options_of Del) no_flags 1 words) as (λ r. early_flags (options_of Del) no_flags 1 words ≡ r → (is_ok r || list_any (are_options_of words) other_applets) ≡ true → IsSuited Add no_flags 1 words ⊎ IsSuited Del no_flags 1 words) [
         | Ok more ↦ λ g h. inr (more, g)
         | Err at ↦ λ g h. inl (any_suits words other_applets today s h)
       ] refl h
@@ -127,7 +127,7 @@ one_good state place end = judged_good Del (reading_by state (operand_at place (
 
 module _ (applet : Applet) (named : List ℕ) (operands : List (List ℕ))
     (here : (place : ℕ) → applet_site place (named ∷ operands) ≡ Ok (site_by false place applet))
-    (behind_end : (place : ℕ) → site_behind_end place (named ∷ operands) ≡ Ok (site_by true place applet))
+    (after_end : (place : ℕ) → site_after_end place (named ∷ operands) ≡ Ok (site_by true place applet))
     (texts : AreTexts operands) (good : (state : OptionState) (place : ℕ) → IsJudgedGood applet (reading_by state (operands_of place operands) None)) where
   abbrev more : List (List ℕ)
   more = named ∷ operands
@@ -136,16 +136,16 @@ module _ (applet : Applet) (named : List ℕ) (operands : List (List ℕ))
   abbrev IsSought : ℕ → List (List ℕ) → Type 0
   IsSought place words = (ended : Bool) × (applet_site place (words ++ more) ≡ Ok (site_by ended (place + length words) applet))
 
-  end_sought : (place : ℕ) (word : List ℕ) (words : List (List ℕ)) → is_end word ≡ true → site_behind_end (place + 1) words ≡ Err (place + length (word ∷ words)) → IsSought place (word ∷ words)
-  unfolding site_behind_end site_at
-  end_sought place word [] e h = (true, seek_end place word more e ∙ behind_end (place + 1))
+  end_sought : (place : ℕ) (word : List ℕ) (words : List (List ℕ)) → is_double_dash word ≡ true → site_after_end (place + 1) words ≡ Err (place + length (word ∷ words)) → IsSought place (word ∷ words)
+  unfolding site_after_end site_at
+  end_sought place word [] e h = (true, seek_end place word more e ∙ after_end (place + 1))
   end_sought place word (next ∷ words) e h = absurd (let same : place + length (word ∷ (next ∷ words)) ≡ place + 1 = err_here (place + 1) (place + length (word ∷ (next ∷ words))) true next h in omega arith)
 
   sought : (place : ℕ) (words : List (List ℕ)) → applet_site place words ≡ Err (place + length words) → IsSought place words
   sought place [] h = (false, here place ∙ (let same : place ≡ place + 0 = omega arith in ap (λ k. Ok (site_by false k applet)) same))
   sought place (word ∷ words) h =
       let next : place + length (word ∷ words) ≡ place + 1 + length words = omega arith in
-      elim (is_end word) as (λ b. is_end word ≡ b → IsSought place (word ∷ words)) [
+      elim (is_double_dash word) as (λ b. is_double_dash word ≡ b → IsSought place (word ∷ words)) [
         | true ↦ λ e. end_sought place word words e (sym (seek_end place word words e) ∙ h)
         | false ↦ λ e. elim (is_option word) as (λ b. is_option word ≡ b → IsSought place (word ∷ words)) [
           | true ↦ λ o. elim (is_early word) as (λ b. is_early word ≡ b → IsSought place (word ∷ words)) [
@@ -157,11 +157,11 @@ module _ (applet : Applet) (named : List ℕ) (operands : List (List ℕ))
         ] refl
       ] refl
 
-  from_named : (start : Start) (words : List (List ℕ)) → start.applet ≡ applet → start.read ≡ 1 + length words → reading_behind start (words ++ more) ≡ reading_by (first_state start.flags) (operands_of (start.read + 1) operands) None
-  unfolding reading_behind
+  from_named : (start : Start) (words : List (List ℕ)) → start.applet ≡ applet → start.read ≡ 1 + length words → reading_after_applet start (words ++ more) ≡ reading_by (first_state start.flags) (operands_of (start.read + 1) operands) None
+  unfolding reading_after_applet
   from_named start words v r =
       subst (λ left. (if start.ended then reading_by (first_state start.flags) (operands_of (start.read + 1) left) None else option_reading (options_of start.applet) (first_state start.flags) (start.read + 1) left) ≡ reading_by (first_state start.flags) (operands_of (start.read + 1) operands) None)
-      (sym (ap (λ k. drop k (words ++ more)) r ∙ named_behind words named operands))
+      (sym (ap (λ k. drop k (words ++ more)) r ∙ named_after words named operands))
       (elim start.ended as (λ b. (if b then reading_by (first_state start.flags) (operands_of (start.read + 1) operands) None else option_reading (options_of start.applet) (first_state start.flags) (start.read + 1) operands) ≡ reading_by (first_state start.flags) (operands_of (start.read + 1) operands) None) [
         | true ↦ refl
         | false ↦ texts (options_of start.applet) (first_state start.flags) (start.read + 1) refl
@@ -192,28 +192,28 @@ add_here : (place : ℕ) → applet_site place (codes "add" ∷ []) ≡ Ok (site
 unfolding site_at
 add_here place = refl
 
-add_behind : (place : ℕ) → site_behind_end place (codes "add" ∷ []) ≡ Ok (site_by true place Add)
-unfolding site_at site_behind_end
-add_behind place = refl
+add_after : (place : ℕ) → site_after_end place (codes "add" ∷ []) ≡ Ok (site_by true place Add)
+unfolding site_at site_after_end
+add_after place = refl
 
 del_here : (place : ℕ) → applet_site place (codes "del" ∷ (codes "a" ∷ [])) ≡ Ok (site_by false place Del)
 unfolding site_at
 del_here place = refl
 
-del_behind : (place : ℕ) → site_behind_end place (codes "del" ∷ (codes "a" ∷ [])) ≡ Ok (site_by true place Del)
-unfolding site_at site_behind_end
-del_behind place = refl
+del_after : (place : ℕ) → site_after_end place (codes "del" ∷ (codes "a" ∷ [])) ≡ Ok (site_by true place Del)
+unfolding site_at site_after_end
+del_after place = refl
 
-pub applet_completed : (words : List (List ℕ)) → applet_site 1 words ≡ Err (1 + length words) → list_any (suit words) applets ≡ true → CanBeCompleted words
+pub applet_completed : (words : List (List ℕ)) → applet_site 1 words ≡ Err (1 + length words) → list_any (are_options_of words) applets ≡ true → CanBeCompleted words
 applet_completed words h k =
     elim (one_suits words h k) [
-      | inl flags ↦ completed_by Add (codes "add") [] add_here add_behind no_texts (λ state place. none_good state) words h flags
-      | inr flags ↦ completed_by Del (codes "del") (codes "a" ∷ []) del_here del_behind a_text one_good words h flags
+      | inl flags ↦ completed_by Add (codes "add") [] add_here add_after no_texts (λ state place. none_good state) words h flags
+      | inr flags ↦ completed_by Del (codes "del") (codes "a" ∷ []) del_here del_after a_text one_good words h flags
     ]
 
 -- whether words can become no line: no applet has all the options before it, or they are stuck behind it
 abbrev pub line_stuck_by : List (List ℕ) → Result AppletSite ℕ → Bool
-line_stuck_by words (Err place) = not (list_any (suit words) applets)
+line_stuck_by words (Err place) = not (list_any (are_options_of words) applets)
 line_stuck_by words (Ok site) = is_stuck_by words (start_from words (Ok site))
 
 unfoldable pub line_stuck : List (List ℕ) → Bool
@@ -227,7 +227,7 @@ completed_unless words k c =
           (let none : Err at ≡ Err (length words + 1) = sym (ap (λ r. command_from words (start_from words r)) s) ∙ c in
           let same : at ≡ length words + 1 = cc in
           let is : at ≡ 1 + length words = omega arith in
-          applet_completed words (s ∙ ap Err is) (is_so (list_any (suit words) applets) k))
+          applet_completed words (s ∙ ap Err is) (is_so (list_any (are_options_of words) applets) k))
       | Ok site ↦ λ s k. by_start site s (line_start words) refl (ap (λ r. is_stuck_by words (start_from words r)) s ∙ k)
     ] refl k
   where

@@ -15,7 +15,7 @@ use Rattle.words_core.specs.declared.next.NextWord.{NextWord}
 use Rattle.words_core.specs.declared.next.NextWord.TheVariants.{OptionOrCommand, Command as CommandAlone, OptionOrOperand, Value as NextValue, Operand as OperandAlone, Nothing}
 use Rattle.words_core.specs.declared.reading.AppletSite.{AppletSite}
 use Rattle.words_core.specs.declared.reading.OptionState.{OptionState}
-use Rattle.words_core.specs.Grammar.{applet_site, held_value, is_end, is_option, is_option_or_value, next_by_applet, next_by_rule, next_word, next_words, operands_of, option_name, option_reading, or_at, or_unread, reading_by, rule_behind, rule_unless, site_at, site_behind_end, site_by, takes_option, with_meaning_at, with_operand, with_word, with_word_by}
+use Rattle.words_core.specs.Grammar.{applet_site, attached_value, is_double_dash, is_option, is_option_or_value, next_by_applet, next_by_rule, next_word, next_words, operands_of, option_name, option_reading, or_at, or_unread, reading_by, awaited_rule, rule_unless, site_at, site_after_end, site_by, takes_option, with_meaning_at, with_operand, with_word, with_word_by}
 use Rattle.words_core.specs.Options.{OptionSpec, applet_of, asked_by, common_options, early_words, is_early, option_spelled, options_of}
 use Rattle.words_core.specs.Stuck.{have_ended}
 use Rattle.words_core.proofs.GoneOn.{is_not, none_is, not_option}
@@ -26,7 +26,7 @@ use Rattle.words_core.proofs.Sites.{err_here, seek_early, seek_end, seek_here, s
 -- ---- a word that asks is no option of an applet
 
 pub record HasNoMeaning (word : List ℕ) : Type 0 where
-  pub end : is_end word ≡ false
+  pub end : is_double_dash word ≡ false
   pub option : is_option word ≡ true
   pub early : is_early word ≡ false
   pub spelled : (applet : Applet) → option_spelled (options_of applet) (option_name word) ≡ None
@@ -104,22 +104,22 @@ next_append next (word ∷ words) more = next_append (next_word next word) words
 
 -- ---- one more word
 
-pub next_end : (word : List ℕ) → is_end word ≡ true → next_word OptionOrCommand word ≡ CommandAlone
+pub next_end : (word : List ℕ) → is_double_dash word ≡ true → next_word OptionOrCommand word ≡ CommandAlone
 next_end word e = rw e refl
 
-pub next_early : (word : List ℕ) → is_end word ≡ false → is_option word ≡ true → next_word OptionOrCommand word ≡ OptionOrCommand
+pub next_early : (word : List ℕ) → is_double_dash word ≡ false → is_option word ≡ true → next_word OptionOrCommand word ≡ OptionOrCommand
 next_early word e o = rw e (rw o refl)
 
-pub next_named : (word : List ℕ) → is_end word ≡ false → is_option word ≡ false → next_word OptionOrCommand word ≡ next_by_applet OptionOrOperand (applet_of word)
+pub next_named : (word : List ℕ) → is_double_dash word ≡ false → is_option word ≡ false → next_word OptionOrCommand word ≡ next_by_applet OptionOrOperand (applet_of word)
 next_named word e o = rw e (rw o refl)
 
-pub next_ended : (applet : Applet) (word : List ℕ) → is_end word ≡ true → next_word (OptionOrOperand applet) word ≡ OperandAlone applet
+pub next_ended : (applet : Applet) (word : List ℕ) → is_double_dash word ≡ true → next_word (OptionOrOperand applet) word ≡ OperandAlone applet
 next_ended applet word e = rw e refl
 
-pub next_option : (applet : Applet) (word : List ℕ) → is_end word ≡ false → is_option word ≡ true → next_word (OptionOrOperand applet) word ≡ next_by_rule applet (rule_behind (options_of applet) word)
+pub next_option : (applet : Applet) (word : List ℕ) → is_double_dash word ≡ false → is_option word ≡ true → next_word (OptionOrOperand applet) word ≡ next_by_rule applet (awaited_rule (options_of applet) word)
 next_option applet word e o = rw e (rw o refl)
 
-pub next_operand : (applet : Applet) (word : List ℕ) → is_end word ≡ false → is_option word ≡ false → next_word (OptionOrOperand applet) word ≡ OptionOrOperand applet
+pub next_operand : (applet : Applet) (word : List ℕ) → is_double_dash word ≡ false → is_option word ≡ false → next_word (OptionOrOperand applet) word ≡ OptionOrOperand applet
 next_operand applet word e o = rw e (rw o refl)
 
 -- .. of words that are read one after another
@@ -139,7 +139,7 @@ pub asks_first : (place : ℕ) (before after : List (List ℕ)) (word : List ℕ
 asks_first place [] after word m t h = seek_late place word after m.end m.option m.early ∙ (let same : place ≡ place + 0 = omega arith in ap Err same)
 asks_first place (w ∷ before) after word m t h =
     let next : place + length (w ∷ before) ≡ place + 1 + length before = omega arith in
-    elim (is_end w) as (λ b. is_end w ≡ b → applet_site place (w ∷ (before ++ (word ∷ after))) ≡ Err (place + length (w ∷ before))) [
+    elim (is_double_dash w) as (λ b. is_double_dash w ≡ b → applet_site place (w ∷ (before ++ (word ∷ after))) ≡ Err (place + length (w ∷ before))) [
       | true ↦ λ e. absurd (false≢true (sym (ap (λ n. takes_option (next_words n before)) (next_end w e) ∙ alone_stays before) ∙ t))
       | false ↦ λ e. elim (is_option w) as (λ b. is_option w ≡ b → applet_site place (w ∷ (before ++ (word ∷ after))) ≡ Err (place + length (w ∷ before))) [
         | true ↦ λ o. elim (is_early w) as (λ b. is_early w ≡ b → applet_site place (w ∷ (before ++ (word ∷ after))) ≡ Err (place + length (w ∷ before))) [
@@ -171,8 +171,8 @@ named_site ended place word site h =
       | Some applet ↦ λ (e : Ok (site_by ended place applet) ≡ Ok site). (applet, refl, cc)
     ] h
 
-end_next : (place : ℕ) (word : List ℕ) (words : List (List ℕ)) (site : AppletSite) → is_end word ≡ true → site_behind_end (place + 1) words ≡ Ok site → IsNext place (word ∷ words) site
-unfolding site_behind_end
+end_next : (place : ℕ) (word : List ℕ) (words : List (List ℕ)) (site : AppletSite) → is_double_dash word ≡ true → site_after_end (place + 1) words ≡ Ok site → IsNext place (word ∷ words) site
+unfolding site_after_end
 end_next place word [] site e h = absurd (cc)
 end_next place word (v ∷ words) site e h =
     let named = named_site true (place + 1) v site h in
@@ -185,7 +185,7 @@ end_next place word (v ∷ words) site e h =
 pub found_next : (place : ℕ) (words : List (List ℕ)) (site : AppletSite) → applet_site place words ≡ Ok site → IsNext place words site
 found_next place [] site h = absurd (cc)
 found_next place (word ∷ words) site h =
-    elim (is_end word) as (λ b. is_end word ≡ b → IsNext place (word ∷ words) site) [
+    elim (is_double_dash word) as (λ b. is_double_dash word ≡ b → IsNext place (word ∷ words) site) [
       | true ↦ λ e. end_next place word words site e (sym (seek_end place word words e) ∙ h)
       | false ↦ λ e. elim (is_option word) as (λ b. is_option word ≡ b → IsNext place (word ∷ words) site) [
         | true ↦ λ o. elim (is_early word) as (λ b. is_early word ≡ b → IsNext place (word ∷ words) site) [
@@ -221,10 +221,10 @@ ended_alone applet None [] h = absurd (false≢true h)
 ended_alone applet (Some rule) [] h = absurd (false≢true h)
 ended_alone applet (Some rule) (word ∷ words) h = ended_alone applet None words h
 ended_alone applet None (word ∷ words) h =
-    elim (is_end word) as (λ b. is_end word ≡ b → (if b then true else if is_option word then have_ended (options_of applet) (rule_behind (options_of applet) word) words else have_ended (options_of applet) None words) ≡ true → next_words (next_word (OptionOrOperand applet) word) words ≡ OperandAlone applet) [
+    elim (is_double_dash word) as (λ b. is_double_dash word ≡ b → (if b then true else if is_option word then have_ended (options_of applet) (awaited_rule (options_of applet) word) words else have_ended (options_of applet) None words) ≡ true → next_words (next_word (OptionOrOperand applet) word) words ≡ OperandAlone applet) [
       | true ↦ λ e h. ap (λ n. next_words n words) (next_ended applet word e) ∙ operand_stays applet words
-      | false ↦ λ e. elim (is_option word) as (λ b. is_option word ≡ b → (if b then have_ended (options_of applet) (rule_behind (options_of applet) word) words else have_ended (options_of applet) None words) ≡ true → next_words (next_word (OptionOrOperand applet) word) words ≡ OperandAlone applet) [
-        | true ↦ λ o h. ap (λ n. next_words n words) (next_option applet word e o) ∙ ended_alone applet (rule_behind (options_of applet) word) words h
+      | false ↦ λ e. elim (is_option word) as (λ b. is_option word ≡ b → (if b then have_ended (options_of applet) (awaited_rule (options_of applet) word) words else have_ended (options_of applet) None words) ≡ true → next_words (next_word (OptionOrOperand applet) word) words ≡ OperandAlone applet) [
+        | true ↦ λ o h. ap (λ n. next_words n words) (next_option applet word e o) ∙ ended_alone applet (awaited_rule (options_of applet) word) words h
         | false ↦ λ o h. ap (λ n. next_words n words) (next_operand applet word e o) ∙ ended_alone applet None words h
       ] refl
     ] refl h
@@ -236,34 +236,34 @@ next_taken applet state more place word t w = by_rule state.awaiting refl t w
     options : List OptionSpec
     options = options_of applet
 
-    by_rule : (rule : Option ValueRule) → state.awaiting ≡ rule → (is_some rule || (is_option word && not (is_end word))) ≡ true → with_word_by options state place word rule ≡ Some more → next_word (next_by_rule applet rule) word ≡ next_by_rule applet more.awaiting
+    by_rule : (rule : Option ValueRule) → state.awaiting ≡ rule → (is_some rule || (is_option word && not (is_double_dash word))) ≡ true → with_word_by options state place word rule ≡ Some more → next_word (next_by_rule applet rule) word ≡ next_by_rule applet more.awaiting
     by_rule (Some rule) a t h = ap (next_by_rule applet) (ap (λ (g : OptionState). g.awaiting) (value_says state more place word rule h))
     by_rule None a t h =
-        let parts = and_parts (is_option word) (not (is_end word)) t in
-        option_and_then_some (λ (e : OptionSpec). with_meaning_at state place (held_value word) e.meaning) (option_spelled options (option_name word)) more h
+        let parts = and_parts (is_option word) (not (is_double_dash word)) t in
+        option_and_then_some (λ (e : OptionSpec). with_meaning_at state place (attached_value word) e.meaning) (option_spelled options (option_name word)) more h
         (λ found is made.
-        (let says : Says state place (held_value word) found.meaning more = meaning_says state more place (held_value word) found.meaning a made in
-        next_option applet word (is_not (is_end word) parts.1) parts.0
-        ∙ ap (next_by_rule applet) (ap (rule_unless (held_value word)) (rule_at_is options word found is) ∙ says.awaiting)))
+        (let says : Says state place (attached_value word) found.meaning more = meaning_says state more place (attached_value word) found.meaning a made in
+        next_option applet word (is_not (is_double_dash word) parts.1) parts.0
+        ∙ ap (next_by_rule applet) (ap (rule_unless (attached_value word)) (rule_at_is options word found is) ∙ says.awaiting)))
 
 -- where a value is awaited, no option can follow
 pub awaited_next : (applet : Applet) (state : OptionState) (place : ℕ) (words : List (List ℕ)) (rule : ValueRule) → (option_reading (options_of applet) state place words).state.awaiting ≡ Some rule → (option_reading (options_of applet) state place words).unread ≡ Some (place + length words) → next_words (next_by_rule applet state.awaiting) words ≡ NextValue applet rule
 awaited_next applet state place [] rule a u = ap (next_by_rule applet) a
 awaited_next applet state place (word ∷ words) rule a u =
     let next : place + length (word ∷ words) ≡ place + 1 + length words = omega arith in
-    elim (is_option_or_value state word) as (λ b. is_option_or_value state word ≡ b → (if b then or_unread state place (λ m. option_reading (options_of applet) m (place + 1) words) (with_word (options_of applet) state place word) else if is_end word then reading_by state (operands_of (place + 1) words) None else with_operand (operand_at place word) (option_reading (options_of applet) state (place + 1) words)).state.awaiting ≡ Some rule → (if b then or_unread state place (λ m. option_reading (options_of applet) m (place + 1) words) (with_word (options_of applet) state place word) else if is_end word then reading_by state (operands_of (place + 1) words) None else with_operand (operand_at place word) (option_reading (options_of applet) state (place + 1) words)).unread ≡ Some (place + length (word ∷ words)) → next_words (next_word (next_by_rule applet state.awaiting) word) words ≡ NextValue applet rule) [
+    elim (is_option_or_value state word) as (λ b. is_option_or_value state word ≡ b → (if b then or_unread state place (λ m. option_reading (options_of applet) m (place + 1) words) (with_word (options_of applet) state place word) else if is_double_dash word then reading_by state (operands_of (place + 1) words) None else with_operand (operand_at place word) (option_reading (options_of applet) state (place + 1) words)).state.awaiting ≡ Some rule → (if b then or_unread state place (λ m. option_reading (options_of applet) m (place + 1) words) (with_word (options_of applet) state place word) else if is_double_dash word then reading_by state (operands_of (place + 1) words) None else with_operand (operand_at place word) (option_reading (options_of applet) state (place + 1) words)).unread ≡ Some (place + length (word ∷ words)) → next_words (next_word (next_by_rule applet state.awaiting) word) words ≡ NextValue applet rule) [
       | true ↦ λ t. elim (with_word (options_of applet) state place word) as (λ w. with_word (options_of applet) state place word ≡ w → (or_unread state place (λ m. option_reading (options_of applet) m (place + 1) words) w).state.awaiting ≡ Some rule → (or_unread state place (λ m. option_reading (options_of applet) m (place + 1) words) w).unread ≡ Some (place + length (word ∷ words)) → next_words (next_word (next_by_rule applet state.awaiting) word) words ≡ NextValue applet rule) [
         | None ↦ λ w a (u : Some place ≡ Some (place + length (word ∷ words))). absurd (let same : place ≡ place + length (word ∷ words) = same_Some place (place + length (word ∷ words)) u in omega arith)
         | Some g ↦ λ w a u. ap (λ n. next_words n words) (next_taken applet state g place word t w) ∙ awaited_next applet g (place + 1) words rule a (u ∙ ap Some next)
       ] refl
       | false ↦ λ t.
-          let parts = or_parts (is_some state.awaiting) (is_option word && not (is_end word)) t in
+          let parts = or_parts (is_some state.awaiting) (is_option word && not (is_double_dash word)) t in
           let none : state.awaiting ≡ None = none_is state.awaiting parts.0 in
-          elim (is_end word) as (λ b. is_end word ≡ b → (if b then reading_by state (operands_of (place + 1) words) None else with_operand (operand_at place word) (option_reading (options_of applet) state (place + 1) words)).state.awaiting ≡ Some rule → (if b then reading_by state (operands_of (place + 1) words) None else with_operand (operand_at place word) (option_reading (options_of applet) state (place + 1) words)).unread ≡ Some (place + length (word ∷ words)) → next_words (next_word (next_by_rule applet state.awaiting) word) words ≡ NextValue applet rule) [
+          elim (is_double_dash word) as (λ b. is_double_dash word ≡ b → (if b then reading_by state (operands_of (place + 1) words) None else with_operand (operand_at place word) (option_reading (options_of applet) state (place + 1) words)).state.awaiting ≡ Some rule → (if b then reading_by state (operands_of (place + 1) words) None else with_operand (operand_at place word) (option_reading (options_of applet) state (place + 1) words)).unread ≡ Some (place + length (word ∷ words)) → next_words (next_word (next_by_rule applet state.awaiting) word) words ≡ NextValue applet rule) [
             | true ↦ λ e a u. absurd (none-some (place + length (word ∷ words)) u)
             | false ↦ λ e a u.
                 ap (λ o. next_words (next_word (next_by_rule applet o) word) words) none
-                ∙ (ap (λ n. next_words n words) (next_operand applet word e (not_option (is_option word) (is_end word) e parts.1))
+                ∙ (ap (λ n. next_words n words) (next_operand applet word e (not_option (is_option word) (is_double_dash word) e parts.1))
                 ∙ (ap (λ o. next_words (next_by_rule applet o) words) (sym none)
                 ∙ awaited_next applet state (place + 1) words rule a (u ∙ ap Some next)))
           ] refl

@@ -26,7 +26,7 @@ use Rattle.words_core.proofs.LinesRead.{read_line}
 use Rattle.words_core.proofs.OffendingWords.{usage_between}
 use Rattle.words_core.proofs.Sites.{IsForeign, foreign_between, no_start, start_stays, take_stays}
 use Rattle.words_core.proofs.StillOffending.{usage_stays}
-use Rattle.words_core.proofs.WhatFollows.{offends_behind}
+use Rattle.words_core.proofs.WhatFollows.{offends_after}
 
 -- words are a command as a line, or since a word asks; or they offend, and the word does not ask
 pub record IsUnasked (words : List (List ℕ)) (place : ℕ) : Type 0 where
@@ -180,11 +180,11 @@ pub asked_on : (words more : List (List ℕ)) (place : ℕ) (applet : Applet) �
 asked_on words more place applet e a =
     asked_command_is (words ++ more) place applet (asked_offends words more place applet e a) (asked_stays words more place (asked_parts words place applet a).within ∙ a)
 
-pub offends_behind_words : (words more : List (List ℕ)) (command : CommandLine) (place : ℕ) → can_get_kind words ≡ false → command_of words ≡ Ok command → command_of (words ++ more) ≡ Err place → length words < place
-offends_behind_words words more command place k c d = by_parts (line_or_asked words command c)
+pub offends_after_words : (words more : List (List ℕ)) (command : CommandLine) (place : ℕ) → can_get_kind words ≡ false → command_of words ≡ Ok command → command_of (words ++ more) ≡ Err place → length words < place
+offends_after_words words more command place k c d = by_parts (line_or_asked words command c)
   where
     by_parts : (line_command words ≡ Ok command) ⊎ IsAskedAt words command → length words < place
-    by_parts (inl e) = offends_behind words more command place k e (offends_unasked (words ++ more) place d).offends
+    by_parts (inl e) = offends_after words more command place k e (offends_unasked (words ++ more) place d).offends
     by_parts (inr a) = absurd (let both : Ok (asked_command (words ++ more) a.applet) ≡ Err place = sym (asked_on words more a.place a.applet a.offends a.asked) ∙ d in cc)
 
 -- ---- what words ask for is a command

@@ -15,11 +15,11 @@ use Rattle.command_core.specs.Operands.{first_refused}
 use Rattle.words_core.specs.declared.next.NextWord.TheVariants.{OptionOrOperand, Operand as OperandAlone, Value as NextValue}
 use Rattle.words_core.specs.declared.reading.Reading.{Reading}
 use Rattle.words_core.specs.declared.reading.Start.{Start}
-use Rattle.words_core.specs.Grammar.{asked_at, command_from, first_state, line_command, line_start, next_after, next_words, operands_of, option_reading, reading_behind, reading_by, refused_operand, start_from, takes_option}
+use Rattle.words_core.specs.Grammar.{asked_at, command_from, first_state, line_command, line_start, next_after, next_words, operands_of, option_reading, reading_after_applet, reading_by, refused_operand, start_from, takes_option}
 use Rattle.words_core.specs.Options.{OptionSpec, asked_by, options_of}
 use Rattle.words_core.specs.Stuck.{have_ended}
 use Rattle.words_core.proofs.Asked.{HasNoMeaning, asks_first, asks_now, awaited_next, ended_alone, found_next, next_at, next_behind, operand_stays}
-use Rattle.words_core.proofs.GoneOn.{from_going, IsGoing}
+use Rattle.words_core.proofs.GoneOn.{from_going, IsRemovedPackage}
 use Rattle.words_core.proofs.KindsKept.{IsPlain, start_known, start_parts}
 use Rattle.words_core.proofs.OffendingWords.{AllBetween, IsJudgedAt, from_placed, judged_at, judged_bad, refused_between, usage_between}
 use Rattle.words_core.proofs.OneMore.{behind, left_at}
@@ -54,9 +54,9 @@ not_ended words start s t =
     ] refl
 
 -- where a value is awaited behind the words, no option can follow
-pub awaited_behind : (words : List (List ℕ)) (start : Start) (rule : ValueRule) → start.read ≤ length words → (reading_behind start words).state.awaiting ≡ Some rule → (reading_behind start words).unread ≡ Some (length words + 1) → next_words (if start.ended then OperandAlone start.applet else OptionOrOperand start.applet) (drop start.read words) ≡ NextValue start.applet rule
-unfolding reading_behind
-awaited_behind words start rule l a u =
+pub awaited_after : (words : List (List ℕ)) (start : Start) (rule : ValueRule) → start.read ≤ length words → (reading_after_applet start words).state.awaiting ≡ Some rule → (reading_after_applet start words).unread ≡ Some (length words + 1) → next_words (if start.ended then OperandAlone start.applet else OptionOrOperand start.applet) (drop start.read words) ≡ NextValue start.applet rule
+unfolding reading_after_applet
+awaited_after words start rule l a u =
     let left = drop start.read words in
     let ends : length words + 1 ≡ start.read + 1 + length (drop start.read words) = omega (arith, length-drop start.read words) in
     elim start.ended as (λ b. (if b then reading_by (first_state start.flags) (operands_of (start.read + 1) left) None else option_reading (options_of start.applet) (first_state start.flags) (start.read + 1) left).state.awaiting ≡ Some rule → (if b then reading_by (first_state start.flags) (operands_of (start.read + 1) left) None else option_reading (options_of start.applet) (first_state start.flags) (start.read + 1) left).unread ≡ Some (length words + 1) → next_words (if b then OperandAlone start.applet else OptionOrOperand start.applet) (drop start.read words) ≡ NextValue start.applet rule) [
@@ -88,7 +88,7 @@ first_near low end (Some rule) operands at p l =
       | Some q ↦ λ f. (q, refl, (refused_between rule 0 low end q operands p f).1)
     ] refl
 
-asked_in : (words after : List (List ℕ)) (start : Start) (word : List ℕ) → HasNoMeaning word → line_start words ≡ Ok start → takes_option (next_after words) ≡ true → IsAskedIn (length words + 1) start.applet (reading_behind start words) (reading_behind start (words ++ (word ∷ after)))
+asked_in : (words after : List (List ℕ)) (start : Start) (word : List ℕ) → HasNoMeaning word → line_start words ≡ Ok start → takes_option (next_after words) ≡ true → IsAskedIn (length words + 1) start.applet (reading_after_applet start words) (reading_after_applet start (words ++ (word ∷ after)))
 asked_in words after start word m s t = by_going (from_going start words low)
   where
     end : ℕ
@@ -98,7 +98,7 @@ asked_in words after start word m s t = by_going (from_going start words low)
     options = options_of start.applet
 
     reading : Reading
-    reading = reading_behind start words
+    reading = reading_after_applet start words
 
     ended : Bool
     ended = start.ended || have_ended options None (drop start.read words)
@@ -112,16 +112,16 @@ asked_in words after start word m s t = by_going (from_going start words low)
     placed : AllBetween (start.read + 1) end reading.operands
     placed = (from_placed start words low).operands
 
-    by_awaiting : (awaiting : Option ValueRule) → reading.state.awaiting ≡ awaiting → reading.unread ≡ option_map (λ (rule : ValueRule). end) awaiting → ((more : List (List ℕ)) → reading_behind start (words ++ more) ≡ behind reading.operands (option_reading options reading.state end more)) → IsAskedIn end start.applet reading (reading_behind start (words ++ (word ∷ after)))
+    by_awaiting : (awaiting : Option ValueRule) → reading.state.awaiting ≡ awaiting → reading.unread ≡ option_map (λ (rule : ValueRule). end) awaiting → ((more : List (List ℕ)) → reading_after_applet start (words ++ more) ≡ behind reading.operands (option_reading options reading.state end more)) → IsAskedIn end start.applet reading (reading_after_applet start (words ++ (word ∷ after)))
     by_awaiting None a u on = inr (
       u,
       on (word ∷ after)
           ∙ (ap (behind reading.operands) (asks_now start.applet reading.state end word after m a)
           ∙ ap (λ os. reading_by reading.state os (Some end)) (append-nil reading.operands)),
     )
-    by_awaiting (Some rule) a u on = absurd (false≢true (sym (ap takes_option (next_of_start words start s ∙ awaited_behind words start rule low a u)) ∙ t))
+    by_awaiting (Some rule) a u on = absurd (false≢true (sym (ap takes_option (next_of_start words start s ∙ awaited_after words start rule low a u)) ∙ t))
 
-    by_going : IsGoing options end ended reading (λ more. reading_behind start (words ++ more)) → IsAskedIn end start.applet reading (reading_behind start (words ++ (word ∷ after)))
+    by_going : IsRemovedPackage options end ended reading (λ more. reading_after_applet start (words ++ more)) → IsAskedIn end start.applet reading (reading_after_applet start (words ++ (word ∷ after)))
     by_going (inl stopped) =
         let bad = first_near (start.read + 1) end (operand_rule start.applet reading.state.flags) reading.operands stopped.0 placed stopped.2 in
         inl ((bad.0, ap (option_or (refused_operand (operand_rule start.applet reading.state.flags) reading.operands)) stopped.1 ∙ bad.1, bad.2), stopped.3 (word ∷ after))
@@ -176,43 +176,43 @@ asked_after before after word m t =
     refused_near None low end at operands p e = absurd (none-some at e)
     refused_near (Some rule) low end at operands p e = (refused_between rule 0 low end at operands p e).1
 
-    by_operands : (start : Start) → line_start before ≡ Ok start → (reading_behind start before).unread ≡ None → reading_behind start all ≡ reading_by (reading_behind start before).state (reading_behind start before).operands (Some (length before + 1)) → (o : Option ℕ) → refused_operand (operand_rule start.applet (reading_behind start before).state.flags) (reading_behind start before).operands ≡ o → IsAskedAfter before all
+    by_operands : (start : Start) → line_start before ≡ Ok start → (reading_after_applet start before).unread ≡ None → reading_after_applet start all ≡ reading_by (reading_after_applet start before).state (reading_after_applet start before).operands (Some (length before + 1)) → (o : Option ℕ) → refused_operand (operand_rule start.applet (reading_after_applet start before).state.flags) (reading_after_applet start before).operands ≡ o → IsAskedAfter before all
     by_operands start s u l None r =
         let known : IsPlain start (1 + length before) = start_known before start s in
-        let longer : option_or (refused_operand (operand_rule start.applet (reading_behind start all).state.flags) (reading_behind start all).operands) (reading_behind start all).unread ≡ Some (length before + 1) =
+        let longer : option_or (refused_operand (operand_rule start.applet (reading_after_applet start all).state.flags) (reading_after_applet start all).operands) (reading_after_applet start all).unread ≡ Some (length before + 1) =
         ap (λ (x : Reading). option_or (refused_operand (operand_rule start.applet x.state.flags) x.operands) x.unread) l ∙ ap (λ o. option_or o (Some (length before + 1))) r in
         inr (
-          λ place e. far place (judged_at start.applet (reading_behind start before) (length before + 1) place (sym (ap (command_from before) s) ∙ e)),
-          ap (command_from all) (start_stays before (word ∷ after) start s) ∙ judged_bad start.applet (reading_behind start all) (length all + 1) (length before + 1) longer,
+          λ place e. far place (judged_at start.applet (reading_after_applet start before) (length before + 1) place (sym (ap (command_from before) s) ∙ e)),
+          ap (command_from all) (start_stays before (word ∷ after) start s) ∙ judged_bad start.applet (reading_after_applet start all) (length all + 1) (length before + 1) longer,
         )
       where
-        nothing : option_or (refused_operand (operand_rule start.applet (reading_behind start before).state.flags) (reading_behind start before).operands) (reading_behind start before).unread ≡ None
-        nothing = ap (λ o. option_or o (reading_behind start before).unread) r ∙ u
+        nothing : option_or (refused_operand (operand_rule start.applet (reading_after_applet start before).state.flags) (reading_after_applet start before).operands) (reading_after_applet start before).unread ≡ None
+        nothing = ap (λ o. option_or o (reading_after_applet start before).unread) r ∙ u
 
-        far : (place : ℕ) → IsJudgedAt (length before + 1) (option_or (refused_operand (operand_rule start.applet (reading_behind start before).state.flags) (reading_behind start before).operands) (reading_behind start before).unread) place → length before < place
+        far : (place : ℕ) → IsJudgedAt (length before + 1) (option_or (refused_operand (operand_rule start.applet (reading_after_applet start before).state.flags) (reading_after_applet start before).operands) (reading_after_applet start before).unread) place → length before < place
         far place (inl here) = absurd (none-some place (sym nothing ∙ here))
         far place (inr end) = omega (arith, end.1)
     by_operands start s u l (Some at) r =
         let known : IsPlain start (1 + length before) = start_known before start s in
-        let placed : AllBetween (start.read + 1) (length before + 1) (reading_behind start before).operands = (from_placed start before (omega (arith, known.read))).operands in
-        let near : at < length before + 1 = refused_near (operand_rule start.applet (reading_behind start before).state.flags) (start.read + 1) (length before + 1) at (reading_behind start before).operands placed r in
-        let longer : option_or (refused_operand (operand_rule start.applet (reading_behind start all).state.flags) (reading_behind start all).operands) (reading_behind start all).unread ≡ Some at =
+        let placed : AllBetween (start.read + 1) (length before + 1) (reading_after_applet start before).operands = (from_placed start before (omega (arith, known.read))).operands in
+        let near : at < length before + 1 = refused_near (operand_rule start.applet (reading_after_applet start before).state.flags) (start.read + 1) (length before + 1) at (reading_after_applet start before).operands placed r in
+        let longer : option_or (refused_operand (operand_rule start.applet (reading_after_applet start all).state.flags) (reading_after_applet start all).operands) (reading_after_applet start all).unread ≡ Some at =
         ap (λ (x : Reading). option_or (refused_operand (operand_rule start.applet x.state.flags) x.operands) x.unread) l ∙ ap (λ o. option_or o (Some (length before + 1))) r in
         inl (
-          (at, ap (command_from before) s ∙ judged_bad start.applet (reading_behind start before) (length before + 1) at (ap (λ o. option_or o (reading_behind start before).unread) r), omega (arith, near)),
-          ap (command_from all) (start_stays before (word ∷ after) start s) ∙ judged_bad start.applet (reading_behind start all) (length all + 1) at longer,
+          (at, ap (command_from before) s ∙ judged_bad start.applet (reading_after_applet start before) (length before + 1) at (ap (λ o. option_or o (reading_after_applet start before).unread) r), omega (arith, near)),
+          ap (command_from all) (start_stays before (word ∷ after) start s) ∙ judged_bad start.applet (reading_after_applet start all) (length all + 1) at longer,
         )
 
-    by_reading : (start : Start) → line_start before ≡ Ok start → IsAskedIn (length before + 1) start.applet (reading_behind start before) (reading_behind start all) → IsAskedAfter before all
+    by_reading : (start : Start) → line_start before ≡ Ok start → IsAskedIn (length before + 1) start.applet (reading_after_applet start before) (reading_after_applet start all) → IsAskedAfter before all
     by_reading start s (inl same) =
         let bad = same.0 in
-        let longer : option_or (refused_operand (operand_rule start.applet (reading_behind start all).state.flags) (reading_behind start all).operands) (reading_behind start all).unread ≡ Some bad.0 =
+        let longer : option_or (refused_operand (operand_rule start.applet (reading_after_applet start all).state.flags) (reading_after_applet start all).operands) (reading_after_applet start all).unread ≡ Some bad.0 =
         ap (λ (r : Reading). option_or (refused_operand (operand_rule start.applet r.state.flags) r.operands) r.unread) same.1 ∙ bad.1 in
         inl (
-          (bad.0, ap (command_from before) s ∙ judged_bad start.applet (reading_behind start before) (length before + 1) bad.0 bad.1, omega (arith, bad.2)),
-          ap (command_from all) (start_stays before (word ∷ after) start s) ∙ judged_bad start.applet (reading_behind start all) (length all + 1) bad.0 longer,
+          (bad.0, ap (command_from before) s ∙ judged_bad start.applet (reading_after_applet start before) (length before + 1) bad.0 bad.1, omega (arith, bad.2)),
+          ap (command_from all) (start_stays before (word ∷ after) start s) ∙ judged_bad start.applet (reading_after_applet start all) (length all + 1) bad.0 longer,
         )
-    by_reading start s (inr free) = by_operands start s free.0 free.1 (refused_operand (operand_rule start.applet (reading_behind start before).state.flags) (reading_behind start before).operands) refl
+    by_reading start s (inr free) = by_operands start s free.0 free.1 (refused_operand (operand_rule start.applet (reading_after_applet start before).state.flags) (reading_after_applet start before).operands) refl
 
 -- ---- where a word asks
 
@@ -220,14 +220,14 @@ pub take_front : (before more : List (List ℕ)) → take (length before) (befor
 take_front [] more = refl
 take_front (word ∷ before) more = ap (λ ws. word ∷ ws) (take_front before more)
 
-pub get_behind : (before after : List (List ℕ)) (word : List ℕ) → slice_get (before ++ (word ∷ after)) (length before) ≡ Some word
-get_behind [] after word = refl
-get_behind (w ∷ before) after word = get_behind before after word
+pub get_after : (before after : List (List ℕ)) (word : List ℕ) → slice_get (before ++ (word ∷ after)) (length before) ≡ Some word
+get_after [] after word = refl
+get_after (w ∷ before) after word = get_after before after word
 
 pub asked_here : (before after : List (List ℕ)) (word : List ℕ) (applet : Applet) → asked_by word ≡ Some applet → takes_option (next_after before) ≡ true → asked_at (before ++ (word ∷ after)) (length before + 1) ≡ Some applet
 asked_here before after word applet a t =
     let count : length before + 1 - 1 ≡ length before = omega arith in
-    rw count (rw (take_front before (word ∷ after)) (rw t (rw (get_behind before after word) a)))
+    rw count (rw (take_front before (word ∷ after)) (rw t (rw (get_after before after word) a)))
 
 -- the parts of words in which one asks
 pub record HasAsked (words : List (List ℕ)) (place : ℕ) (applet : Applet) : Type 0 where

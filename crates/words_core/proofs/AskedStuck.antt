@@ -16,14 +16,14 @@ use Rattle.words_core.specs.declared.next.NextWord.TheVariants.{OptionOrCommand,
 use Rattle.words_core.specs.declared.reading.AppletSite.{AppletSite}
 use Rattle.words_core.specs.declared.reading.Reading.{Reading}
 use Rattle.words_core.specs.declared.reading.Start.{Start}
-use Rattle.words_core.specs.Grammar.{applet_site, asked_at, asked_command, command_from, command_of, is_end, is_option, line_command, line_start, next_after, next_words, option_reading, reading_behind, reading_by, refused_operand, site_behind_end, start_from, takes_option}
+use Rattle.words_core.specs.Grammar.{applet_site, asked_at, asked_command, command_from, command_of, is_double_dash, is_option, line_command, line_start, next_after, next_words, option_reading, reading_after_applet, reading_by, refused_operand, site_after_end, start_from, takes_option}
 use Rattle.words_core.specs.Options.{OptionSpec, applets, is_early, options_of}
-use Rattle.words_core.specs.Stuck.{are_stuck, are_stuck_by, awaits_none, have_ended, is_stuck_by, lacks_option, suit}
+use Rattle.words_core.specs.Stuck.{are_stuck, are_stuck_by, awaits_none, have_ended, is_stuck_by, lacks_option, are_options_of}
 use Rattle.words_core.proofs.AppletCompleted.{line_stuck, line_stuck_by, usage_is_first}
 use Rattle.words_core.proofs.Asked.{alone_stays, asking, next_append, next_early, next_end, operand_stays}
 use Rattle.words_core.proofs.AskedLaws.{asked_command_is, asked_made, asked_stays, line_is, offends_unasked, same_fault, unasked_is}
-use Rattle.words_core.proofs.AskedLines.{HasAsked, asked_parts, awaited_behind, ended_next, first_near, next_of_start}
-use Rattle.words_core.proofs.GoneOn.{IsGoing, from_going, is_not}
+use Rattle.words_core.proofs.AskedLines.{HasAsked, asked_parts, awaited_after, ended_next, first_near, next_of_start}
+use Rattle.words_core.proofs.GoneOn.{IsRemovedPackage, from_going, is_not}
 use Rattle.words_core.proofs.KindsKept.{IsPlain, start_known}
 use Rattle.words_core.proofs.OffendingWords.{AllBetween, IsBetween, IsSearched, from_placed, judged_bad, site_searched, usage_between}
 use Rattle.words_core.proofs.OneMore.{behind}
@@ -32,19 +32,19 @@ use Rattle.words_core.proofs.StuckWords.{awaited_whole, stuck_stay, take_more}
 
 -- ---- before the applet
 
-end_here : (place at : ℕ) (word : List ℕ) (left : List (List ℕ)) → site_behind_end place (word ∷ left) ≡ Err at → at ≡ place
-unfolding site_behind_end
+end_here : (place at : ℕ) (word : List ℕ) (left : List (List ℕ)) → site_after_end place (word ∷ left) ≡ Err at → at ≡ place
+unfolding site_after_end
 end_here place at word left h = err_here place at true word h
 
 -- where no applet was found, `--` says whether an option can follow
-pub first_next : (place : ℕ) (words : List (List ℕ)) → applet_site place words ≡ Err (place + length words) → next_words OptionOrCommand words ≡ (if list_any is_end words then CommandAlone else OptionOrCommand)
+pub first_next : (place : ℕ) (words : List (List ℕ)) → applet_site place words ≡ Err (place + length words) → next_words OptionOrCommand words ≡ (if list_any is_double_dash words then CommandAlone else OptionOrCommand)
 first_next place [] h = refl
 first_next place (word ∷ words) h =
     let next : place + length (word ∷ words) ≡ place + 1 + length words = omega arith in
-    elim (is_end word) as (λ b. is_end word ≡ b → next_words OptionOrCommand (word ∷ words) ≡ (if b || list_any is_end words then CommandAlone else OptionOrCommand)) [
+    elim (is_double_dash word) as (λ b. is_double_dash word ≡ b → next_words OptionOrCommand (word ∷ words) ≡ (if b || list_any is_double_dash words then CommandAlone else OptionOrCommand)) [
       | true ↦ λ e. ap (λ n. next_words n words) (next_end word e) ∙ alone words (sym (seek_end place word words e) ∙ h)
-      | false ↦ λ e. elim (is_option word) as (λ b. is_option word ≡ b → next_words OptionOrCommand (word ∷ words) ≡ (if list_any is_end words then CommandAlone else OptionOrCommand)) [
-        | true ↦ λ o. elim (is_early word) as (λ b. is_early word ≡ b → next_words OptionOrCommand (word ∷ words) ≡ (if list_any is_end words then CommandAlone else OptionOrCommand)) [
+      | false ↦ λ e. elim (is_option word) as (λ b. is_option word ≡ b → next_words OptionOrCommand (word ∷ words) ≡ (if list_any is_double_dash words then CommandAlone else OptionOrCommand)) [
+        | true ↦ λ o. elim (is_early word) as (λ b. is_early word ≡ b → next_words OptionOrCommand (word ∷ words) ≡ (if list_any is_double_dash words then CommandAlone else OptionOrCommand)) [
           | true ↦ λ y. ap (λ n. next_words n words) (next_early word e o) ∙ first_next (place + 1) words (sym (seek_early place word words e o y) ∙ (h ∙ ap Err next))
           | false ↦ λ y. absurd (let same : Err place ≡ Err (place + length (word ∷ words)) = sym (seek_late place word words e o y) ∙ h in let is : place ≡ place + length (word ∷ words) = cc in omega arith)
         ] refl
@@ -52,7 +52,7 @@ first_next place (word ∷ words) h =
       ] refl
     ] refl
   where
-    alone : (left : List (List ℕ)) → site_behind_end (place + 1) left ≡ Err (place + length (word ∷ left)) → next_words CommandAlone left ≡ CommandAlone
+    alone : (left : List (List ℕ)) → site_after_end (place + 1) left ≡ Err (place + length (word ∷ left)) → next_words CommandAlone left ≡ CommandAlone
     alone [] e = refl
     alone (v ∷ left) e = absurd (let same : place + length (word ∷ (v ∷ left)) ≡ place + 1 = end_here (place + 1) (place + length (word ∷ (v ∷ left))) v left e in omega arith)
 
@@ -102,7 +102,7 @@ completed_words words place n c =
     whole = ap line_command (take-append-drop (place - 1) words) ∙ offends
 
     -- no applet is found before the end
-    no_applet : (at : ℕ) → applet_site 1 before ≡ Err at → (at < 1 + length before) ⊎ (1 + length before ≤ at) → list_any is_end before ≡ false → CanBeCommand before
+    no_applet : (at : ℕ) → applet_site 1 before ≡ Err at → (at < 1 + length before) ⊎ (1 + length before ≤ at) → list_any is_double_dash before ≡ false → CanBeCommand before
     no_applet at s (inl less) f =
         absurd (let same : Err at ≡ Err place = sym (ap (command_from (before ++ drop (place - 1) words)) (no_start_stays before (drop (place - 1) words) at (ap (start_from before) s) (omega (arith, less)))) ∙ whole in let is : at ≡ place = cc in omega (arith, less, size, bounds.0))
     no_applet at s (inr more) f =
@@ -114,7 +114,7 @@ completed_words words place n c =
 
     by_site : (r : Result AppletSite ℕ) → applet_site 1 before ≡ r → line_stuck_by before r ≡ true → are_stuck_by before r ≡ false → CanBeCommand before
     by_site (Ok site) s l k = absurd (false≢true (sym k ∙ l))
-    by_site (Err at) s l k = no_applet at s (cases_lt at (1 + length before)) (not_both (list_any is_end before) (not (list_any (suit before) applets)) l k)
+    by_site (Err at) s l k = no_applet at s (cases_lt at (1 + length before)) (not_both (list_any is_double_dash before) (not (list_any (are_options_of before) applets)) l k)
       where
         not_both : (a b : Bool) → b ≡ true → (a && b) ≡ false → a ≡ false
         not_both true b h k = sym h ∙ k
@@ -154,7 +154,7 @@ module _ (words more : List (List ℕ)) (place : ℕ) (applet : Applet) (offends
   option : length words ≤ place - 1 → takes_option (next_words (next_after words) later) ≡ true
   option l = ap takes_option (sym (ap (next_words OptionOrCommand) (take_more (place - 1) words more l) ∙ next_append OptionOrCommand words later)) ∙ parts.option
 
-  no_applet : (at : ℕ) → applet_site 1 words ≡ Err at → list_any is_end words ≡ true → length words ≤ place - 1 → (at < 1 + length words) ⊎ (1 + length words ≤ at) → ⊥
+  no_applet : (at : ℕ) → applet_site 1 words ≡ Err at → list_any is_double_dash words ≡ true → length words ≤ place - 1 → (at < 1 + length words) ⊎ (1 + length words ≤ at) → ⊥
   unfolding line_command
   no_applet at s e l (inl less) =
       let low = (usage_between (words ++ more) place offends).0 in
@@ -170,12 +170,12 @@ module _ (words more : List (List ℕ)) (place : ℕ) (applet : Applet) (offends
   ended start s e l = false≢true (sym (ap (λ n. takes_option (next_words n later)) (ended_next words start s e) ∙ ap takes_option (operand_stays start.applet later)) ∙ option l)
 
   -- what was read of all words offends at the place
-  judged : (start : Start) (at : ℕ) → line_start words ≡ Ok start → option_or (refused_operand (operand_rule start.applet (reading_behind start (words ++ more)).state.flags) (reading_behind start (words ++ more)).operands) (reading_behind start (words ++ more)).unread ≡ Some at → at ≡ place
+  judged : (start : Start) (at : ℕ) → line_start words ≡ Ok start → option_or (refused_operand (operand_rule start.applet (reading_after_applet start (words ++ more)).state.flags) (reading_after_applet start (words ++ more)).operands) (reading_after_applet start (words ++ more)).unread ≡ Some at → at ≡ place
   unfolding line_command
   judged start at s first =
-      let same : Err at ≡ Err place = sym (ap (command_from (words ++ more)) (start_stays words more start s) ∙ judged_bad start.applet (reading_behind start (words ++ more)) (length (words ++ more) + 1) at first) ∙ offends in cc
+      let same : Err at ≡ Err place = sym (ap (command_from (words ++ more)) (start_stays words more start s) ∙ judged_bad start.applet (reading_after_applet start (words ++ more)) (length (words ++ more) + 1) at first) ∙ offends in cc
 
-  awaits : (start : Start) → line_start words ≡ Ok start → awaits_none (reading_behind start words).state.awaiting (reading_behind start words).state.values ≡ true → length words ≤ place - 1 → ⊥
+  awaits : (start : Start) → line_start words ≡ Ok start → awaits_none (reading_after_applet start words).state.awaiting (reading_after_applet start words).state.values ≡ true → length words ≤ place - 1 → ⊥
   awaits start s w l = by_going (from_going start words low)
     where
       end : ℕ
@@ -185,7 +185,7 @@ module _ (words more : List (List ℕ)) (place : ℕ) (applet : Applet) (offends
       options = options_of start.applet
 
       reading : Reading
-      reading = reading_behind start words
+      reading = reading_after_applet start words
 
       known : IsPlain start (1 + length words)
       known = start_known words start s
@@ -199,7 +199,7 @@ module _ (words more : List (List ℕ)) (place : ℕ) (applet : Applet) (offends
       rule : Option OperandRule
       rule = operand_rule start.applet reading.state.flags
 
-      near : (at : ℕ) → reading_behind start (words ++ more) ≡ reading_by reading.state reading.operands (Some at) → at ≤ end → (p : ℕ) × (p ≡ place) × (p ≤ end)
+      near : (at : ℕ) → reading_after_applet start (words ++ more) ≡ reading_by reading.state reading.operands (Some at) → at ≤ end → (p : ℕ) × (p ≡ place) × (p ≤ end)
       near at same h = (
         first.0,
         judged start first.0 s (ap (λ (r : Reading). option_or (refused_operand (operand_rule start.applet r.state.flags) r.operands) r.unread) same ∙ first.1),
@@ -215,7 +215,7 @@ module _ (words more : List (List ℕ)) (place : ℕ) (applet : Applet) (offends
           first : (p : ℕ) × (option_or (refused_operand rule reading.operands) (Some at) ≡ Some p) × (p < end + 1)
           first = first_near (start.read + 1) (end + 1) rule reading.operands at far wide
 
-      stopped : (at : ℕ) → reading.unread ≡ Some at → at < end → reading_behind start (words ++ more) ≡ reading → ⊥
+      stopped : (at : ℕ) → reading.unread ≡ Some at → at < end → reading_after_applet start (words ++ more) ≡ reading → ⊥
       stopped at u h same =
           let first = first_near (start.read + 1) end rule reading.operands at placed h in
           let is : first.0 ≡ place = judged start first.0 s (ap (λ (r : Reading). option_or (refused_operand (operand_rule start.applet r.state.flags) r.operands) r.unread) same ∙ (ap (option_or (refused_operand rule reading.operands)) u ∙ first.1)) in
@@ -223,19 +223,19 @@ module _ (words more : List (List ℕ)) (place : ℕ) (applet : Applet) (offends
           let start_low = (usage_between (words ++ more) place offends).0 in
           omega (arith, is, bound, l, start_low)
 
-      by_rule : (awaiting : Option ValueRule) → reading.state.awaiting ≡ awaiting → awaits_none awaiting reading.state.values ≡ true → reading.unread ≡ option_map (λ (r : ValueRule). end) awaiting → ((rest : List (List ℕ)) → reading_behind start (words ++ rest) ≡ behind reading.operands (option_reading options reading.state end rest)) → ⊥
+      by_rule : (awaiting : Option ValueRule) → reading.state.awaiting ≡ awaiting → awaits_none awaiting reading.state.values ≡ true → reading.unread ≡ option_map (λ (r : ValueRule). end) awaiting → ((rest : List (List ℕ)) → reading_after_applet start (words ++ rest) ≡ behind reading.operands (option_reading options reading.state end rest)) → ⊥
       by_rule None a w u on = false≢true w
       by_rule (Some value) a w u on =
-          let same : reading_behind start (words ++ more) ≡ reading_by reading.state reading.operands (Some end) =
+          let same : reading_after_applet start (words ++ more) ≡ reading_by reading.state reading.operands (Some end) =
           on more ∙ (ap (behind reading.operands) (awaited_whole options reading.state end value more a w) ∙ ap (λ os. reading_by reading.state os (Some end)) (append-nil reading.operands)) in
           let p = near end same (omega arith) in
           let is = p.1 in
           let bound = p.2 in
           let none : place - 1 - length words ≡ 0 = omega (arith, is, bound, l) in
-          let next : next_after words ≡ NextValue start.applet value = next_of_start words start s ∙ awaited_behind words start value low a u in
+          let next : next_after words ≡ NextValue start.applet value = next_of_start words start s ∙ awaited_after words start value low a u in
           false≢true (sym (ap (λ k. takes_option (next_words (next_after words) (take k more))) none ∙ ap takes_option next) ∙ option l)
 
-      by_going : IsGoing options end (start.ended || have_ended options None (drop start.read words)) reading (λ rest. reading_behind start (words ++ rest)) → ⊥
+      by_going : IsRemovedPackage options end (start.ended || have_ended options None (drop start.read words)) reading (λ rest. reading_after_applet start (words ++ rest)) → ⊥
       by_going (inl stop) = stopped stop.0 stop.1 stop.2 (stop.3 more)
       by_going (inr (inl on)) = by_rule reading.state.awaiting refl w on.unread on.goes_on
       by_going (inr (inr off)) = false≢true (sym (ap (λ o. awaits_none o reading.state.values) off.awaiting) ∙ w)
@@ -244,13 +244,13 @@ module _ (words more : List (List ℕ)) (place : ℕ) (applet : Applet) (offends
   by_start (Err at) s k l = false≢true k
   by_start (Ok start) s k l =
       let over : Bool = start.ended || have_ended (options_of start.applet) None (drop start.read words) in
-      elim (or_cases (over && lacks_option start.applet (reading_behind start words).state) (awaits_none (reading_behind start words).state.awaiting (reading_behind start words).state.values) k) as (λ _. ⊥) [
-        | inl both ↦ ended start s (and_parts over (lacks_option start.applet (reading_behind start words).state) both).0 l
+      elim (or_cases (over && lacks_option start.applet (reading_after_applet start words).state) (awaits_none (reading_after_applet start words).state.awaiting (reading_after_applet start words).state.values) k) as (λ _. ⊥) [
+        | inl both ↦ ended start s (and_parts over (lacks_option start.applet (reading_after_applet start words).state) both).0 l
         | inr none ↦ awaits start s none l
       ]
 
   by_site : (r : Result AppletSite ℕ) → applet_site 1 words ≡ r → are_stuck_by words r ≡ true → length words ≤ place - 1 → ⊥
-  by_site (Err at) s k l = no_applet at s (and_parts (list_any is_end words) (not (list_any (suit words) applets)) k).0 l (cases_lt at (1 + length words))
+  by_site (Err at) s k l = no_applet at s (and_parts (list_any is_double_dash words) (not (list_any (are_options_of words) applets)) k).0 l (cases_lt at (1 + length words))
   by_site (Ok site) s k l = by_start (line_start words) refl (ap (λ r. is_stuck_by words (start_from words r)) s ∙ k) l
 
   none_asks : not (is_ok (command_of words)) ≡ true → are_stuck_by words (applet_site 1 words) ≡ true → (place - 1 < length words) ⊎ (length words ≤ place - 1) → ⊥

@@ -18,7 +18,7 @@ use Rattle.words_core.specs.declared.options.Meaning.{Meaning}
 use Rattle.words_core.specs.declared.options.Meaning.TheVariants.{Flag as Plain, Kind, Value}
 use Rattle.words_core.specs.declared.reading.OptionState.{OptionState}
 use Rattle.words_core.specs.declared.reading.Start.{Start}
-use Rattle.words_core.specs.Grammar.{first_state, held_value, is_end, is_option_or_value, operands_of, option_name, option_reading, or_unread, reading_behind, reading_by, state_by, with_flags, with_held, with_meaning, with_meaning_at, with_operand, with_rule, with_spec, with_spelled, with_value, with_word, with_word_by}
+use Rattle.words_core.specs.Grammar.{first_state, attached_value, is_double_dash, is_option_or_value, operands_of, option_name, option_reading, or_unread, reading_after_applet, reading_by, state_by, with_flags, with_attached, with_meaning, with_meaning_at, with_operand, with_rule, with_spec, with_spelled, with_value, with_word, with_word_by}
 use Rattle.words_core.specs.Options.{OptionSpec, common_options, option_spelled, options_of}
 use Rattle.words_core.specs.Steps.{IsSoundReading}
 use Rattle.words_core.proofs.KindsKept.{IsPlain, find_passes, options_kept, pass_or_none}
@@ -115,12 +115,12 @@ value_good applet state more place text rule good own spent w =
 
 pub rule_good : (applet : Applet) (state more : OptionState) (place : ℕ) (held : Option (List ℕ)) (rule : ValueRule) → IsGood applet state → rule_for (value_rules applet) rule.letter ≡ Some rule → with_rule state place held rule ≡ Some more → IsGood applet more
 rule_good applet state more place held rule good own w =
-    elim (is_spent rule state.values) as (λ b. is_spent rule state.values ≡ b → (if b then None else with_held state place rule held) ≡ Some more → IsGood applet more) [
+    elim (is_spent rule state.values) as (λ b. is_spent rule state.values ≡ b → (if b then None else with_attached state place rule held) ≡ Some more → IsGood applet more) [
       | true ↦ λ s (h : None ≡ Some more). absurd (none-some more h)
       | false ↦ λ s h. by_held held s h
     ] refl w
   where
-    by_held : (o : Option (List ℕ)) → is_spent rule state.values ≡ false → with_held state place rule o ≡ Some more → IsGood applet more
+    by_held : (o : Option (List ℕ)) → is_spent rule state.values ≡ false → with_attached state place rule o ≡ Some more → IsGood applet more
     by_held None s h = subst (λ (g : OptionState). IsGood applet g) (same_Some (state_by state.flags state.values (Some rule)) more h) (record { flags = good.flags; values = good.values; awaiting = (own, s) })
     by_held (Some text) s h = value_good applet state more place text rule good own s h
 
@@ -138,8 +138,8 @@ meaning_good applet state more place None (Kind flag) good own p w = flags_good 
 
 pub spelled_good : (applet : Applet) (state more : OptionState) (place : ℕ) (word : List ℕ) → IsGood applet state → with_spelled (options_of applet) state place word ≡ Some more → IsGood applet more
 spelled_good applet state more place word good w =
-    option_and_then_some (λ (e : OptionSpec). with_meaning_at state place (held_value word) e.meaning) (option_spelled (options_of applet) (option_name word)) more w
-    (λ found is made. meaning_good applet state more place (held_value word) found.meaning good
+    option_and_then_some (λ (e : OptionSpec). with_meaning_at state place (attached_value word) e.meaning) (option_spelled (options_of applet) (option_name word)) more w
+    (λ found is made. meaning_good applet state more place (attached_value word) found.meaning good
     (found_own applet (options_of applet) (option_name word) found (all_own applet) is)
     (find_passes (λ x. pass_or_none (may_have applet) (with_spec state.flags x)) (λ (x : OptionSpec). bytes_eq x.long (option_name word) || bytes_eq x.short (option_name word)) (options_of applet) found (options_kept applet state.flags good.flags) is)
     made)
@@ -156,20 +156,20 @@ word_good applet state more place word good w = by_rule state.awaiting refl w
 pub reading_good : (applet : Applet) (state : OptionState) (place : ℕ) (words : List (List ℕ)) → IsGood applet state → IsGood applet (option_reading (options_of applet) state place words).state
 reading_good applet state place [] good = good
 reading_good applet state place (word ∷ words) good =
-    elim (is_option_or_value state word) as (λ b. IsGood applet (if b then or_unread state place (λ more. option_reading (options_of applet) more (place + 1) words) (with_word (options_of applet) state place word) else if is_end word then reading_by state (operands_of (place + 1) words) None else with_operand (operand_at place word) (option_reading (options_of applet) state (place + 1) words)).state) [
+    elim (is_option_or_value state word) as (λ b. IsGood applet (if b then or_unread state place (λ more. option_reading (options_of applet) more (place + 1) words) (with_word (options_of applet) state place word) else if is_double_dash word then reading_by state (operands_of (place + 1) words) None else with_operand (operand_at place word) (option_reading (options_of applet) state (place + 1) words)).state) [
       | true ↦ elim (with_word (options_of applet) state place word) as (λ o. with_word (options_of applet) state place word ≡ o → IsGood applet (or_unread state place (λ more. option_reading (options_of applet) more (place + 1) words) o).state) [
         | None ↦ λ w. good
         | Some more ↦ λ w. reading_good applet more (place + 1) words (word_good applet state more place word good w)
       ] refl
-      | false ↦ elim (is_end word) as (λ b. IsGood applet (if b then reading_by state (operands_of (place + 1) words) None else with_operand (operand_at place word) (option_reading (options_of applet) state (place + 1) words)).state) [
+      | false ↦ elim (is_double_dash word) as (λ b. IsGood applet (if b then reading_by state (operands_of (place + 1) words) None else with_operand (operand_at place word) (option_reading (options_of applet) state (place + 1) words)).state) [
         | true ↦ good
         | false ↦ reading_good applet state (place + 1) words good
       ]
     ]
 
 -- what is read behind the applet
-pub from_good : (start : Start) (behind : ℕ) (words : List (List ℕ)) → IsPlain start behind → IsGood start.applet (reading_behind start words).state
-unfolding reading_behind
+pub from_good : (start : Start) (behind : ℕ) (words : List (List ℕ)) → IsPlain start behind → IsGood start.applet (reading_after_applet start words).state
+unfolding reading_after_applet
 from_good start behind words p =
     elim start.ended as (λ b. IsGood start.applet (if b then reading_by (first_state start.flags) (operands_of (start.read + 1) (drop start.read words)) None else option_reading (options_of start.applet) (first_state start.flags) (start.read + 1) (drop start.read words)).state) [
       | true ↦ first
@@ -183,5 +183,5 @@ from_good start behind words p =
       awaiting = tt;
     }
 
-pub from_kept : (start : Start) (behind : ℕ) (words : List (List ℕ)) → IsPlain start behind → IsSoundReading start.applet (reading_behind start words)
+pub from_kept : (start : Start) (behind : ℕ) (words : List (List ℕ)) → IsPlain start behind → IsSoundReading start.applet (reading_after_applet start words)
 from_kept start behind words p = let good = from_good start behind words p in (good.flags, good.values)

@@ -3,7 +3,7 @@ use Rattle.std.proofs.Common.{List, Some, [], ap, append-nil, append_assoc, arit
 use Rattle.std.specs.List.{slice_get}
 use Rattle.command_core.specs.declared.operands.Operand.{Operand}
 use Rattle.command_core.specs.declared.command.Applet.{Applet}
-use Rattle.words_core.specs.HelpTexts.{HelpLine, command_column, command_line, commands_text, common_help, common_text, help_line, line_text, lines_text, listed_commands, option_column, purpose, topic_of, usage_line, usage_text}
+use Rattle.words_core.specs.HelpTexts.{HelpLine, command_column, command_line, commands_text, common_help, common_text, help_line, line_text, lines_text, listed_commands, option_column, purpose, topic_of, usage_line, usage_lines_after}
 use Rattle.words_core.specs.Options.{applet_of, applet_word}
 
 drop_all : {X : Type 0} (xs : List X) (i : ℕ) → length xs ≤ i → drop i xs ≡ []
@@ -34,14 +34,14 @@ pub lines_done : {X : Type 0} (column : ℕ) (f : X → HelpLine) (xs : List X) 
 lines_done column f xs i text l = ap (λ ys. text ++ lines_text column (map f ys)) (drop_all xs i l) ∙ append-nil text
 
 -- one more line of usage
-pub usage_left : {X : Type 0} (f : X → List ℕ) (xs : List X) (i : ℕ) (d : X) (front all text new : List ℕ) → i < length xs → new ≡ text ++ usage_line front (f (get_or xs i d)) → all ≡ text ++ usage_text front (map f (drop i xs)) → all ≡ new ++ usage_text (codes "       ") (map f (drop (i + 1) xs))
+pub usage_left : {X : Type 0} (f : X → List ℕ) (xs : List X) (i : ℕ) (d : X) (front all text new : List ℕ) → i < length xs → new ≡ text ++ usage_line front (f (get_or xs i d)) → all ≡ text ++ usage_lines_after front (map f (drop i xs)) → all ≡ new ++ usage_lines_after (codes "       ") (map f (drop (i + 1) xs))
 usage_left f xs i d front all text new l e kept =
     kept
-    ∙ (ap (λ ys. text ++ usage_text front (map f ys)) (drop_at xs i d l)
-    ∙ more_text text (usage_line front (f (get_or xs i d))) (usage_text (codes "       ") (map f (drop (i + 1) xs))) new e)
+    ∙ (ap (λ ys. text ++ usage_lines_after front (map f ys)) (drop_at xs i d l)
+    ∙ more_text text (usage_line front (f (get_or xs i d))) (usage_lines_after (codes "       ") (map f (drop (i + 1) xs))) new e)
 
-pub usage_done : {X : Type 0} (f : X → List ℕ) (xs : List X) (i : ℕ) (front text : List ℕ) → length xs ≤ i → text ++ usage_text front (map f (drop i xs)) ≡ text
-usage_done f xs i front text l = ap (λ ys. text ++ usage_text front (map f ys)) (drop_all xs i l) ∙ append-nil text
+pub usage_done : {X : Type 0} (f : X → List ℕ) (xs : List X) (i : ℕ) (front text : List ℕ) → length xs ≤ i → text ++ usage_lines_after front (map f (drop i xs)) ≡ text
+usage_done f xs i front text l = ap (λ ys. text ++ usage_lines_after front (map f ys)) (drop_all xs i l) ∙ append-nil text
 
 -- the operand that is asked about
 pub topic_first : (operands : List Operand) (operand : Operand) → slice_get operands 0 ≡ Some operand → applet_of operand.text ≡ topic_of operands

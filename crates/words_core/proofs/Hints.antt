@@ -14,7 +14,7 @@ use Rattle.words_core.specs.declared.options.Meaning.{Meaning}
 use Rattle.words_core.specs.declared.options.Meaning.TheVariants.{Flag as Plain, Kind, Value}
 use Rattle.words_core.specs.declared.reading.OptionState.{OptionState}
 use Rattle.words_core.specs.declared.reading.Reading.{Reading}
-use Rattle.words_core.specs.Grammar.{held_value, is_end, is_option, option_name, option_reading, rule_in, state_by, with_meaning, with_meaning_at, with_spec, with_word}
+use Rattle.words_core.specs.Grammar.{attached_value, is_double_dash, is_option, option_name, option_reading, rule_in, state_by, with_meaning, with_meaning_at, with_spec, with_word}
 use Rattle.words_core.specs.Options.{OptionSpec, common_options, option_spelled, options_of}
 use Rattle.words_core.specs.Steps.{asks_flags, flags_spelled, has_no_values, is_plain_option}
 use Rattle.words_core.specs.Usage.{shown_byte, shown_bytes, texts_joined}
@@ -52,12 +52,12 @@ plain_meaning flags place None (Kind flag) p = refl
 
 pub spelled_by : (options : List OptionSpec) (flags : Flags) (place : ℕ) (word : List ℕ) → list_all is_plain_option options ≡ true → with_word options (state_by flags [] None) place word ≡ option_map (λ more. state_by more [] None) (flags_spelled options flags word)
 spelled_by options flags place word p =
-    elim (option_spelled options (option_name word)) as (λ o. option_spelled options (option_name word) ≡ o → option_and_then (λ (e : OptionSpec). with_meaning_at (state_by flags [] None) place (held_value word) e.meaning) o ≡ option_map (λ more. state_by more [] None) (if is_some (held_value word) then None else option_and_then (with_spec flags) o)) [
-      | None ↦ λ s. elim (held_value word) as (λ h. None ≡ option_map (λ more. state_by more [] None) (if is_some h then None else None)) [
+    elim (option_spelled options (option_name word)) as (λ o. option_spelled options (option_name word) ≡ o → option_and_then (λ (e : OptionSpec). with_meaning_at (state_by flags [] None) place (attached_value word) e.meaning) o ≡ option_map (λ more. state_by more [] None) (if is_some (attached_value word) then None else option_and_then (with_spec flags) o)) [
+      | None ↦ λ s. elim (attached_value word) as (λ h. None ≡ option_map (λ more. state_by more [] None) (if is_some h then None else None)) [
         | None ↦ refl
         | Some text ↦ refl
       ]
-      | Some option ↦ λ s. plain_meaning flags place (held_value word) option.meaning (find_passes is_plain_option (λ (x : OptionSpec). bytes_eq x.long (option_name word) || bytes_eq x.short (option_name word)) options option p s)
+      | Some option ↦ λ s. plain_meaning flags place (attached_value word) option.meaning (find_passes is_plain_option (λ (x : OptionSpec). bytes_eq x.long (option_name word) || bytes_eq x.short (option_name word)) options option p s)
     ] refl
 
 pub plain_options : (applet : Applet) → has_no_values applet ≡ true → list_all is_plain_option (options_of applet) ≡ true
@@ -77,18 +77,18 @@ module _ (options : List OptionSpec) (flags : Flags) (words : List (List ℕ)) (
   abbrev state : OptionState
   state = state_by flags [] None
 
-  pub flags_ended : is_end word ≡ true → (option_reading options state (i + 1) (drop i words)).state.flags ≡ flags
+  pub flags_ended : is_double_dash word ≡ true → (option_reading options state (i + 1) (drop i words)).state.flags ≡ flags
   flags_ended e = ap (λ (r : Reading). r.state.flags) (reading_ended options state words i word at (end_kept state word refl e) e)
 
-  pub flags_operand : is_end word ≡ false → is_option word ≡ false → (option_reading options state (i + 1) (drop i words)).state.flags ≡ (option_reading options state (i + 1 + 1) (drop (i + 1) words)).state.flags
+  pub flags_operand : is_double_dash word ≡ false → is_option word ≡ false → (option_reading options state (i + 1) (drop i words)).state.flags ≡ (option_reading options state (i + 1 + 1) (drop (i + 1) words)).state.flags
   flags_operand e o = ap (λ (r : Reading). r.state.flags) (reading_operand options state words i word at (rw o refl) e)
 
-  pub flags_unread : list_all is_plain_option options ≡ true → is_end word ≡ false → is_option word ≡ true → flags_spelled options flags word ≡ None → (option_reading options state (i + 1) (drop i words)).state.flags ≡ flags
+  pub flags_unread : list_all is_plain_option options ≡ true → is_double_dash word ≡ false → is_option word ≡ true → flags_spelled options flags word ≡ None → (option_reading options state (i + 1) (drop i words)).state.flags ≡ flags
   flags_unread p e o n =
       ap (λ (r : Reading). r.state.flags) (reading_more options state words i word None at (option_taken state word refl e o)
       (spelled_by options flags (i + 1) word p ∙ ap (option_map (λ m. state_by m [] None)) n))
 
-  pub flags_taken : (more : Flags) → list_all is_plain_option options ≡ true → is_end word ≡ false → is_option word ≡ true → flags_spelled options flags word ≡ Some more → (option_reading options state (i + 1) (drop i words)).state.flags ≡ (option_reading options (state_by more [] None) (i + 1 + 1) (drop (i + 1) words)).state.flags
+  pub flags_taken : (more : Flags) → list_all is_plain_option options ≡ true → is_double_dash word ≡ false → is_option word ≡ true → flags_spelled options flags word ≡ Some more → (option_reading options state (i + 1) (drop i words)).state.flags ≡ (option_reading options (state_by more [] None) (i + 1 + 1) (drop (i + 1) words)).state.flags
   flags_taken more p e o n =
       ap (λ (r : Reading). r.state.flags) (reading_more options state words i word (Some (state_by more [] None)) at (option_taken state word refl e o)
       (spelled_by options flags (i + 1) word p ∙ ap (option_map (λ m. state_by m [] None)) n))

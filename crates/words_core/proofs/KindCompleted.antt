@@ -18,11 +18,11 @@ use Rattle.command_core.specs.Flags.{has_kind, with_flag}
 use Rattle.command_core.specs.Operands.{at_least, exactly, first_refused, is_of_kind}
 use Rattle.words_core.specs.declared.reading.Reading.{Reading}
 use Rattle.words_core.specs.declared.reading.Start.{Start}
-use Rattle.words_core.specs.Grammar.{command_from, line_command, command_read, held_value, line_start, option_name, option_reading, reading_behind, reading_by, refused_operand, state_by, verdict}
+use Rattle.words_core.specs.Grammar.{command_from, line_command, command_read, attached_value, line_start, option_name, option_reading, reading_after_applet, reading_by, refused_operand, state_by, verdict}
 use Rattle.words_core.specs.Kinds.{can_get_kind, can_get_kind_by, can_get_kind_from, is_info}
 use Rattle.words_core.specs.Options.{common_options, options_of}
 use Rattle.words_core.specs.Stuck.{have_ended}
-use Rattle.words_core.proofs.GoneOn.{IsGoing, from_going}
+use Rattle.words_core.proofs.GoneOn.{IsRemovedPackage, from_going}
 use Rattle.words_core.proofs.KindsKept.{IsPlain, start_known}
 use Rattle.words_core.proofs.MoreWords.{refused_append}
 use Rattle.words_core.proofs.OffendingWords.{AllBetween, IsJudgedAt, from_placed, judged_at, refused_between}
@@ -82,7 +82,7 @@ path_of flags operands at bad good = by_flags flags.who_owns (flags.installed ||
 -- ---- `-W` behind the words
 
 owner_read : (flags : Flags) (values : List OptionValue) (at : ℕ) → has_kind flags ≡ false → option_reading (options_of Info) (state_by flags values None) at (codes "-W" ∷ []) ≡ reading_by (state_by (with_flag WhoOwns flags) values None) [] None
-unfolding common_options options_of option_name held_value
+unfolding common_options options_of option_name attached_value
 owner_read flags values at k = rw k refl
 
 enough : (operands : List Operand) (at : ℕ) → first_refused (at_least 0 PackageName) 0 operands ≡ Some at → nat_lt (length (operands ++ [])) 1 ≡ false
@@ -114,13 +114,13 @@ none_before rule low end last place operands new unread placed far behind judged
     ] refl
 
 module _ (words rest : List (List ℕ)) (start : Start) (at place : ℕ) (known : IsPlain start (1 + length words)) (can : can_get_kind_from words start ≡ true) (found : line_start words ≡ Ok start)
-    (bad : verdict (length words + 1) start.applet (reading_behind start words) ≡ Err at) (before : at ≤ length words)
-    (later : verdict (length (words ++ rest) + 1) start.applet (reading_behind start (words ++ rest)) ≡ Err place) (far : length words + 1 ≤ place) (all : length words ≤ length (words ++ rest)) where
+    (bad : verdict (length words + 1) start.applet (reading_after_applet start words) ≡ Err at) (before : at ≤ length words)
+    (later : verdict (length (words ++ rest) + 1) start.applet (reading_after_applet start (words ++ rest)) ≡ Err place) (far : length words + 1 ≤ place) (all : length words ≤ length (words ++ rest)) where
   abbrev end : ℕ
   end = length words + 1
 
   abbrev reading : Reading
-  reading = reading_behind start words
+  reading = reading_after_applet start words
 
   abbrev over : Bool
   over = start.ended || have_ended (options_of start.applet) None (drop start.read words)
@@ -162,7 +162,7 @@ module _ (words rest : List (List ℕ)) (start : Start) (at place : ℕ) (known 
       by_first None h = absurd (none-some at h)
       by_first (Some x) h = h
 
-  module _ (goes_on : (more : List (List ℕ)) → reading_behind start (words ++ more) ≡ behind reading.operands (option_reading (options_of start.applet) reading.state end more)) where
+  module _ (goes_on : (more : List (List ℕ)) → reading_after_applet start (words ++ more) ≡ behind reading.operands (option_reading (options_of start.applet) reading.state end more)) where
     abbrev longer : Reading
     longer = behind reading.operands (option_reading (options_of start.applet) reading.state end rest)
 
@@ -173,7 +173,7 @@ module _ (words rest : List (List ℕ)) (start : Start) (at place : ℕ) (known 
         path_of longer.state.flags reading.operands at refused
         (none_before (info_operands longer.state.flags) (start.read + 1) end last place reading.operands (option_reading (options_of start.applet) reading.state end rest).operands longer.unread (from_placed start words low).operands far (omega (arith, all)) judged)
 
-    owner : reading_behind start (words ++ (codes "-W" ∷ [])) ≡ behind reading.operands (reading_by (state_by (with_flag WhoOwns reading.state.flags) reading.state.values None) [] None)
+    owner : reading_after_applet start (words ++ (codes "-W" ∷ [])) ≡ behind reading.operands (reading_by (state_by (with_flag WhoOwns reading.state.flags) reading.state.values None) [] None)
     owner =
         goes_on (codes "-W" ∷ [])
         ∙ (ap (λ (a : Applet). behind reading.operands (option_reading (options_of a) reading.state end (codes "-W" ∷ []))) is
@@ -193,7 +193,7 @@ module _ (words rest : List (List ℕ)) (start : Start) (at place : ℕ) (known 
               ∙ owner_good reading.state.flags reading.state.values reading.operands at refused path last)),
         )
 
-  by_going : IsGoing (options_of start.applet) end over reading (λ more. reading_behind start (words ++ more)) → CanBeCompleted words
+  by_going : IsRemovedPackage (options_of start.applet) end over reading (λ more. reading_after_applet start (words ++ more)) → CanBeCompleted words
   by_going (inl stopped) = absurd (none-some stopped.0 (sym unread ∙ stopped.1))
   by_going (inr (inl on)) = completed_on on.goes_on
   by_going (inr (inr off)) = absurd (false≢true (sym parts.3 ∙ off.over))

@@ -17,7 +17,7 @@ use Rattle.words_core.specs.declared.options.Meaning.{Meaning}
 use Rattle.words_core.specs.declared.options.Meaning.TheVariants.{Flag as Plain, Kind, Value}
 use Rattle.words_core.specs.declared.reading.AppletSite.{AppletSite}
 use Rattle.words_core.specs.declared.reading.Start.{Start}
-use Rattle.words_core.specs.Grammar.{applet_site, early_flags, is_end, is_option, line_start, or_at, site_at, site_behind_end, site_by, start_by, start_from, start_with, with_meaning, with_option, with_spec}
+use Rattle.words_core.specs.Grammar.{applet_site, early_flags, is_double_dash, is_option, line_start, or_at, site_at, site_after_end, site_by, start_by, start_from, start_with, with_meaning, with_option, with_spec}
 use Rattle.words_core.specs.Options.{OptionSpec, applet_of, common_options, is_early, option_spelled, options_of}
 
 -- ---- tests on lists
@@ -336,18 +336,18 @@ named_known ended place behind word low l =
       | Some applet ↦ λ e. record { low = low; read = l }
     ] refl
 
-pub behind_end_known : (place behind : ℕ) (words : List (List ℕ)) → 1 ≤ place → place + length words ≤ behind → IfOk (site_behind_end place words) (λ s. IsSite s behind)
-unfolding site_behind_end
-behind_end_known place behind [] low l = tt
-behind_end_known place behind (word ∷ words) low l = named_known true place behind word low (omega arith)
+pub after_end_known : (place behind : ℕ) (words : List (List ℕ)) → 1 ≤ place → place + length words ≤ behind → IfOk (site_after_end place words) (λ s. IsSite s behind)
+unfolding site_after_end
+after_end_known place behind [] low l = tt
+after_end_known place behind (word ∷ words) low l = named_known true place behind word low (omega arith)
 
 pub site_known : (place behind : ℕ) (words : List (List ℕ)) → 1 ≤ place → place + length words ≤ behind → IfOk (applet_site place words) (λ s. IsSite s behind)
 site_known place behind [] low l = tt
 site_known place behind (word ∷ words) low l =
     let less : place + 1 + length words ≤ behind = omega arith in
     let next : 1 ≤ place + 1 = omega arith in
-    elim (is_end word) as (λ b. IfOk (if b then site_behind_end (place + 1) words else if is_option word then (if is_early word then applet_site (place + 1) words else Err place) else site_at false place word) (λ s. IsSite s behind)) [
-      | true ↦ behind_end_known (place + 1) behind words next less
+    elim (is_double_dash word) as (λ b. IfOk (if b then site_after_end (place + 1) words else if is_option word then (if is_early word then applet_site (place + 1) words else Err place) else site_at false place word) (λ s. IsSite s behind)) [
+      | true ↦ after_end_known (place + 1) behind words next less
       | false ↦ elim (is_option word) as (λ b. IfOk (if b then (if is_early word then applet_site (place + 1) words else Err place) else site_at false place word) (λ s. IsSite s behind)) [
         | true ↦ elim (is_early word) as (λ b. IfOk (if b then applet_site (place + 1) words else Err place) (λ s. IsSite s behind)) [
           | true ↦ site_known (place + 1) behind words next less
@@ -360,7 +360,7 @@ site_known place behind (word ∷ words) low l =
 pub early_kept : (applet : Applet) (flags : Flags) (place : ℕ) (words : List (List ℕ)) → may_have applet flags ≡ true → IfOk (early_flags (options_of applet) flags place words) (λ more. may_have applet more ≡ true)
 early_kept applet flags place [] m = m
 early_kept applet flags place (word ∷ words) m =
-    elim (is_end word) as (λ b. IfOk (if b then Ok flags else or_at place (λ more. early_flags (options_of applet) more (place + 1) words) (with_option (options_of applet) flags word)) (λ more. may_have applet more ≡ true)) [
+    elim (is_double_dash word) as (λ b. IfOk (if b then Ok flags else or_at place (λ more. early_flags (options_of applet) more (place + 1) words) (with_option (options_of applet) flags word)) (λ more. may_have applet more ≡ true)) [
       | true ↦ m
       | false ↦ elim (with_option (options_of applet) flags word) as (λ o. with_option (options_of applet) flags word ≡ o → IfOk (or_at place (λ more. early_flags (options_of applet) more (place + 1) words) o) (λ more. may_have applet more ≡ true)) [
         | None ↦ λ e. tt

@@ -17,7 +17,7 @@ use Rattle.command_core.specs.Values.{excludes, is_excluded, is_given, is_spent,
 use Rattle.words_core.specs.declared.options.Meaning.{Meaning}
 use Rattle.words_core.specs.declared.options.Meaning.TheVariants.{Flag as Plain, Kind, Value}
 use Rattle.words_core.specs.declared.reading.OptionState.{OptionState}
-use Rattle.words_core.specs.Grammar.{held_value, option_name, rule_in, state_by, with_meaning, with_value}
+use Rattle.words_core.specs.Grammar.{attached_value, option_name, rule_in, state_by, with_meaning, with_value}
 use Rattle.words_core.specs.Lines.{flags_after, flags_with}
 use Rattle.words_core.specs.Options.{OptionSpec, option_spelled, options_of}
 use Rattle.words_core.proofs.KindsKept.{all_weaken, has_more, is_kind, is_own_meaning, is_own_option, own_meanings, second_kind, single_less, within_less}
@@ -48,13 +48,13 @@ pub record IsFirstOption (options : List OptionSpec) (flags more : Flags) (word 
   pub entry : OptionSpec
   pub is : option_spelled options (option_name word) ≡ Some entry
   pub next : Flags
-  pub says : flags_with flags (held_value word) entry.meaning ≡ Some next
+  pub says : flags_with flags (attached_value word) entry.meaning ≡ Some next
   pub rest : flags_after options next words ≡ Some more
 
 pub first_option : (options : List OptionSpec) (flags more : Flags) (word : List ℕ) (words : List (List ℕ)) → flags_after options flags (word ∷ words) ≡ Some more → IsFirstOption options flags more word words
 first_option options flags more word words f =
-    option_and_then_some (λ (x : OptionSpec). option_and_then (λ m. flags_after options m words) (flags_with flags (held_value word) x.meaning)) (option_spelled options (option_name word)) more f
-    (λ x is made. option_and_then_some (λ m. flags_after options m words) (flags_with flags (held_value word) x.meaning) more made
+    option_and_then_some (λ (x : OptionSpec). option_and_then (λ m. flags_after options m words) (flags_with flags (attached_value word) x.meaning)) (option_spelled options (option_name word)) more f
+    (λ x is made. option_and_then_some (λ m. flags_after options m words) (flags_with flags (attached_value word) x.meaning) more made
     (λ next says rest. record { entry = x; is = is; next = next; says = says; rest = rest }))
 
 -- .. and where they are so with all that some options say
@@ -62,7 +62,7 @@ pub less_kept : (applet : Applet) (options : List OptionSpec) (flags more : Flag
 less_kept applet options flags more [] e m = subst (λ f. may_have applet f ≡ true) (sym (same_Some flags more e)) m
 less_kept applet options flags more (word ∷ words) e m =
     let first = first_option options flags more word words e in
-    less_with applet flags first.next (held_value word) first.entry.meaning first.says (less_kept applet options first.next more words first.rest m)
+    less_with applet flags first.next (attached_value word) first.entry.meaning first.says (less_kept applet options first.next more words first.rest m)
 
 -- a kind may stand where the flags with it are the applet's
 abbrev pub stands_as : Applet → Flags → Meaning → Bool
@@ -70,8 +70,8 @@ stands_as applet flags (Plain flag) = true
 stands_as applet flags (Kind flag) = is_some (with_meaning flags (Kind flag)) || not (may_have applet (with_flag flag flags))
 stands_as applet flags (Value rule) = true
 
-abbrev pub stands : Applet → Flags → OptionSpec → Bool
-stands applet flags entry = stands_as applet flags entry.meaning
+abbrev pub located : Applet → Flags → OptionSpec → Bool
+located applet flags entry = stands_as applet flags entry.meaning
 
 stands_by : (applet : Applet) (flags : Flags) (meaning : Meaning) → is_own_meaning applet meaning ≡ true → stands_as applet flags meaning ≡ true
 stands_by applet flags (Plain flag) own = refl
@@ -86,9 +86,9 @@ stands_by applet flags (Kind flag) own =
       ] refl
     ] refl
 
-pub all_stand : (applet : Applet) (flags : Flags) → list_all (stands applet flags) (options_of applet) ≡ true
+pub all_stand : (applet : Applet) (flags : Flags) → list_all (located applet flags) (options_of applet) ≡ true
 all_stand applet flags =
-    all_weaken (is_own_option applet) (stands applet flags) (options_of applet) (λ o own. stands_by applet flags o.meaning own) (own_meanings applet)
+    all_weaken (is_own_option applet) (located applet flags) (options_of applet) (λ o own. stands_by applet flags o.meaning own) (own_meanings applet)
 
 pub kind_made : (flags : Flags) (flag : Flag) → is_some (with_meaning flags (Kind flag)) ≡ true → with_meaning flags (Kind flag) ≡ Some (with_flag flag flags)
 kind_made flags flag h =

@@ -9,13 +9,13 @@ use Rattle.command_core.specs.declared.operands.OperandRule.{OperandRule}
 use Rattle.command_core.specs.Applets.{needed_option, operand_rule}
 use Rattle.command_core.specs.Sound.{may_have, value_rules, is_command, are_operands, is_at_most, are_values}
 use Rattle.command_core.specs.Command.{CommandLine}
-use Rattle.command_core.specs.Operands.{first_refused, has_room, is_of_kind}
+use Rattle.command_core.specs.Operands.{first_refused, allows_one_more, is_of_kind}
 use Rattle.command_core.specs.Values.{lacks_value}
 use Rattle.words_core.specs.declared.reading.Reading.{Reading}
 use Rattle.words_core.specs.Grammar.{command_read, lacks_operand, refused_operand, verdict}
 
 -- there is room for one more where as many more fit
-pub room_by : (most : Option ℕ) (before more : ℕ) → is_at_most most (before + (more + 1)) ≡ true → has_room most before ≡ true
+pub room_by : (most : Option ℕ) (before more : ℕ) → is_at_most most (before + (more + 1)) ≡ true → allows_one_more most before ≡ true
 room_by None before more h = refl
 room_by (Some most) before more h = (let fits : before + (more + 1) ≤ most = leb-true (before + (more + 1)) most h in lt-ltb before most (omega arith))
 

@@ -23,19 +23,19 @@ use Rattle.words_core.specs.declared.reading.AppletSite.{AppletSite}
 use Rattle.words_core.specs.declared.reading.OptionState.{OptionState}
 use Rattle.words_core.specs.declared.reading.Reading.{Reading}
 use Rattle.words_core.specs.declared.reading.Start.{Start}
-use Rattle.words_core.specs.Grammar.{applet_site, command_from, command_read, early_flags, first_state, held_value, is_end, is_option, line_command, line_start, operands_of, option_name, option_reading, or_at, reading_behind, reading_by, rule_behind, rule_in, rule_unless, site_at, site_behind_end, site_by, start_by, start_from, start_with, state_by, verdict, with_meaning, with_meaning_at, with_option, with_spec, with_spelled, with_word_by}
-use Rattle.words_core.specs.Lines.{IsLineOf, flags_after, flags_with, free_words, held_at, option_words, stands_before, values_of}
+use Rattle.words_core.specs.Grammar.{applet_site, command_from, command_read, early_flags, first_state, attached_value, is_double_dash, is_option, line_command, line_start, operands_of, option_name, option_reading, or_at, reading_after_applet, reading_by, awaited_rule, rule_in, rule_unless, site_at, site_after_end, site_by, start_by, start_from, start_with, state_by, verdict, with_meaning, with_meaning_at, with_option, with_spec, with_spelled, with_word_by}
+use Rattle.words_core.specs.Lines.{IsLineOf, flags_after, flags_with, free_words, attached_at, words_that_are_options, may_precede_applet, values_of}
 use Rattle.words_core.specs.Options.{OptionSpec, applet_of, common_options, early_words, is_early, option_spelled, options_of}
 use Rattle.words_core.proofs.GivenKept.{IsOwn, all_own, found_own}
 use Rattle.words_core.proofs.KindsKept.{find_passes}
-use Rattle.words_core.proofs.LinesFit.{Fits, IsFirstOption, all_stand, first_option, fits_in, flag_made, joined, joined_one, less_kept, same_head, same_tail, stands, stands_as, value_made}
+use Rattle.words_core.proofs.LinesFit.{Fits, IsFirstOption, all_stand, first_option, fits_in, flag_made, joined, joined_one, less_kept, same_head, same_tail, located, stands_as, value_made}
 use Rattle.words_core.proofs.LinesJudged.{has_parts, sound_judged}
-use Rattle.words_core.proofs.LinesRead.{IsFrom, awaited_taken, by_early, end_kept, free_end, free_here, free_kept, free_option, free_rest, line_from, no_rule_behind, one_joined, option_rest, option_taken, options_behind, options_end, options_here, rule_at_is, step_end, step_free, step_taken, value_rest, values_behind, values_end, values_joined, values_option, values_same, whole_early}
+use Rattle.words_core.proofs.LinesRead.{IsFrom, awaited_taken, by_early, end_kept, free_end, free_here, free_kept, free_option, free_rest, line_from, no_rule_after, one_joined, option_rest, option_taken, options_after, options_end, options_here, rule_at_is, step_end, step_free, step_taken, value_rest, values_behind, values_end, values_joined, values_option, values_same, whole_early}
 use Rattle.words_core.proofs.Sites.{flags_end, flags_step, seek_early, seek_end, seek_here}
 
 -- the words from a place on give flags and values, with those that were given before
 pub record IsMade (applet : Applet) (state : OptionState) (more : Flags) (all : List OptionValue) (place : ℕ) (words : List (List ℕ)) (rule : Option ValueRule) : Type 0 where
-  pub flags : flags_after (options_of applet) state.flags (option_words (options_of applet) rule words) ≡ Some more
+  pub flags : flags_after (options_of applet) state.flags (words_that_are_options (options_of applet) rule words) ≡ Some more
   pub values : option_map (λ vs. state.values ++ vs) (values_of (options_of applet) rule place words) ≡ Some all
   pub awaiting : state.awaiting ≡ rule
   pub own : (r : ValueRule) → rule ≡ Some r → rule_for (value_rules applet) r.letter ≡ Some r
@@ -48,17 +48,17 @@ pub no_own : (applet : Applet) (r : ValueRule) → None ≡ Some r → rule_for 
 no_own applet r h = absurd (none-some r h)
 
 -- the reading of words that are made so
-abbrev pub IsReadAs : Applet → OptionState → Flags → List OptionValue → ℕ → List (List ℕ) → Option ValueRule → Type 0
-IsReadAs applet state more all place words rule =
+abbrev pub ReadsOldOrReplaced : Applet → OptionState → Flags → List OptionValue → ℕ → List (List ℕ) → Option ValueRule → Type 0
+ReadsOldOrReplaced applet state more all place words rule =
     option_reading (options_of applet) state place words ≡ reading_by (state_by more all None) (free_words (options_of applet) rule place words) None
 
-pub made_empty : (applet : Applet) (state : OptionState) (more : Flags) (all : List OptionValue) (place : ℕ) (rule : Option ValueRule) → IsMade applet state more all place [] rule → IsReadAs applet state more all place [] rule
+pub made_empty : (applet : Applet) (state : OptionState) (more : Flags) (all : List OptionValue) (place : ℕ) (rule : Option ValueRule) → IsMade applet state more all place [] rule → ReadsOldOrReplaced applet state more all place [] rule
 made_empty applet state more all place None made =
     ap (λ r. reading_by state [] (option_map (λ (x : ValueRule). place) r)) made.awaiting
     ∙ ap (λ g. reading_by g [] None) (given_is state more all (same_Some state.flags more made.flags) (sym (append-nil state.values) ∙ same_Some (state.values ++ []) all made.values) made.awaiting)
 made_empty applet state more all place (Some rule) made = absurd (none-some all made.values)
 
-pub made_value : (applet : Applet) (state : OptionState) (more : Flags) (all : List OptionValue) (place : ℕ) (word : List ℕ) (words : List (List ℕ)) (rule : ValueRule) → are_values (value_rules applet) all ≡ true → ((next : OptionState) (r : Option ValueRule) → IsMade applet next more all (place + 1) words r → IsReadAs applet next more all (place + 1) words r) → IsMade applet state more all place (word ∷ words) (Some rule) → IsReadAs applet state more all place (word ∷ words) (Some rule)
+pub made_value : (applet : Applet) (state : OptionState) (more : Flags) (all : List OptionValue) (place : ℕ) (word : List ℕ) (words : List (List ℕ)) (rule : ValueRule) → are_values (value_rules applet) all ≡ true → ((next : OptionState) (r : Option ValueRule) → IsMade applet next more all (place + 1) words r → ReadsOldOrReplaced applet next more all (place + 1) words r) → IsMade applet state more all place (word ∷ words) (Some rule) → ReadsOldOrReplaced applet state more all place (word ∷ words) (Some rule)
 made_value applet state more all place word words rule are rest made =
     step_taken options state place word words (Some next) (awaited_taken state word rule made.awaiting) (ap (with_word_by options state place word) made.awaiting ∙ value_made state place word rule fits)
     ∙ rest next None (record {
@@ -85,13 +85,13 @@ made_value applet state more all place word words rule are rest made =
         (subst (λ vs. are_values (value_rules applet) vs ≡ true) (sym (ap (λ vs. state.values ++ vs) inner.same ∙ outer.same)) are)
 
 -- there is room for what an option says
-abbrev pub HasRoom : OptionState → Option (List ℕ) → Meaning → Type 0
-HasRoom state held (Plain flag) = Unit {0}
-HasRoom state held (Kind flag) = Unit {0}
-HasRoom state None (Value rule) = is_spent rule state.values ≡ false
-HasRoom state (Some text) (Value rule) = Fits rule text state.values
+abbrev pub IsOutputPathFree : OptionState → Option (List ℕ) → Meaning → Type 0
+IsOutputPathFree state held (Plain flag) = Unit {0}
+IsOutputPathFree state held (Kind flag) = Unit {0}
+IsOutputPathFree state None (Value rule) = is_spent rule state.values ≡ false
+IsOutputPathFree state (Some text) (Value rule) = Fits rule text state.values
 
-pub meaning_made : (applet : Applet) (state : OptionState) (next : Flags) (place : ℕ) (held : Option (List ℕ)) (meaning : Meaning) → state.awaiting ≡ None → stands_as applet state.flags meaning ≡ true → flags_with state.flags held meaning ≡ Some next → may_have applet next ≡ true → HasRoom state held meaning → with_meaning_at state place held meaning ≡ Some (state_by next (state.values ++ held_at place (rule_in meaning) held) (rule_unless held (rule_in meaning)))
+pub meaning_made : (applet : Applet) (state : OptionState) (next : Flags) (place : ℕ) (held : Option (List ℕ)) (meaning : Meaning) → state.awaiting ≡ None → stands_as applet state.flags meaning ≡ true → flags_with state.flags held meaning ≡ Some next → may_have applet next ≡ true → IsOutputPathFree state held meaning → with_meaning_at state place held meaning ≡ Some (state_by next (state.values ++ attached_at place (rule_in meaning) held) (rule_unless held (rule_in meaning)))
 meaning_made applet state next place None (Value rule) a s f m room =
     rw room (ap Some (ap (λ x. state_by x state.values (Some rule)) (same_Some state.flags next f) ∙ ap (λ vs. state_by next vs (Some rule)) (sym (append-nil state.values))))
 meaning_made applet state next place (Some text) (Value rule) a s f m room =
@@ -118,7 +118,7 @@ comes_first options rule place (word ∷ words) all h =
     let one = joined_one (option_value place rule.letter word) all (values_of options None (place + 1) words) h in
     record { place = place; text = word; more = one.more; same = one.same }
 
-pub room_for : (applet : Applet) (state : OptionState) (all : List OptionValue) (place : ℕ) (words : List (List ℕ)) (held : Option (List ℕ)) (meaning : Meaning) → IsOwn applet meaning → are_values (value_rules applet) all ≡ true → option_map (λ vs. state.values ++ vs) (option_map (λ vs. held_at place (rule_in meaning) held ++ vs) (values_of (options_of applet) (rule_unless held (rule_in meaning)) (place + 1) words)) ≡ Some all → HasRoom state held meaning
+pub room_for : (applet : Applet) (state : OptionState) (all : List OptionValue) (place : ℕ) (words : List (List ℕ)) (held : Option (List ℕ)) (meaning : Meaning) → IsOwn applet meaning → are_values (value_rules applet) all ≡ true → option_map (λ vs. state.values ++ vs) (option_map (λ vs. attached_at place (rule_in meaning) held ++ vs) (values_of (options_of applet) (rule_unless held (rule_in meaning)) (place + 1) words)) ≡ Some all → IsOutputPathFree state held meaning
 room_for applet state all place words held (Plain flag) own are h = tt
 room_for applet state all place words held (Kind flag) own are h = tt
 room_for applet state all place words None (Value rule) own are h =
@@ -139,12 +139,12 @@ own_rule applet None (Plain flag) r own h = absurd (none-some r h)
 own_rule applet None (Kind flag) r own h = absurd (none-some r h)
 own_rule applet None (Value rule) r own h = subst (λ (x : ValueRule). rule_for (value_rules applet) x.letter ≡ Some x) (same_Some rule r h) own
 
-pub made_option : (applet : Applet) (state : OptionState) (more : Flags) (all : List OptionValue) (place : ℕ) (word : List ℕ) (words : List (List ℕ)) → may_have applet more ≡ true → are_values (value_rules applet) all ≡ true → is_end word ≡ false → is_option word ≡ true → ((next : OptionState) (r : Option ValueRule) → IsMade applet next more all (place + 1) words r → IsReadAs applet next more all (place + 1) words r) → IsMade applet state more all place (word ∷ words) None → IsReadAs applet state more all place (word ∷ words) None
+pub made_option : (applet : Applet) (state : OptionState) (more : Flags) (all : List OptionValue) (place : ℕ) (word : List ℕ) (words : List (List ℕ)) → may_have applet more ≡ true → are_values (value_rules applet) all ≡ true → is_double_dash word ≡ false → is_option word ≡ true → ((next : OptionState) (r : Option ValueRule) → IsMade applet next more all (place + 1) words r → ReadsOldOrReplaced applet next more all (place + 1) words r) → IsMade applet state more all place (word ∷ words) None → ReadsOldOrReplaced applet state more all place (word ∷ words) None
 made_option applet state more all place word words m are e o rest made =
     step_taken options state place word words (Some next) (option_taken state word made.awaiting e o) (ap (with_word_by options state place word) made.awaiting ∙ spelled)
     ∙ (rest next (rule_unless held (rule_in x.meaning)) (record {
-      flags = ap (λ r. flags_after options first.next (option_words options r words)) (sym awaits) ∙ first.rest;
-      values = sym (values_joined state.values (held_at place (rule_in x.meaning) held) (values_of options (rule_unless held (rule_in x.meaning)) (place + 1) words)) ∙ values;
+      flags = ap (λ r. flags_after options first.next (words_that_are_options options r words)) (sym awaits) ∙ first.rest;
+      values = sym (values_joined state.values (attached_at place (rule_in x.meaning) held) (values_of options (rule_unless held (rule_in x.meaning)) (place + 1) words)) ∙ values;
       awaiting = refl;
       own = λ r h. own_rule applet held x.meaning r own h;
     })
@@ -154,10 +154,10 @@ made_option applet state more all place word words m are e o rest made =
     options = options_of applet
 
     held : Option (List ℕ)
-    held = held_value word
+    held = attached_value word
 
-    first : IsFirstOption (options_of applet) state.flags more word (option_words (options_of applet) (rule_behind (options_of applet) word) words)
-    first = first_option (options_of applet) state.flags more word (option_words (options_of applet) (rule_behind (options_of applet) word) words) (sym (ap (flags_after (options_of applet) state.flags) (options_here (options_of applet) word words e o)) ∙ made.flags)
+    first : IsFirstOption (options_of applet) state.flags more word (words_that_are_options (options_of applet) (awaited_rule (options_of applet) word) words)
+    first = first_option (options_of applet) state.flags more word (words_that_are_options (options_of applet) (awaited_rule (options_of applet) word) words) (sym (ap (flags_after (options_of applet) state.flags) (options_here (options_of applet) word words e o)) ∙ made.flags)
 
     x : OptionSpec
     x = first.entry
@@ -165,26 +165,26 @@ made_option applet state more all place word words m are e o rest made =
     own : IsOwn applet first.entry.meaning
     own = found_own applet (options_of applet) (option_name word) first.entry (all_own applet) first.is
 
-    awaits : rule_behind (options_of applet) word ≡ rule_unless (held_value word) (rule_in first.entry.meaning)
-    awaits = ap (rule_unless (held_value word)) (rule_at_is (options_of applet) word first.entry first.is)
+    awaits : awaited_rule (options_of applet) word ≡ rule_unless (attached_value word) (rule_in first.entry.meaning)
+    awaits = ap (rule_unless (attached_value word)) (rule_at_is (options_of applet) word first.entry first.is)
 
-    values : option_map (λ vs. state.values ++ vs) (option_map (λ vs. held_at place (rule_in first.entry.meaning) (held_value word) ++ vs) (values_of (options_of applet) (rule_unless (held_value word) (rule_in first.entry.meaning)) (place + 1) words)) ≡ Some all
+    values : option_map (λ vs. state.values ++ vs) (option_map (λ vs. attached_at place (rule_in first.entry.meaning) (attached_value word) ++ vs) (values_of (options_of applet) (rule_unless (attached_value word) (rule_in first.entry.meaning)) (place + 1) words)) ≡ Some all
     values =
-        ap (λ r. option_map (λ vs. state.values ++ vs) (option_map (λ vs. held_at place r (held_value word) ++ vs) (values_of (options_of applet) (rule_unless (held_value word) r) (place + 1) words))) (sym (rule_at_is (options_of applet) word first.entry first.is))
+        ap (λ r. option_map (λ vs. state.values ++ vs) (option_map (λ vs. attached_at place r (attached_value word) ++ vs) (values_of (options_of applet) (rule_unless (attached_value word) r) (place + 1) words))) (sym (rule_at_is (options_of applet) word first.entry first.is))
         ∙ (ap (option_map (λ vs. state.values ++ vs)) (sym (values_option (options_of applet) place word words e o)) ∙ made.values)
 
     next : OptionState
-    next = state_by first.next (state.values ++ held_at place (rule_in first.entry.meaning) (held_value word)) (rule_unless (held_value word) (rule_in first.entry.meaning))
+    next = state_by first.next (state.values ++ attached_at place (rule_in first.entry.meaning) (attached_value word)) (rule_unless (attached_value word) (rule_in first.entry.meaning))
 
-    spelled : with_spelled (options_of applet) state place word ≡ Some (state_by first.next (state.values ++ held_at place (rule_in first.entry.meaning) (held_value word)) (rule_unless (held_value word) (rule_in first.entry.meaning)))
+    spelled : with_spelled (options_of applet) state place word ≡ Some (state_by first.next (state.values ++ attached_at place (rule_in first.entry.meaning) (attached_value word)) (rule_unless (attached_value word) (rule_in first.entry.meaning)))
     spelled =
-        ap (option_and_then (λ (y : OptionSpec). with_meaning_at state place (held_value word) y.meaning)) first.is
-        ∙ meaning_made applet state first.next place (held_value word) first.entry.meaning made.awaiting
-        (find_passes (stands applet state.flags) (λ (y : OptionSpec). bytes_eq y.long (option_name word) || bytes_eq y.short (option_name word)) (options_of applet) first.entry (all_stand applet state.flags) first.is)
+        ap (option_and_then (λ (y : OptionSpec). with_meaning_at state place (attached_value word) y.meaning)) first.is
+        ∙ meaning_made applet state first.next place (attached_value word) first.entry.meaning made.awaiting
+        (find_passes (located applet state.flags) (λ (y : OptionSpec). bytes_eq y.long (option_name word) || bytes_eq y.short (option_name word)) (options_of applet) first.entry (all_stand applet state.flags) first.is)
         first.says (less_kept applet (options_of applet) first.next more _ first.rest m)
-        (room_for applet state all place words (held_value word) first.entry.meaning own are values)
+        (room_for applet state all place words (attached_value word) first.entry.meaning own are values)
 
-pub made_end : (applet : Applet) (state : OptionState) (more : Flags) (all : List OptionValue) (place : ℕ) (word : List ℕ) (words : List (List ℕ)) → is_end word ≡ true → IsMade applet state more all place (word ∷ words) None → IsReadAs applet state more all place (word ∷ words) None
+pub made_end : (applet : Applet) (state : OptionState) (more : Flags) (all : List OptionValue) (place : ℕ) (word : List ℕ) (words : List (List ℕ)) → is_double_dash word ≡ true → IsMade applet state more all place (word ∷ words) None → ReadsOldOrReplaced applet state more all place (word ∷ words) None
 made_end applet state more all place word words e made =
     let options = options_of applet in
     let flags = same_Some state.flags more (sym (ap (flags_after options state.flags) (options_end options word words e)) ∙ made.flags) in
@@ -193,11 +193,11 @@ made_end applet state more all place word words e made =
     ∙ (ap (λ g. reading_by g (operands_of (place + 1) words) None) (given_is state more all flags values made.awaiting)
     ∙ ap (λ os. reading_by (state_by more all None) os None) (sym (free_end options place word words e)))
 
-pub made_free : (applet : Applet) (state : OptionState) (more : Flags) (all : List OptionValue) (place : ℕ) (word : List ℕ) (words : List (List ℕ)) → is_end word ≡ false → is_option word ≡ false → (IsMade applet state more all (place + 1) words None → IsReadAs applet state more all (place + 1) words None) → IsMade applet state more all place (word ∷ words) None → IsReadAs applet state more all place (word ∷ words) None
+pub made_free : (applet : Applet) (state : OptionState) (more : Flags) (all : List OptionValue) (place : ℕ) (word : List ℕ) (words : List (List ℕ)) → is_double_dash word ≡ false → is_option word ≡ false → (IsMade applet state more all (place + 1) words None → ReadsOldOrReplaced applet state more all (place + 1) words None) → IsMade applet state more all place (word ∷ words) None → ReadsOldOrReplaced applet state more all place (word ∷ words) None
 made_free applet state more all place word words e o rest made =
     let options = options_of applet in
     let left = rest (record {
-      flags = sym (ap (flags_after options state.flags) (options_behind options word words e o)) ∙ made.flags;
+      flags = sym (ap (flags_after options state.flags) (options_after options word words e o)) ∙ made.flags;
       values = sym (ap (option_map (λ vs. state.values ++ vs)) (values_behind options place word words e o)) ∙ made.values;
       awaiting = made.awaiting;
       own = made.own;
@@ -206,19 +206,19 @@ made_free applet state more all place word words e o rest made =
     ∙ (ap (λ (r : Reading). reading_by r.state (operand_at place word ∷ r.operands) r.unread) left
     ∙ ap (λ os. reading_by (state_by more all None) os None) (sym (free_here options place word words e o)))
 
-pub made_word : (applet : Applet) (state : OptionState) (more : Flags) (all : List OptionValue) (place : ℕ) (word : List ℕ) (words : List (List ℕ)) (rule : Option ValueRule) → may_have applet more ≡ true → are_values (value_rules applet) all ≡ true → ((next : OptionState) (r : Option ValueRule) → IsMade applet next more all (place + 1) words r → IsReadAs applet next more all (place + 1) words r) → IsMade applet state more all place (word ∷ words) rule → IsReadAs applet state more all place (word ∷ words) rule
+pub made_word : (applet : Applet) (state : OptionState) (more : Flags) (all : List OptionValue) (place : ℕ) (word : List ℕ) (words : List (List ℕ)) (rule : Option ValueRule) → may_have applet more ≡ true → are_values (value_rules applet) all ≡ true → ((next : OptionState) (r : Option ValueRule) → IsMade applet next more all (place + 1) words r → ReadsOldOrReplaced applet next more all (place + 1) words r) → IsMade applet state more all place (word ∷ words) rule → ReadsOldOrReplaced applet state more all place (word ∷ words) rule
 made_word applet state more all place word words (Some rule) m are rest made = made_value applet state more all place word words rule are rest made
 made_word applet state more all place word words None m are rest made =
-    elim (is_end word) as (λ b. is_end word ≡ b → IsReadAs applet state more all place (word ∷ words) None) [
+    elim (is_double_dash word) as (λ b. is_double_dash word ≡ b → ReadsOldOrReplaced applet state more all place (word ∷ words) None) [
       | true ↦ λ e. made_end applet state more all place word words e made
-      | false ↦ λ e. elim (is_option word) as (λ b. is_option word ≡ b → IsReadAs applet state more all place (word ∷ words) None) [
+      | false ↦ λ e. elim (is_option word) as (λ b. is_option word ≡ b → ReadsOldOrReplaced applet state more all place (word ∷ words) None) [
         | true ↦ λ o. made_option applet state more all place word words m are e o rest made
         | false ↦ λ o. made_free applet state more all place word words e o (rest state None) made
       ] refl
     ] refl
 
 -- options, values and operands of an applet are read
-pub reading_made : (applet : Applet) (more : Flags) (all : List OptionValue) → may_have applet more ≡ true → are_values (value_rules applet) all ≡ true → (place : ℕ) (words : List (List ℕ)) (state : OptionState) (rule : Option ValueRule) → IsMade applet state more all place words rule → IsReadAs applet state more all place words rule
+pub reading_made : (applet : Applet) (more : Flags) (all : List OptionValue) → may_have applet more ≡ true → are_values (value_rules applet) all ≡ true → (place : ℕ) (words : List (List ℕ)) (state : OptionState) (rule : Option ValueRule) → IsMade applet state more all place words rule → ReadsOldOrReplaced applet state more all place words rule
 reading_made applet more all m are place [] state rule made = made_empty applet state more all place rule made
 reading_made applet more all m are place (word ∷ words) state rule made =
     made_word applet state more all place word words rule m are (λ next r h. reading_made applet more all m are (place + 1) words next r h) made
@@ -229,10 +229,10 @@ free_place options rule place [] first rest h = absurd (cc)
 free_place options (Some rule) place (word ∷ words) first rest h =
     let later : place + 1 ≤ first.place = free_place options None (place + 1) words first rest h in omega arith
 free_place options None place (word ∷ words) first rest h =
-    elim (is_end word) as (λ b. is_end word ≡ b → place ≤ first.place) [
+    elim (is_double_dash word) as (λ b. is_double_dash word ≡ b → place ≤ first.place) [
       | true ↦ λ e. by_operands words (sym (free_end options place word words e) ∙ h)
       | false ↦ λ e. elim (is_option word) as (λ b. is_option word ≡ b → place ≤ first.place) [
-        | true ↦ λ o. (let later : place + 1 ≤ first.place = free_place options (rule_behind options word) (place + 1) words first rest (sym (free_option options place word words e o) ∙ h) in omega arith)
+        | true ↦ λ o. (let later : place + 1 ≤ first.place = free_place options (awaited_rule options word) (place + 1) words first rest (sym (free_option options place word words e o) ∙ h) in omega arith)
         | false ↦ λ o. (let same : place ≡ first.place = ap (λ (x : Operand). x.place) (same_head (operand_at place word) first _ rest (sym (free_here options place word words e o) ∙ h)) in omega arith)
       ] refl
     ] refl
@@ -253,10 +253,10 @@ pub record IsFound (applet : Applet) (flags : Flags) (place : ℕ) (words : List
   pub more : Flags
   pub early : early_flags (options_of applet) flags place (take (read - place) words) ≡ Ok more
 
-behind_end_found : (place : ℕ) (words : List (List ℕ)) (first : Operand) (rest : List Operand) (applet : Applet) → applet_of first.text ≡ Some applet → operands_of place words ≡ first ∷ rest → (first.place ≡ place) × (site_behind_end place words ≡ Ok (site_by true place applet))
-unfolding site_behind_end
-behind_end_found place [] first rest applet n h = absurd (cc)
-behind_end_found place (word ∷ words) first rest applet n h = (
+after_end_found : (place : ℕ) (words : List (List ℕ)) (first : Operand) (rest : List Operand) (applet : Applet) → applet_of first.text ≡ Some applet → operands_of place words ≡ first ∷ rest → (first.place ≡ place) × (site_after_end place words ≡ Ok (site_by true place applet))
+unfolding site_after_end
+after_end_found place [] first rest applet n h = absurd (cc)
+after_end_found place (word ∷ words) first rest applet n h = (
   sym (ap (λ (x : Operand). x.place) (same_head (operand_at place word) first _ rest h)),
   at_named true place word applet (ap (λ (x : Operand). applet_of x.text) (same_head (operand_at place word) first _ rest h) ∙ n),
 )
@@ -283,7 +283,7 @@ flag_read flags more (Plain flag) f h = h
 flag_read flags more (Kind flag) f h = absurd (false≢true f)
 flag_read flags more (Value rule) f h = absurd (false≢true f)
 
-early_read : (applet : Applet) (flags next : Flags) (word : List ℕ) (option : OptionSpec) → is_early word ≡ true → option_spelled (options_of applet) (option_name word) ≡ Some option → flags_with flags (held_value word) option.meaning ≡ Some next → with_option (options_of applet) flags word ≡ Some next
+early_read : (applet : Applet) (flags next : Flags) (word : List ℕ) (option : OptionSpec) → is_early word ≡ true → option_spelled (options_of applet) (option_name word) ≡ Some option → flags_with flags (attached_value word) option.meaning ≡ Some next → with_option (options_of applet) flags word ≡ Some next
 early_read applet flags next word option early is says =
     let whole = whole_early word early in
     let found : option_spelled (options_of applet) word ≡ Some option = ap (option_spelled (options_of applet)) (sym whole.name) ∙ is in
@@ -292,12 +292,12 @@ early_read applet flags next word option early is says =
     ∙ flag_read flags next option.meaning flag (ap (λ h. flags_with flags h option.meaning) (sym whole.held) ∙ says)
 
 -- the words up to the applet are read
-pub site_found : (flags all : Flags) (place : ℕ) (words : List (List ℕ)) (first : Operand) (rest : List Operand) (applet : Applet) → applet_of first.text ≡ Some applet → free_words (options_of applet) None place words ≡ first ∷ rest → list_all stands_before (take (first.place - place) words) ≡ true → flags_after (options_of applet) flags (option_words (options_of applet) None words) ≡ Some all → IsFound applet flags place words first.place (applet_site place words)
+pub site_found : (flags all : Flags) (place : ℕ) (words : List (List ℕ)) (first : Operand) (rest : List Operand) (applet : Applet) → applet_of first.text ≡ Some applet → free_words (options_of applet) None place words ≡ first ∷ rest → list_all may_precede_applet (take (first.place - place) words) ≡ true → flags_after (options_of applet) flags (words_that_are_options (options_of applet) None words) ≡ Some all → IsFound applet flags place words first.place (applet_site place words)
 site_found flags all place [] first rest applet n h early says = absurd (cc)
 site_found flags all place (word ∷ words) first rest applet n h early says =
-    elim (is_end word) as (λ b. is_end word ≡ b → IsFound applet flags place (word ∷ words) first.place (applet_site place (word ∷ words))) [
+    elim (is_double_dash word) as (λ b. is_double_dash word ≡ b → IsFound applet flags place (word ∷ words) first.place (applet_site place (word ∷ words))) [
       | true ↦ λ e.
-          let found = behind_end_found (place + 1) words first rest applet n (sym (free_end (options_of applet) place word words e) ∙ h) in
+          let found = after_end_found (place + 1) words first rest applet n (sym (free_end (options_of applet) place word words e) ∙ h) in
           let one : first.place - place ≡ suc 0 = omega (arith, found.0) in
           record {
             ended = true;
@@ -325,23 +325,23 @@ site_found flags all place (word ∷ words) first rest applet n h early says =
     flag_rule (Kind flag) f = refl
     flag_rule (Value rule) f = absurd (false≢true f)
 
-    by_option : ((next : Flags) → free_words (options_of applet) None (place + 1) words ≡ first ∷ rest → list_all stands_before (take (first.place - (place + 1)) words) ≡ true → flags_after (options_of applet) next (option_words (options_of applet) None words) ≡ Some all → IsFound applet next (place + 1) words first.place (applet_site (place + 1) words)) → is_end word ≡ false → is_option word ≡ true → IsFound applet flags place (word ∷ words) first.place (applet_site place (word ∷ words))
+    by_option : ((next : Flags) → free_words (options_of applet) None (place + 1) words ≡ first ∷ rest → list_all may_precede_applet (take (first.place - (place + 1)) words) ≡ true → flags_after (options_of applet) next (words_that_are_options (options_of applet) None words) ≡ Some all → IsFound applet next (place + 1) words first.place (applet_site (place + 1) words)) → is_double_dash word ≡ false → is_option word ≡ true → IsFound applet flags place (word ∷ words) first.place (applet_site place (word ∷ words))
     by_option later_found e o =
         let options = options_of applet in
-        let behind_it : free_words options (rule_behind options word) (place + 1) words ≡ first ∷ rest = sym (free_option options place word words e o) ∙ h in
-        let later : place + 1 ≤ first.place = free_place options (rule_behind options word) (place + 1) words first rest behind_it in
+        let behind_it : free_words options (awaited_rule options word) (place + 1) words ≡ first ∷ rest = sym (free_option options place word words e o) ∙ h in
+        let later : place + 1 ≤ first.place = free_place options (awaited_rule options word) (place + 1) words first rest behind_it in
         let next : suc (first.place - (place + 1)) ≡ first.place - place = omega (arith, later) in
-        let parts = and_parts (stands_before word) (list_all stands_before (take (first.place - (place + 1)) words)) (ap (λ k. list_all stands_before (take k (word ∷ words))) next ∙ early) in
+        let parts = and_parts (may_precede_applet word) (list_all may_precede_applet (take (first.place - (place + 1)) words)) (ap (λ k. list_all may_precede_applet (take k (word ∷ words))) next ∙ early) in
         let y : is_early word ≡ true = ap (λ b. b || is_early word) (sym e) ∙ parts.0 in
-        let option = first_option options flags all word (option_words options (rule_behind options word) words) (sym (ap (flags_after options flags) (options_here options word words e o)) ∙ says) in
+        let option = first_option options flags all word (words_that_are_options options (awaited_rule options word) words) (sym (ap (flags_after options flags) (options_here options word words e o)) ∙ says) in
         let whole = whole_early word y in
         let flag : is_flag_meaning option.entry.meaning ≡ true =
         ap is_flag (sym (ap (option_spelled options) (sym whole.name) ∙ option.is)) ∙ by_early (says_flag applet) word (early_flag applet) y in
-        let none : rule_behind options word ≡ None = no_rule_behind options word whole.held (rule_at_is options word option.entry option.is ∙ flag_rule option.entry.meaning flag) in
+        let none : awaited_rule options word ≡ None = no_rule_after options word whole.held (rule_at_is options word option.entry option.is ∙ flag_rule option.entry.meaning flag) in
         let m : with_option options flags word ≡ Some option.next = early_read applet flags option.next word option.entry y option.is option.says in
         let found = later_found option.next
         (ap (λ r. free_words options r (place + 1) words) (sym none) ∙ behind_it) parts.1
-        (ap (λ r. flags_after options option.next (option_words options r words)) (sym none) ∙ option.rest) in
+        (ap (λ r. flags_after options option.next (words_that_are_options options r words)) (sym none) ∙ option.rest) in
         record {
           ended = found.ended;
           is = seek_early place word words e o y ∙ found.is;
@@ -351,8 +351,8 @@ site_found flags all place (word ∷ words) first rest applet n h early says =
         }
 
 -- the words behind the applet are read
-pub from_made : (start : Start) (more : Flags) (all : List OptionValue) (words : List (List ℕ)) → flags_after (options_of start.applet) start.flags (option_rest start.ended (options_of start.applet) (drop start.read words)) ≡ Some more → value_rest start.ended (options_of start.applet) (start.read + 1) (drop start.read words) ≡ Some all → may_have start.applet more ≡ true → are_values (value_rules start.applet) all ≡ true → reading_behind start words ≡ reading_by (state_by more all None) (free_rest start.ended (options_of start.applet) (start.read + 1) (drop start.read words)) None
-unfolding reading_behind
+pub from_made : (start : Start) (more : Flags) (all : List OptionValue) (words : List (List ℕ)) → flags_after (options_of start.applet) start.flags (option_rest start.ended (options_of start.applet) (drop start.read words)) ≡ Some more → value_rest start.ended (options_of start.applet) (start.read + 1) (drop start.read words) ≡ Some all → may_have start.applet more ≡ true → are_values (value_rules start.applet) all ≡ true → reading_after_applet start words ≡ reading_by (state_by more all None) (free_rest start.ended (options_of start.applet) (start.read + 1) (drop start.read words)) None
+unfolding reading_after_applet
 from_made start more all words f v m are =
     let options = options_of start.applet in
     elim start.ended as (λ b. flags_after options start.flags (option_rest b options (drop start.read words)) ≡ Some more → value_rest b options (start.read + 1) (drop start.read words) ≡ Some all → (if b then reading_by (first_state start.flags) (operands_of (start.read + 1) (drop start.read words)) None else option_reading options (first_state start.flags) (start.read + 1) (drop start.read words)) ≡ reading_by (state_by more all None) (free_rest b options (start.read + 1) (drop start.read words)) None) [
@@ -380,7 +380,7 @@ made_line words command line =
         let at : suc from.count ≡ start.read = (let is : start.read ≡ 1 + from.count = from.read in omega arith) in
         let free : free_words options None 1 words ≡ line.applet ∷ command.operands = subst (λ a. free_words (options_of a) None 1 words ≡ line.applet ∷ command.operands) (sym applet) line.free in
         let operands : free_rest start.ended options (start.read + 1) (drop start.read words) ≡ command.operands = ap (λ n. free_rest start.ended options (start.read + 1) (drop n words)) (sym at) ∙ same_tail (operand_at start.read from.word) line.applet _ _ (sym from.free ∙ free) in
-        let says : flags_after options no_flags (option_words options None words) ≡ Some command.flags = subst (λ a. flags_after (options_of a) no_flags (option_words (options_of a) None words) ≡ Some command.flags) (sym applet) line.flags in
+        let says : flags_after options no_flags (words_that_are_options options None words) ≡ Some command.flags = subst (λ a. flags_after (options_of a) no_flags (words_that_are_options (options_of a) None words) ≡ Some command.flags) (sym applet) line.flags in
         let flags : flags_after options start.flags (option_rest start.ended options (drop start.read words)) ≡ Some command.flags = ap (λ n. flags_after options start.flags (option_rest start.ended options (drop n words))) (sym at) ∙ (sym from.says ∙ says) in
         let give : values_of options None 1 words ≡ Some command.values = subst (λ a. values_of (options_of a) None 1 words ≡ Some command.values) (sym applet) line.values in
         let values : value_rest start.ended options (start.read + 1) (drop start.read words) ≡ Some command.values = ap (λ n. value_rest start.ended options (start.read + 1) (drop n words)) (sym at) ∙ (sym from.values ∙ give) in
@@ -389,7 +389,7 @@ made_line words command line =
         subst (λ a. is_command (command_by a command.flags command.operands command.values (length words + 1)) ≡ true) (sym applet)
         (ap (λ n. is_command (command_by command.applet command.flags command.operands command.values n)) (sym line.behind) ∙ line.sound) in
         let parts = has_parts (command_read (length words + 1) start.applet whole) sound in
-        let read : reading_behind start words ≡ whole = from_made start command.flags command.values words flags values parts.flags parts.values ∙ ap (λ os. reading_by (state_by command.flags command.values None) os None) operands in
+        let read : reading_after_applet start words ≡ whole = from_made start command.flags command.values words flags values parts.flags parts.values ∙ ap (λ os. reading_by (state_by command.flags command.values None) os None) operands in
         ap (command_from words) s
         ∙ (ap (verdict (length words + 1) start.applet) read
         ∙ (sound_judged (length words + 1) start.applet whole refl sound

@@ -26,8 +26,8 @@ use Rattle.words_core.specs.declared.reading.AppletSite.{AppletSite}
 use Rattle.words_core.specs.declared.reading.OptionState.{OptionState}
 use Rattle.words_core.specs.declared.reading.Reading.{Reading}
 use Rattle.words_core.specs.declared.reading.Start.{Start}
-use Rattle.words_core.specs.Grammar.{applet_site, command_from, command_read, early_flags, first_state, held_value, is_end, is_option, is_option_or_value, lacks_operand, lacks_word, line_command, line_start, operands_of, option_name, option_reading, or_at, or_unread, reading_behind, reading_by, refused_operand, rule_at, rule_behind, rule_in, rule_unless, site_at, site_behind_end, site_by, start_by, state_by, unless_at, verdict, with_flags, with_held, with_meaning, with_meaning_at, with_operand, with_option, with_spec, with_spelled, with_value, with_word, with_word_by}
-use Rattle.words_core.specs.Lines.{IsLineOf, flags_after, flags_with, free_words, held_at, option_words, stands_before, values_of}
+use Rattle.words_core.specs.Grammar.{applet_site, command_from, command_read, early_flags, first_state, attached_value, is_double_dash, is_option, is_option_or_value, lacks_operand, lacks_word, line_command, line_start, operands_of, option_name, option_reading, or_at, or_unread, reading_after_applet, reading_by, refused_operand, rule_at, awaited_rule, rule_in, rule_unless, site_at, site_after_end, site_by, start_by, state_by, unless_at, verdict, with_flags, with_attached, with_meaning, with_meaning_at, with_operand, with_option, with_spec, with_spelled, with_value, with_word, with_word_by}
+use Rattle.words_core.specs.Lines.{IsLineOf, flags_after, flags_with, free_words, attached_at, words_that_are_options, may_precede_applet, values_of}
 use Rattle.words_core.specs.Options.{OptionSpec, applet_of, early_words, is_early, option_spelled, options_of}
 use Rattle.words_core.specs.Steps.{IsSoundReading}
 use Rattle.words_core.proofs.GivenKept.{from_kept}
@@ -39,61 +39,61 @@ use Rattle.words_core.proofs.WhatIsRead.{taken_sound}
 pub step_taken : (options : List OptionSpec) (state : OptionState) (place : ℕ) (word : List ℕ) (words : List (List ℕ)) (more : Option OptionState) → is_option_or_value state word ≡ true → with_word options state place word ≡ more → option_reading options state place (word ∷ words) ≡ or_unread state place (λ m. option_reading options m (place + 1) words) more
 step_taken options state place word words more t w = rw t (rw w refl)
 
-pub step_end : (options : List OptionSpec) (state : OptionState) (place : ℕ) (word : List ℕ) (words : List (List ℕ)) → is_option_or_value state word ≡ false → is_end word ≡ true → option_reading options state place (word ∷ words) ≡ reading_by state (operands_of (place + 1) words) None
+pub step_end : (options : List OptionSpec) (state : OptionState) (place : ℕ) (word : List ℕ) (words : List (List ℕ)) → is_option_or_value state word ≡ false → is_double_dash word ≡ true → option_reading options state place (word ∷ words) ≡ reading_by state (operands_of (place + 1) words) None
 step_end options state place word words t e = rw t (rw e refl)
 
-pub step_free : (options : List OptionSpec) (state : OptionState) (place : ℕ) (word : List ℕ) (words : List (List ℕ)) → is_option_or_value state word ≡ false → is_end word ≡ false → option_reading options state place (word ∷ words) ≡ with_operand (operand_at place word) (option_reading options state (place + 1) words)
+pub step_free : (options : List OptionSpec) (state : OptionState) (place : ℕ) (word : List ℕ) (words : List (List ℕ)) → is_option_or_value state word ≡ false → is_double_dash word ≡ false → option_reading options state place (word ∷ words) ≡ with_operand (operand_at place word) (option_reading options state (place + 1) words)
 step_free options state place word words t e = rw t (rw e refl)
 
 -- which words are taken
 pub awaited_taken : (state : OptionState) (word : List ℕ) (rule : ValueRule) → state.awaiting ≡ Some rule → is_option_or_value state word ≡ true
 awaited_taken state word rule a = rw a refl
 
-pub end_kept : (state : OptionState) (word : List ℕ) → state.awaiting ≡ None → is_end word ≡ true → is_option_or_value state word ≡ false
+pub end_kept : (state : OptionState) (word : List ℕ) → state.awaiting ≡ None → is_double_dash word ≡ true → is_option_or_value state word ≡ false
 end_kept state word a e = rw a (rw e (none (is_option word)))
   where
     none : (b : Bool) → (b && false) ≡ false
     none true = refl
     none false = refl
 
-pub option_taken : (state : OptionState) (word : List ℕ) → state.awaiting ≡ None → is_end word ≡ false → is_option word ≡ true → is_option_or_value state word ≡ true
+pub option_taken : (state : OptionState) (word : List ℕ) → state.awaiting ≡ None → is_double_dash word ≡ false → is_option word ≡ true → is_option_or_value state word ≡ true
 option_taken state word a e o = rw a (rw e (rw o refl))
 
 pub free_kept : (state : OptionState) (word : List ℕ) → state.awaiting ≡ None → is_option word ≡ false → is_option_or_value state word ≡ false
 free_kept state word a o = rw a (rw o refl)
 
 -- the words that are no options, and those that are, at one more word
-pub free_end : (options : List OptionSpec) (place : ℕ) (word : List ℕ) (words : List (List ℕ)) → is_end word ≡ true → free_words options None place (word ∷ words) ≡ operands_of (place + 1) words
+pub free_end : (options : List OptionSpec) (place : ℕ) (word : List ℕ) (words : List (List ℕ)) → is_double_dash word ≡ true → free_words options None place (word ∷ words) ≡ operands_of (place + 1) words
 free_end options place word words e = rw e refl
 
-pub free_option : (options : List OptionSpec) (place : ℕ) (word : List ℕ) (words : List (List ℕ)) → is_end word ≡ false → is_option word ≡ true → free_words options None place (word ∷ words) ≡ free_words options (rule_behind options word) (place + 1) words
+pub free_option : (options : List OptionSpec) (place : ℕ) (word : List ℕ) (words : List (List ℕ)) → is_double_dash word ≡ false → is_option word ≡ true → free_words options None place (word ∷ words) ≡ free_words options (awaited_rule options word) (place + 1) words
 free_option options place word words e o = rw e (rw o refl)
 
-pub free_here : (options : List OptionSpec) (place : ℕ) (word : List ℕ) (words : List (List ℕ)) → is_end word ≡ false → is_option word ≡ false → free_words options None place (word ∷ words) ≡ operand_at place word ∷ free_words options None (place + 1) words
+pub free_here : (options : List OptionSpec) (place : ℕ) (word : List ℕ) (words : List (List ℕ)) → is_double_dash word ≡ false → is_option word ≡ false → free_words options None place (word ∷ words) ≡ operand_at place word ∷ free_words options None (place + 1) words
 free_here options place word words e o = rw e (rw o refl)
 
-pub options_end : (options : List OptionSpec) (word : List ℕ) (words : List (List ℕ)) → is_end word ≡ true → option_words options None (word ∷ words) ≡ []
+pub options_end : (options : List OptionSpec) (word : List ℕ) (words : List (List ℕ)) → is_double_dash word ≡ true → words_that_are_options options None (word ∷ words) ≡ []
 options_end options word words e = rw e refl
 
-pub options_here : (options : List OptionSpec) (word : List ℕ) (words : List (List ℕ)) → is_end word ≡ false → is_option word ≡ true → option_words options None (word ∷ words) ≡ word ∷ option_words options (rule_behind options word) words
+pub options_here : (options : List OptionSpec) (word : List ℕ) (words : List (List ℕ)) → is_double_dash word ≡ false → is_option word ≡ true → words_that_are_options options None (word ∷ words) ≡ word ∷ words_that_are_options options (awaited_rule options word) words
 options_here options word words e o = rw e (rw o refl)
 
-pub options_behind : (options : List OptionSpec) (word : List ℕ) (words : List (List ℕ)) → is_end word ≡ false → is_option word ≡ false → option_words options None (word ∷ words) ≡ option_words options None words
-options_behind options word words e o = rw e (rw o refl)
+pub options_after : (options : List OptionSpec) (word : List ℕ) (words : List (List ℕ)) → is_double_dash word ≡ false → is_option word ≡ false → words_that_are_options options None (word ∷ words) ≡ words_that_are_options options None words
+options_after options word words e o = rw e (rw o refl)
 
-pub values_end : (options : List OptionSpec) (place : ℕ) (word : List ℕ) (words : List (List ℕ)) → is_end word ≡ true → values_of options None place (word ∷ words) ≡ Some []
+pub values_end : (options : List OptionSpec) (place : ℕ) (word : List ℕ) (words : List (List ℕ)) → is_double_dash word ≡ true → values_of options None place (word ∷ words) ≡ Some []
 values_end options place word words e = rw e refl
 
-pub values_option : (options : List OptionSpec) (place : ℕ) (word : List ℕ) (words : List (List ℕ)) → is_end word ≡ false → is_option word ≡ true → values_of options None place (word ∷ words) ≡ option_map (λ values. held_at place (rule_at options word) (held_value word) ++ values) (values_of options (rule_behind options word) (place + 1) words)
+pub values_option : (options : List OptionSpec) (place : ℕ) (word : List ℕ) (words : List (List ℕ)) → is_double_dash word ≡ false → is_option word ≡ true → values_of options None place (word ∷ words) ≡ option_map (λ values. attached_at place (rule_at options word) (attached_value word) ++ values) (values_of options (awaited_rule options word) (place + 1) words)
 values_option options place word words e o = rw e (rw o refl)
 
-pub values_behind : (options : List OptionSpec) (place : ℕ) (word : List ℕ) (words : List (List ℕ)) → is_end word ≡ false → is_option word ≡ false → values_of options None place (word ∷ words) ≡ values_of options None (place + 1) words
+pub values_behind : (options : List OptionSpec) (place : ℕ) (word : List ℕ) (words : List (List ℕ)) → is_double_dash word ≡ false → is_option word ≡ false → values_of options None place (word ∷ words) ≡ values_of options None (place + 1) words
 values_behind options place word words e o = rw e (rw o refl)
 
 -- the flags and values of options behind a given one
-pub flags_here : (options : List OptionSpec) (flags more : Flags) (word : List ℕ) (words : List (List ℕ)) (e : OptionSpec) → option_spelled options (option_name word) ≡ Some e → flags_with flags (held_value word) e.meaning ≡ Some more → flags_after options flags (word ∷ words) ≡ flags_after options more words
+pub flags_here : (options : List OptionSpec) (flags more : Flags) (word : List ℕ) (words : List (List ℕ)) (e : OptionSpec) → option_spelled options (option_name word) ≡ Some e → flags_with flags (attached_value word) e.meaning ≡ Some more → flags_after options flags (word ∷ words) ≡ flags_after options more words
 flags_here options flags more word words e is says =
-    ap (option_and_then (λ (x : OptionSpec). option_and_then (λ m. flags_after options m words) (flags_with flags (held_value word) x.meaning))) is
+    ap (option_and_then (λ (x : OptionSpec). option_and_then (λ m. flags_after options m words) (flags_with flags (attached_value word) x.meaning))) is
     ∙ ap (option_and_then (λ m. flags_after options m words)) says
 
 pub rule_at_is : (options : List OptionSpec) (word : List ℕ) (e : OptionSpec) → option_spelled options (option_name word) ≡ Some e → rule_at options word ≡ rule_in e.meaning
@@ -119,7 +119,7 @@ value_says state more place text rule w =
 -- what an option says that was taken
 pub record Says (state : OptionState) (place : ℕ) (held : Option (List ℕ)) (meaning : Meaning) (more : OptionState) : Type 0 where
   pub flags : flags_with state.flags held meaning ≡ Some more.flags
-  pub values : state.values ++ held_at place (rule_in meaning) held ≡ more.values
+  pub values : state.values ++ attached_at place (rule_in meaning) held ≡ more.values
   pub awaiting : rule_unless held (rule_in meaning) ≡ more.awaiting
 
 pub flag_says : (flags more : Flags) (meaning : Meaning) → with_meaning flags meaning ≡ Some more → flags_with flags None meaning ≡ Some more
@@ -141,11 +141,11 @@ flags_say state more place meaning None a m w = absurd (none-some more w)
 flags_say state more place meaning (Some flags) a m w =
     subst (λ (g : OptionState). Says state place None meaning g) (same_Some (state_by flags state.values state.awaiting) more w) (record {
       flags = flag_says state.flags flags meaning m;
-      values = ap (λ r. state.values ++ held_at place r None) (no_rule state.flags flags meaning m) ∙ append-nil state.values;
+      values = ap (λ r. state.values ++ attached_at place r None) (no_rule state.flags flags meaning m) ∙ append-nil state.values;
       awaiting = no_rule state.flags flags meaning m ∙ sym a;
     })
 
-pub held_says : (state more : OptionState) (place : ℕ) (held : Option (List ℕ)) (rule : ValueRule) → with_held state place rule held ≡ Some more → Says state place held (Value rule) more
+pub held_says : (state more : OptionState) (place : ℕ) (held : Option (List ℕ)) (rule : ValueRule) → with_attached state place rule held ≡ Some more → Says state place held (Value rule) more
 held_says state more place None rule w =
     subst (λ (g : OptionState). Says state place None (Value rule) g) (same_Some (state_by state.flags state.values (Some rule)) more w) (record { flags = refl; values = append-nil state.values; awaiting = refl })
 held_says state more place (Some text) rule w =
@@ -153,7 +153,7 @@ held_says state more place (Some text) rule w =
 
 pub meaning_says : (state more : OptionState) (place : ℕ) (held : Option (List ℕ)) (meaning : Meaning) → state.awaiting ≡ None → with_meaning_at state place held meaning ≡ Some more → Says state place held meaning more
 meaning_says state more place held (Value rule) a w =
-    elim (is_spent rule state.values) as (λ b. (if b then None else with_held state place rule held) ≡ Some more → Says state place held (Value rule) more) [
+    elim (is_spent rule state.values) as (λ b. (if b then None else with_attached state place rule held) ≡ Some more → Says state place held (Value rule) more) [
       | true ↦ λ (h : None ≡ Some more). absurd (none-some more h)
       | false ↦ λ h. held_says state more place held rule h
     ] w
@@ -163,16 +163,16 @@ meaning_says state more place None (Plain flag) a w = flags_say state more place
 meaning_says state more place None (Kind flag) a w = flags_say state more place (Kind flag) (with_meaning state.flags (Kind flag)) a refl w
 
 -- the reading is whole, and so are its operands, flags and values those of the words
-abbrev pub IsWhole : Reading → List Operand → Option Flags → List OptionValue → Option (List OptionValue) → Type 0
-IsWhole reading free flags before values =
+abbrev pub IsWellFormed : Reading → List Operand → Option Flags → List OptionValue → Option (List OptionValue) → Type 0
+IsWellFormed reading free flags before values =
     reading.unread ≡ None → (reading.operands ≡ free) × (flags ≡ Some reading.state.flags) × (option_map (λ vs. before ++ vs) values ≡ Some reading.state.values)
 
 -- .. at words, where an option may await its value
 abbrev pub IsWholeAt : List OptionSpec → OptionState → ℕ → List (List ℕ) → Option ValueRule → Type 0
 IsWholeAt options state place words rule =
-    IsWhole (option_reading options state place words) (free_words options rule place words) (flags_after options state.flags (option_words options rule words)) state.values (values_of options rule place words)
+    IsWellFormed (option_reading options state place words) (free_words options rule place words) (flags_after options state.flags (words_that_are_options options rule words)) state.values (values_of options rule place words)
 
-pub unread_not : (state : OptionState) (place : ℕ) (free : List Operand) (flags : Option Flags) (before : List OptionValue) (values : Option (List OptionValue)) → IsWhole (reading_by state [] (Some place)) free flags before values
+pub unread_not : (state : OptionState) (place : ℕ) (free : List Operand) (flags : Option Flags) (before : List OptionValue) (values : Option (List OptionValue)) → IsWellFormed (reading_by state [] (Some place)) free flags before values
 unread_not state place free flags before values h = absurd (none-some place (sym h))
 
 pub whole_empty : (options : List OptionSpec) (state : OptionState) (place : ℕ) (rule : Option ValueRule) → state.awaiting ≡ rule → IsWholeAt options state place [] rule
@@ -190,71 +190,71 @@ whole_value options state place word words rule a rest = by_value (with_value st
     free = free_words options None (place + 1) words
 
     by_value : (o : Option OptionState) → with_value state place word rule ≡ o → IsWholeAt options state place (word ∷ words) (Some rule)
-    by_value None w = subst (λ r. IsWhole r (free_words options None (place + 1) words) (flags_after options state.flags (option_words options None words)) state.values (values_of options (Some rule) place (word ∷ words))) (sym (taken None w)) (unread_not state place _ _ _ _)
-    by_value (Some more) w = subst (λ r. IsWhole r (free_words options None (place + 1) words) (flags_after options state.flags (option_words options None words)) state.values (values_of options (Some rule) place (word ∷ words))) (sym (taken (Some more) w)) behind_it
+    by_value None w = subst (λ r. IsWellFormed r (free_words options None (place + 1) words) (flags_after options state.flags (words_that_are_options options None words)) state.values (values_of options (Some rule) place (word ∷ words))) (sym (taken None w)) (unread_not state place _ _ _ _)
+    by_value (Some more) w = subst (λ r. IsWellFormed r (free_words options None (place + 1) words) (flags_after options state.flags (words_that_are_options options None words)) state.values (values_of options (Some rule) place (word ∷ words))) (sym (taken (Some more) w)) behind_it
       where
         says : state_by state.flags (state.values ++ (option_value place rule.letter word ∷ [])) None ≡ more
         says = value_says state more place word rule w
 
-        behind_it : IsWhole (option_reading options more (place + 1) words) (free_words options None (place + 1) words) (flags_after options state.flags (option_words options None words)) state.values (values_of options (Some rule) place (word ∷ words))
+        behind_it : IsWellFormed (option_reading options more (place + 1) words) (free_words options None (place + 1) words) (flags_after options state.flags (words_that_are_options options None words)) state.values (values_of options (Some rule) place (word ∷ words))
         behind_it h =
-            let left : IsWhole (option_reading options more (place + 1) words) (free_words options None (place + 1) words) (flags_after options state.flags (option_words options None words)) (state.values ++ (option_value place rule.letter word ∷ [])) (values_of options None (place + 1) words) =
-            subst (λ (g : OptionState). IsWhole (option_reading options more (place + 1) words) (free_words options g.awaiting (place + 1) words) (flags_after options g.flags (option_words options g.awaiting words)) g.values (values_of options g.awaiting (place + 1) words)) (sym says) (rest more) in
+            let left : IsWellFormed (option_reading options more (place + 1) words) (free_words options None (place + 1) words) (flags_after options state.flags (words_that_are_options options None words)) (state.values ++ (option_value place rule.letter word ∷ [])) (values_of options None (place + 1) words) =
+            subst (λ (g : OptionState). IsWellFormed (option_reading options more (place + 1) words) (free_words options g.awaiting (place + 1) words) (flags_after options g.flags (words_that_are_options options g.awaiting words)) g.values (values_of options g.awaiting (place + 1) words)) (sym says) (rest more) in
             let all = left h in
             (all.0, all.1, one_joined state.values (option_value place rule.letter word) (values_of options None (place + 1) words) ∙ all.2)
 
 -- an option
-pub whole_option : (options : List OptionSpec) (state : OptionState) (place : ℕ) (word : List ℕ) (words : List (List ℕ)) → state.awaiting ≡ None → is_end word ≡ false → is_option word ≡ true → ((more : OptionState) → IsWholeAt options more (place + 1) words more.awaiting) → IsWholeAt options state place (word ∷ words) None
+pub whole_option : (options : List OptionSpec) (state : OptionState) (place : ℕ) (word : List ℕ) (words : List (List ℕ)) → state.awaiting ≡ None → is_double_dash word ≡ false → is_option word ≡ true → ((more : OptionState) → IsWholeAt options more (place + 1) words more.awaiting) → IsWholeAt options state place (word ∷ words) None
 whole_option options state place word words a e o rest = by_option (with_spelled options state place word) refl
   where
     taken : (x : Option OptionState) → with_spelled options state place word ≡ x → option_reading options state place (word ∷ words) ≡ or_unread state place (λ m. option_reading options m (place + 1) words) x
     taken x w = step_taken options state place word words x (option_taken state word a e o) (ap (with_word_by options state place word) a ∙ w)
 
-    by_entry : (more : OptionState) (x : OptionSpec) → option_spelled options (option_name word) ≡ Some x → Says state place (held_value word) x.meaning more → IsWhole (option_reading options more (place + 1) words) (free_words options None place (word ∷ words)) (flags_after options state.flags (option_words options None (word ∷ words))) state.values (values_of options None place (word ∷ words))
+    by_entry : (more : OptionState) (x : OptionSpec) → option_spelled options (option_name word) ≡ Some x → Says state place (attached_value word) x.meaning more → IsWellFormed (option_reading options more (place + 1) words) (free_words options None place (word ∷ words)) (flags_after options state.flags (words_that_are_options options None (word ∷ words))) state.values (values_of options None place (word ∷ words))
     by_entry more x is says h =
         let at : rule_at options word ≡ rule_in x.meaning = rule_at_is options word x is in
-        let awaits : rule_behind options word ≡ more.awaiting = ap (rule_unless (held_value word)) at ∙ says.awaiting in
+        let awaits : awaited_rule options word ≡ more.awaiting = ap (rule_unless (attached_value word)) at ∙ says.awaiting in
         let all = rest more h in (
           all.0 ∙ (ap (λ r. free_words options r (place + 1) words) (sym awaits) ∙ sym (free_option options place word words e o)),
           ap (flags_after options state.flags) (options_here options word words e o)
-              ∙ (flags_here options state.flags more.flags word (option_words options (rule_behind options word) words) x is says.flags
-              ∙ (ap (λ r. flags_after options more.flags (option_words options r words)) awaits ∙ all.1)),
+              ∙ (flags_here options state.flags more.flags word (words_that_are_options options (awaited_rule options word) words) x is says.flags
+              ∙ (ap (λ r. flags_after options more.flags (words_that_are_options options r words)) awaits ∙ all.1)),
           ap (option_map (λ vs. state.values ++ vs)) (values_option options place word words e o)
-              ∙ (values_joined state.values (held_at place (rule_at options word) (held_value word)) (values_of options (rule_behind options word) (place + 1) words)
-              ∙ (ap (λ r. option_map (λ vs. (state.values ++ held_at place (rule_at options word) (held_value word)) ++ vs) (values_of options r (place + 1) words)) awaits
-              ∙ (ap (λ vs. option_map (λ ws. vs ++ ws) (values_of options more.awaiting (place + 1) words)) (ap (λ r. state.values ++ held_at place r (held_value word)) at ∙ says.values)
+              ∙ (values_joined state.values (attached_at place (rule_at options word) (attached_value word)) (values_of options (awaited_rule options word) (place + 1) words)
+              ∙ (ap (λ r. option_map (λ vs. (state.values ++ attached_at place (rule_at options word) (attached_value word)) ++ vs) (values_of options r (place + 1) words)) awaits
+              ∙ (ap (λ vs. option_map (λ ws. vs ++ ws) (values_of options more.awaiting (place + 1) words)) (ap (λ r. state.values ++ attached_at place r (attached_value word)) at ∙ says.values)
               ∙ all.2))),
         )
 
     by_option : (x : Option OptionState) → with_spelled options state place word ≡ x → IsWholeAt options state place (word ∷ words) None
-    by_option None w = subst (λ r. IsWhole r (free_words options None place (word ∷ words)) (flags_after options state.flags (option_words options None (word ∷ words))) state.values (values_of options None place (word ∷ words))) (sym (taken None w)) (unread_not state place _ _ _ _)
-    by_option (Some more) w = subst (λ r. IsWhole r (free_words options None place (word ∷ words)) (flags_after options state.flags (option_words options None (word ∷ words))) state.values (values_of options None place (word ∷ words))) (sym (taken (Some more) w))
-        (option_and_then_some (λ (x : OptionSpec). with_meaning_at state place (held_value word) x.meaning) (option_spelled options (option_name word)) more w
-        (λ x is made. by_entry more x is (meaning_says state more place (held_value word) x.meaning a made)))
+    by_option None w = subst (λ r. IsWellFormed r (free_words options None place (word ∷ words)) (flags_after options state.flags (words_that_are_options options None (word ∷ words))) state.values (values_of options None place (word ∷ words))) (sym (taken None w)) (unread_not state place _ _ _ _)
+    by_option (Some more) w = subst (λ r. IsWellFormed r (free_words options None place (word ∷ words)) (flags_after options state.flags (words_that_are_options options None (word ∷ words))) state.values (values_of options None place (word ∷ words))) (sym (taken (Some more) w))
+        (option_and_then_some (λ (x : OptionSpec). with_meaning_at state place (attached_value word) x.meaning) (option_spelled options (option_name word)) more w
+        (λ x is made. by_entry more x is (meaning_says state more place (attached_value word) x.meaning a made)))
 
 -- the end of the options, or an operand
-pub whole_end : (options : List OptionSpec) (state : OptionState) (place : ℕ) (word : List ℕ) (words : List (List ℕ)) → state.awaiting ≡ None → is_end word ≡ true → IsWholeAt options state place (word ∷ words) None
+pub whole_end : (options : List OptionSpec) (state : OptionState) (place : ℕ) (word : List ℕ) (words : List (List ℕ)) → state.awaiting ≡ None → is_double_dash word ≡ true → IsWholeAt options state place (word ∷ words) None
 whole_end options state place word words a e =
-    subst (λ r. IsWhole r (free_words options None place (word ∷ words)) (flags_after options state.flags (option_words options None (word ∷ words))) state.values (values_of options None place (word ∷ words))) (sym (step_end options state place word words (end_kept state word a e) e))
+    subst (λ r. IsWellFormed r (free_words options None place (word ∷ words)) (flags_after options state.flags (words_that_are_options options None (word ∷ words))) state.values (values_of options None place (word ∷ words))) (sym (step_end options state place word words (end_kept state word a e) e))
     (λ h. (
       sym (free_end options place word words e),
       ap (flags_after options state.flags) (options_end options word words e),
       ap (option_map (λ vs. state.values ++ vs)) (values_end options place word words e) ∙ ap Some (append-nil state.values),
     ))
 
-pub whole_free : (options : List OptionSpec) (state : OptionState) (place : ℕ) (word : List ℕ) (words : List (List ℕ)) → state.awaiting ≡ None → is_end word ≡ false → is_option word ≡ false → IsWholeAt options state (place + 1) words state.awaiting → IsWholeAt options state place (word ∷ words) None
+pub whole_free : (options : List OptionSpec) (state : OptionState) (place : ℕ) (word : List ℕ) (words : List (List ℕ)) → state.awaiting ≡ None → is_double_dash word ≡ false → is_option word ≡ false → IsWholeAt options state (place + 1) words state.awaiting → IsWholeAt options state place (word ∷ words) None
 whole_free options state place word words a e o rest =
-    subst (λ r. IsWhole r (free_words options None place (word ∷ words)) (flags_after options state.flags (option_words options None (word ∷ words))) state.values (values_of options None place (word ∷ words))) (sym (step_free options state place word words (free_kept state word a o) e))
+    subst (λ r. IsWellFormed r (free_words options None place (word ∷ words)) (flags_after options state.flags (words_that_are_options options None (word ∷ words))) state.values (values_of options None place (word ∷ words))) (sym (step_free options state place word words (free_kept state word a o) e))
     (λ h. (let all = (subst (λ r. IsWholeAt options state (place + 1) words r) a rest) h in (
       ap (λ os. operand_at place word ∷ os) all.0 ∙ sym (free_here options place word words e o),
-      ap (flags_after options state.flags) (options_behind options word words e o) ∙ all.1,
+      ap (flags_after options state.flags) (options_after options word words e o) ∙ all.1,
       ap (option_map (λ vs. state.values ++ vs)) (values_behind options place word words e o) ∙ all.2,
     )))
 
 pub whole_word : (options : List OptionSpec) (state : OptionState) (place : ℕ) (word : List ℕ) (words : List (List ℕ)) (rule : Option ValueRule) → state.awaiting ≡ rule → ((more : OptionState) → IsWholeAt options more (place + 1) words more.awaiting) → IsWholeAt options state place (word ∷ words) rule
 whole_word options state place word words (Some rule) a rest = whole_value options state place word words rule a rest
 whole_word options state place word words None a rest =
-    elim (is_end word) as (λ b. is_end word ≡ b → IsWholeAt options state place (word ∷ words) None) [
+    elim (is_double_dash word) as (λ b. is_double_dash word ≡ b → IsWholeAt options state place (word ∷ words) None) [
       | true ↦ λ e. whole_end options state place word words a e
       | false ↦ λ e. elim (is_option word) as (λ b. is_option word ≡ b → IsWholeAt options state place (word ∷ words) None) [
         | true ↦ λ o. whole_option options state place word words a e o rest
@@ -273,18 +273,18 @@ free_rest false options place words = free_words options None place words
 
 abbrev pub option_rest : Bool → List OptionSpec → List (List ℕ) → List (List ℕ)
 option_rest true options words = []
-option_rest false options words = option_words options None words
+option_rest false options words = words_that_are_options options None words
 
 abbrev pub value_rest : Bool → List OptionSpec → ℕ → List (List ℕ) → Option (List OptionValue)
 value_rest true options place words = Some []
 value_rest false options place words = values_of options None place words
 
 -- what is read behind the applet
-pub from_whole : (start : Start) (words : List (List ℕ)) → IsWhole (reading_behind start words) (free_rest start.ended (options_of start.applet) (start.read + 1) (drop start.read words)) (flags_after (options_of start.applet) start.flags (option_rest start.ended (options_of start.applet) (drop start.read words))) [] (value_rest start.ended (options_of start.applet) (start.read + 1) (drop start.read words))
-unfolding reading_behind
+pub from_whole : (start : Start) (words : List (List ℕ)) → IsWellFormed (reading_after_applet start words) (free_rest start.ended (options_of start.applet) (start.read + 1) (drop start.read words)) (flags_after (options_of start.applet) start.flags (option_rest start.ended (options_of start.applet) (drop start.read words))) [] (value_rest start.ended (options_of start.applet) (start.read + 1) (drop start.read words))
+unfolding reading_after_applet
 from_whole start words =
     let options = options_of start.applet in
-    elim start.ended as (λ b. IsWhole (if b then reading_by (first_state start.flags) (operands_of (start.read + 1) (drop start.read words)) None else option_reading options (first_state start.flags) (start.read + 1) (drop start.read words)) (free_rest b options (start.read + 1) (drop start.read words)) (flags_after options start.flags (option_rest b options (drop start.read words))) [] (value_rest b options (start.read + 1) (drop start.read words))) [
+    elim start.ended as (λ b. IsWellFormed (if b then reading_by (first_state start.flags) (operands_of (start.read + 1) (drop start.read words)) None else option_reading options (first_state start.flags) (start.read + 1) (drop start.read words)) (free_rest b options (start.read + 1) (drop start.read words)) (flags_after options start.flags (option_rest b options (drop start.read words))) [] (value_rest b options (start.read + 1) (drop start.read words))) [
       | true ↦ λ h. (refl, refl, refl)
       | false ↦ reading_whole options (first_state start.flags) (start.read + 1) (drop start.read words)
     ]
@@ -296,8 +296,8 @@ pub record IsFrom (flags : Flags) (place : ℕ) (words : List (List ℕ)) (start
   pub word : List ℕ
   pub names : applet_of word ≡ Some start.applet
   pub free : free_words (options_of start.applet) None place words ≡ operand_at start.read word ∷ free_rest start.ended (options_of start.applet) (start.read + 1) (drop (suc count) words)
-  pub early : list_all stands_before (take count words) ≡ true
-  pub says : flags_after (options_of start.applet) flags (option_words (options_of start.applet) None words) ≡ flags_after (options_of start.applet) start.flags (option_rest start.ended (options_of start.applet) (drop (suc count) words))
+  pub early : list_all may_precede_applet (take count words) ≡ true
+  pub says : flags_after (options_of start.applet) flags (words_that_are_options (options_of start.applet) None words) ≡ flags_after (options_of start.applet) start.flags (option_rest start.ended (options_of start.applet) (drop (suc count) words))
   pub values : values_of (options_of start.applet) None place words ≡ value_rest start.ended (options_of start.applet) (start.read + 1) (drop (suc count) words)
 
 -- .. of a site that was found, where the words before it are options of its applet
@@ -314,15 +314,15 @@ named_low ended place low word l =
       | Some applet ↦ l
     ]
 
-end_low : (place : ℕ) (words : List (List ℕ)) → IfOk (site_behind_end (place + 1) words) (λ s. place ≤ s.read)
-unfolding site_behind_end
+end_low : (place : ℕ) (words : List (List ℕ)) → IfOk (site_after_end (place + 1) words) (λ s. place ≤ s.read)
+unfolding site_after_end
 end_low place [] = tt
 end_low place (word ∷ words) = named_low true (place + 1) place word (omega arith)
 
 pub site_low : (place : ℕ) (words : List (List ℕ)) → IfOk (applet_site place words) (λ s. place ≤ s.read)
 site_low place [] = tt
 site_low place (word ∷ words) =
-    elim (is_end word) as (λ b. IfOk (if b then site_behind_end (place + 1) words else if is_option word then (if is_early word then applet_site (place + 1) words else Err place) else site_at false place word) (λ s. place ≤ s.read)) [
+    elim (is_double_dash word) as (λ b. IfOk (if b then site_after_end (place + 1) words else if is_option word then (if is_early word then applet_site (place + 1) words else Err place) else site_at false place word) (λ s. place ≤ s.read)) [
       | true ↦ end_low place words
       | false ↦ elim (is_option word) as (λ b. IfOk (if b then (if is_early word then applet_site (place + 1) words else Err place) else site_at false place word) (λ s. place ≤ s.read)) [
         | true ↦ elim (is_early word) as (λ b. IfOk (if b then applet_site (place + 1) words else Err place) (λ s. place ≤ s.read)) [
@@ -334,8 +334,8 @@ site_low place (word ∷ words) =
     ]
 
 -- the applet behind `--`
-pub from_end : (flags : Flags) (place : ℕ) (word : List ℕ) (words : List (List ℕ)) → is_end word ≡ true → IfOk (site_behind_end (place + 1) words) (λ s. IsFromSite flags place (word ∷ words) s)
-unfolding site_behind_end site_at
+pub from_end : (flags : Flags) (place : ℕ) (word : List ℕ) (words : List (List ℕ)) → is_double_dash word ≡ true → IfOk (site_after_end (place + 1) words) (λ s. IsFromSite flags place (word ∷ words) s)
+unfolding site_after_end site_at
 from_end flags place word [] e = tt
 from_end flags place word (next ∷ words) e =
     elim (applet_of next) as (λ o. applet_of next ≡ o → IfOk (or_at (place + 1) (λ applet. Ok (site_by true (place + 1) applet)) o) (λ s. IsFromSite flags place (word ∷ (next ∷ words)) s)) [
@@ -357,7 +357,7 @@ from_end flags place word (next ∷ words) e =
     ] refl
 
 -- the applet at a word
-pub from_named : (flags : Flags) (place : ℕ) (word : List ℕ) (words : List (List ℕ)) → is_end word ≡ false → is_option word ≡ false → IfOk (site_at false place word) (λ s. IsFromSite flags place (word ∷ words) s)
+pub from_named : (flags : Flags) (place : ℕ) (word : List ℕ) (words : List (List ℕ)) → is_double_dash word ≡ false → is_option word ≡ false → IfOk (site_at false place word) (λ s. IsFromSite flags place (word ∷ words) s)
 unfolding site_at
 from_named flags place word words e o =
     elim (applet_of word) as (λ a. applet_of word ≡ a → IfOk (or_at place (λ applet. Ok (site_by false place applet)) a) (λ s. IsFromSite flags place (word ∷ words) s)) [
@@ -373,7 +373,7 @@ from_named flags place word words e o =
             names = n;
             free = free_here (options_of applet) place word words e o;
             early = refl;
-            says = ap (flags_after (options_of applet) flags) (options_behind (options_of applet) word words e o) ∙ ap (λ g. flags_after (options_of applet) g (option_words (options_of applet) None words)) is;
+            says = ap (flags_after (options_of applet) flags) (options_after (options_of applet) word words e o) ∙ ap (λ g. flags_after (options_of applet) g (words_that_are_options (options_of applet) None words)) is;
             values = values_behind (options_of applet) place word words e o;
           }
     ] refl
@@ -381,7 +381,7 @@ from_named flags place word words e o =
 -- ---- an option before the applet is a word as it stands
 
 abbrev pub is_whole : List ℕ → Bool
-is_whole word = bytes_eq (option_name word) word && not (is_some (held_value word))
+is_whole word = bytes_eq (option_name word) word && not (is_some (attached_value word))
 
 -- what holds of each word that may stand before the applet holds of one that does
 pub by_early : (p : List ℕ → Bool) (word : List ℕ) → list_all p early_words ≡ true → is_early word ≡ true → p word ≡ true
@@ -397,17 +397,17 @@ by_early p word each early = among early_words each early
         ]
 
 early_whole : list_all is_whole early_words ≡ true
-unfolding early_words option_name held_value
+unfolding early_words option_name attached_value
 early_whole = refl
 
 pub record IsWholeWord (word : List ℕ) : Type 0 where
   pub name : option_name word ≡ word
-  pub held : held_value word ≡ None
+  pub held : attached_value word ≡ None
 
 pub whole_early : (word : List ℕ) → is_early word ≡ true → IsWholeWord word
 whole_early word early =
-    let parts = and_parts (bytes_eq (option_name word) word) (not (is_some (held_value word))) (by_early is_whole word early_whole early) in
-    record { name = (bytes_eq-Decides (option_name word) word).0 parts.0; held = none_held (held_value word) parts.1 }
+    let parts = and_parts (bytes_eq (option_name word) word) (not (is_some (attached_value word))) (by_early is_whole word early_whole early) in
+    record { name = (bytes_eq-Decides (option_name word) word).0 parts.0; held = none_held (attached_value word) parts.1 }
   where
     none_held : (o : Option (List ℕ)) → not (is_some o) ≡ true → o ≡ None
     none_held None h = refl
@@ -417,9 +417,9 @@ whole_early word early =
 pub record IsEarlier (applet : Applet) (flags more : Flags) (word : List ℕ) : Type 0 where
   pub option : OptionSpec
   pub is : option_spelled (options_of applet) (option_name word) ≡ Some option
-  pub held : held_value word ≡ None
+  pub held : attached_value word ≡ None
   pub rule : rule_at (options_of applet) word ≡ None
-  pub says : flags_with flags (held_value word) option.meaning ≡ Some more
+  pub says : flags_with flags (attached_value word) option.meaning ≡ Some more
 
 pub earlier : (applet : Applet) (flags more : Flags) (word : List ℕ) → is_early word ≡ true → with_option (options_of applet) flags word ≡ Some more → IsEarlier applet flags more word
 earlier applet flags more word early m =
@@ -435,14 +435,14 @@ earlier applet flags more word early m =
       says = ap (λ h. flags_with flags h x.meaning) whole.held ∙ flag_says flags more x.meaning made;
     })
 
-pub no_rule_behind : (options : List OptionSpec) (word : List ℕ) → held_value word ≡ None → rule_at options word ≡ None → rule_behind options word ≡ None
-no_rule_behind options word h r = ap (λ held. rule_unless held (rule_at options word)) h ∙ r
+pub no_rule_after : (options : List OptionSpec) (word : List ℕ) → attached_value word ≡ None → rule_at options word ≡ None → awaited_rule options word ≡ None
+no_rule_after options word h r = ap (λ held. rule_unless held (rule_at options word)) h ∙ r
 
 pub values_same : (o : Option (List OptionValue)) → option_map (λ vs. [] ++ vs) o ≡ o
 values_same None = refl
 values_same (Some vs) = refl
 
-pub from_option : (flags more : Flags) (place : ℕ) (word : List ℕ) (words : List (List ℕ)) (start : Start) → is_end word ≡ false → is_option word ≡ true → is_early word ≡ true → with_option (options_of start.applet) flags word ≡ Some more → IsFrom more (place + 1) words start → IsFrom flags place (word ∷ words) start
+pub from_option : (flags more : Flags) (place : ℕ) (word : List ℕ) (words : List (List ℕ)) (start : Start) → is_double_dash word ≡ false → is_option word ≡ true → is_early word ≡ true → with_option (options_of start.applet) flags word ≡ Some more → IsFrom more (place + 1) words start → IsFrom flags place (word ∷ words) start
 from_option flags more place word words start e o y m from = record {
   count = suc from.count;
   read = from.read ∙ omega arith;
@@ -451,11 +451,11 @@ from_option flags more place word words start e o y m from = record {
   free = free_option options place word words e o ∙ (ap (λ r. free_words options r (place + 1) words) none ∙ from.free);
   early = early_word;
   says = ap (flags_after options flags) (options_here options word words e o)
-      ∙ (flags_here options flags more word (option_words options (rule_behind options word) words) early.option early.is early.says
-      ∙ (ap (λ r. flags_after options more (option_words options r words)) none ∙ from.says));
+      ∙ (flags_here options flags more word (words_that_are_options options (awaited_rule options word) words) early.option early.is early.says
+      ∙ (ap (λ r. flags_after options more (words_that_are_options options r words)) none ∙ from.says));
   values = values_option options place word words e o
-      ∙ (ap (λ r. option_map (λ vs. held_at place r (held_value word) ++ vs) (values_of options (rule_behind options word) (place + 1) words)) early.rule
-      ∙ (values_same (values_of options (rule_behind options word) (place + 1) words)
+      ∙ (ap (λ r. option_map (λ vs. attached_at place r (attached_value word) ++ vs) (values_of options (awaited_rule options word) (place + 1) words)) early.rule
+      ∙ (values_same (values_of options (awaited_rule options word) (place + 1) words)
       ∙ (ap (λ r. values_of options r (place + 1) words) none ∙ from.values)));
 }
   where
@@ -465,13 +465,13 @@ from_option flags more place word words start e o y m from = record {
     early : IsEarlier start.applet flags more word
     early = earlier start.applet flags more word y m
 
-    none : rule_behind (options_of start.applet) word ≡ None
-    none = no_rule_behind (options_of start.applet) word early.held early.rule
+    none : awaited_rule (options_of start.applet) word ≡ None
+    none = no_rule_after (options_of start.applet) word early.held early.rule
 
-    early_word : (is_end word || is_early word) && list_all stands_before (take from.count words) ≡ true
+    early_word : (is_double_dash word || is_early word) && list_all may_precede_applet (take from.count words) ≡ true
     early_word = rw e (rw y from.early)
 
-from_step : (flags : Flags) (place : ℕ) (word : List ℕ) (words : List (List ℕ)) (site : AppletSite) → is_end word ≡ false → is_option word ≡ true → is_early word ≡ true → place + 1 ≤ site.read → ((g : Flags) → IsFromSite g (place + 1) words site) → IsFromSite flags place (word ∷ words) site
+from_step : (flags : Flags) (place : ℕ) (word : List ℕ) (words : List (List ℕ)) (site : AppletSite) → is_double_dash word ≡ false → is_option word ≡ true → is_early word ≡ true → place + 1 ≤ site.read → ((g : Flags) → IsFromSite g (place + 1) words site) → IsFromSite flags place (word ∷ words) site
 from_step flags place word words site e o y low rest more f = by_option (with_option (options_of site.applet) flags word) refl
   where
     next : site.read - place ≡ suc (site.read - (place + 1))
@@ -489,8 +489,8 @@ from_step flags place word words site e o y low rest more f = by_option (with_op
 pub site_from : (place : ℕ) (words : List (List ℕ)) → IfOk (applet_site place words) (λ s. (flags : Flags) → IsFromSite flags place words s)
 site_from place [] = tt
 site_from place (word ∷ words) =
-    elim (is_end word) as (λ b. is_end word ≡ b → IfOk (if b then site_behind_end (place + 1) words else if is_option word then (if is_early word then applet_site (place + 1) words else Err place) else site_at false place word) (λ s. (flags : Flags) → IsFromSite flags place (word ∷ words) s)) [
-      | true ↦ λ e. each (site_behind_end (place + 1) words) (λ flags. from_end flags place word words e)
+    elim (is_double_dash word) as (λ b. is_double_dash word ≡ b → IfOk (if b then site_after_end (place + 1) words else if is_option word then (if is_early word then applet_site (place + 1) words else Err place) else site_at false place word) (λ s. (flags : Flags) → IsFromSite flags place (word ∷ words) s)) [
+      | true ↦ λ e. each (site_after_end (place + 1) words) (λ flags. from_end flags place word words e)
       | false ↦ λ e. elim (is_option word) as (λ b. is_option word ≡ b → IfOk (if b then (if is_early word then applet_site (place + 1) words else Err place) else site_at false place word) (λ s. (flags : Flags) → IsFromSite flags place (word ∷ words) s)) [
         | true ↦ λ o. elim (is_early word) as (λ b. is_early word ≡ b → IfOk (if b then applet_site (place + 1) words else Err place) (λ s. (flags : Flags) → IsFromSite flags place (word ∷ words) s)) [
           | true ↦ λ y. later (applet_site (place + 1) words) (site_low (place + 1) words) (site_from (place + 1) words) e o y
@@ -504,7 +504,7 @@ site_from place (word ∷ words) =
     each (Err at) h = tt
     each (Ok site) h = h
 
-    later : (r : Result AppletSite ℕ) → IfOk r (λ s. place + 1 ≤ s.read) → IfOk r (λ s. (flags : Flags) → IsFromSite flags (place + 1) words s) → is_end word ≡ false → is_option word ≡ true → is_early word ≡ true → IfOk r (λ s. (flags : Flags) → IsFromSite flags place (word ∷ words) s)
+    later : (r : Result AppletSite ℕ) → IfOk r (λ s. place + 1 ≤ s.read) → IfOk r (λ s. (flags : Flags) → IsFromSite flags (place + 1) words s) → is_double_dash word ≡ false → is_option word ≡ true → is_early word ≡ true → IfOk r (λ s. (flags : Flags) → IsFromSite flags place (word ∷ words) s)
     later (Err at) low rest e o y = tt
     later (Ok site) low rest e o y = λ flags. from_step flags place word words site e o y low rest
 
@@ -554,18 +554,18 @@ read_line words command c =
       | Ok start ↦ λ s h. by_start start s h
     ] refl c
   where
-    by_start : (start : Start) → line_start words ≡ Ok start → verdict (length words + 1) start.applet (reading_behind start words) ≡ Ok command → IsLineOf words command
+    by_start : (start : Start) → line_start words ≡ Ok start → verdict (length words + 1) start.applet (reading_after_applet start words) ≡ Ok command → IsLineOf words command
     by_start start s h =
         let options = options_of start.applet in
         let from : IsFrom no_flags 1 words start = line_from words start s in
-        let good = judged_good (length words + 1) start.applet (reading_behind start words) command (from_kept start (1 + length words) words (start_known words start s)) h in
+        let good = judged_good (length words + 1) start.applet (reading_after_applet start words) command (from_kept start (1 + length words) words (start_known words start s)) h in
         let at : suc from.count ≡ start.read = (let is : start.read ≡ 1 + from.count = from.read in omega arith) in
         let rest = from_whole start words good.whole in
         subst (λ (x : CommandLine). IsLineOf words x) good.same (record {
           applet = operand_at start.read from.word;
           names = from.names;
           free = from.free ∙ ap (λ os. operand_at start.read from.word ∷ os) (ap (λ n. free_rest start.ended options (start.read + 1) (drop n words)) at ∙ sym rest.0);
-          early = ap (λ n. list_all stands_before (take n words)) (let is : start.read ≡ 1 + from.count = from.read in let less : start.read - 1 ≡ from.count = omega arith in less) ∙ from.early;
+          early = ap (λ n. list_all may_precede_applet (take n words)) (let is : start.read ≡ 1 + from.count = from.read in let less : start.read - 1 ≡ from.count = omega arith in less) ∙ from.early;
           flags = from.says ∙ (ap (λ n. flags_after options start.flags (option_rest start.ended options (drop n words))) at ∙ rest.1);
           values = from.values ∙ (ap (λ n. value_rest start.ended options (start.read + 1) (drop n words)) at ∙ (sym (values_same (value_rest start.ended options (start.read + 1) (drop start.read words))) ∙ rest.2));
           behind = refl;

@@ -21,7 +21,7 @@ use Rattle.command_core.specs.Values.{is_spent}
 use Rattle.words_core.specs.declared.options.Meaning.{Meaning}
 use Rattle.words_core.specs.declared.options.Meaning.TheVariants.{Flag as Plain, Kind, Value}
 use Rattle.words_core.specs.declared.reading.OptionState.{OptionState}
-use Rattle.words_core.specs.Grammar.{held_value, is_end, is_option_or_value, operands_of, option_name, option_reading, or_unread, reading_by, state_by, with_flags, with_held, with_meaning, with_meaning_at, with_operand, with_spec, with_word, with_word_by}
+use Rattle.words_core.specs.Grammar.{attached_value, is_double_dash, is_option_or_value, operands_of, option_name, option_reading, or_unread, reading_by, state_by, with_flags, with_attached, with_meaning, with_meaning_at, with_operand, with_spec, with_word, with_word_by}
 use Rattle.words_core.specs.Options.{OptionSpec, common_options, option_spelled, options_of}
 use Rattle.words_core.proofs.KindsKept.{all_from, all_weaken, find_passes, pass_or_none, same_with}
 use Rattle.words_core.proofs.LinesRead.{value_says}
@@ -112,7 +112,7 @@ all_checked flags h =
 abbrev pub IsPassed : (Flags → Bool) → OptionState → Type 0
 IsPassed test state = test state.flags ≡ true
 
-pub held_passes : (test : Flags → Bool) (state more : OptionState) (place : ℕ) (held : Option (List ℕ)) (rule : ValueRule) → test state.flags ≡ true → with_held state place rule held ≡ Some more → IsPassed test more
+pub held_passes : (test : Flags → Bool) (state more : OptionState) (place : ℕ) (held : Option (List ℕ)) (rule : ValueRule) → test state.flags ≡ true → with_attached state place rule held ≡ Some more → IsPassed test more
 held_passes test state more place None rule p w = subst (λ (g : OptionState). IsPassed test g) (same_Some (state_by state.flags state.values (Some rule)) more w) p
 held_passes test state more place (Some text) rule p w = subst (λ (g : OptionState). IsPassed test g) (value_says state more place text rule w) p
 
@@ -122,7 +122,7 @@ flags_pass test state more (Some flags) h w = subst (λ (g : OptionState). IsPas
 
 pub meaning_passes : (test : Flags → Bool) (state more : OptionState) (place : ℕ) (held : Option (List ℕ)) (meaning : Meaning) → test state.flags ≡ true → pass_or_none test (with_meaning state.flags meaning) ≡ true → with_meaning_at state place held meaning ≡ Some more → IsPassed test more
 meaning_passes test state more place held (Value rule) p h w =
-    elim (is_spent rule state.values) as (λ b. (if b then None else with_held state place rule held) ≡ Some more → IsPassed test more) [
+    elim (is_spent rule state.values) as (λ b. (if b then None else with_attached state place rule held) ≡ Some more → IsPassed test more) [
       | true ↦ λ (none : None ≡ Some more). absurd (none-some more none)
       | false ↦ λ some. held_passes test state more place held rule p some
     ] w
@@ -137,8 +137,8 @@ word_passes test options state more place word p each w = by_rule state.awaiting
     by_rule : (rule : Option ValueRule) → with_word_by options state place word rule ≡ Some more → IsPassed test more
     by_rule (Some rule) h = subst (λ (g : OptionState). IsPassed test g) (value_says state more place word rule h) p
     by_rule None h =
-        option_and_then_some (λ (e : OptionSpec). with_meaning_at state place (held_value word) e.meaning) (option_spelled options (option_name word)) more h
-        (λ found is made. meaning_passes test state more place (held_value word) found.meaning p
+        option_and_then_some (λ (e : OptionSpec). with_meaning_at state place (attached_value word) e.meaning) (option_spelled options (option_name word)) more h
+        (λ found is made. meaning_passes test state more place (attached_value word) found.meaning p
         (find_passes (λ x. pass_or_none test (with_spec state.flags x)) (λ (x : OptionSpec). bytes_eq x.long (option_name word) || bytes_eq x.short (option_name word)) options found each is) made)
 
 version_rule : (state more : OptionState) (place : ℕ) (word : List ℕ) (rule : OperandRule) → with_word (options_of Version) state place word ≡ Some more → version_operands state.flags ≡ Some rule → version_operands more.flags ≡ Some rule
@@ -239,12 +239,12 @@ kept_on applet state more place word k w = refl
 pub rule_stays : (applet : Applet) (state : OptionState) (place : ℕ) (words : List (List ℕ)) (rule : OperandRule) → keeps_rule applet state.flags ≡ true → operand_rule applet state.flags ≡ Some rule → operand_rule applet (option_reading (options_of applet) state place words).state.flags ≡ Some rule
 rule_stays applet state place [] rule k r = r
 rule_stays applet state place (word ∷ words) rule k r =
-    elim (is_option_or_value state word) as (λ b. operand_rule applet (if b then or_unread state place (λ m. option_reading (options_of applet) m (place + 1) words) (with_word (options_of applet) state place word) else if is_end word then reading_by state (operands_of (place + 1) words) None else with_operand (operand_at place word) (option_reading (options_of applet) state (place + 1) words)).state.flags ≡ Some rule) [
+    elim (is_option_or_value state word) as (λ b. operand_rule applet (if b then or_unread state place (λ m. option_reading (options_of applet) m (place + 1) words) (with_word (options_of applet) state place word) else if is_double_dash word then reading_by state (operands_of (place + 1) words) None else with_operand (operand_at place word) (option_reading (options_of applet) state (place + 1) words)).state.flags ≡ Some rule) [
       | true ↦ elim (with_word (options_of applet) state place word) as (λ w. with_word (options_of applet) state place word ≡ w → operand_rule applet (or_unread state place (λ m. option_reading (options_of applet) m (place + 1) words) w).state.flags ≡ Some rule) [
         | None ↦ λ w. r
         | Some g ↦ λ w. rule_stays applet g (place + 1) words rule (kept_on applet state g place word k w) (rule_kept applet state g place word rule k w r)
       ] refl
-      | false ↦ elim (is_end word) as (λ b. operand_rule applet (if b then reading_by state (operands_of (place + 1) words) None else with_operand (operand_at place word) (option_reading (options_of applet) state (place + 1) words)).state.flags ≡ Some rule) [
+      | false ↦ elim (is_double_dash word) as (λ b. operand_rule applet (if b then reading_by state (operands_of (place + 1) words) None else with_operand (operand_at place word) (option_reading (options_of applet) state (place + 1) words)).state.flags ≡ Some rule) [
         | true ↦ r
         | false ↦ rule_stays applet state (place + 1) words rule k r
       ]

@@ -12,7 +12,7 @@ use Rattle.words_core.specs.declared.reading.AppletSite.{AppletSite}
 use Rattle.words_core.specs.declared.reading.OptionState.{OptionState}
 use Rattle.words_core.specs.declared.reading.Reading.{Reading}
 use Rattle.words_core.specs.declared.reading.Start.{Start}
-use Rattle.words_core.specs.Grammar.{applet_site, command_from, line_command, command_read, first_state, is_end, is_option, is_option_or_value, lacks_word, line_start, operands_of, option_reading, or_at, or_unread, reading_behind, reading_by, reading_end, refused_operand, site_at, site_behind_end, site_by, unless_at, verdict, with_operand, with_word}
+use Rattle.words_core.specs.Grammar.{applet_site, command_from, line_command, command_read, first_state, is_double_dash, is_option, is_option_or_value, lacks_word, line_start, operands_of, option_reading, or_at, or_unread, reading_after_applet, reading_by, reading_end, refused_operand, site_at, site_after_end, site_by, unless_at, verdict, with_operand, with_word}
 use Rattle.words_core.specs.Options.{OptionSpec, applet_of, is_early, options_of}
 use Rattle.words_core.proofs.KindsKept.{IsPlain, start_known}
 use Rattle.words_core.proofs.Sites.{IsForeign, foreign_between, no_start}
@@ -72,12 +72,12 @@ reading_placed options state place behind [] l = placed_end state place behind (
 reading_placed options state place behind (word ∷ words) l =
     let less : place + 1 + length words ≤ behind = omega arith in
     let here : IsBetween place behind place = (omega arith, omega arith) in
-    elim (is_option_or_value state word) as (λ b. IsPlaced place behind (if b then or_unread state place (λ more. option_reading options more (place + 1) words) (with_word options state place word) else if is_end word then reading_by state (operands_of (place + 1) words) None else with_operand (operand_at place word) (option_reading options state (place + 1) words))) [
+    elim (is_option_or_value state word) as (λ b. IsPlaced place behind (if b then or_unread state place (λ more. option_reading options more (place + 1) words) (with_word options state place word) else if is_double_dash word then reading_by state (operands_of (place + 1) words) None else with_operand (operand_at place word) (option_reading options state (place + 1) words))) [
       | true ↦ elim (with_word options state place word) as (λ m. IsPlaced place behind (or_unread state place (λ more. option_reading options more (place + 1) words) m)) [
         | None ↦ placed_unread state place behind place (omega arith, omega arith)
         | Some more ↦ placed_lower (place + 1) place behind (option_reading options more (place + 1) words) (omega arith) (reading_placed options more (place + 1) behind words less)
       ]
-      | false ↦ elim (is_end word) as (λ b. IsPlaced place behind (if b then reading_by state (operands_of (place + 1) words) None else with_operand (operand_at place word) (option_reading options state (place + 1) words))) [
+      | false ↦ elim (is_double_dash word) as (λ b. IsPlaced place behind (if b then reading_by state (operands_of (place + 1) words) None else with_operand (operand_at place word) (option_reading options state (place + 1) words))) [
         | true ↦ placed_lower (place + 1) place behind (reading_by state (operands_of (place + 1) words) None) (omega arith) (placed_operands state (place + 1) behind (operands_of (place + 1) words) (operands_between (place + 1) behind words less))
         | false ↦
             let rest = placed_lower (place + 1) place behind (option_reading options state (place + 1) words) (omega arith) (reading_placed options state (place + 1) behind words less) in
@@ -85,8 +85,8 @@ reading_placed options state place behind (word ∷ words) l =
       ]
     ]
 
-pub from_placed : (start : Start) (words : List (List ℕ)) → start.read ≤ length words → IsPlaced (start.read + 1) (length words + 1) (reading_behind start words)
-unfolding reading_behind
+pub from_placed : (start : Start) (words : List (List ℕ)) → start.read ≤ length words → IsPlaced (start.read + 1) (length words + 1) (reading_after_applet start words)
+unfolding reading_after_applet
 from_placed start words l =
     let less : start.read + 1 + length (drop start.read words) ≤ length words + 1 = omega (arith, length-drop start.read words) in
     elim start.ended as (λ b. IsPlaced (start.read + 1) (length words + 1) (if b then reading_by (first_state start.flags) (operands_of (start.read + 1) (drop start.read words)) None else option_reading (options_of start.applet) (first_state start.flags) (start.read + 1) (drop start.read words))) [
@@ -138,8 +138,8 @@ named_searched ended place low behind word h =
       | Some applet ↦ tt
     ]
 
-pub end_searched : (place low behind : ℕ) (words : List (List ℕ)) → IsBetween low behind place → IsSearched low behind (site_behind_end place words)
-unfolding site_behind_end
+pub end_searched : (place low behind : ℕ) (words : List (List ℕ)) → IsBetween low behind place → IsSearched low behind (site_after_end place words)
+unfolding site_after_end
 end_searched place low behind [] h = h
 end_searched place low behind (word ∷ words) h = named_searched true place low behind word h
 
@@ -148,7 +148,7 @@ site_searched place low behind [] l h = (omega arith, omega arith)
 site_searched place low behind (word ∷ words) l h =
     let less : place + 1 + length words < behind = omega arith in
     let here : IsBetween low behind place = (omega arith, omega arith) in
-    elim (is_end word) as (λ b. IsSearched low behind (if b then site_behind_end (place + 1) words else if is_option word then (if is_early word then applet_site (place + 1) words else Err place) else site_at false place word)) [
+    elim (is_double_dash word) as (λ b. IsSearched low behind (if b then site_after_end (place + 1) words else if is_option word then (if is_early word then applet_site (place + 1) words else Err place) else site_at false place word)) [
       | true ↦ end_searched (place + 1) low behind words (omega arith, omega arith)
       | false ↦ elim (is_option word) as (λ b. IsSearched low behind (if b then (if is_early word then applet_site (place + 1) words else Err place) else site_at false place word)) [
         | true ↦ elim (is_early word) as (λ b. IsSearched low behind (if b then applet_site (place + 1) words else Err place)) [
@@ -174,11 +174,11 @@ usage_between words place c =
         (omega (arith, is.0), omega (arith, is.1))
     by_place at place e (inr f) = (let is = foreign_between words at f in (omega (arith, is.0), omega (arith, is.1)))
 
-    by_start : (start : Start) → line_start words ≡ Ok start → verdict (length words + 1) start.applet (reading_behind start words) ≡ Err place → (1 ≤ place) × (place ≤ length words + 1)
+    by_start : (start : Start) → line_start words ≡ Ok start → verdict (length words + 1) start.applet (reading_after_applet start words) ≡ Err place → (1 ≤ place) × (place ≤ length words + 1)
     by_start start s e =
         let known : IsPlain start (1 + length words) = start_known words start s in
-        let placed : IsPlaced (start.read + 1) (length words + 1) (reading_behind start words) = from_placed start words (omega (arith, known.read)) in
-        elim (judged_at start.applet (reading_behind start words) (length words + 1) place e) as (λ _. (1 ≤ place) × (place ≤ length words + 1)) [
-          | inl first ↦ (let is = first_between (operand_rule start.applet (reading_behind start words).state.flags) (start.read + 1) (length words + 1) place (reading_behind start words) placed first in (omega (arith, is.0), omega (arith, is.1)))
+        let placed : IsPlaced (start.read + 1) (length words + 1) (reading_after_applet start words) = from_placed start words (omega (arith, known.read)) in
+        elim (judged_at start.applet (reading_after_applet start words) (length words + 1) place e) as (λ _. (1 ≤ place) × (place ≤ length words + 1)) [
+          | inl first ↦ (let is = first_between (operand_rule start.applet (reading_after_applet start words).state.flags) (start.read + 1) (length words + 1) place (reading_after_applet start words) placed first in (omega (arith, is.0), omega (arith, is.1)))
           | inr last ↦ (omega (arith, last.1), omega (arith, last.1))
         ]

@@ -12,17 +12,17 @@ use Rattle.command_core.specs.Operands.{operand_at}
 use Rattle.words_core.specs.declared.next.NextWord.{NextWord}
 use Rattle.words_core.specs.declared.next.NextWord.TheVariants.{OptionOrCommand, OptionOrOperand, Value as NextValue, Operand as OperandAlone}
 use Rattle.words_core.specs.declared.reading.OptionState.{OptionState}
-use Rattle.words_core.specs.Grammar.{is_end, is_option, is_option_or_value, next_after, next_by_rule, next_word, next_words, operands_of, option_reading, or_unread, reading_by, with_operand, with_word}
+use Rattle.words_core.specs.Grammar.{is_double_dash, is_option, is_option_or_value, next_after, next_by_rule, next_word, next_words, operands_of, option_reading, or_unread, reading_by, with_operand, with_word}
 use Rattle.words_core.specs.Options.{options_of}
 use Rattle.words_core.proofs.Asked.{next_append, next_ended, next_operand, next_taken, operand_stays}
-use Rattle.words_core.proofs.AskedLines.{get_behind, take_front}
+use Rattle.words_core.proofs.AskedLines.{get_after, take_front}
 use Rattle.words_core.proofs.GoneOn.{none_is, not_option}
 
 -- ---- the operands that are read are words, where operands can be
 
 -- a word that is read as an operand, by what it could have been
 abbrev pub IsOperandNext : Applet → NextWord → List ℕ → Type 0
-IsOperandNext applet next text = (next ≡ OperandAlone applet) ⊎ ((next ≡ OptionOrOperand applet) × ((is_option text && not (is_end text)) ≡ false))
+IsOperandNext applet next text = (next ≡ OperandAlone applet) ⊎ ((next ≡ OptionOrOperand applet) × ((is_option text && not (is_double_dash text)) ≡ false))
 
 pub record IsOperandAt (applet : Applet) (words : List (List ℕ)) (o : Operand) : Type 0 where
   pub at : slice_get words (o.place - 1) ≡ Some o.text
@@ -37,7 +37,7 @@ operand_here : (applet : Applet) (front words : List (List ℕ)) (word : List �
 operand_here applet front words word n =
     let count : length front ≡ length front + 1 - 1 = omega arith in
     record {
-      at = subst (λ k. slice_get (front ++ (word ∷ words)) k ≡ Some word) count (get_behind front words word);
+      at = subst (λ k. slice_get (front ++ (word ∷ words)) k ≡ Some word) count (get_after front words word);
       next = subst (λ k. IsOperandNext applet (next_after (take k (front ++ (word ∷ words)))) word) count (subst (λ ws. IsOperandNext applet (next_after ws) word) (sym (take_front front (word ∷ words))) n);
     }
 
@@ -63,23 +63,23 @@ texts_at applet front (word ∷ words) n = (
 pub operands_at : (applet : Applet) (state : OptionState) (front words : List (List ℕ)) → next_after front ≡ next_by_rule applet state.awaiting → AreOperandsAt applet (front ++ words) (option_reading (options_of applet) state (length front + 1) words).operands
 operands_at applet state front [] n = tt
 operands_at applet state front (word ∷ words) n =
-    elim (is_option_or_value state word) as (λ b. is_option_or_value state word ≡ b → AreOperandsAt applet (front ++ (word ∷ words)) (if b then or_unread state (length front + 1) (λ m. option_reading (options_of applet) m (length front + 1 + 1) words) (with_word (options_of applet) state (length front + 1) word) else if is_end word then reading_by state (operands_of (length front + 1 + 1) words) None else with_operand (operand_at (length front + 1) word) (option_reading (options_of applet) state (length front + 1 + 1) words)).operands) [
+    elim (is_option_or_value state word) as (λ b. is_option_or_value state word ≡ b → AreOperandsAt applet (front ++ (word ∷ words)) (if b then or_unread state (length front + 1) (λ m. option_reading (options_of applet) m (length front + 1 + 1) words) (with_word (options_of applet) state (length front + 1) word) else if is_double_dash word then reading_by state (operands_of (length front + 1 + 1) words) None else with_operand (operand_at (length front + 1) word) (option_reading (options_of applet) state (length front + 1 + 1) words)).operands) [
       | true ↦ λ t. elim (with_word (options_of applet) state (length front + 1) word) as (λ w. with_word (options_of applet) state (length front + 1) word ≡ w → AreOperandsAt applet (front ++ (word ∷ words)) (or_unread state (length front + 1) (λ m. option_reading (options_of applet) m (length front + 1 + 1) words) w).operands) [
         | None ↦ λ w. tt
         | Some g ↦ λ w. on g (operands_at applet g (front ++ (word ∷ [])) words (next_one front word ∙ (ap (λ x. next_word x word) n ∙ next_taken applet state g (length front + 1) word t w)))
       ] refl
       | false ↦ λ t.
-          let parts = or_parts (is_some state.awaiting) (is_option word && not (is_end word)) t in
+          let parts = or_parts (is_some state.awaiting) (is_option word && not (is_double_dash word)) t in
           let none : state.awaiting ≡ None = none_is state.awaiting parts.0 in
           let free : next_after front ≡ OptionOrOperand applet = n ∙ ap (next_by_rule applet) none in
-          elim (is_end word) as (λ b. is_end word ≡ b → AreOperandsAt applet (front ++ (word ∷ words)) (if b then reading_by state (operands_of (length front + 1 + 1) words) None else with_operand (operand_at (length front + 1) word) (option_reading (options_of applet) state (length front + 1 + 1) words)).operands) [
+          elim (is_double_dash word) as (λ b. is_double_dash word ≡ b → AreOperandsAt applet (front ++ (word ∷ words)) (if b then reading_by state (operands_of (length front + 1 + 1) words) None else with_operand (operand_at (length front + 1) word) (option_reading (options_of applet) state (length front + 1 + 1) words)).operands) [
             | true ↦ λ e.
                 subst (λ ws. AreOperandsAt applet ws (operands_of (length front + 1 + 1) words)) (shifted front words word)
                 (subst (λ k. AreOperandsAt applet ((front ++ (word ∷ [])) ++ words) (operands_of k words)) (longer front word)
                 (texts_at applet (front ++ (word ∷ [])) words (next_one front word ∙ (ap (λ x. next_word x word) free ∙ next_ended applet word e))))
             | false ↦ λ e. (
               operand_here applet front words word (inr (free, parts.1)),
-              on state (operands_at applet state (front ++ (word ∷ [])) words (next_one front word ∙ (ap (λ x. next_word x word) free ∙ (next_operand applet word e (not_option (is_option word) (is_end word) e parts.1) ∙ ap (next_by_rule applet) (sym none))))),
+              on state (operands_at applet state (front ++ (word ∷ [])) words (next_one front word ∙ (ap (λ x. next_word x word) free ∙ (next_operand applet word e (not_option (is_option word) (is_double_dash word) e parts.1) ∙ ap (next_by_rule applet) (sym none))))),
             )
           ] refl
     ] refl
@@ -125,19 +125,19 @@ unread_at applet state front [] place n u =
           }))
     ] refl u
 unread_at applet state front (word ∷ words) place n u =
-    elim (is_option_or_value state word) as (λ b. is_option_or_value state word ≡ b → (if b then or_unread state (length front + 1) (λ m. option_reading (options_of applet) m (length front + 1 + 1) words) (with_word (options_of applet) state (length front + 1) word) else if is_end word then reading_by state (operands_of (length front + 1 + 1) words) None else with_operand (operand_at (length front + 1) word) (option_reading (options_of applet) state (length front + 1 + 1) words)).unread ≡ Some place
-    → IsUnreadAt applet (front ++ (word ∷ words)) place (if b then or_unread state (length front + 1) (λ m. option_reading (options_of applet) m (length front + 1 + 1) words) (with_word (options_of applet) state (length front + 1) word) else if is_end word then reading_by state (operands_of (length front + 1 + 1) words) None else with_operand (operand_at (length front + 1) word) (option_reading (options_of applet) state (length front + 1 + 1) words)).state) [
+    elim (is_option_or_value state word) as (λ b. is_option_or_value state word ≡ b → (if b then or_unread state (length front + 1) (λ m. option_reading (options_of applet) m (length front + 1 + 1) words) (with_word (options_of applet) state (length front + 1) word) else if is_double_dash word then reading_by state (operands_of (length front + 1 + 1) words) None else with_operand (operand_at (length front + 1) word) (option_reading (options_of applet) state (length front + 1 + 1) words)).unread ≡ Some place
+    → IsUnreadAt applet (front ++ (word ∷ words)) place (if b then or_unread state (length front + 1) (λ m. option_reading (options_of applet) m (length front + 1 + 1) words) (with_word (options_of applet) state (length front + 1) word) else if is_double_dash word then reading_by state (operands_of (length front + 1 + 1) words) None else with_operand (operand_at (length front + 1) word) (option_reading (options_of applet) state (length front + 1 + 1) words)).state) [
       | true ↦ λ t. elim (with_word (options_of applet) state (length front + 1) word) as (λ w. with_word (options_of applet) state (length front + 1) word ≡ w → (or_unread state (length front + 1) (λ m. option_reading (options_of applet) m (length front + 1 + 1) words) w).unread ≡ Some place → IsUnreadAt applet (front ++ (word ∷ words)) place (or_unread state (length front + 1) (λ m. option_reading (options_of applet) m (length front + 1 + 1) words) w).state) [
         | None ↦ λ w (u : Some (length front + 1) ≡ Some place). subst (λ p. IsUnreadAt applet (front ++ (word ∷ words)) p state) (same_Some (length front + 1) place u) (inl (here t w))
         | Some g ↦ λ w u. on g (λ v. unread_at applet g (front ++ (word ∷ [])) words place (next_one front word ∙ (ap (λ x. next_word x word) n ∙ next_taken applet state g (length front + 1) word t w)) v) u
       ] refl
       | false ↦ λ t.
-          let parts = or_parts (is_some state.awaiting) (is_option word && not (is_end word)) t in
+          let parts = or_parts (is_some state.awaiting) (is_option word && not (is_double_dash word)) t in
           let none : state.awaiting ≡ None = none_is state.awaiting parts.0 in
           let free : next_after front ≡ OptionOrOperand applet = n ∙ ap (next_by_rule applet) none in
-          elim (is_end word) as (λ b. is_end word ≡ b → (if b then reading_by state (operands_of (length front + 1 + 1) words) None else with_operand (operand_at (length front + 1) word) (option_reading (options_of applet) state (length front + 1 + 1) words)).unread ≡ Some place → IsUnreadAt applet (front ++ (word ∷ words)) place (if b then reading_by state (operands_of (length front + 1 + 1) words) None else with_operand (operand_at (length front + 1) word) (option_reading (options_of applet) state (length front + 1 + 1) words)).state) [
+          elim (is_double_dash word) as (λ b. is_double_dash word ≡ b → (if b then reading_by state (operands_of (length front + 1 + 1) words) None else with_operand (operand_at (length front + 1) word) (option_reading (options_of applet) state (length front + 1 + 1) words)).unread ≡ Some place → IsUnreadAt applet (front ++ (word ∷ words)) place (if b then reading_by state (operands_of (length front + 1 + 1) words) None else with_operand (operand_at (length front + 1) word) (option_reading (options_of applet) state (length front + 1 + 1) words)).state) [
             | true ↦ λ e u. absurd (none-some place u)
-            | false ↦ λ e u. on state (λ v. unread_at applet state (front ++ (word ∷ [])) words place (next_one front word ∙ (ap (λ x. next_word x word) free ∙ (next_operand applet word e (not_option (is_option word) (is_end word) e parts.1) ∙ ap (next_by_rule applet) (sym none)))) v) u
+            | false ↦ λ e u. on state (λ v. unread_at applet state (front ++ (word ∷ [])) words place (next_one front word ∙ (ap (λ x. next_word x word) free ∙ (next_operand applet word e (not_option (is_option word) (is_double_dash word) e parts.1) ∙ ap (next_by_rule applet) (sym none)))) v) u
           ] refl
     ] refl u
   where
@@ -146,7 +146,7 @@ unread_at applet state front (word ∷ words) place n u =
         let count : length front ≡ length front + 1 - 1 = omega arith in
         record {
           word = word;
-          at = subst (λ k. slice_get (front ++ (word ∷ words)) k ≡ Some word) count (get_behind front words word);
+          at = subst (λ k. slice_get (front ++ (word ∷ words)) k ≡ Some word) count (get_after front words word);
           taken = t;
           unread = w;
           next = subst (λ k. next_after (take k (front ++ (word ∷ words))) ≡ next_by_rule applet state.awaiting) count (ap next_after (take_front front (word ∷ words)) ∙ n);
@@ -172,18 +172,18 @@ end_at applet state front [] n u =
       | Some rule ↦ λ a u. absurd (none-some (length front + 1) (sym u))
     ] refl u
 end_at applet state front (word ∷ words) n u =
-    elim (is_option_or_value state word) as (λ b. is_option_or_value state word ≡ b → (if b then or_unread state (length front + 1) (λ m. option_reading (options_of applet) m (length front + 1 + 1) words) (with_word (options_of applet) state (length front + 1) word) else if is_end word then reading_by state (operands_of (length front + 1 + 1) words) None else with_operand (operand_at (length front + 1) word) (option_reading (options_of applet) state (length front + 1 + 1) words)).unread ≡ None → IsFreeNext applet (next_after (front ++ (word ∷ words)))) [
+    elim (is_option_or_value state word) as (λ b. is_option_or_value state word ≡ b → (if b then or_unread state (length front + 1) (λ m. option_reading (options_of applet) m (length front + 1 + 1) words) (with_word (options_of applet) state (length front + 1) word) else if is_double_dash word then reading_by state (operands_of (length front + 1 + 1) words) None else with_operand (operand_at (length front + 1) word) (option_reading (options_of applet) state (length front + 1 + 1) words)).unread ≡ None → IsFreeNext applet (next_after (front ++ (word ∷ words)))) [
       | true ↦ λ t. elim (with_word (options_of applet) state (length front + 1) word) as (λ w. with_word (options_of applet) state (length front + 1) word ≡ w → (or_unread state (length front + 1) (λ m. option_reading (options_of applet) m (length front + 1 + 1) words) w).unread ≡ None → IsFreeNext applet (next_after (front ++ (word ∷ words)))) [
         | None ↦ λ w (u : Some (length front + 1) ≡ None). absurd (none-some (length front + 1) (sym u))
         | Some g ↦ λ w u. on g (λ v. end_at applet g (front ++ (word ∷ [])) words (next_one front word ∙ (ap (λ x. next_word x word) n ∙ next_taken applet state g (length front + 1) word t w)) v) u
       ] refl
       | false ↦ λ t.
-          let parts = or_parts (is_some state.awaiting) (is_option word && not (is_end word)) t in
+          let parts = or_parts (is_some state.awaiting) (is_option word && not (is_double_dash word)) t in
           let none : state.awaiting ≡ None = none_is state.awaiting parts.0 in
           let free : next_after front ≡ OptionOrOperand applet = n ∙ ap (next_by_rule applet) none in
-          elim (is_end word) as (λ b. is_end word ≡ b → (if b then reading_by state (operands_of (length front + 1 + 1) words) None else with_operand (operand_at (length front + 1) word) (option_reading (options_of applet) state (length front + 1 + 1) words)).unread ≡ None → IsFreeNext applet (next_after (front ++ (word ∷ words)))) [
+          elim (is_double_dash word) as (λ b. is_double_dash word ≡ b → (if b then reading_by state (operands_of (length front + 1 + 1) words) None else with_operand (operand_at (length front + 1) word) (option_reading (options_of applet) state (length front + 1 + 1) words)).unread ≡ None → IsFreeNext applet (next_after (front ++ (word ∷ words)))) [
             | true ↦ λ e u. inl (next_append OptionOrCommand front (word ∷ words) ∙ (ap (λ x. next_words (next_word x word) words) free ∙ (ap (λ x. next_words x words) (next_ended applet word e) ∙ operand_stays applet words)))
-            | false ↦ λ e u. on state (λ v. end_at applet state (front ++ (word ∷ [])) words (next_one front word ∙ (ap (λ x. next_word x word) free ∙ (next_operand applet word e (not_option (is_option word) (is_end word) e parts.1) ∙ ap (next_by_rule applet) (sym none)))) v) u
+            | false ↦ λ e u. on state (λ v. end_at applet state (front ++ (word ∷ [])) words (next_one front word ∙ (ap (λ x. next_word x word) free ∙ (next_operand applet word e (not_option (is_option word) (is_double_dash word) e parts.1) ∙ ap (next_by_rule applet) (sym none)))) v) u
           ] refl
     ] refl u
   where

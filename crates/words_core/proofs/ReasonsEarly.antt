@@ -12,12 +12,12 @@ use Rattle.words_core.specs.declared.options.Meaning.{Meaning}
 use Rattle.words_core.specs.declared.options.Meaning.TheVariants.{Flag as Plain, Kind, Value}
 use Rattle.words_core.specs.declared.reading.AppletSite.{AppletSite}
 use Rattle.words_core.specs.declared.usage.UsageReason.TheVariants.{CommandUnknown, OptionEarly}
-use Rattle.words_core.specs.Grammar.{applet_site, early_flags, is_end, is_option, next_after, next_word, option_name, or_at, site_at, site_behind_end, site_by, with_meaning, with_option, with_spec}
+use Rattle.words_core.specs.Grammar.{applet_site, early_flags, is_double_dash, is_option, next_after, next_word, option_name, or_at, site_at, site_after_end, site_by, with_meaning, with_option, with_spec}
 use Rattle.words_core.specs.Options.{OptionSpec, applet_of, is_early, option_spelled, options_of}
 use Rattle.words_core.specs.Reasons.{IsUsageReason}
 use Rattle.words_core.specs.Usage.{command_reason}
 use Rattle.words_core.proofs.Asked.{named_site, next_early, next_end}
-use Rattle.words_core.proofs.AskedLines.{get_behind, take_front}
+use Rattle.words_core.proofs.AskedLines.{get_after, take_front}
 use Rattle.words_core.proofs.LinesMade.{early_flag, is_flag, is_flag_meaning, says_flag}
 use Rattle.words_core.proofs.LinesRead.{by_early, site_low, whole_early}
 use Rattle.words_core.proofs.Reasons.{append-none, longer, next_one, shifted}
@@ -65,25 +65,25 @@ nameless front words word ended place at p h n =
     let count : length front ≡ at - 1 = omega (arith, here, p) in
     record {
       word = word;
-      at = subst (λ k. slice_get (front ++ (word ∷ words)) k ≡ Some word) count (get_behind front words word);
+      at = subst (λ k. slice_get (front ++ (word ∷ words)) k ≡ Some word) count (get_after front words word);
       names = no_name ended place at word h;
       next = subst (λ k. (next_after (take k (front ++ (word ∷ words))) ≡ CommandAlone) ⊎ ((next_after (take k (front ++ (word ∷ words))) ≡ OptionOrCommand) × (is_option word ≡ false))) count
           (subst (λ ws. (next_after ws ≡ CommandAlone) ⊎ ((next_after ws ≡ OptionOrCommand) × (is_option word ≡ false))) (sym (take_front front (word ∷ words))) n);
     }
 
-end_sought : (front words : List (List ℕ)) (at : ℕ) → next_after front ≡ CommandAlone → site_behind_end (length front + 1) words ≡ Err at → IsSoughtErr (front ++ words) at
-unfolding site_behind_end
+end_sought : (front words : List (List ℕ)) (at : ℕ) → next_after front ≡ CommandAlone → site_after_end (length front + 1) words ≡ Err at → IsSoughtErr (front ++ words) at
+unfolding site_after_end
 end_sought front [] at n h = (let same : length front + 1 ≡ at = cc in inl (sym same ∙ ap (λ ws. length ws + 1) (sym (append-none front))))
 end_sought front (word ∷ words) at n h = inr (inl (nameless front words word true (length front + 1) at refl h (inl n)))
 
 pub sought_err : (front words : List (List ℕ)) (at : ℕ) → next_after front ≡ OptionOrCommand → applet_site (length front + 1) words ≡ Err at → IsSoughtErr (front ++ words) at
 sought_err front [] at n h = (let same : length front + 1 ≡ at = cc in inl (sym same ∙ ap (λ ws. length ws + 1) (sym (append-none front))))
 sought_err front (word ∷ words) at n h =
-    elim (is_end word) as (λ b. is_end word ≡ b → IsSoughtErr (front ++ (word ∷ words)) at) [
+    elim (is_double_dash word) as (λ b. is_double_dash word ≡ b → IsSoughtErr (front ++ (word ∷ words)) at) [
       | true ↦ λ e.
           subst (λ ws. IsSoughtErr ws at) (shifted front words word)
           (end_sought (front ++ (word ∷ [])) words at (next_one front word ∙ (ap (λ x. next_word x word) n ∙ next_end word e))
-          (ap (λ k. site_behind_end k words) (longer front word) ∙ (sym (seek_end (length front + 1) word words e) ∙ h)))
+          (ap (λ k. site_after_end k words) (longer front word) ∙ (sym (seek_end (length front + 1) word words e) ∙ h)))
       | false ↦ λ e. elim (is_option word) as (λ b. is_option word ≡ b → IsSoughtErr (front ++ (word ∷ words)) at) [
         | true ↦ λ o. elim (is_early word) as (λ b. is_early word ≡ b → IsSoughtErr (front ++ (word ∷ words)) at) [
           | true ↦ λ y.
@@ -96,7 +96,7 @@ sought_err front (word ∷ words) at n h =
               let count : length front ≡ at - 1 = omega (arith, here) in
               inr (inr (record {
                 word = word;
-                at = subst (λ k. slice_get (front ++ (word ∷ words)) k ≡ Some word) count (get_behind front words word);
+                at = subst (λ k. slice_get (front ++ (word ∷ words)) k ≡ Some word) count (get_after front words word);
                 option = o;
                 early = y;
                 next = subst (λ k. next_after (take k (front ++ (word ∷ words))) ≡ OptionOrCommand) count (ap next_after (take_front front (word ∷ words)) ∙ n);
@@ -134,7 +134,7 @@ pub record IsForeignWord (applet : Applet) (words : List (List ℕ)) (index : �
 pub foreign_word : (flags : Flags) (place at : ℕ) (words : List (List ℕ)) (site : AppletSite) → applet_site place words ≡ Ok site → early_flags (options_of site.applet) flags place (take (site.read - place) words) ≡ Err at → IsForeignWord site.applet words (at - place)
 foreign_word flags place at [] site s f = absurd (cc)
 foreign_word flags place at (word ∷ words) site s f =
-    elim (is_end word) as (λ b. is_end word ≡ b → IsForeignWord site.applet (word ∷ words) (at - place)) [
+    elim (is_double_dash word) as (λ b. is_double_dash word ≡ b → IsForeignWord site.applet (word ∷ words) (at - place)) [
       | true ↦ λ e. absurd (at_end e (site.read - place) refl)
       | false ↦ λ e. elim (is_option word) as (λ b. is_option word ≡ b → IsForeignWord site.applet (word ∷ words) (at - place)) [
         | true ↦ λ o. elim (is_early word) as (λ b. is_early word ≡ b → IsForeignWord site.applet (word ∷ words) (at - place)) [
@@ -150,11 +150,11 @@ foreign_word flags place at (word ∷ words) site s f =
       ] refl
     ] refl
   where
-    at_end : is_end word ≡ true → (count : ℕ) → site.read - place ≡ count → ⊥
+    at_end : is_double_dash word ≡ true → (count : ℕ) → site.read - place ≡ count → ⊥
     at_end e zero c = (let both : Ok flags ≡ Err at = sym (ap (λ k. early_flags (options_of site.applet) flags place (take k (word ∷ words))) c) ∙ f in cc)
     at_end e (suc count) c = (let both : Ok flags ≡ Err at = sym (ap (λ k. early_flags (options_of site.applet) flags place (take k (word ∷ words))) c ∙ flags_end (options_of site.applet) flags place word (take count words) e) ∙ f in cc)
 
-    by_flags : is_end word ≡ false → is_early word ≡ true → applet_site (place + 1) words ≡ Ok site → ((g : Flags) → early_flags (options_of site.applet) g (place + 1) (take (site.read - (place + 1)) words) ≡ Err at → IsForeignWord site.applet words (at - (place + 1))) → (more : Option Flags) → with_option (options_of site.applet) flags word ≡ more → IsForeignWord site.applet (word ∷ words) (at - place)
+    by_flags : is_double_dash word ≡ false → is_early word ≡ true → applet_site (place + 1) words ≡ Ok site → ((g : Flags) → early_flags (options_of site.applet) g (place + 1) (take (site.read - (place + 1)) words) ≡ Err at → IsForeignWord site.applet words (at - (place + 1))) → (more : Option Flags) → with_option (options_of site.applet) flags word ≡ more → IsForeignWord site.applet (word ∷ words) (at - place)
     by_flags e y rest others more m =
         let least : place + 1 ≤ site.read = IfOk-at_ok (λ (x : AppletSite). place + 1 ≤ x.read) rest (site_low (place + 1) words) in
         let next : site.read - place ≡ suc (site.read - (place + 1)) = omega (arith, least) in

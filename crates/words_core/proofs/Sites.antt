@@ -6,26 +6,26 @@ use Rattle.command_core.specs.declared.command.Flags.{Flags}
 use Rattle.command_core.specs.Flags.{no_flags}
 use Rattle.words_core.specs.declared.reading.AppletSite.{AppletSite}
 use Rattle.words_core.specs.declared.reading.Start.{Start}
-use Rattle.words_core.specs.Grammar.{applet_site, early_flags, is_end, is_option, line_start, or_at, site_at, site_behind_end, site_by, start_from, start_with, with_option}
+use Rattle.words_core.specs.Grammar.{applet_site, early_flags, is_double_dash, is_option, line_start, or_at, site_at, site_after_end, site_by, start_from, start_with, with_option}
 use Rattle.words_core.specs.Options.{applet_of, OptionSpec, is_early, options_of}
 use Rattle.words_core.proofs.KindsKept.{IsSite, site_known, start_parts}
 
-pub seek_end : (place : ℕ) (word : List ℕ) (words : List (List ℕ)) → is_end word ≡ true → applet_site place (word ∷ words) ≡ site_behind_end (place + 1) words
+pub seek_end : (place : ℕ) (word : List ℕ) (words : List (List ℕ)) → is_double_dash word ≡ true → applet_site place (word ∷ words) ≡ site_after_end (place + 1) words
 seek_end place word words e = rw e refl
 
-pub seek_here : (place : ℕ) (word : List ℕ) (words : List (List ℕ)) → is_end word ≡ false → is_option word ≡ false → applet_site place (word ∷ words) ≡ site_at false place word
+pub seek_here : (place : ℕ) (word : List ℕ) (words : List (List ℕ)) → is_double_dash word ≡ false → is_option word ≡ false → applet_site place (word ∷ words) ≡ site_at false place word
 seek_here place word words e o = rw e (rw o refl)
 
-pub seek_early : (place : ℕ) (word : List ℕ) (words : List (List ℕ)) → is_end word ≡ false → is_option word ≡ true → is_early word ≡ true → applet_site place (word ∷ words) ≡ applet_site (place + 1) words
+pub seek_early : (place : ℕ) (word : List ℕ) (words : List (List ℕ)) → is_double_dash word ≡ false → is_option word ≡ true → is_early word ≡ true → applet_site place (word ∷ words) ≡ applet_site (place + 1) words
 seek_early place word words e o y = rw e (rw o (rw y refl))
 
-pub seek_late : (place : ℕ) (word : List ℕ) (words : List (List ℕ)) → is_end word ≡ false → is_option word ≡ true → is_early word ≡ false → applet_site place (word ∷ words) ≡ Err place
+pub seek_late : (place : ℕ) (word : List ℕ) (words : List (List ℕ)) → is_double_dash word ≡ false → is_option word ≡ true → is_early word ≡ false → applet_site place (word ∷ words) ≡ Err place
 seek_late place word words e o y = rw e (rw o (rw y refl))
 
-pub flags_end : (options : List OptionSpec) (flags : Flags) (place : ℕ) (word : List ℕ) (words : List (List ℕ)) → is_end word ≡ true → early_flags options flags place (word ∷ words) ≡ Ok flags
+pub flags_end : (options : List OptionSpec) (flags : Flags) (place : ℕ) (word : List ℕ) (words : List (List ℕ)) → is_double_dash word ≡ true → early_flags options flags place (word ∷ words) ≡ Ok flags
 flags_end options flags place word words e = rw e refl
 
-pub flags_step : (options : List OptionSpec) (flags : Flags) (place : ℕ) (word : List ℕ) (words : List (List ℕ)) (more : Option Flags) → is_end word ≡ false → with_option options flags word ≡ more → early_flags options flags place (word ∷ words) ≡ or_at place (λ m. early_flags options m (place + 1) words) more
+pub flags_step : (options : List OptionSpec) (flags : Flags) (place : ℕ) (word : List ℕ) (words : List (List ℕ)) (more : Option Flags) → is_double_dash word ≡ false → with_option options flags word ≡ more → early_flags options flags place (word ∷ words) ≡ or_at place (λ m. early_flags options m (place + 1) words) more
 flags_step options flags place word words more e m = rw e (rw m refl)
 
 -- a word that names no applet offends itself
@@ -44,8 +44,8 @@ abbrev pub IsKnown : ℕ → Result AppletSite ℕ → Type 0
 IsKnown behind (Ok site) = Unit {0}
 IsKnown behind (Err place) = place < behind
 
-pub end_stays : (place : ℕ) (words more : List (List ℕ)) → IsKnown (place + length words) (site_behind_end place words) → site_behind_end place (words ++ more) ≡ site_behind_end place words
-unfolding site_behind_end
+pub end_stays : (place : ℕ) (words more : List (List ℕ)) → IsKnown (place + length words) (site_after_end place words) → site_after_end place (words ++ more) ≡ site_after_end place words
+unfolding site_after_end
 end_stays place [] more k = absurd (omega (arith, k))
 end_stays place (word ∷ words) more k = refl
 
@@ -53,8 +53,8 @@ pub site_stays : (place : ℕ) (words more : List (List ℕ)) → IsKnown (place
 site_stays place [] more k = absurd (omega (arith, k))
 site_stays place (word ∷ words) more k =
     let next : place + length (word ∷ words) ≡ place + 1 + length words = omega arith in
-    elim (is_end word) as (λ b. is_end word ≡ b → IsKnown (place + length (word ∷ words)) (if b then site_behind_end (place + 1) words else if is_option word then (if is_early word then applet_site (place + 1) words else Err place) else site_at false place word) → applet_site place (word ∷ (words ++ more)) ≡ (if b then site_behind_end (place + 1) words else if is_option word then (if is_early word then applet_site (place + 1) words else Err place) else site_at false place word)) [
-      | true ↦ λ e h. seek_end place word (words ++ more) e ∙ end_stays (place + 1) words more (subst (λ n. IsKnown n (site_behind_end (place + 1) words)) next h)
+    elim (is_double_dash word) as (λ b. is_double_dash word ≡ b → IsKnown (place + length (word ∷ words)) (if b then site_after_end (place + 1) words else if is_option word then (if is_early word then applet_site (place + 1) words else Err place) else site_at false place word) → applet_site place (word ∷ (words ++ more)) ≡ (if b then site_after_end (place + 1) words else if is_option word then (if is_early word then applet_site (place + 1) words else Err place) else site_at false place word)) [
+      | true ↦ λ e h. seek_end place word (words ++ more) e ∙ end_stays (place + 1) words more (subst (λ n. IsKnown n (site_after_end (place + 1) words)) next h)
       | false ↦ λ e. elim (is_option word) as (λ b. is_option word ≡ b → IsKnown (place + length (word ∷ words)) (if b then (if is_early word then applet_site (place + 1) words else Err place) else site_at false place word) → applet_site place (word ∷ (words ++ more)) ≡ (if b then (if is_early word then applet_site (place + 1) words else Err place) else site_at false place word)) [
         | true ↦ λ o. elim (is_early word) as (λ b. is_early word ≡ b → IsKnown (place + length (word ∷ words)) (if b then applet_site (place + 1) words else Err place) → applet_site place (word ∷ (words ++ more)) ≡ (if b then applet_site (place + 1) words else Err place)) [
           | true ↦ λ y h. seek_early place word (words ++ more) e o y ∙ site_stays (place + 1) words more (subst (λ n. IsKnown n (applet_site (place + 1) words)) next h)
@@ -73,7 +73,7 @@ take_stays (suc count) (word ∷ words) more l = ap (λ ws. word ∷ ws) (take_s
 pub flags_offend : (options : List OptionSpec) (flags : Flags) (place at : ℕ) (words more : List (List ℕ)) → early_flags options flags place words ≡ Err at → early_flags options flags place (words ++ more) ≡ Err at
 flags_offend options flags place at [] more h = absurd (cc)
 flags_offend options flags place at (word ∷ words) more h =
-    elim (is_end word) as (λ b. is_end word ≡ b → early_flags options flags place (word ∷ (words ++ more)) ≡ Err at) [
+    elim (is_double_dash word) as (λ b. is_double_dash word ≡ b → early_flags options flags place (word ∷ (words ++ more)) ≡ Err at) [
       | true ↦ λ e. absurd (let same : Ok flags ≡ Err at = sym (flags_end options flags place word words e) ∙ h in cc)
       | false ↦ λ e. elim (with_option options flags word) as (λ m. with_option options flags word ≡ m → early_flags options flags place (word ∷ (words ++ more)) ≡ Err at) [
         | None ↦ λ m. flags_step options flags place word (words ++ more) None e m ∙ (sym (flags_step options flags place word words None e m) ∙ h)
@@ -85,7 +85,7 @@ flags_offend options flags place at (word ∷ words) more h =
 pub flags_between : (options : List OptionSpec) (flags : Flags) (place at : ℕ) (words : List (List ℕ)) → early_flags options flags place words ≡ Err at → (place ≤ at) × (at < place + length words)
 flags_between options flags place at [] h = absurd (cc)
 flags_between options flags place at (word ∷ words) h =
-    elim (is_end word) as (λ b. is_end word ≡ b → (place ≤ at) × (at < place + length (word ∷ words))) [
+    elim (is_double_dash word) as (λ b. is_double_dash word ≡ b → (place ≤ at) × (at < place + length (word ∷ words))) [
       | true ↦ λ e. absurd (let same : Ok flags ≡ Err at = sym (flags_end options flags place word words e) ∙ h in cc)
       | false ↦ λ e. elim (with_option options flags word) as (λ m. with_option options flags word ≡ m → (place ≤ at) × (at < place + length (word ∷ words))) [
         | None ↦ λ m. (let same : Err place ≡ Err at = sym (flags_step options flags place word words None e m) ∙ h in let is : place ≡ at = cc in (omega arith, omega arith))

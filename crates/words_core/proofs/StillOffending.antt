@@ -16,12 +16,12 @@ use Rattle.command_core.specs.Flags.{has_kind}
 use Rattle.command_core.specs.Operands.{first_refused}
 use Rattle.words_core.specs.declared.reading.Reading.{Reading}
 use Rattle.words_core.specs.declared.reading.Start.{Start}
-use Rattle.words_core.specs.Grammar.{command_from, line_command, line_start, operands_of, option_reading, reading_behind, refused_operand, verdict}
+use Rattle.words_core.specs.Grammar.{command_from, line_command, line_start, operands_of, option_reading, reading_after_applet, refused_operand, verdict}
 use Rattle.words_core.specs.Kinds.{can_get_kind, can_get_kind_by, can_get_kind_from, is_info}
 use Rattle.words_core.specs.Options.{OptionSpec, options_of}
 use Rattle.words_core.specs.Stuck.{have_ended}
 use Rattle.words_core.proofs.GivenKept.{IsAwaited, IsGood, from_good}
-use Rattle.words_core.proofs.GoneOn.{IsGoing, from_going}
+use Rattle.words_core.proofs.GoneOn.{IsRemovedPackage, from_going}
 use Rattle.words_core.proofs.KindsKept.{IsPlain, start_known}
 use Rattle.words_core.proofs.MoreWords.{keeps_rule, refused_append, rule_stays}
 use Rattle.words_core.proofs.OffendingWords.{judged_at, judged_bad}
@@ -34,10 +34,10 @@ none_awaited values None h = refl
 none_awaited values (Some rule) h = absurd (none-some rule h.0)
 
 -- no option of `info` has a value
-pub info_awaits : (words : List (List ℕ)) (start : Start) → IsPlain start (1 + length words) → start.applet ≡ Info → (reading_behind start words).state.awaiting ≡ None
+pub info_awaits : (words : List (List ℕ)) (start : Start) → IsPlain start (1 + length words) → start.applet ≡ Info → (reading_after_applet start words).state.awaiting ≡ None
 info_awaits words start known is =
-    let good : IsGood start.applet (reading_behind start words).state = from_good start (1 + length words) words known in
-    let state = (reading_behind start words).state in
+    let good : IsGood start.applet (reading_after_applet start words).state = from_good start (1 + length words) words known in
+    let state = (reading_after_applet start words).state in
     none_awaited state.values state.awaiting (subst (λ (a : Applet). IsAwaited a state.values state.awaiting) is good.awaiting)
 
 has_its_kind : (kind unread over : Bool) → (true && not kind && not unread && not over) ≡ false → unread ≡ false → over ≡ false → kind ≡ true
@@ -69,7 +69,7 @@ end_at end at (Some rule) h = (let same : end ≡ at = same_Some end at h in ome
 
 -- or a word cannot be read, and it changes nothing
 pub longer_or_same : (words more : List (List ℕ)) (start : Start) → IsPlain start (1 + length words) → can_get_kind_from words start ≡ false
-    → ((reading_behind start (words ++ more) ≡ reading_behind start words) × ((reading_behind start words).unread ≡ None → ⊥)) ⊎ IsLonger start.applet (length words + 1) (reading_behind start words) (reading_behind start (words ++ more))
+    → ((reading_after_applet start (words ++ more) ≡ reading_after_applet start words) × ((reading_after_applet start words).unread ≡ None → ⊥)) ⊎ IsLonger start.applet (length words + 1) (reading_after_applet start words) (reading_after_applet start (words ++ more))
 longer_or_same words more start known k = by_going (from_going start words low)
   where
     end : ℕ
@@ -79,7 +79,7 @@ longer_or_same words more start known k = by_going (from_going start words low)
     options = options_of start.applet
 
     reading : Reading
-    reading = reading_behind start words
+    reading = reading_after_applet start words
 
     low : start.read ≤ length words
     low = omega (arith, known.read)
@@ -87,7 +87,7 @@ longer_or_same words more start known k = by_going (from_going start words low)
     over : Bool
     over = start.ended || have_ended (options_of start.applet) None (drop start.read words)
 
-    by_going : IsGoing options end over reading (λ m. reading_behind start (words ++ m)) → ((reading_behind start (words ++ more) ≡ reading) × (reading.unread ≡ None → ⊥)) ⊎ IsLonger start.applet end reading (reading_behind start (words ++ more))
+    by_going : IsRemovedPackage options end over reading (λ m. reading_after_applet start (words ++ m)) → ((reading_after_applet start (words ++ more) ≡ reading) × (reading.unread ≡ None → ⊥)) ⊎ IsLonger start.applet end reading (reading_after_applet start (words ++ more))
     by_going (inl stopped) = inl (stopped.3 more, λ none. none-some stopped.0 (sym none ∙ stopped.1))
     by_going (inr (inl on)) =
         let nothing : start.applet ≡ Info → reading.unread ≡ None = λ is. on.unread ∙ ap (option_map (λ (rule : ValueRule). end)) (info_awaits words start known is) in
@@ -142,14 +142,14 @@ usage_stays words more place k c l =
       | Ok start ↦ λ s e. ap (command_from (words ++ more)) (start_stays words more start s) ∙ by_start start s e
     ] refl c
   where
-    by_start : (start : Start) → line_start words ≡ Ok start → verdict (length words + 1) start.applet (reading_behind start words) ≡ Err place → verdict (length (words ++ more) + 1) start.applet (reading_behind start (words ++ more)) ≡ Err place
+    by_start : (start : Start) → line_start words ≡ Ok start → verdict (length words + 1) start.applet (reading_after_applet start words) ≡ Err place → verdict (length (words ++ more) + 1) start.applet (reading_after_applet start (words ++ more)) ≡ Err place
     by_start start s e =
         let less : place < length words + 1 = omega arith in
-        elim (judged_at start.applet (reading_behind start words) (length words + 1) place e) as (λ _. verdict (length (words ++ more) + 1) start.applet (reading_behind start (words ++ more)) ≡ Err place) [
-          | inl first ↦ judged_bad start.applet (reading_behind start (words ++ more)) (length (words ++ more) + 1) place
-              (elim (longer_or_same words more start (start_known words start s) (cannot_from words start k s)) as (λ _. first_of start.applet (reading_behind start (words ++ more)) ≡ Some place) [
+        elim (judged_at start.applet (reading_after_applet start words) (length words + 1) place e) as (λ _. verdict (length (words ++ more) + 1) start.applet (reading_after_applet start (words ++ more)) ≡ Err place) [
+          | inl first ↦ judged_bad start.applet (reading_after_applet start (words ++ more)) (length (words ++ more) + 1) place
+              (elim (longer_or_same words more start (start_known words start s) (cannot_from words start k s)) as (λ _. first_of start.applet (reading_after_applet start (words ++ more)) ≡ Some place) [
                 | inl same ↦ ap (first_of start.applet) same.0 ∙ first
-                | inr long ↦ first_stays start.applet (length words + 1) (reading_behind start words) (reading_behind start (words ++ more)) place long less first
+                | inr long ↦ first_stays start.applet (length words + 1) (reading_after_applet start words) (reading_after_applet start (words ++ more)) place long less first
               ])
           | inr last ↦ absurd (omega (arith, last.1))
         ]

@@ -23,10 +23,10 @@ use Rattle.words_core.specs.declared.reading.AppletSite.{AppletSite}
 use Rattle.words_core.specs.declared.reading.OptionState.{OptionState}
 use Rattle.words_core.specs.declared.reading.Reading.{Reading}
 use Rattle.words_core.specs.declared.reading.Start.{Start}
-use Rattle.words_core.specs.Grammar.{applet_site, command_from, line_command, command_read, early_flags, is_end, is_option, lacks_operand, lacks_word, line_start, option_reading, or_at, reading_behind, reading_by, refused_operand, site_at, site_behind_end, site_by, start_from, start_with, state_by, unless_at, verdict, with_word_by}
+use Rattle.words_core.specs.Grammar.{applet_site, command_from, line_command, command_read, early_flags, is_double_dash, is_option, lacks_operand, lacks_word, line_start, option_reading, or_at, reading_after_applet, reading_by, refused_operand, site_at, site_after_end, site_by, start_from, start_with, state_by, unless_at, verdict, with_word_by}
 use Rattle.words_core.specs.Options.{OptionSpec, applet_of, applet_word, applets, is_early, options_of}
-use Rattle.words_core.specs.Stuck.{are_stuck_by, awaits_none, has_script, have_ended, is_full, is_stuck, is_stuck_by, lacks_option, suit}
-use Rattle.words_core.proofs.GoneOn.{IsGoing, from_going, is_not}
+use Rattle.words_core.specs.Stuck.{are_stuck_by, awaits_none, has_script, have_ended, is_full, is_stuck, is_stuck_by, lacks_option, are_options_of}
+use Rattle.words_core.proofs.GoneOn.{IsRemovedPackage, from_going, is_not}
 use Rattle.words_core.proofs.KindsKept.{IsPlain, start_known}
 use Rattle.words_core.proofs.LinesRead.{awaited_taken, step_taken}
 use Rattle.words_core.proofs.OffendingWords.{IsBetween, IsSearched, site_searched}
@@ -99,7 +99,7 @@ pub awaited_unread : (options : List OptionSpec) (state : OptionState) (end : �
 awaited_unread options state end rule more a f = ap (λ (r : Reading). r.unread) (awaited_whole options state end rule more a f)
 
 -- stuck words are no command, whatever follows, where their applet was found
-pub stuck_bad : (words more : List (List ℕ)) (start : Start) → line_start words ≡ Ok start → is_stuck words start ≡ true → IsBad start.applet (reading_behind start (words ++ more))
+pub stuck_bad : (words more : List (List ℕ)) (start : Start) → line_start words ≡ Ok start → is_stuck words start ≡ true → IsBad start.applet (reading_after_applet start (words ++ more))
 stuck_bad words more start s k = by_going (from_going start words low)
   where
     end : ℕ
@@ -109,7 +109,7 @@ stuck_bad words more start s k = by_going (from_going start words low)
     options = options_of start.applet
 
     reading : Reading
-    reading = reading_behind start words
+    reading = reading_after_applet start words
 
     ended : Bool
     ended = start.ended || have_ended (options_of start.applet) None (drop start.read words)
@@ -120,20 +120,20 @@ stuck_bad words more start s k = by_going (from_going start words low)
     low : start.read ≤ length words
     low = omega (arith, known.read)
 
-    bad_on : (awaiting : Option ValueRule) → reading.state.awaiting ≡ awaiting → awaits_none awaiting reading.state.values ≡ true → reading_behind start (words ++ more) ≡ behind reading.operands (option_reading options reading.state end more) → IsBad start.applet (reading_behind start (words ++ more))
+    bad_on : (awaiting : Option ValueRule) → reading.state.awaiting ≡ awaiting → awaits_none awaiting reading.state.values ≡ true → reading_after_applet start (words ++ more) ≡ behind reading.operands (option_reading options reading.state end more) → IsBad start.applet (reading_after_applet start (words ++ more))
     bad_on None a w on = absurd (false≢true w)
-    bad_on (Some rule) a w on = unread_bad start.applet (reading_behind start (words ++ more)) end (ap (λ (r : Reading). r.unread) on ∙ awaited_unread options reading.state end rule more a w)
+    bad_on (Some rule) a w on = unread_bad start.applet (reading_after_applet start (words ++ more)) end (ap (λ (r : Reading). r.unread) on ∙ awaited_unread options reading.state end rule more a w)
 
-    by_going : IsGoing options end ended reading (λ m. reading_behind start (words ++ m)) → IsBad start.applet (reading_behind start (words ++ more))
-    by_going (inl stopped) = unread_bad start.applet (reading_behind start (words ++ more)) stopped.0 (ap (λ (r : Reading). r.unread) (stopped.3 more) ∙ stopped.1)
+    by_going : IsRemovedPackage options end ended reading (λ m. reading_after_applet start (words ++ m)) → IsBad start.applet (reading_after_applet start (words ++ more))
+    by_going (inl stopped) = unread_bad start.applet (reading_after_applet start (words ++ more)) stopped.0 (ap (λ (r : Reading). r.unread) (stopped.3 more) ∙ stopped.1)
     by_going (inr (inl on)) =
-        elim (or_cases (ended && lacks_option start.applet reading.state) (awaits_none reading.state.awaiting reading.state.values) k) as (λ _. IsBad start.applet (reading_behind start (words ++ more))) [
+        elim (or_cases (ended && lacks_option start.applet reading.state) (awaits_none reading.state.awaiting reading.state.values) k) as (λ _. IsBad start.applet (reading_after_applet start (words ++ more))) [
           | inl both ↦ absurd (true≢false (sym (and_parts ended (lacks_option start.applet reading.state) both).0 ∙ on.over))
           | inr none ↦ bad_on reading.state.awaiting refl none (on.goes_on more)
         ]
     by_going (inr (inr off)) =
-        elim (or_cases (ended && lacks_option start.applet reading.state) (awaits_none reading.state.awaiting reading.state.values) k) as (λ _. IsBad start.applet (reading_behind start (words ++ more))) [
-          | inl both ↦ lacking_bad start.applet (reading_behind start (words ++ more)) (ap (λ (r : Reading). lacks_option start.applet r.state) (off.goes_on more) ∙ (and_parts ended (lacks_option start.applet reading.state) both).1)
+        elim (or_cases (ended && lacks_option start.applet reading.state) (awaits_none reading.state.awaiting reading.state.values) k) as (λ _. IsBad start.applet (reading_after_applet start (words ++ more))) [
+          | inl both ↦ lacking_bad start.applet (reading_after_applet start (words ++ more)) (ap (λ (r : Reading). lacks_option start.applet r.state) (off.goes_on more) ∙ (and_parts ended (lacks_option start.applet reading.state) both).1)
           | inr none ↦ absurd (false≢true (sym (ap (λ o. awaits_none o reading.state.values) off.awaiting) ∙ none))
         ]
 
@@ -148,32 +148,32 @@ not_any p (y ∷ ys) q x n f =
     ] f
 
 -- the applet that is found behind words in which none was
-pub record IsLater (words more : List (List ℕ)) (place : ℕ) (site : AppletSite) : Type 0 where
+pub record IsNotFirst (words more : List (List ℕ)) (place : ℕ) (site : AppletSite) : Type 0 where
   pub word : List ℕ
   pub names : applet_of word ≡ Some site.applet
   pub late : place + length words ≤ site.read
 
-named_later : (ended : Bool) (place at : ℕ) (words more : List (List ℕ)) (word : List ℕ) → at + length words ≤ place → IfOk (site_at ended place word) (λ s. IsLater words more at s)
+named_later : (ended : Bool) (place at : ℕ) (words more : List (List ℕ)) (word : List ℕ) → at + length words ≤ place → IfOk (site_at ended place word) (λ s. IsNotFirst words more at s)
 unfolding site_at
 named_later ended place at words more word l =
-    elim (applet_of word) as (λ o. applet_of word ≡ o → IfOk (or_at place (λ applet. Ok (site_by ended place applet)) o) (λ s. IsLater words more at s)) [
+    elim (applet_of word) as (λ o. applet_of word ≡ o → IfOk (or_at place (λ applet. Ok (site_by ended place applet)) o) (λ s. IsNotFirst words more at s)) [
       | None ↦ λ e. tt
       | Some applet ↦ λ e. record { word = word; names = e; late = l }
     ] refl
 
-end_later : (place at : ℕ) (words more : List (List ℕ)) (left : List (List ℕ)) → at + length words ≤ place → IfOk (site_behind_end place left) (λ s. IsLater words more at s)
-unfolding site_behind_end
+end_later : (place at : ℕ) (words more : List (List ℕ)) (left : List (List ℕ)) → at + length words ≤ place → IfOk (site_after_end place left) (λ s. IsNotFirst words more at s)
+unfolding site_after_end
 end_later place at words more [] l = tt
 end_later place at words more (word ∷ left) l = named_later true place at words more word l
 
-any_later : (place at : ℕ) (words more : List (List ℕ)) (left : List (List ℕ)) → at + length words ≤ place → IfOk (applet_site place left) (λ s. IsLater words more at s)
+any_later : (place at : ℕ) (words more : List (List ℕ)) (left : List (List ℕ)) → at + length words ≤ place → IfOk (applet_site place left) (λ s. IsNotFirst words more at s)
 any_later place at words more [] l = tt
 any_later place at words more (word ∷ left) l =
     let next : at + length words ≤ place + 1 = omega arith in
-    elim (is_end word) as (λ b. IfOk (if b then site_behind_end (place + 1) left else if is_option word then (if is_early word then applet_site (place + 1) left else Err place) else site_at false place word) (λ s. IsLater words more at s)) [
+    elim (is_double_dash word) as (λ b. IfOk (if b then site_after_end (place + 1) left else if is_option word then (if is_early word then applet_site (place + 1) left else Err place) else site_at false place word) (λ s. IsNotFirst words more at s)) [
       | true ↦ end_later (place + 1) at words more left next
-      | false ↦ elim (is_option word) as (λ b. IfOk (if b then (if is_early word then applet_site (place + 1) left else Err place) else site_at false place word) (λ s. IsLater words more at s)) [
-        | true ↦ elim (is_early word) as (λ b. IfOk (if b then applet_site (place + 1) left else Err place) (λ s. IsLater words more at s)) [
+      | false ↦ elim (is_option word) as (λ b. IfOk (if b then (if is_early word then applet_site (place + 1) left else Err place) else site_at false place word) (λ s. IsNotFirst words more at s)) [
+        | true ↦ elim (is_early word) as (λ b. IfOk (if b then applet_site (place + 1) left else Err place) (λ s. IsNotFirst words more at s)) [
           | true ↦ any_later (place + 1) at words more left next
           | false ↦ tt
         ]
@@ -181,23 +181,23 @@ any_later place at words more (word ∷ left) l =
       ]
     ]
 
-end_site_later : (place : ℕ) (word : List ℕ) (words more : List (List ℕ)) → site_behind_end (place + 1) words ≡ Err (place + length (word ∷ words)) → IfOk (site_behind_end (place + 1) (words ++ more)) (λ s. IsLater (word ∷ words) more place s)
-unfolding site_behind_end
+end_site_later : (place : ℕ) (word : List ℕ) (words more : List (List ℕ)) → site_after_end (place + 1) words ≡ Err (place + length (word ∷ words)) → IfOk (site_after_end (place + 1) (words ++ more)) (λ s. IsNotFirst (word ∷ words) more place s)
+unfolding site_after_end
 end_site_later place word [] more h = end_later (place + 1) place (word ∷ []) more more (omega arith)
 end_site_later place word (next ∷ words) more h =
     absurd (let same : place + length (word ∷ (next ∷ words)) ≡ place + 1 = err_here (place + 1) (place + length (word ∷ (next ∷ words))) true next h in omega arith)
 
-site_later : (place : ℕ) (words more : List (List ℕ)) → applet_site place words ≡ Err (place + length words) → IfOk (applet_site place (words ++ more)) (λ s. IsLater words more place s)
+site_later : (place : ℕ) (words more : List (List ℕ)) → applet_site place words ≡ Err (place + length words) → IfOk (applet_site place (words ++ more)) (λ s. IsNotFirst words more place s)
 site_later place [] more h = any_later place place [] more more (omega arith)
 site_later place (word ∷ words) more h =
     let next : place + length (word ∷ words) ≡ place + 1 + length words = omega arith in
-    elim (is_end word) as (λ b. is_end word ≡ b → IfOk (applet_site place (word ∷ (words ++ more))) (λ s. IsLater (word ∷ words) more place s)) [
-      | true ↦ λ e. subst (λ r. IfOk r (λ s. IsLater (word ∷ words) more place s)) (sym (seek_end place word (words ++ more) e))
+    elim (is_double_dash word) as (λ b. is_double_dash word ≡ b → IfOk (applet_site place (word ∷ (words ++ more))) (λ s. IsNotFirst (word ∷ words) more place s)) [
+      | true ↦ λ e. subst (λ r. IfOk r (λ s. IsNotFirst (word ∷ words) more place s)) (sym (seek_end place word (words ++ more) e))
           (end_site_later place word words more (sym (seek_end place word words e) ∙ h))
-      | false ↦ λ e. elim (is_option word) as (λ b. is_option word ≡ b → IfOk (applet_site place (word ∷ (words ++ more))) (λ s. IsLater (word ∷ words) more place s)) [
-        | true ↦ λ o. elim (is_early word) as (λ b. is_early word ≡ b → IfOk (applet_site place (word ∷ (words ++ more))) (λ s. IsLater (word ∷ words) more place s)) [
-          | true ↦ λ y. subst (λ r. IfOk r (λ s. IsLater (word ∷ words) more place s)) (sym (seek_early place word (words ++ more) e o y))
-              (IfOk-weaker (applet_site (place + 1) (words ++ more)) (λ s. IsLater words more (place + 1) s) (λ s. IsLater (word ∷ words) more place s)
+      | false ↦ λ e. elim (is_option word) as (λ b. is_option word ≡ b → IfOk (applet_site place (word ∷ (words ++ more))) (λ s. IsNotFirst (word ∷ words) more place s)) [
+        | true ↦ λ o. elim (is_early word) as (λ b. is_early word ≡ b → IfOk (applet_site place (word ∷ (words ++ more))) (λ s. IsNotFirst (word ∷ words) more place s)) [
+          | true ↦ λ y. subst (λ r. IfOk r (λ s. IsNotFirst (word ∷ words) more place s)) (sym (seek_early place word (words ++ more) e o y))
+              (IfOk-weaker (applet_site (place + 1) (words ++ more)) (λ s. IsNotFirst words more (place + 1) s) (λ s. IsNotFirst (word ∷ words) more place s)
               (λ s later. record { word = later.word; names = later.names; late = omega (arith, later.late) })
               (site_later (place + 1) words more (sym (seek_early place word words e o y) ∙ (h ∙ ap Err next))))
           | false ↦ λ y. absurd (let same : Err place ≡ Err (place + length (word ∷ words)) = sym (seek_late place word words e o y) ∙ h in let is : place ≡ place + length (word ∷ words) = cc in omega arith)
@@ -212,7 +212,7 @@ take_more zero (word ∷ words) more l = absurd (omega (arith, l))
 take_more (suc count) (word ∷ words) more l =
     ap (λ ws. word ∷ ws) (take_more count words more (omega (arith, l)) ∙ ap (λ k. words ++ take k more) (let same : count - length words ≡ suc count - length (word ∷ words) = omega arith in same))
 
-no_applet_stays : (words more : List (List ℕ)) (at : ℕ) → applet_site 1 words ≡ Err at → not (list_any (suit words) applets) ≡ true → (place : ℕ) × (line_command (words ++ more) ≡ Err place)
+no_applet_stays : (words more : List (List ℕ)) (at : ℕ) → applet_site 1 words ≡ Err at → not (list_any (are_options_of words) applets) ≡ true → (place : ℕ) × (line_command (words ++ more) ≡ Err place)
 unfolding line_command
 no_applet_stays words more at s k =
     elim (cases_lt at (1 + length words)) as (λ _. (place : ℕ) × (command_from (words ++ more) (line_start (words ++ more)) ≡ Err place)) [
@@ -232,18 +232,18 @@ no_applet_stays words more at s k =
           ∙ ap (λ r. command_from (words ++ more) (start_with site r)) (flags_offend (options_of site.applet) no_flags 1 place words (take (site.read - 1 - length words) more) f)),
     )
 
-    by_site : (r : Result AppletSite ℕ) → applet_site 1 (words ++ more) ≡ r → IfOk r (λ x. IsLater words more 1 x) → (place : ℕ) × (command_from (words ++ more) (line_start (words ++ more)) ≡ Err place)
+    by_site : (r : Result AppletSite ℕ) → applet_site 1 (words ++ more) ≡ r → IfOk r (λ x. IsNotFirst words more 1 x) → (place : ℕ) × (command_from (words ++ more) (line_start (words ++ more)) ≡ Err place)
     by_site (Err place) found later = (place, ap (λ r. command_from (words ++ more) (start_from (words ++ more) r)) found)
     by_site (Ok site) found later =
         by_flags site found (early_flags (options_of site.applet) no_flags 1 words) refl
-        (not_any (suit words) applets (λ applet. bytes_eq (applet_word applet) later.word) site.applet k later.names)
+        (not_any (are_options_of words) applets (λ applet. bytes_eq (applet_word applet) later.word) site.applet k later.names)
         (omega (arith, later.late))
 
 pub stuck_stay : (words more : List (List ℕ)) → are_stuck_by words (applet_site 1 words) ≡ true → (place : ℕ) × (line_command (words ++ more) ≡ Err place)
 unfolding line_command
 stuck_stay words more k =
     elim (applet_site 1 words) as (λ s. applet_site 1 words ≡ s → are_stuck_by words s ≡ true → (place : ℕ) × (line_command (words ++ more) ≡ Err place)) [
-      | Err at ↦ λ s k. no_applet_stays words more at s (and_parts (list_any is_end words) (not (list_any (suit words) applets)) k).1
+      | Err at ↦ λ s k. no_applet_stays words more at s (and_parts (list_any is_double_dash words) (not (list_any (are_options_of words) applets)) k).1
       | Ok site ↦ λ s k. by_start (line_start words) refl (ap (λ r. is_stuck_by words (start_from words r)) s ∙ k)
     ] refl k
   where

@@ -11,7 +11,7 @@ use Rattle.command_core.specs.Operands.{first_refused, operand_at}
 use Rattle.words_core.specs.declared.reading.OptionState.{OptionState}
 use Rattle.words_core.specs.declared.reading.Reading.{Reading}
 use Rattle.words_core.specs.declared.reading.Start.{Start}
-use Rattle.words_core.specs.Grammar.{command_from, line_command, command_read, first_state, is_end, is_option_or_value, lacks_word, line_start, operands_of, option_reading, or_unread, reading_behind, reading_by, refused_operand, unless_at, verdict, with_operand, with_word}
+use Rattle.words_core.specs.Grammar.{command_from, line_command, command_read, first_state, is_double_dash, is_option_or_value, lacks_word, line_start, operands_of, option_reading, or_unread, reading_after_applet, reading_by, refused_operand, unless_at, verdict, with_operand, with_word}
 use Rattle.words_core.specs.Kinds.{can_get_kind, can_get_kind_from}
 use Rattle.words_core.specs.Options.{OptionSpec, options_of}
 use Rattle.words_core.proofs.KindsKept.{IsPlain, start_known}
@@ -47,12 +47,12 @@ added options state end far place [] more l f =
     }
 added options state end far place (word ∷ words) more l f =
     let next : place + 1 + length words ≡ end = omega arith in
-    elim (is_option_or_value state word) as (λ b. IsAdded end far (if b then or_unread state place (λ m. option_reading options m (place + 1) words) (with_word options state place word) else if is_end word then reading_by state (operands_of (place + 1) words) None else with_operand (operand_at place word) (option_reading options state (place + 1) words)) (if b then or_unread state place (λ m. option_reading options m (place + 1) (words ++ more)) (with_word options state place word) else if is_end word then reading_by state (operands_of (place + 1) (words ++ more)) None else with_operand (operand_at place word) (option_reading options state (place + 1) (words ++ more)))) [
+    elim (is_option_or_value state word) as (λ b. IsAdded end far (if b then or_unread state place (λ m. option_reading options m (place + 1) words) (with_word options state place word) else if is_double_dash word then reading_by state (operands_of (place + 1) words) None else with_operand (operand_at place word) (option_reading options state (place + 1) words)) (if b then or_unread state place (λ m. option_reading options m (place + 1) (words ++ more)) (with_word options state place word) else if is_double_dash word then reading_by state (operands_of (place + 1) (words ++ more)) None else with_operand (operand_at place word) (option_reading options state (place + 1) (words ++ more)))) [
       | true ↦ elim (with_word options state place word) as (λ w. IsAdded end far (or_unread state place (λ m. option_reading options m (place + 1) words) w) (or_unread state place (λ m. option_reading options m (place + 1) (words ++ more)) w)) [
         | None ↦ record { new = []; operands = λ u. refl; placed = tt; unread = λ u. absurd (none-some place (sym u)) }
         | Some g ↦ added options g end far (place + 1) words more next f
       ]
-      | false ↦ elim (is_end word) as (λ b. IsAdded end far (if b then reading_by state (operands_of (place + 1) words) None else with_operand (operand_at place word) (option_reading options state (place + 1) words)) (if b then reading_by state (operands_of (place + 1) (words ++ more)) None else with_operand (operand_at place word) (option_reading options state (place + 1) (words ++ more)))) [
+      | false ↦ elim (is_double_dash word) as (λ b. IsAdded end far (if b then reading_by state (operands_of (place + 1) words) None else with_operand (operand_at place word) (option_reading options state (place + 1) words)) (if b then reading_by state (operands_of (place + 1) (words ++ more)) None else with_operand (operand_at place word) (option_reading options state (place + 1) (words ++ more)))) [
         | true ↦ added_texts state end far (place + 1) words more next f
         | false ↦ (let rest = added options state end far (place + 1) words more next f in record {
           new = rest.new;
@@ -63,8 +63,8 @@ added options state end far place (word ∷ words) more l f =
       ]
     ]
 
-pub from_added : (start : Start) (words more : List (List ℕ)) → start.read ≤ length words → IsAdded (length words + 1) (length words + 1 + length more) (reading_behind start words) (reading_behind start (words ++ more))
-unfolding reading_behind
+pub from_added : (start : Start) (words more : List (List ℕ)) → start.read ≤ length words → IsAdded (length words + 1) (length words + 1 + length more) (reading_after_applet start words) (reading_after_applet start (words ++ more))
+unfolding reading_after_applet
 from_added start words more l =
     let state = first_state start.flags in
     let end : ℕ = length words + 1 in
@@ -95,41 +95,41 @@ good_of applet reading behind command h =
       ] refl
     ] refl h
 
-pub offends_behind : (words more : List (List ℕ)) (command : CommandLine) (place : ℕ) → can_get_kind words ≡ false → line_command words ≡ Ok command → line_command (words ++ more) ≡ Err place → length words < place
+pub offends_after : (words more : List (List ℕ)) (command : CommandLine) (place : ℕ) → can_get_kind words ≡ false → line_command words ≡ Ok command → line_command (words ++ more) ≡ Err place → length words < place
 unfolding line_command
-offends_behind words more command place k c h =
+offends_after words more command place k c h =
     elim (line_start words) as (λ s. line_start words ≡ s → command_from words s ≡ Ok command → length words < place) [
       | Err at ↦ λ s (e : Err at ≡ Ok command). absurd (cc)
       | Ok start ↦ λ s e. by_start start s e
     ] refl c
   where
-    rule_goes : (start : Start) → IsPlain start (1 + length words) → can_get_kind_from words start ≡ false → (rule : OperandRule) → operand_rule start.applet (reading_behind start words).state.flags ≡ Some rule → (reading_behind start words).unread ≡ None
-        → operand_rule start.applet (reading_behind start (words ++ more)).state.flags ≡ Some rule
+    rule_goes : (start : Start) → IsPlain start (1 + length words) → can_get_kind_from words start ≡ false → (rule : OperandRule) → operand_rule start.applet (reading_after_applet start words).state.flags ≡ Some rule → (reading_after_applet start words).unread ≡ None
+        → operand_rule start.applet (reading_after_applet start (words ++ more)).state.flags ≡ Some rule
     rule_goes start known fixed rule r u =
-        elim (longer_or_same words more start known fixed) as (λ _. operand_rule start.applet (reading_behind start (words ++ more)).state.flags ≡ Some rule) [
+        elim (longer_or_same words more start known fixed) as (λ _. operand_rule start.applet (reading_after_applet start (words ++ more)).state.flags ≡ Some rule) [
           | inl same ↦ absurd (same.1 u)
           | inr long ↦ long.rule rule r
         ]
 
-    by_first : (start : Start) → IsPlain start (1 + length words) → can_get_kind_from words start ≡ false → IsGood start.applet (reading_behind start words) → option_or (refused_operand (operand_rule start.applet (reading_behind start (words ++ more)).state.flags) (reading_behind start (words ++ more)).operands) (reading_behind start (words ++ more)).unread ≡ Some place → length words < place
+    by_first : (start : Start) → IsPlain start (1 + length words) → can_get_kind_from words start ≡ false → IsGood start.applet (reading_after_applet start words) → option_or (refused_operand (operand_rule start.applet (reading_after_applet start (words ++ more)).state.flags) (reading_after_applet start (words ++ more)).operands) (reading_after_applet start (words ++ more)).unread ≡ Some place → length words < place
     by_first start known fixed good first =
         let low : start.read ≤ length words = omega (arith, known.read) in
-        let longer = reading_behind start (words ++ more) in
+        let longer = reading_after_applet start (words ++ more) in
         let add = from_added start words more low in
         let rule_is : operand_rule start.applet longer.state.flags ≡ Some good.0 = rule_goes start known fixed good.0 good.1 good.3 in
-        let refused : first_refused good.0 0 longer.operands ≡ first_refused good.0 (0 + length (reading_behind start words).operands) add.new =
-        ap (first_refused good.0 0) (add.operands good.3) ∙ refused_then good.0 0 (reading_behind start words).operands add.new good.2 in
-        elim (first_refused good.0 (0 + length (reading_behind start words).operands) add.new) as (λ o. first_refused good.0 (0 + length (reading_behind start words).operands) add.new ≡ o → option_or o longer.unread ≡ Some place → length words < place) [
+        let refused : first_refused good.0 0 longer.operands ≡ first_refused good.0 (0 + length (reading_after_applet start words).operands) add.new =
+        ap (first_refused good.0 0) (add.operands good.3) ∙ refused_then good.0 0 (reading_after_applet start words).operands add.new good.2 in
+        elim (first_refused good.0 (0 + length (reading_after_applet start words).operands) add.new) as (λ o. first_refused good.0 (0 + length (reading_after_applet start words).operands) add.new ≡ o → option_or o longer.unread ≡ Some place → length words < place) [
           | None ↦ λ f e. (let behind : length words + 1 ≤ place = add.unread good.3 place e in omega arith)
-          | Some at ↦ λ f (e : Some at ≡ Some place). (let is = refused_between good.0 (0 + length (reading_behind start words).operands) (length words + 1) (length words + 1 + length more) place add.new add.placed (f ∙ e) in omega (arith, is.0))
+          | Some at ↦ λ f (e : Some at ≡ Some place). (let is = refused_between good.0 (0 + length (reading_after_applet start words).operands) (length words + 1) (length words + 1 + length more) place add.new add.placed (f ∙ e) in omega (arith, is.0))
         ] refl (ap (λ o. option_or o longer.unread) (sym refused) ∙ (ap (λ r. option_or (refused_operand r longer.operands) longer.unread) (sym rule_is) ∙ first))
 
-    by_start : (start : Start) → line_start words ≡ Ok start → verdict (length words + 1) start.applet (reading_behind start words) ≡ Ok command → length words < place
+    by_start : (start : Start) → line_start words ≡ Ok start → verdict (length words + 1) start.applet (reading_after_applet start words) ≡ Ok command → length words < place
     by_start start s e =
         let last : ℕ = length (words ++ more) + 1 in
-        let longer : verdict last start.applet (reading_behind start (words ++ more)) ≡ Err place =
+        let longer : verdict last start.applet (reading_after_applet start (words ++ more)) ≡ Err place =
         sym (ap (command_from (words ++ more)) (start_stays words more start s)) ∙ h in
-        elim (judged_at start.applet (reading_behind start (words ++ more)) last place longer) as (λ _. length words < place) [
-          | inl first ↦ by_first start (start_known words start s) (cannot_from words start k s) (good_of start.applet (reading_behind start words) (length words + 1) command e) first
+        elim (judged_at start.applet (reading_after_applet start (words ++ more)) last place longer) as (λ _. length words < place) [
+          | inl first ↦ by_first start (start_known words start s) (cannot_from words start k s) (good_of start.applet (reading_after_applet start words) (length words + 1) command e) first
           | inr behind ↦ omega (arith, behind.1, length-append words more)
         ]

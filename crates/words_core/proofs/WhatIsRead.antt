@@ -12,7 +12,7 @@ use Rattle.command_core.specs.declared.values.OptionValue.{OptionValue}
 use Rattle.command_core.specs.Applets.{needed_option, operand_rule}
 use Rattle.command_core.specs.Sound.{may_have, value_rules, is_command, are_operands, is_at_most, are_values}
 use Rattle.command_core.specs.Command.{command_by}
-use Rattle.command_core.specs.Operands.{first_refused, has_room, is_of_kind, takes}
+use Rattle.command_core.specs.Operands.{first_refused, allows_one_more, is_of_kind, takes}
 use Rattle.command_core.specs.Values.{is_given, lacks_value}
 
 -- operands that are taken are of the rule's kind
@@ -21,7 +21,7 @@ all_of_kind rule before [] h = refl
 all_of_kind rule before (o ∷ os) h =
     elim (takes rule before o.text) as (λ b. takes rule before o.text ≡ b → (if b then first_refused rule (before + 1) os else Some o.place) ≡ None → list_all (λ (x : Operand). is_of_kind rule.kind x.text) (o ∷ os) ≡ true) [
       | true ↦ λ t (rest : first_refused rule (before + 1) os ≡ None).
-          and_from (is_of_kind rule.kind o.text) _ (and_parts (has_room rule.most before) (is_of_kind rule.kind o.text) t).1 (all_of_kind rule (before + 1) os rest)
+          and_from (is_of_kind rule.kind o.text) _ (and_parts (allows_one_more rule.most before) (is_of_kind rule.kind o.text) t).1 (all_of_kind rule (before + 1) os rest)
       | false ↦ λ t (here : Some o.place ≡ None). absurd (none-some o.place (sym here))
     ] refl h
 
@@ -31,7 +31,7 @@ no_more rule most before [] r l h = omega arith
 no_more rule most before (o ∷ os) r l h =
     elim (takes rule before o.text) as (λ b. takes rule before o.text ≡ b → (if b then first_refused rule (before + 1) os else Some o.place) ≡ None → before + length (o ∷ os) ≤ most) [
       | true ↦ λ t (rest : first_refused rule (before + 1) os ≡ None).
-          let room : has_room (Some most) before ≡ true = ap (λ m. has_room m before) (sym r) ∙ (and_parts (has_room rule.most before) (is_of_kind rule.kind o.text) t).0 in
+          let room : allows_one_more (Some most) before ≡ true = ap (λ m. allows_one_more m before) (sym r) ∙ (and_parts (allows_one_more rule.most before) (is_of_kind rule.kind o.text) t).0 in
           let below : before < most = ltb-true before most room in
           let more : before + 1 ≤ most = omega arith in
           let fits : before + 1 + length os ≤ most = no_more rule most (before + 1) os r more rest in

@@ -33,11 +33,11 @@ use Rattle.command_core.specs.Values.{excludes, is_excluded, is_given, is_script
 use Rattle.words_core.specs.declared.reading.OptionState.{OptionState}
 use Rattle.words_core.specs.declared.reading.Reading.{Reading}
 use Rattle.words_core.specs.declared.reading.Start.{Start}
-use Rattle.words_core.specs.Grammar.{command_from, line_command, command_read, held_value, lacks_word, line_start, operands_of, option_name, option_reading, reading_behind, reading_by, refused_operand, state_by, verdict, with_operand, with_word_by}
+use Rattle.words_core.specs.Grammar.{command_from, line_command, command_read, attached_value, lacks_word, line_start, operands_of, option_name, option_reading, reading_after_applet, reading_by, refused_operand, state_by, verdict, with_operand, with_word_by}
 use Rattle.words_core.specs.Options.{OptionSpec, common_options, options_of}
 use Rattle.words_core.specs.Stuck.{awaits_none, has_script, have_ended, is_full, is_stuck, lacks_option}
 use Rattle.words_core.proofs.GivenKept.{from_kept}
-use Rattle.words_core.proofs.GoneOn.{IsGoing, from_going, is_not}
+use Rattle.words_core.proofs.GoneOn.{IsRemovedPackage, from_going, is_not}
 use Rattle.words_core.proofs.KindsKept.{IsPlain, start_known, within_at}
 use Rattle.words_core.proofs.LinesJudged.{room_by}
 use Rattle.words_core.proofs.LinesRead.{awaited_taken, step_taken}
@@ -278,7 +278,7 @@ abbrev pub CanGoOn : Applet → Flags → List OptionValue → List Operand → 
 CanGoOn applet flags values os at = (more : List (List ℕ)) × IsJudgedGood applet (gone_on applet flags values os at more)
 
 pub output_read : (flags : Flags) (values : List OptionValue) (at : ℕ) → is_given OUTPUT values ≡ false → option_reading (options_of Mkndx) (state_by flags values None) at (codes "-o" ∷ (codes "a" ∷ [])) ≡ reading_by (state_by flags (values ++ (option_value (at + 1) OUTPUT (codes "a") ∷ [])) None) [] None
-unfolding common_options options_of option_name held_value is_name is_utf8 chars encode
+unfolding common_options options_of option_name attached_value is_name is_utf8 chars encode
 output_read flags values at g =
     step_taken (options_of Mkndx) (state_by flags values None) at (codes "-o") (codes "a" ∷ []) (Some (state_by flags values (Some output_rule))) refl
     (ap (λ b. if b then None else Some (state_by flags values (Some output_rule))) g)
@@ -316,7 +316,7 @@ texts_taken before (o ∷ os) = texts_taken (before + 1) os
 
 -- where an option is lacking, it completes what was read
 pub options_follow : (applet : Applet) (flags : Flags) (values : List OptionValue) (os : List Operand) (at : ℕ) → may_have applet flags ≡ true → lacks_option applet (state_by flags values None) ≡ true → refused_operand (operand_rule applet flags) os ≡ None → CanGoOn applet flags values os at
-unfolding common_options options_of option_name held_value
+unfolding common_options options_of option_name attached_value
 options_follow Mkndx flags values os at m k h =
     let more : List OptionValue = values ++ (option_value (at + 1) OUTPUT (codes "a") ∷ []) in
     (codes "-o" ∷ (codes "a" ∷ []), subst (λ r. IsJudgedGood Mkndx (behind os r)) (sym (output_read flags values at (is_not (is_given OUTPUT values) k))) (index_good (state_by flags more None) os h (given_last (at + 1) OUTPUT (codes "a") values refl)))
@@ -384,7 +384,7 @@ pub both_none : (o unread : Option ℕ) → option_or o unread ≡ None → (o �
 both_none None unread h = (refl, h)
 both_none (Some at) unread h = absurd (none-some at (sym h))
 
-pub completed_from : (words : List (List ℕ)) (start : Start) → is_stuck words start ≡ false → line_start words ≡ Ok start → verdict (length words + 1) start.applet (reading_behind start words) ≡ Err (length words + 1) → CanBeCompleted words
+pub completed_from : (words : List (List ℕ)) (start : Start) → is_stuck words start ≡ false → line_start words ≡ Ok start → verdict (length words + 1) start.applet (reading_after_applet start words) ≡ Err (length words + 1) → CanBeCompleted words
 unfolding line_command
 completed_from words start k s h = by_going (from_going start words low)
   where
@@ -395,7 +395,7 @@ completed_from words start k s h = by_going (from_going start words low)
     options = options_of start.applet
 
     reading : Reading
-    reading = reading_behind start words
+    reading = reading_after_applet start words
 
     ended : Bool
     ended = start.ended || have_ended (options_of start.applet) None (drop start.read words)
@@ -418,14 +418,14 @@ completed_from words start k s h = by_going (from_going start words low)
     free : ((ended && lacks_option start.applet reading.state) ≡ false) × (awaits_none reading.state.awaiting reading.state.values ≡ false)
     free = or_parts (ended && lacks_option start.applet reading.state) (awaits_none reading.state.awaiting reading.state.values) k
 
-    complete : (more : List (List ℕ)) → IsJudgedGood start.applet (reading_behind start (words ++ more)) → CanBeCompleted words
+    complete : (more : List (List ℕ)) → IsJudgedGood start.applet (reading_after_applet start (words ++ more)) → CanBeCompleted words
     complete more good = (
       more,
-      command_read (length (words ++ more) + 1) start.applet (reading_behind start (words ++ more)),
+      command_read (length (words ++ more) + 1) start.applet (reading_after_applet start (words ++ more)),
       ap (command_from (words ++ more)) (start_stays words more start s) ∙ good (length (words ++ more) + 1),
     )
 
-    by_awaiting : (awaiting : Option ValueRule) → reading.state.awaiting ≡ awaiting → ((more : List (List ℕ)) → reading_behind start (words ++ more) ≡ behind reading.operands (option_reading options reading.state end more)) → CanBeCompleted words
+    by_awaiting : (awaiting : Option ValueRule) → reading.state.awaiting ≡ awaiting → ((more : List (List ℕ)) → reading_after_applet start (words ++ more) ≡ behind reading.operands (option_reading options reading.state end more)) → CanBeCompleted words
     by_awaiting None a on =
         let can = can_go_on start.applet reading.state.flags reading.state.values reading.operands end own taken in
         complete can.0 (subst (λ r. IsJudgedGood start.applet r) (sym (on can.0 ∙ ap (λ o. behind reading.operands (option_reading options (state_by reading.state.flags reading.state.values o) end can.0)) a)) can.1)
@@ -434,7 +434,7 @@ completed_from words start k s h = by_going (from_going start words low)
         let can = can_go_on start.applet reading.state.flags (reading.state.values ++ (option_value end rule.letter text.0 ∷ [])) reading.operands (end + 1) own taken in
         complete (text.0 ∷ can.0) (subst (λ r. IsJudgedGood start.applet r) (sym (on (text.0 ∷ can.0) ∙ ap (behind reading.operands) (value_read options reading.state end text.0 rule can.0 a text.1))) can.1)
 
-    by_going : IsGoing options end ended reading (λ more. reading_behind start (words ++ more)) → CanBeCompleted words
+    by_going : IsRemovedPackage options end ended reading (λ more. reading_after_applet start (words ++ more)) → CanBeCompleted words
     by_going (inl stopped) = absurd (not_stopped (operand_rule start.applet reading.state.flags) end stopped.0 reading.operands reading.unread taken stopped.1 stopped.2 at_end)
     by_going (inr (inl on)) = by_awaiting reading.state.awaiting refl on.goes_on
     by_going (inr (inr off)) =

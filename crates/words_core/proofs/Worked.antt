@@ -16,7 +16,7 @@ use Rattle.command_core.specs.Values.{is_value, option_value}
 use Rattle.words_core.specs.declared.options.Meaning.TheVariants.{Flag as Plain, Kind, Value}
 use Rattle.words_core.specs.declared.reading.OptionState.{OptionState}
 use Rattle.words_core.specs.declared.reading.Reading.{Reading}
-use Rattle.words_core.specs.Grammar.{command_of, first_state, held_value, line_command, option_name, option_reading, reading_behind, reading_by, site_at, site_behind_end, state_by, verdict}
+use Rattle.words_core.specs.Grammar.{command_of, first_state, attached_value, line_command, option_name, option_reading, reading_after_applet, reading_by, site_at, site_after_end, state_by, verdict}
 use Rattle.words_core.specs.Kinds.{can_get_kind}
 use Rattle.words_core.specs.Options.{OptionSpec, common_options, early_words, options_of}
 use Rattle.words_core.specs.Stuck.{are_stuck}
@@ -56,145 +56,145 @@ up_to values place = reading_by (giving values) [] (Some place)
 
 -- ---- where the value of an option is, and whose place it has
 
-behind_short : read (codes "-o" ∷ (codes "a" ∷ [])) ≡ whole (option_value 3 OUTPUT (codes "a") ∷ [])
-unfolding option_name held_value
-behind_short = refl
+after_short : read (codes "-o" ∷ (codes "a" ∷ [])) ≡ whole (option_value 3 OUTPUT (codes "a") ∷ [])
+unfolding option_name attached_value
+after_short = refl
 
 in_short : read (codes "-oa" ∷ []) ≡ whole (option_value 2 OUTPUT (codes "a") ∷ [])
-unfolding option_name held_value
+unfolding option_name attached_value
 in_short = refl
 
-behind_long : read (codes "--output" ∷ (codes "a" ∷ [])) ≡ whole (option_value 3 OUTPUT (codes "a") ∷ [])
-unfolding option_name held_value
-behind_long = refl
+after_long : read (codes "--output" ∷ (codes "a" ∷ [])) ≡ whole (option_value 3 OUTPUT (codes "a") ∷ [])
+unfolding option_name attached_value
+after_long = refl
 
 in_long : read (codes "--output=a" ∷ []) ≡ whole (option_value 2 OUTPUT (codes "a") ∷ [])
-unfolding option_name held_value
+unfolding option_name attached_value
 in_long = refl
 
 -- what is behind the first `=` is the value, and behind a letter even the `=` is of it
 empty_in_long : read (codes "--output=" ∷ []) ≡ whole (option_value 2 OUTPUT [] ∷ [])
-unfolding option_name held_value
+unfolding option_name attached_value
 empty_in_long = refl
 
 equals_in_long : read (codes "--output=a=b" ∷ []) ≡ whole (option_value 2 OUTPUT (codes "a=b") ∷ [])
-unfolding option_name held_value
+unfolding option_name attached_value
 equals_in_long = refl
 
 equals_in_short : read (codes "-o=a" ∷ []) ≡ whole (option_value 2 OUTPUT (codes "=a") ∷ [])
-unfolding option_name held_value
+unfolding option_name attached_value
 equals_in_short = refl
 
 -- the word behind an option is its value, whatever it looks like
 end_is_value : read (codes "-o" ∷ (codes "--" ∷ [])) ≡ whole (option_value 3 OUTPUT (codes "--") ∷ [])
-unfolding option_name held_value
+unfolding option_name attached_value
 end_is_value = refl
 
 option_is_value : read (codes "-o" ∷ (codes "-o" ∷ [])) ≡ whole (option_value 3 OUTPUT (codes "-o") ∷ [])
-unfolding option_name held_value
+unfolding option_name attached_value
 option_is_value = refl
 
 empty_is_value : read (codes "-o" ∷ ([] ∷ [])) ≡ whole (option_value 3 OUTPUT [] ∷ [])
-unfolding option_name held_value
+unfolding option_name attached_value
 empty_is_value = refl
 
 -- and behind a value that its word holds comes the next word: an operand, or the end of the options
-operands_behind : read (codes "-oa" ∷ (codes "b" ∷ (codes "--" ∷ (codes "-o" ∷ [])))) ≡ reading_by (giving (option_value 2 OUTPUT (codes "a") ∷ [])) (operand_at 3 (codes "b") ∷ (operand_at 5 (codes "-o") ∷ [])) None
-unfolding option_name held_value
-operands_behind = refl
+operands_after : read (codes "-oa" ∷ (codes "b" ∷ (codes "--" ∷ (codes "-o" ∷ [])))) ≡ reading_by (giving (option_value 2 OUTPUT (codes "a") ∷ [])) (operand_at 3 (codes "b") ∷ (operand_at 5 (codes "-o") ∷ [])) None
+unfolding option_name attached_value
+operands_after = refl
 
 -- ---- a value that is missing is so behind the last word
 
 missing : read (codes "-o" ∷ []) ≡ reading_by (state_by no_flags [] (Some output)) [] (Some 3)
-unfolding option_name held_value
+unfolding option_name attached_value
 missing = refl
 
-missing_behind_others : read (codes "b" ∷ (codes "-oa" ∷ (codes "--info" ∷ []))) ≡ reading_by (state_by no_flags (option_value 3 OUTPUT (codes "a") ∷ []) (Some info)) (operand_at 2 (codes "b") ∷ []) (Some 5)
-unfolding option_name held_value
-missing_behind_others = refl
+missing_after_others : read (codes "b" ∷ (codes "-oa" ∷ (codes "--info" ∷ []))) ≡ reading_by (state_by no_flags (option_value 3 OUTPUT (codes "a") ∷ []) (Some info)) (operand_at 2 (codes "b") ∷ []) (Some 5)
+unfolding option_name attached_value
+missing_after_others = refl
 
 -- ---- which options may stand again
 
 single_twice : read (codes "-o" ∷ (codes "a" ∷ (codes "-o" ∷ (codes "b" ∷ [])))) ≡ up_to (option_value 3 OUTPUT (codes "a") ∷ []) 4
-unfolding option_name held_value
+unfolding option_name attached_value
 single_twice = refl
 
 single_twice_at_end : read (codes "-o" ∷ (codes "a" ∷ (codes "-o" ∷ []))) ≡ up_to (option_value 3 OUTPUT (codes "a") ∷ []) 4
-unfolding option_name held_value
+unfolding option_name attached_value
 single_twice_at_end = refl
 
 single_in_both_words : read (codes "--output=a" ∷ (codes "-oa" ∷ [])) ≡ up_to (option_value 2 OUTPUT (codes "a") ∷ []) 3
-unfolding option_name held_value
+unfolding option_name attached_value
 single_in_both_words = refl
 
 repeated : read (codes "-I" ∷ (codes "a" ∷ (codes "-Ia" ∷ (codes "--info=b" ∷ [])))) ≡ whole (option_value 3 73 (codes "a") ∷ (option_value 4 73 (codes "a") ∷ (option_value 5 73 (codes "b") ∷ [])))
-unfolding option_name held_value
+unfolding option_name attached_value
 repeated = refl
 
 two_options : read (codes "-Ia" ∷ (codes "-ob" ∷ [])) ≡ whole (option_value 2 73 (codes "a") ∷ (option_value 3 OUTPUT (codes "b") ∷ []))
-unfolding option_name held_value
+unfolding option_name attached_value
 two_options = refl
 
 -- ---- scripts: one of a type
 
 scripts : read (codes "-s" ∷ (codes "trigger:a" ∷ (codes "--script=pre-install:./a" ∷ []))) ≡ whole (option_value 3 115 (codes "trigger:a") ∷ (option_value 4 115 (codes "pre-install:./a") ∷ []))
-unfolding option_name held_value is_name is_utf8 chars encode
+unfolding option_name attached_value is_name is_utf8 chars encode
 scripts = refl
 
 type_twice : read (codes "-s" ∷ (codes "trigger:a" ∷ (codes "-s" ∷ (codes "trigger:b" ∷ [])))) ≡ reading_by (state_by no_flags (option_value 3 115 (codes "trigger:a") ∷ []) (Some (record { letter = 115; single = false; kind = Script }))) [] (Some 5)
-unfolding option_name held_value is_name is_utf8 chars encode
+unfolding option_name attached_value is_name is_utf8 chars encode
 type_twice = refl
 
 type_twice_in_word : read (codes "-strigger:a" ∷ (codes "-strigger:a" ∷ [])) ≡ up_to (option_value 2 115 (codes "trigger:a") ∷ []) 3
-unfolding option_name held_value is_name is_utf8 chars encode
+unfolding option_name attached_value is_name is_utf8 chars encode
 type_twice_in_word = refl
 
 no_type : read (codes "-strigge:a" ∷ []) ≡ up_to [] 2
-unfolding option_name held_value is_name is_utf8 chars encode
+unfolding option_name attached_value is_name is_utf8 chars encode
 no_type = refl
 
 no_colon : read (codes "-strigger" ∷ []) ≡ up_to [] 2
-unfolding option_name held_value is_name is_utf8 chars encode
+unfolding option_name attached_value is_name is_utf8 chars encode
 no_colon = refl
 
 -- ---- a value that its option does not have is at its own word
 
-bad_behind : read (codes "-f" ∷ (codes "/a" ∷ [])) ≡ reading_by (state_by no_flags [] (Some (record { letter = 102; single = true; kind = File }))) [] (Some 3)
-unfolding option_name held_value is_name is_utf8 chars encode
-bad_behind = refl
+bad_after : read (codes "-f" ∷ (codes "/a" ∷ [])) ≡ reading_by (state_by no_flags [] (Some (record { letter = 102; single = true; kind = File }))) [] (Some 3)
+unfolding option_name attached_value is_name is_utf8 chars encode
+bad_after = refl
 
 bad_in_short : read (codes "-f/a" ∷ []) ≡ up_to [] 2
-unfolding option_name held_value is_name is_utf8 chars encode
+unfolding option_name attached_value is_name is_utf8 chars encode
 bad_in_short = refl
 
-empty_behind : read (codes "-I" ∷ ([] ∷ [])) ≡ reading_by (state_by no_flags [] (Some info)) [] (Some 3)
-unfolding option_name held_value
-empty_behind = refl
+empty_after : read (codes "-I" ∷ ([] ∷ [])) ≡ reading_by (state_by no_flags [] (Some info)) [] (Some 3)
+unfolding option_name attached_value
+empty_after = refl
 
 bad_in_long : read (codes "-Ia" ∷ (codes "--info=" ∷ [])) ≡ up_to (option_value 2 73 (codes "a") ∷ []) 3
-unfolding option_name held_value
+unfolding option_name attached_value
 bad_in_long = refl
 
 -- ---- words that spell no option, and values of options that have none
 
 flag_with_value : read (codes "--test=x" ∷ []) ≡ up_to [] 2
-unfolding option_name held_value
+unfolding option_name attached_value
 flag_with_value = refl
 
 flag_with_empty_value : read (codes "--test=" ∷ []) ≡ up_to [] 2
-unfolding option_name held_value
+unfolding option_name attached_value
 flag_with_empty_value = refl
 
 flag_with_more : read (codes "-nt" ∷ []) ≡ up_to [] 2
-unfolding option_name held_value
+unfolding option_name attached_value
 flag_with_more = refl
 
 flag_alone : read (codes "-t" ∷ (codes "a" ∷ [])) ≡ reading_by (state_by (with_flag Test no_flags) [] None) (operand_at 3 (codes "a") ∷ []) None
-unfolding option_name held_value
+unfolding option_name attached_value
 flag_alone = refl
 
 no_option : read (codes "-oa" ∷ (codes "--outpu=b" ∷ [])) ≡ up_to (option_value 2 OUTPUT (codes "a") ∷ []) 3
-unfolding option_name held_value
+unfolding option_name attached_value
 no_option = refl
 
 -- ---- kinds of values
@@ -221,108 +221,108 @@ file_of_1017 = refl
 
 -- the options have ended, and the kind is lacking
 no_kind_follows : are_stuck (codes "version" ∷ (codes "a" ∷ (codes "--" ∷ []))) ≡ true
-unfolding are_stuck command_of line_command verdict reading_behind site_at site_behind_end early_words common_options options_of option_name held_value is_name is_utf8 chars encode
+unfolding are_stuck command_of line_command verdict reading_after_applet site_at site_after_end early_words common_options options_of option_name attached_value is_name is_utf8 chars encode
 no_kind_follows = refl
 
 no_kind_follows_early : are_stuck (codes "--" ∷ (codes "version" ∷ [])) ≡ true
-unfolding are_stuck command_of line_command verdict reading_behind site_at site_behind_end early_words common_options options_of option_name held_value is_name is_utf8 chars encode
+unfolding are_stuck command_of line_command verdict reading_after_applet site_at site_after_end early_words common_options options_of option_name attached_value is_name is_utf8 chars encode
 no_kind_follows_early = refl
 
 kind_is_given : are_stuck (codes "version" ∷ (codes "-t" ∷ (codes "--" ∷ (codes "a" ∷ [])))) ≡ false
-unfolding are_stuck command_of line_command verdict reading_behind site_at site_behind_end early_words common_options options_of option_name held_value is_name is_utf8 chars encode
+unfolding are_stuck command_of line_command verdict reading_after_applet site_at site_after_end early_words common_options options_of option_name attached_value is_name is_utf8 chars encode
 kind_is_given = refl
 
 kind_follows : are_stuck (codes "version" ∷ (codes "a" ∷ [])) ≡ false
-unfolding are_stuck command_of line_command verdict reading_behind site_at site_behind_end early_words common_options options_of option_name held_value is_name is_utf8 chars encode
+unfolding are_stuck command_of line_command verdict reading_after_applet site_at site_after_end early_words common_options options_of option_name attached_value is_name is_utf8 chars encode
 kind_follows = refl
 
 no_output_follows : are_stuck (codes "mkndx" ∷ (codes "--" ∷ (codes "a" ∷ []))) ≡ true
-unfolding are_stuck command_of line_command verdict reading_behind site_at site_behind_end early_words common_options options_of option_name held_value is_name is_utf8 chars encode
+unfolding are_stuck command_of line_command verdict reading_after_applet site_at site_after_end early_words common_options options_of option_name attached_value is_name is_utf8 chars encode
 no_output_follows = refl
 
 output_is_given : are_stuck (codes "mkndx" ∷ (codes "-oi" ∷ (codes "--" ∷ []))) ≡ false
-unfolding are_stuck command_of line_command verdict reading_behind site_at site_behind_end early_words common_options options_of option_name held_value is_name is_utf8 chars encode
+unfolding are_stuck command_of line_command verdict reading_after_applet site_at site_after_end early_words common_options options_of option_name attached_value is_name is_utf8 chars encode
 output_is_given = refl
 
 -- `--` as a value ends nothing
 end_as_value : are_stuck (codes "mkndx" ∷ (codes "-d" ∷ (codes "--" ∷ []))) ≡ false
-unfolding are_stuck command_of line_command verdict reading_behind site_at site_behind_end early_words common_options options_of option_name held_value is_name is_utf8 chars encode
+unfolding are_stuck command_of line_command verdict reading_after_applet site_at site_after_end early_words common_options options_of option_name attached_value is_name is_utf8 chars encode
 end_as_value = refl
 
-end_behind_value : are_stuck (codes "mkndx" ∷ (codes "-d" ∷ (codes "--" ∷ (codes "--" ∷ [])))) ≡ true
-unfolding are_stuck command_of line_command verdict reading_behind site_at site_behind_end early_words common_options options_of option_name held_value is_name is_utf8 chars encode
-end_behind_value = refl
+end_after_value : are_stuck (codes "mkndx" ∷ (codes "-d" ∷ (codes "--" ∷ (codes "--" ∷ [])))) ≡ true
+unfolding are_stuck command_of line_command verdict reading_after_applet site_at site_after_end early_words common_options options_of option_name attached_value is_name is_utf8 chars encode
+end_after_value = refl
 
 nothing_is_lacking : are_stuck (codes "--" ∷ (codes "mkpkg" ∷ [])) ≡ false
-unfolding are_stuck command_of line_command verdict reading_behind site_at site_behind_end early_words common_options options_of option_name held_value is_name is_utf8 chars encode
+unfolding are_stuck command_of line_command verdict reading_after_applet site_at site_after_end early_words common_options options_of option_name attached_value is_name is_utf8 chars encode
 nothing_is_lacking = refl
 
 -- a script is awaited, and there is one of each type
 no_script_follows : are_stuck (codes "mkpkg" ∷ (codes "-strigger:a" ∷ (codes "-spre-install:a" ∷ (codes "-spost-install:a" ∷ (codes "-spre-deinstall:a" ∷ (codes "-spost-deinstall:a" ∷ (codes "-spre-upgrade:a" ∷ (codes "-spost-upgrade:a" ∷ (codes "-s" ∷ []))))))))) ≡ true
-unfolding are_stuck command_of line_command verdict reading_behind site_at site_behind_end early_words common_options options_of option_name held_value is_name is_utf8 chars encode
+unfolding are_stuck command_of line_command verdict reading_after_applet site_at site_after_end early_words common_options options_of option_name attached_value is_name is_utf8 chars encode
 no_script_follows = refl
 
 script_follows : are_stuck (codes "mkpkg" ∷ (codes "-spre-install:a" ∷ (codes "-spost-install:a" ∷ (codes "-spre-deinstall:a" ∷ (codes "-spost-deinstall:a" ∷ (codes "-spre-upgrade:a" ∷ (codes "-spost-upgrade:a" ∷ (codes "-s" ∷ [])))))))) ≡ false
-unfolding are_stuck command_of line_command verdict reading_behind site_at site_behind_end early_words common_options options_of option_name held_value is_name is_utf8 chars encode
+unfolding are_stuck command_of line_command verdict reading_after_applet site_at site_after_end early_words common_options options_of option_name attached_value is_name is_utf8 chars encode
 script_follows = refl
 
 scripts_are_given : are_stuck (codes "mkpkg" ∷ (codes "-strigger:a" ∷ (codes "-spre-install:a" ∷ (codes "-spost-install:a" ∷ (codes "-spre-deinstall:a" ∷ (codes "-spost-deinstall:a" ∷ (codes "-spre-upgrade:a" ∷ (codes "-spost-upgrade:a" ∷ [])))))))) ≡ false
-unfolding are_stuck command_of line_command verdict reading_behind site_at site_behind_end early_words common_options options_of option_name held_value is_name is_utf8 chars encode
+unfolding are_stuck command_of line_command verdict reading_after_applet site_at site_after_end early_words common_options options_of option_name attached_value is_name is_utf8 chars encode
 scripts_are_given = refl
 
 -- options before the applet that no applet has: only `--help` and `--version` can follow
 no_applet_has_them : are_stuck (codes "--initdb" ∷ (codes "--purge" ∷ (codes "--" ∷ []))) ≡ true
-unfolding are_stuck command_of line_command verdict reading_behind site_at site_behind_end early_words common_options options_of option_name held_value is_name is_utf8 chars encode
+unfolding are_stuck command_of line_command verdict reading_after_applet site_at site_after_end early_words common_options options_of option_name attached_value is_name is_utf8 chars encode
 no_applet_has_them = refl
 
 help_follows : are_stuck (codes "--initdb" ∷ (codes "--purge" ∷ [])) ≡ false
-unfolding are_stuck command_of line_command verdict reading_behind site_at site_behind_end early_words common_options options_of option_name held_value is_name is_utf8 chars encode
+unfolding are_stuck command_of line_command verdict reading_after_applet site_at site_after_end early_words common_options options_of option_name attached_value is_name is_utf8 chars encode
 help_follows = refl
 
 -- a word asks, and what follows it says nothing
 help_is_asked : are_stuck (codes "version" ∷ (codes "--help" ∷ (codes "--" ∷ []))) ≡ false
-unfolding are_stuck command_of line_command verdict reading_behind site_at site_behind_end early_words common_options options_of option_name held_value is_name is_utf8 chars encode
+unfolding are_stuck command_of line_command verdict reading_after_applet site_at site_after_end early_words common_options options_of option_name attached_value is_name is_utf8 chars encode
 help_is_asked = refl
 
 each_has_them : are_stuck (codes "--no-scripts" ∷ (codes "--allow-untrusted" ∷ [])) ≡ false
-unfolding are_stuck command_of line_command verdict reading_behind site_at site_behind_end early_words common_options options_of option_name held_value is_name is_utf8 chars encode
+unfolding are_stuck command_of line_command verdict reading_after_applet site_at site_after_end early_words common_options options_of option_name attached_value is_name is_utf8 chars encode
 each_has_them = refl
 
 -- an applet can follow
 no_applet : are_stuck (codes "--" ∷ []) ≡ false
-unfolding are_stuck command_of line_command verdict reading_behind site_at site_behind_end early_words common_options options_of option_name held_value is_name is_utf8 chars encode
+unfolding are_stuck command_of line_command verdict reading_after_applet site_at site_after_end early_words common_options options_of option_name attached_value is_name is_utf8 chars encode
 no_applet = refl
 
 -- ---- words of `info` that can still get a kind
 
 kind_may_follow : can_get_kind (codes "info" ∷ (codes "usr/x" ∷ [])) ≡ true
-unfolding can_get_kind reading_behind site_at site_behind_end early_words common_options options_of option_name held_value is_name is_utf8 chars encode
+unfolding can_get_kind reading_after_applet site_at site_after_end early_words common_options options_of option_name attached_value is_name is_utf8 chars encode
 kind_may_follow = refl
 
 kind_may_follow_none : can_get_kind (codes "info" ∷ []) ≡ true
-unfolding can_get_kind reading_behind site_at site_behind_end early_words common_options options_of option_name held_value is_name is_utf8 chars encode
+unfolding can_get_kind reading_after_applet site_at site_after_end early_words common_options options_of option_name attached_value is_name is_utf8 chars encode
 kind_may_follow_none = refl
 
 kind_may_follow_packages : can_get_kind (codes "--no-scripts" ∷ (codes "info" ∷ (codes "a" ∷ (codes "b" ∷ [])))) ≡ true
-unfolding can_get_kind reading_behind site_at site_behind_end early_words common_options options_of option_name held_value is_name is_utf8 chars encode
+unfolding can_get_kind reading_after_applet site_at site_after_end early_words common_options options_of option_name attached_value is_name is_utf8 chars encode
 kind_may_follow_packages = refl
 
-no_kind_behind_end : can_get_kind (codes "info" ∷ (codes "--" ∷ (codes "usr/x" ∷ []))) ≡ false
-unfolding can_get_kind reading_behind site_at site_behind_end early_words common_options options_of option_name held_value is_name is_utf8 chars encode
-no_kind_behind_end = refl
+no_kind_after_end : can_get_kind (codes "info" ∷ (codes "--" ∷ (codes "usr/x" ∷ []))) ≡ false
+unfolding can_get_kind reading_after_applet site_at site_after_end early_words common_options options_of option_name attached_value is_name is_utf8 chars encode
+no_kind_after_end = refl
 
-no_kind_behind_early_end : can_get_kind (codes "--" ∷ (codes "info" ∷ (codes "usr/x" ∷ []))) ≡ false
-unfolding can_get_kind reading_behind site_at site_behind_end early_words common_options options_of option_name held_value is_name is_utf8 chars encode
-no_kind_behind_early_end = refl
+no_kind_after_early_end : can_get_kind (codes "--" ∷ (codes "info" ∷ (codes "usr/x" ∷ []))) ≡ false
+unfolding can_get_kind reading_after_applet site_at site_after_end early_words common_options options_of option_name attached_value is_name is_utf8 chars encode
+no_kind_after_early_end = refl
 
 no_second_kind : can_get_kind (codes "info" ∷ (codes "a" ∷ (codes "-e" ∷ []))) ≡ false
-unfolding can_get_kind reading_behind site_at site_behind_end early_words common_options options_of option_name held_value is_name is_utf8 chars encode
+unfolding can_get_kind reading_after_applet site_at site_after_end early_words common_options options_of option_name attached_value is_name is_utf8 chars encode
 no_second_kind = refl
 
-no_kind_behind_bad_word : can_get_kind (codes "info" ∷ (codes "usr/x" ∷ (codes "--bad" ∷ []))) ≡ false
-unfolding can_get_kind reading_behind site_at site_behind_end early_words common_options options_of option_name held_value is_name is_utf8 chars encode
-no_kind_behind_bad_word = refl
+no_kind_after_bad_word : can_get_kind (codes "info" ∷ (codes "usr/x" ∷ (codes "--bad" ∷ []))) ≡ false
+unfolding can_get_kind reading_after_applet site_at site_after_end early_words common_options options_of option_name attached_value is_name is_utf8 chars encode
+no_kind_after_bad_word = refl
 
 kind_of_version : can_get_kind (codes "version" ∷ (codes "a" ∷ [])) ≡ false
-unfolding can_get_kind reading_behind site_at site_behind_end early_words common_options options_of option_name held_value is_name is_utf8 chars encode
+unfolding can_get_kind reading_after_applet site_at site_after_end early_words common_options options_of option_name attached_value is_name is_utf8 chars encode
 kind_of_version = refl

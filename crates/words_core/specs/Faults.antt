@@ -14,6 +14,6 @@ IsWordsFault (Usage place) command = command ≡ Err place
 IsWordsFault Memory command = Unit {0}
 
 -- out of memory is answered only if the applet was found, with its own options before it
-abbrev pub IsBehindApplet : WordsFault → Result Start ℕ → Type 0
-IsBehindApplet (Usage place) start = Unit {0}
-IsBehindApplet Memory start = IsTrue (is_ok start)
+abbrev pub IsAfterApplet : WordsFault → Result Start ℕ → Type 0
+IsAfterApplet (Usage place) start = Unit {0}
+IsAfterApplet Memory start = IsTrue (is_ok start)

@@ -34,8 +34,8 @@ abbrev pub is_option : List ℕ → Bool
 is_option word = nat_lt 1 (length word) && bytes_eq (take 1 word) (codes "-")
 
 -- whether a word is `--`, after which there are no options
-abbrev pub is_end : List ℕ → Bool
-is_end word = bytes_eq word (codes "--")
+abbrev pub is_double_dash : List ℕ → Bool
+is_double_dash word = bytes_eq word (codes "--")
 
 -- the word of the option alone: of `--name=value` the part before the first `=`, of `-xvalue` the first
 -- two bytes
@@ -46,8 +46,8 @@ option_name word =
 
 -- the value that an option's word holds, if it holds one: the part after the first `=` of a long one,
 -- and after the first two bytes of a short one
-unfoldable pub held_value : List ℕ → Option (List ℕ)
-held_value word =
+unfoldable pub attached_value : List ℕ → Option (List ℕ)
+attached_value word =
     if bytes_eq (take 2 word) (codes "--") then
     option_map (λ i. drop (i + 1) word) (position (λ b. b == EQUALS_SIGN) word) else
     if nat_lt 2 (length word) then Some (drop 2 word) else
@@ -87,16 +87,16 @@ unfoldable pub site_at : Bool → ℕ → List ℕ → Result AppletSite ℕ
 site_at ended place word = or_at place (λ applet. Ok (site_by ended place applet)) (applet_of word)
 
 -- the site of the applet after `--`, which the next word names; this is the place of the next word
-unfoldable pub site_behind_end : ℕ → List (List ℕ) → Result AppletSite ℕ
-site_behind_end place [] = Err place
-site_behind_end place (word ∷ words) = site_at true place word
+unfoldable pub site_after_end : ℕ → List (List ℕ) → Result AppletSite ℕ
+site_after_end place [] = Err place
+site_after_end place (word ∷ words) = site_at true place word
 
 -- the site of the applet in the words from a place on, or the first wrong place: only some options and
 -- `--` may precede the applet
 abbrev pub applet_site : ℕ → List (List ℕ) → Result AppletSite ℕ
 applet_site place [] = Err place
 applet_site place (word ∷ words) =
-    if is_end word then site_behind_end (place + 1) words else
+    if is_double_dash word then site_after_end (place + 1) words else
     if is_option word then (if is_early word then applet_site (place + 1) words else Err place) else
     site_at false place word
 
@@ -105,7 +105,7 @@ applet_site place (word ∷ words) =
 abbrev pub early_flags : List OptionSpec → Flags → ℕ → List (List ℕ) → Result Flags ℕ
 early_flags options flags place [] = Ok flags
 early_flags options flags place (word ∷ words) =
-    if is_end word then Ok flags else
+    if is_double_dash word then Ok flags else
     or_at place (λ more. early_flags options more (place + 1) words)
     (with_option options flags word)
 
@@ -148,14 +148,14 @@ with_value state place text rule =
     None
 
 -- a state with an option that has values and the value that its word holds, if it holds one
-abbrev pub with_held : OptionState → ℕ → ValueRule → Option (List ℕ) → Option OptionState
-with_held state place rule None = Some (state_by state.flags state.values (Some rule))
-with_held state place rule (Some text) = with_value state place text rule
+abbrev pub with_attached : OptionState → ℕ → ValueRule → Option (List ℕ) → Option OptionState
+with_attached state place rule None = Some (state_by state.flags state.values (Some rule))
+with_attached state place rule (Some text) = with_value state place text rule
 
 -- a state with an option that has values; None if it can have no more
 abbrev pub with_rule : OptionState → ℕ → Option (List ℕ) → ValueRule → Option OptionState
 with_rule state place held rule =
-    if is_spent rule state.values then None else with_held state place rule held
+    if is_spent rule state.values then None else with_attached state place rule held
 
 -- a state with other flags
 abbrev pub with_flags : OptionState → Option Flags → Option OptionState
@@ -175,12 +175,12 @@ with_meaning_at state place None (Kind flag) =
 -- a state with the option that the word at a place spells; None if it cannot be read
 abbrev pub with_spelled : List OptionSpec → OptionState → ℕ → List ℕ → Option OptionState
 with_spelled options state place word =
-    option_and_then (λ (o : OptionSpec). with_meaning_at state place (held_value word) o.meaning)
+    option_and_then (λ (o : OptionSpec). with_meaning_at state place (attached_value word) o.meaning)
     (option_spelled options (option_name word))
 
 -- whether a word is an awaited value, or an option
 abbrev pub is_option_or_value : OptionState → List ℕ → Bool
-is_option_or_value state word = is_some state.awaiting || (is_option word && not (is_end word))
+is_option_or_value state word = is_some state.awaiting || (is_option word && not (is_double_dash word))
 
 -- a state with the word at a place, by the option whose value is awaited, if one is: the word is its
 -- value, and otherwise an option; None if it cannot be read
@@ -229,12 +229,12 @@ option_reading options state place (word ∷ words) =
     if is_option_or_value state word then
     or_unread state place (λ more. option_reading options more (place + 1) words)
     (with_word options state place word) else
-    if is_end word then reading_by state (operands_of (place + 1) words) None else
+    if is_double_dash word then reading_by state (operands_of (place + 1) words) None else
     with_operand (operand_at place word) (option_reading options state (place + 1) words)
 
 -- the reading of the words after the applet; if `--` precedes it all of them are operands
-unfoldable pub reading_behind : Start → List (List ℕ) → Reading
-reading_behind start words =
+unfoldable pub reading_after_applet : Start → List (List ℕ) → Reading
+reading_after_applet start words =
     let left = drop start.read words in
     if start.ended then
     reading_by (first_state start.flags) (operands_of (start.read + 1) left) None else
@@ -280,7 +280,8 @@ verdict behind applet reading =
 -- the command of the words, by the start that was found in them; or the first place that offends
 abbrev pub command_from : List (List ℕ) → Result Start ℕ → Result CommandLine ℕ
 command_from words (Err place) = Err place
-command_from words (Ok start) = verdict (length words + 1) start.applet (reading_behind start words)
+command_from words (Ok start) = verdict (length words + 1) start.applet (reading_after_applet start
+    words)
 
 -- the command that the words spell, or the first place that offends
 unfoldable pub line_command : List (List ℕ) → Result CommandLine ℕ
@@ -306,8 +307,8 @@ rule_unless None rule = rule
 rule_unless (Some text) rule = None
 
 -- the rule of the option that a word spells, if its value is the next word
-abbrev pub rule_behind : List OptionSpec → List ℕ → Option ValueRule
-rule_behind options word = rule_unless (held_value word) (rule_at options word)
+abbrev pub awaited_rule : List OptionSpec → List ℕ → Option ValueRule
+awaited_rule options word = rule_unless (attached_value word) (rule_at options word)
 
 -- what the word after an option of an applet can be, by the rule of its value, if that is the next word
 abbrev pub next_by_rule : Applet → Option ValueRule → NextWord
@@ -322,13 +323,13 @@ next_by_applet next (Some applet) = next applet
 -- what the word after a word can be, by what the word can be
 abbrev pub next_word : NextWord → List ℕ → NextWord
 next_word OptionOrCommand word =
-    if is_end word then CommandAlone else
+    if is_double_dash word then CommandAlone else
     if is_option word then OptionOrCommand else
     next_by_applet OptionOrOperand (applet_of word)
 next_word CommandAlone word = next_by_applet OperandAlone (applet_of word)
 next_word (OptionOrOperand applet) word =
-    if is_end word then OperandAlone applet else
-    if is_option word then next_by_rule applet (rule_behind (options_of applet) word) else
+    if is_double_dash word then OperandAlone applet else
+    if is_option word then next_by_rule applet (awaited_rule (options_of applet) word) else
     OptionOrOperand applet
 next_word (NextValue applet rule) word = OptionOrOperand applet
 next_word (OperandAlone applet) word = OperandAlone applet

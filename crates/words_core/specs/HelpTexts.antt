@@ -201,14 +201,15 @@ abbrev pub usage_line : List ℕ → List ℕ → List ℕ
 usage_line front line = front ++ line ++ codes "\n"
 
 -- how a command is called, a line each: the first after `usage: `, the others below it
-abbrev pub usage_text : List ℕ → List (List ℕ) → List ℕ
-usage_text front [] = []
-usage_text front (line ∷ lines) = usage_line front line ++ usage_text (codes "       ") lines
+abbrev pub usage_lines_after : List ℕ → List (List ℕ) → List ℕ
+usage_lines_after front [] = []
+usage_lines_after front (line ∷ lines) = usage_line front line ++ usage_lines_after (codes "       ")
+    lines
 
 -- the help of a command
 abbrev pub command_help : Applet → List ℕ
 command_help applet =
-    usage_text (codes "usage: ") (synopsis applet)
+    usage_lines_after (codes "usage: ") (synopsis applet)
     ++ codes "\n" ++ purpose applet ++ codes "\n"
     ++ codes "\nOptions:\n" ++ lines_text option_column (option_help applet)
     ++ lines_text option_column common_help

@@ -1,12 +1,12 @@
 -- Words of `info` whose kind can still follow: a kind takes other operands than `info` without one. The
 -- rule is in `docs/commands.md`, "Words", below the table of places (`info usr/x -W`). Serves the laws
--- `words_offend_whatever_follows` and `what_follows_a_command_offends_behind_it`.
+-- `words_offend_whatever_follows` and `what_follows_a_command_offends_after_it`.
 use Rattle.std.specs.Prelude.{ℕ, Bool, true, false, not, ◌&&◌, ◌||◌, List, drop, None, is_some, Result, Ok, Err}
 use Rattle.command_core.specs.declared.command.Applet.{Applet}
 use Rattle.command_core.specs.declared.command.Applet.TheVariants.{Info}
 use Rattle.command_core.specs.Flags.{has_kind}
 use Rattle.words_core.specs.declared.reading.Start.{Start}
-use Rattle.words_core.specs.Grammar.{line_start, reading_behind}
+use Rattle.words_core.specs.Grammar.{line_start, reading_after_applet}
 use Rattle.words_core.specs.Options.{options_of}
 use Rattle.words_core.specs.Stuck.{have_ended}
 
@@ -19,7 +19,7 @@ is_info applet = false
 -- them can be read, and options can follow
 abbrev pub can_get_kind_from : List (List ℕ) → Start → Bool
 can_get_kind_from words start =
-    let reading = reading_behind start words in
+    let reading = reading_after_applet start words in
     is_info start.applet && not (has_kind reading.state.flags) && not (is_some reading.unread)
     && not (start.ended || have_ended (options_of start.applet) None (drop start.read words))
 

@@ -15,7 +15,7 @@ use Rattle.command_core.specs.Operands.{operand_at}
 use Rattle.command_core.specs.Values.{option_value}
 use Rattle.words_core.specs.declared.options.Meaning.{Meaning}
 use Rattle.words_core.specs.declared.options.Meaning.TheVariants.{Flag as Plain, Kind, Value}
-use Rattle.words_core.specs.Grammar.{held_value, is_end, is_option, operands_of, option_name, rule_at, rule_behind}
+use Rattle.words_core.specs.Grammar.{attached_value, is_double_dash, is_option, operands_of, option_name, rule_at, awaited_rule}
 use Rattle.words_core.specs.Options.{OptionSpec, applet_of, is_early, option_spelled, options_of}
 
 -- the words that are neither options nor values, each with its place: all after `--`, and before it
@@ -24,25 +24,25 @@ abbrev pub free_words : List OptionSpec → Option ValueRule → ℕ → List (L
 free_words options rule place [] = []
 free_words options (Some rule) place (word ∷ words) = free_words options None (place + 1) words
 free_words options None place (word ∷ words) =
-    if is_end word then operands_of (place + 1) words else
-    if is_option word then free_words options (rule_behind options word) (place + 1) words else
+    if is_double_dash word then operands_of (place + 1) words else
+    if is_option word then free_words options (awaited_rule options word) (place + 1) words else
     operand_at place word ∷ free_words options None (place + 1) words
 
 -- the words that are options, up to `--`. With a rule the first word is the value of its option
-abbrev pub option_words : List OptionSpec → Option ValueRule → List (List ℕ) → List (List ℕ)
-option_words options rule [] = []
-option_words options (Some rule) (word ∷ words) = option_words options None words
-option_words options None (word ∷ words) =
-    if is_end word then [] else
-    if is_option word then word ∷ option_words options (rule_behind options word) words else
-    option_words options None words
+abbrev pub words_that_are_options : List OptionSpec → Option ValueRule → List (List ℕ) → List (List ℕ)
+words_that_are_options options rule [] = []
+words_that_are_options options (Some rule) (word ∷ words) = words_that_are_options options None words
+words_that_are_options options None (word ∷ words) =
+    if is_double_dash word then [] else
+    if is_option word then word ∷ words_that_are_options options (awaited_rule options word) words else
+    words_that_are_options options None words
 
 -- the list of the value that an option's word at a place holds; empty if the option has no values, or
 -- the next word is its value
-abbrev pub held_at : ℕ → Option ValueRule → Option (List ℕ) → List OptionValue
-held_at place None held = []
-held_at place (Some rule) None = []
-held_at place (Some rule) (Some text) = option_value place rule.letter text ∷ []
+abbrev pub attached_at : ℕ → Option ValueRule → Option (List ℕ) → List OptionValue
+attached_at place None held = []
+attached_at place (Some rule) None = []
+attached_at place (Some rule) (Some text) = option_value place rule.letter text ∷ []
 
 -- the values of the options, each with the place of the word that holds it; None if one is missing.
 -- With a rule the first word is the value of its option
@@ -54,10 +54,10 @@ values_of options (Some rule) place (word ∷ words) =
     option_map (λ values. option_value place rule.letter word ∷ values)
     (values_of options None (place + 1) words)
 values_of options None place (word ∷ words) =
-    if is_end word then Some [] else
+    if is_double_dash word then Some [] else
     if is_option word then
-    option_map (λ values. held_at place (rule_at options word) (held_value word) ++ values)
-    (values_of options (rule_behind options word) (place + 1) words) else
+    option_map (λ values. attached_at place (rule_at options word) (attached_value word) ++ values)
+    (values_of options (awaited_rule options word) (place + 1) words) else
     values_of options None (place + 1) words
 
 -- flags with the meaning of an option, whose word holds a value or none; None if the word of a flag
@@ -75,11 +75,11 @@ abbrev pub flags_after : List OptionSpec → Flags → List (List ℕ) → Optio
 flags_after options flags [] = Some flags
 flags_after options flags (word ∷ words) =
     option_and_then (λ (e : OptionSpec). option_and_then (λ more. flags_after options more words)
-    (flags_with flags (held_value word) e.meaning)) (option_spelled options (option_name word))
+    (flags_with flags (attached_value word) e.meaning)) (option_spelled options (option_name word))
 
 -- whether a word may precede the applet: `--`, or one of the five options
-abbrev pub stands_before : List ℕ → Bool
-stands_before word = is_end word || is_early word
+abbrev pub may_precede_applet : List ℕ → Bool
+may_precede_applet word = is_double_dash word || is_early word
 
 -- Words are a command: the first that is neither option nor value names the applet, the others are the
 -- operands, and the options are ones of the applet. Those before it are ones that may precede it.
@@ -87,9 +87,9 @@ pub record IsLineOf (words : List (List ℕ)) (command : CommandLine) : Type 0 w
   pub applet : Operand
   pub names : applet_of applet.text ≡ Some command.applet
   pub free : free_words (options_of command.applet) None 1 words ≡ applet ∷ command.operands
-  pub early : IsTrue (list_all stands_before (take (applet.place - 1) words))
+  pub early : IsTrue (list_all may_precede_applet (take (applet.place - 1) words))
   pub flags : flags_after (options_of command.applet) no_flags
-      (option_words (options_of command.applet) None words) ≡ Some command.flags
+      (words_that_are_options (options_of command.applet) None words) ≡ Some command.flags
   pub values : values_of (options_of command.applet) None 1 words ≡ Some command.values
   pub behind : command.behind ≡ length words + 1
   pub sound : IsCommand command

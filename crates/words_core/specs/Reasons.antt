@@ -18,7 +18,7 @@ use Rattle.words_core.specs.declared.reading.Reading.{Reading}
 use Rattle.words_core.specs.declared.reading.Start.{Start}
 use Rattle.words_core.specs.declared.usage.UsageReason.{UsageReason}
 use Rattle.words_core.specs.declared.usage.UsageReason.TheVariants.{CommandMissing, CommandUnknown, OptionEarly, OptionUnknown, OptionRepeated, SecondKind, ValueGiven, ValueMissing, ValueBad, ScriptRepeated, TooManyOperands, OperandBad, OperandMissing, KindMissing, OptionMissing}
-use Rattle.words_core.specs.Grammar.{applet_site, held_value, is_option, line_start, option_name, reading_behind, rule_in}
+use Rattle.words_core.specs.Grammar.{applet_site, attached_value, is_option, line_start, option_name, reading_after_applet, rule_in}
 use Rattle.words_core.specs.Options.{OptionSpec, applet_of, is_early, option_spelled, options_of}
 use Rattle.words_core.specs.Usage.{line_rule}
 
@@ -29,8 +29,8 @@ abbrev pub HasWordAt : List (List ℕ) → ℕ → (List ℕ → Type 0) → Typ
 HasWordAt words place P = (word : List ℕ) × (slice_get words (place - 1) ≡ Some word) × P word
 
 -- the place is the one after the last word
-abbrev pub IsEnd : List (List ℕ) → ℕ → Type 0
-IsEnd words place = place ≡ length words + 1
+abbrev pub IsAfterLastWord : List (List ℕ) → ℕ → Type 0
+IsAfterLastWord words place = place ≡ length words + 1
 
 -- ---- the command that was found
 
@@ -41,7 +41,7 @@ HasApplet words P = (site : AppletSite) × (applet_site 1 words ≡ Ok site) × 
 -- P holds of the start that was found, and of what was read behind it
 abbrev pub HasReading : List (List ℕ) → (Start → Reading → Type 0) → Type 0
 HasReading words P =
-    (start : Start) × (line_start words ≡ Ok start) × P start (reading_behind start words)
+    (start : Start) × (line_start words ≡ Ok start) × P start (reading_after_applet start words)
 
 -- P holds of what the option that a word spells means
 abbrev pub HasMeaning : Applet → List ℕ → (Meaning → Type 0) → Type 0
@@ -61,7 +61,7 @@ abbrev pub HasValue : Start → Reading → List ℕ → (ValueRule → List ℕ
 HasValue start reading word P =
     ((rule : ValueRule) × (reading.state.awaiting ≡ Some rule) × P rule word)
     ⊎ HasMeaning start.applet word (λ meaning. (rule : ValueRule) × (text : List ℕ)
-    × (meaning ≡ Value rule) × (held_value word ≡ Some text) × P rule text)
+    × (meaning ≡ Value rule) × (attached_value word ≡ Some text) × P rule text)
 
 -- P holds of the rule of the operands
 abbrev pub HasOperandRule : List (List ℕ) → Start → (OperandRule → Type 0) → Type 0
@@ -73,7 +73,7 @@ HasOperandRule words start P =
 -- a reason that words are a usage error at a place is so
 abbrev pub IsUsageReason : UsageReason → List (List ℕ) → ℕ → Type 0
 IsUsageReason CommandMissing words place =
-    IsEnd words place × IsTrue (not (is_ok (applet_site 1 words)))
+    IsAfterLastWord words place × IsTrue (not (is_ok (applet_site 1 words)))
 IsUsageReason CommandUnknown words place = HasWordAt words place (λ word. applet_of word ≡ None)
 IsUsageReason OptionEarly words place =
     HasWordAt words place (λ word. IsTrue (is_option word) × IsTrue (not (is_early word)))
@@ -83,7 +83,7 @@ IsUsageReason OptionUnknown words place =
 IsUsageReason ValueGiven words place =
     HasWordAt words place (λ word. HasReading words (λ start reading.
     HasMeaning start.applet word (λ meaning. rule_in meaning ≡ None)
-    × IsTrue (is_some (held_value word))))
+    × IsTrue (is_some (attached_value word))))
 IsUsageReason OptionRepeated words place =
     HasWordAt words place (λ word. HasReading words (λ start reading. (rule : ValueRule)
     × IsTrue rule.single × IsTrue (is_given rule.letter reading.state.values)
@@ -93,7 +93,8 @@ IsUsageReason SecondKind words place =
     × IsTrue (has_kind reading.state.flags) × (has_flag flag reading.state.flags ≡ false)
     × HasMeaning start.applet word (λ meaning. meaning ≡ Kind flag)))
 IsUsageReason ValueMissing words place =
-    IsEnd words place × HasReading words (λ start reading. IsTrue (is_some reading.state.awaiting))
+    IsAfterLastWord words place × HasReading words (λ start reading. IsTrue (is_some
+    reading.state.awaiting))
 IsUsageReason (ValueBad kind) words place =
     HasWordAt words place (λ word. HasReading words (λ start reading.
     HasValue start reading word (λ rule text. (rule.kind ≡ kind) × (is_value kind text ≡ false))))
@@ -107,10 +108,10 @@ IsUsageReason (OperandBad kind) words place =
     HasWordAt words place (λ word. HasReading words (λ start reading.
     HasOperandRule words start (λ rule. (rule.kind ≡ kind) × (is_of_kind kind word ≡ false))))
 IsUsageReason (OperandMissing kind) words place =
-    IsEnd words place × HasReading words (λ start reading. HasOperandRule words start (λ rule.
+    IsAfterLastWord words place × HasReading words (λ start reading. HasOperandRule words start (λ rule.
     (rule.kind ≡ kind) × (length reading.operands < rule.least)))
 IsUsageReason KindMissing words place =
-    IsEnd words place × HasReading words (λ start reading. line_rule words start ≡ None)
+    IsAfterLastWord words place × HasReading words (λ start reading. line_rule words start ≡ None)
 IsUsageReason OptionMissing words place =
-    IsEnd words place × HasReading words (λ start reading. (letter : ℕ)
+    IsAfterLastWord words place × HasReading words (λ start reading. (letter : ℕ)
     × (needed_option start.applet ≡ Some letter) × (is_given letter reading.state.values ≡ false))

@@ -8,7 +8,7 @@ use Rattle.command_core.specs.declared.command.Flags.{Flags}
 use Rattle.command_core.specs.Sound.{may_have, value_rules, are_values}
 use Rattle.words_core.specs.declared.reading.OptionState.{OptionState}
 use Rattle.words_core.specs.declared.reading.Reading.{Reading}
-use Rattle.words_core.specs.Grammar.{held_value, option_name, rule_in, with_spec}
+use Rattle.words_core.specs.Grammar.{attached_value, option_name, rule_in, with_spec}
 use Rattle.words_core.specs.Options.{OptionSpec, option_spelled, options_of}
 
 -- a step of the reader: a word that is read gives the new state, and one that cannot be read leaves the
@@ -34,7 +34,7 @@ has_no_values applet = list_all is_plain_option (options_of applet)
 -- flags with the option that a word spells; None if it spells none, holds a value, or is a second kind
 abbrev pub flags_spelled : List OptionSpec → Flags → List ℕ → Option Flags
 flags_spelled options flags word =
-    if is_some (held_value word) then None else
+    if is_some (attached_value word) then None else
     option_and_then (with_spec flags) (option_spelled options (option_name word))
 
 -- whether the operands of an applet are others under other flags

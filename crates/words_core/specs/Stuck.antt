@@ -16,14 +16,14 @@ use Rattle.command_core.specs.Values.{lacks_value, script_type, script_types}
 use Rattle.words_core.specs.declared.reading.AppletSite.{AppletSite}
 use Rattle.words_core.specs.declared.reading.OptionState.{OptionState}
 use Rattle.words_core.specs.declared.reading.Start.{Start}
-use Rattle.words_core.specs.Grammar.{applet_site, command_of, early_flags, is_end, is_option, reading_behind, rule_behind, start_from}
+use Rattle.words_core.specs.Grammar.{applet_site, command_of, early_flags, is_double_dash, is_option, reading_after_applet, awaited_rule, start_from}
 use Rattle.words_core.specs.Options.{OptionSpec, applets, options_of}
 
 -- ---- before the applet
 
 -- whether the words before an applet are its own options
-abbrev pub suit : List (List ℕ) → Applet → Bool
-suit words applet = is_ok (early_flags (options_of applet) no_flags 1 words)
+abbrev pub are_options_of : List (List ℕ) → Applet → Bool
+are_options_of words applet = is_ok (early_flags (options_of applet) no_flags 1 words)
 
 -- ---- after the applet
 
@@ -33,8 +33,8 @@ abbrev pub have_ended : List OptionSpec → Option ValueRule → List (List ℕ)
 have_ended options rule [] = false
 have_ended options (Some rule) (word ∷ words) = have_ended options None words
 have_ended options None (word ∷ words) =
-    if is_end word then true else
-    if is_option word then have_ended options (rule_behind options word) words else
+    if is_double_dash word then true else
+    if is_option word then have_ended options (awaited_rule options word) words else
     have_ended options None words
 
 -- whether an option is missing: one that selects the kind of the command, or the one that must be given
@@ -62,7 +62,7 @@ awaits_none (Some rule) values = is_full rule.kind rule.letter values
 -- be the awaited value
 abbrev pub is_stuck : List (List ℕ) → Start → Bool
 is_stuck words start =
-    let state = (reading_behind start words).state in
+    let state = (reading_after_applet start words).state in
     ((start.ended || have_ended (options_of start.applet) None (drop start.read words))
     && lacks_option start.applet state)
     || awaits_none state.awaiting state.values
@@ -76,7 +76,8 @@ is_stuck_by words (Ok start) = is_stuck words start
 -- whether words are stuck, by the site of their applet; if none was found they are stuck exactly if
 -- `--` has ended the options, and no applet has all of those before it
 abbrev pub are_stuck_by : List (List ℕ) → Result AppletSite ℕ → Bool
-are_stuck_by words (Err place) = list_any is_end words && not (list_any (suit words) applets)
+are_stuck_by words (Err place) = list_any is_double_dash words && not (list_any (are_options_of words)
+    applets)
 are_stuck_by words (Ok site) = is_stuck_by words (start_from words (Ok site))
 
 -- whether words are stuck: they are no command, and no words after them make them one

@@ -22,7 +22,7 @@ use Rattle.words_core.specs.declared.reading.AppletSite.{AppletSite}
 use Rattle.words_core.specs.declared.reading.Start.{Start}
 use Rattle.words_core.specs.declared.usage.UsageReason.{UsageReason}
 use Rattle.words_core.specs.declared.usage.UsageReason.TheVariants.{CommandMissing, CommandUnknown, OptionEarly, OptionUnknown, OptionRepeated, SecondKind, ValueGiven, ValueMissing, ValueBad, ScriptRepeated, TooManyOperands, OperandBad, OperandMissing, KindMissing, OptionMissing}
-use Rattle.words_core.specs.Grammar.{applet_site, held_value, is_end, is_option, line_start, next_after, option_name, reading_behind}
+use Rattle.words_core.specs.Grammar.{applet_site, attached_value, is_double_dash, is_option, line_start, next_after, option_name, reading_after_applet}
 use Rattle.words_core.specs.HelpTexts.{program_usage}
 use Rattle.words_core.specs.Options.{OptionSpec, applet_word, option_spelled, options_of}
 
@@ -49,7 +49,7 @@ meaning_reason None (Value rule) = OptionRepeated
 -- why a word is no option of the command, by the option that it spells, if it spells one
 abbrev pub option_reason : List ℕ → Option OptionSpec → UsageReason
 option_reason word None = OptionUnknown
-option_reason word (Some option) = meaning_reason (held_value word) option.meaning
+option_reason word (Some option) = meaning_reason (attached_value word) option.meaning
 
 -- why a word is no operand: it is none of the kind that the command takes, or one too many
 abbrev pub operand_reason : List ℕ → Option OperandRule → UsageReason
@@ -62,7 +62,7 @@ abbrev pub word_reason : Option OperandRule → List ℕ → NextWord → UsageR
 word_reason rule word OptionOrCommand = OptionUnknown
 word_reason rule word CommandAlone = CommandUnknown
 word_reason rule word (OptionOrOperand applet) =
-    if is_option word && not (is_end word) then
+    if is_option word && not (is_double_dash word) then
     option_reason word (option_spelled (options_of applet) (option_name word)) else
     operand_reason word rule
 word_reason rule word (NextValue applet value) = value_reason value word
@@ -99,7 +99,7 @@ early_reason (Ok site) next word = OptionUnknown
 
 -- the operands of the command that was found, under all flags that are read
 abbrev pub line_rule : List (List ℕ) → Start → Option OperandRule
-line_rule words start = operand_rule start.applet (reading_behind start words).state.flags
+line_rule words start = operand_rule start.applet (reading_after_applet start words).state.flags
 
 -- why a place offends, by the start that was found in the words
 abbrev pub reason_from : List (List ℕ) → ℕ → Result Start ℕ → UsageReason

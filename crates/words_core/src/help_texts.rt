@@ -1,7 +1,7 @@
 //! The texts of `--help` and `--version`, put together from the rows of `help_rows`. The texts are
 //! shown in `docs/commands.md`, "Help".
 ghost use Rattle.std.specs.Prelude.{◌≡◌, ◌≤◌, ◌++◌, IfOk, OnOk, codes, map};
-ghost use Rattle.words_core.specs.HelpTexts.{command_help, command_line, commands_text, common_text, first_steps, help_text, line_text, lines_text, program_help, program_usage, section_text, spaces_after, topic_of, usage_line, usage_text, version_line};
+ghost use Rattle.words_core.specs.HelpTexts.{command_help, command_line, commands_text, common_text, first_steps, help_text, line_text, lines_text, program_help, program_usage, section_text, spaces_after, topic_of, usage_line, usage_lines_after, version_line};
 ghost use Rattle.words_core.specs.Rows.{help_row_line};
 
 use crate::help_rows::{
@@ -143,7 +143,7 @@ fn push_command_help(text: &mut Vec<u8>, applet: Applet) -> Result<(), AllocErro
 // Adds how a command is called, a line each.
 fn push_usage(text: &mut Vec<u8>, lines: &[&[u8]]) -> Result<(), AllocError>
     ensures { OnOk result (text.new.items ≡ text.old.items
-        ++ usage_text (codes "usage: ") (map (λ line. line.now) lines.now)) }
+        ++ usage_lines_after (codes "usage: ") (map (λ line. line.now) lines.now)) }
 {
     let mut front = b"usage: ";
     for i in 0..lines.len() {

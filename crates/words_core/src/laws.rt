@@ -64,7 +64,7 @@ pub fn stuck_words_are_no_command()
 /// If words follow a command, a usage error is after the command, not at one of its words. The
 /// exception is `info` without a kind that can still follow: `info a b` is a command, and `info a b
 /// -W` is refused at `b`.
-pub fn what_follows_a_command_offends_behind_it()
+pub fn what_follows_a_command_offends_after_it()
     ensures { (words more : List (List ℕ)) (command : CommandLine) (place : ℕ) →
         IsTrue (not (can_get_kind words)) → command_of words ≡ Ok command →
         command_of (words ++ more) ≡ Err place → length words < place }
@@ -75,17 +75,18 @@ pub fn letters_are_those_of_short_words()
     ensures { (applet : Applet) → IsTrue (list_all has_its_letter (own_options applet)) }
 {}
 
-/// The reason that the line after a usage error gives is so, of the word at the place or of the words
-/// before it.
+/// The reason that the line after a usage error gives is so, of the word at the place or of the
+/// words before it.
 pub fn a_reason_is_so()
     ensures { (words : List (List ℕ)) (place : ℕ) → command_of words ≡ Err place →
         IsUsageReason (usage_reason words place) words place }
 {}
 
-/// The help of a command explains each option of it, in the order of the table of options, and nothing
-/// else.
+/// The help of a command explains each option of it, in the order of the table of options, and
+/// nothing else.
 pub fn help_explains_each_option()
-    ensures own { (applet : Applet) → IsTrue (are_help_of (option_help applet) (own_options applet)) }
+    ensures own { (applet : Applet) → IsTrue (are_help_of (option_help applet) (own_options
+        applet)) }
     ensures common { IsTrue (are_help_of common_help (common_options ++ asking_options)) }
     ensures listed { IsTrue (are_listed applets) }
 {}

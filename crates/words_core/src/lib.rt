@@ -23,7 +23,7 @@ pub use help_texts::{help, version_line};
 pub use laws::{
     a_reason_is_so, commands_are_read, help_explains_each_option, letters_are_those_of_short_words,
     read_words_are_a_command, stuck_words_are_no_command, usage_errors_are_at_words,
-    what_follows_a_command_offends_behind_it, words_before_a_usage_error_can_be_completed,
+    what_follows_a_command_offends_after_it, words_before_a_usage_error_can_be_completed,
     words_offend_whatever_follows,
 };
 pub use read::{WordsFault, read_words};

@@ -1,12 +1,12 @@
 //! What the next word of a command line can be, and what a word asks for if an option can be there:
 //! help, or the version of the program. The rules are in `docs/commands.md`, "Words" and "Help".
 ghost use Rattle.std.specs.Prelude.{◌≡◌, ◌+◌, ◌≤◌, IsTrue, length, take};
-ghost use Rattle.words_core.specs.Grammar.{asked_at, is_option, next_after, next_word, rule_behind, takes_option};
+ghost use Rattle.words_core.specs.Grammar.{asked_at, is_option, next_after, next_word, awaited_rule, takes_option};
 ghost use Rattle.words_core.specs.Options.{options_of};
 ghost use Rattle.words_core.specs.declared.next.NextWord.TheVariants.{OptionOrCommand, OptionOrOperand};
 
 use crate::options::{applet_of, asked_by, option_spelled};
-use crate::word::{held_value, is_end, is_option, option_name};
+use crate::word::{attached_value, is_double_dash, is_option, option_name};
 use base_core::Words;
 use command_core::{Applet, ValueRule};
 
@@ -60,7 +60,7 @@ impl NextWord {
 fn after_start(word: &[u8]) -> NextWord
     ensures { result ≡ next_word OptionOrCommand word.now }
 {
-    if is_end(word) {
+    if is_double_dash(word) {
         return NextWord::Command;
     }
     if is_option(word) {
@@ -76,24 +76,24 @@ fn after_start(word: &[u8]) -> NextWord
 fn after_applet(applet: Applet, word: &[u8]) -> NextWord
     ensures { result ≡ next_word (OptionOrOperand applet) word.now }
 {
-    if is_end(word) {
+    if is_double_dash(word) {
         return NextWord::Operand(applet);
     }
     if !is_option(word) {
         return NextWord::OptionOrOperand(applet);
     }
-    match rule_behind(applet, word) {
+    match awaited_rule(applet, word) {
         Some(rule) => NextWord::Value(applet, rule),
         None => NextWord::OptionOrOperand(applet),
     }
 }
 
 // The rule of the option that a word spells, if its value is the next word.
-fn rule_behind(applet: Applet, word: &[u8]) -> Option<ValueRule>
+fn awaited_rule(applet: Applet, word: &[u8]) -> Option<ValueRule>
     requires { IsTrue (is_option word.now) }
-    ensures { result ≡ rule_behind (options_of applet) word.now }
+    ensures { result ≡ awaited_rule (options_of applet) word.now }
 {
-    if held_value(word).is_some() {
+    if attached_value(word).is_some() {
         return None;
     }
     match option_spelled(applet, option_name(word)) {

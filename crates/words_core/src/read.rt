@@ -3,14 +3,14 @@
 ghost use Rattle.std.specs.Prelude.{◌≡◌, IfOk, IfErr, IsTrue, OnErr};
 ghost use Rattle.std.specs.Result.{is_ok};
 ghost use Rattle.command_core.specs.Sound.{is_command};
-ghost use Rattle.words_core.specs.Faults.{IsBehindApplet, IsWordsFault};
+ghost use Rattle.words_core.specs.Faults.{IsAfterApplet, IsWordsFault};
 ghost use Rattle.words_core.specs.Grammar.{applet_site, asked_command, command_of, line_command, line_start, topic_at, verdict};
 ghost use Rattle.words_core.specs.Steps.{IsSoundReading};
 
 use crate::next::asked_at;
 use crate::options::applet_word;
-use crate::reading::{Reading, find_applet, read_behind, read_start};
-use crate::word::place_behind;
+use crate::reading::{Reading, find_applet, read_after_applet, read_start};
+use crate::word::place_after_word;
 use base_core::Words;
 use command_core::{Applet, Command, Flags, Operands, Values};
 use std::alloc::{AllocError, Global};
@@ -47,7 +47,7 @@ impl From<AllocError> for WordsFault {
 pub fn read_words(alloc: Global, words: &Words) -> Result<Command, WordsFault>
     ensures ok { IfOk result (λ command. command_of words.now ≡ Ok command) }
     ensures usage { IfErr result (λ fault. IsWordsFault fault (command_of words.now)) }
-    ensures memory { IfErr result (λ fault. IsBehindApplet fault (line_start words.now)) }
+    ensures memory { IfErr result (λ fault. IsAfterApplet fault (line_start words.now)) }
 {
     match read_line(alloc, words) {
         Ok(command) => Ok(command),
@@ -62,7 +62,7 @@ fn read_asked(alloc: Global, words: &Words, place: u32) -> Result<Command, Words
     requires { line_command words.now ≡ Err place }
     ensures ok { IfOk result (λ command. command_of words.now ≡ Ok command) }
     ensures usage { IfErr result (λ fault. IsWordsFault fault (command_of words.now)) }
-    ensures memory { IfErr result (λ fault. IsBehindApplet fault (line_start words.now)) }
+    ensures memory { IfErr result (λ fault. IsAfterApplet fault (line_start words.now)) }
 {
     let Some(applet) = asked_at(words, place) else {
         return Err(WordsFault::Usage { place });
@@ -88,7 +88,7 @@ fn asked_command(alloc: Global, words: &Words, applet: Applet) -> Result<Command
         Flags::none(),
         operands,
         Values::new(alloc),
-        place_behind(words.len()),
+        place_after_word(words.len()),
     ))
 }
 
@@ -101,7 +101,7 @@ fn topic(alloc: Global, words: &Words) -> Result<Operands, AllocError>
     let Ok(site) = find_applet(words) else {
         return Ok(operands);
     };
-    operands.push(place_behind(site.read - 1), applet_word(site.applet))?;
+    operands.push(place_after_word(site.read - 1), applet_word(site.applet))?;
     Ok(operands)
 }
 
@@ -110,14 +110,14 @@ fn topic(alloc: Global, words: &Words) -> Result<Operands, AllocError>
 fn read_line(alloc: Global, words: &Words) -> Result<Command, WordsFault>
     ensures ok { IfOk result (λ command. line_command words.now ≡ Ok command) }
     ensures usage { IfErr result (λ fault. IsWordsFault fault (line_command words.now)) }
-    ensures memory { IfErr result (λ fault. IsBehindApplet fault (line_start words.now)) }
+    ensures memory { IfErr result (λ fault. IsAfterApplet fault (line_start words.now)) }
 {
     let start = match read_start(words) {
         Ok(start) => start,
         Err(place) => return Err(WordsFault::Usage { place }),
     };
-    let reading = read_behind(alloc, words, &start)?;
-    judge(start.applet, reading, place_behind(words.len()))
+    let reading = read_after_applet(alloc, words, &start)?;
+    judge(start.applet, reading, place_after_word(words.len()))
 }
 
 // The command that was read, or the first wrong place: an operand that is not taken, the word that

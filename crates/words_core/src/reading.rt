@@ -6,12 +6,14 @@ ghost use Rattle.std.specs.Option.{option_map};
 ghost use Rattle.command_core.specs.Applets.{needed_option};
 ghost use Rattle.command_core.specs.Flags.{no_flags};
 ghost use Rattle.command_core.specs.Values.{lacks_value};
-ghost use Rattle.words_core.specs.Grammar.{applet_site, early_flags, first_state, is_option, is_option_or_value, line_start, operands_of, option_reading, reading_behind, reading_by, reading_end, site_at, site_behind_end, with_flags, with_meaning, with_meaning_at, with_rule, with_spelled, with_value, with_word};
+ghost use Rattle.words_core.specs.Grammar.{applet_site, early_flags, first_state, is_option, is_option_or_value, line_start, operands_of, option_reading, reading_after_applet, reading_by, reading_end, site_at, site_after_end, with_flags, with_meaning, with_meaning_at, with_rule, with_spelled, with_value, with_word};
 ghost use Rattle.words_core.specs.Options.{options_of};
 ghost use Rattle.words_core.specs.Steps.{IsReadingStep};
 
 use crate::options::{Meaning, applet_of, is_early, option_spelled, with_option};
-use crate::word::{MOST_PLACES, held_value, is_end, is_option, option_name, place_behind};
+use crate::word::{
+    MOST_PLACES, attached_value, is_double_dash, is_option, option_name, place_after_word,
+};
 use base_core::Words;
 use command_core::{Applet, Flags, Operands, ValueRule, Values};
 use std::alloc::{AllocError, Global};
@@ -62,27 +64,27 @@ pub(crate) fn find_applet(words: &Words) -> Result<AppletSite, u32>
 {
     for i in 0..words.len() {
         let word = words.word(i);
-        if is_end(word) {
-            return applet_behind_end(words, i + 1);
+        if is_double_dash(word) {
+            return applet_after_end(words, i + 1);
         }
         if !is_option(word) {
             return applet_at(word, false, i);
         }
         if !is_early(word) {
-            return Err(place_behind(i));
+            return Err(place_after_word(i));
         }
     }
-    Err(place_behind(words.len()))
+    Err(place_after_word(words.len()))
 }
 
 // The applet that the first word after `--` names, if this many words are read.
-#[tactic(auto, unfolding(crate::specs::Grammar::site_behind_end), using(crate::proofs::OneMore::left_at))]
-fn applet_behind_end(words: &Words, before: usize) -> Result<AppletSite, u32>
+#[tactic(auto, unfolding(crate::specs::Grammar::site_after_end), using(crate::proofs::OneMore::left_at))]
+fn applet_after_end(words: &Words, before: usize) -> Result<AppletSite, u32>
     requires { before ≤ length words.now }
-    ensures { result ≡ site_behind_end (before + 1) (drop before words.now) }
+    ensures { result ≡ site_after_end (before + 1) (drop before words.now) }
 {
     if before == words.len() {
-        return Err(place_behind(before));
+        return Err(place_after_word(before));
     }
     applet_at(words.word(before), true, before)
 }
@@ -99,7 +101,7 @@ fn applet_at(word: &[u8], ended: bool, before: usize) -> Result<AppletSite, u32>
             ended,
             read: before + 1,
         }),
-        None => Err(place_behind(before)),
+        None => Err(place_after_word(before)),
     }
 }
 
@@ -114,12 +116,12 @@ fn read_early(words: &Words, site: &AppletSite) -> Result<Flags, u32>
     let mut flags = Flags::none();
     for i in 0..site.read - 1 {
         let word = words.word(i);
-        if is_end(word) {
+        if is_double_dash(word) {
             return Ok(flags);
         }
         match with_option(flags, option_spelled(site.applet, word)) {
             Some(more) => flags = more,
-            None => return Err(place_behind(i)),
+            None => return Err(place_after_word(i)),
         }
     }
     Ok(flags)
@@ -152,7 +154,7 @@ impl OptionState {
     fn expects(&self, word: &[u8]) -> bool
         ensures { result ≡ is_option_or_value self.now word.now }
     {
-        self.awaiting.is_some() || (is_option(word) && !is_end(word))
+        self.awaiting.is_some() || (is_option(word) && !is_double_dash(word))
     }
 
     // Reads the word at a place: the awaited value, or an option. Returns false if the word cannot
@@ -186,7 +188,7 @@ impl OptionState {
             (options_of applet) self.old place word.now)) }
     {
         match option_spelled(applet, option_name(word)) {
-            Some(option) => self.read_meaning(place, held_value(word), option.meaning),
+            Some(option) => self.read_meaning(place, attached_value(word), option.meaning),
             None => Ok(false),
         }
     }
@@ -308,14 +310,14 @@ impl Reading {
 }
 
 /// Reads the words after the applet, up to the first that cannot be read.
-#[tactic(auto, unfolding(crate::specs::Grammar::reading_behind))]
-pub(crate) fn read_behind(
+#[tactic(auto, unfolding(crate::specs::Grammar::reading_after_applet))]
+pub(crate) fn read_after_applet(
     alloc: Global,
     words: &Words,
     start: &Start,
 ) -> Result<Reading, AllocError>
     requires { start.now.read ≤ length words.now }
-    ensures { IfOk result (λ reading. reading ≡ reading_behind start.now words.now) }
+    ensures { IfOk result (λ reading. reading ≡ reading_after_applet start.now words.now) }
 {
     if !start.ended {
         return read_options(alloc, words, start);
@@ -337,18 +339,18 @@ fn read_options(alloc: Global, words: &Words, start: &Start) -> Result<Reading, 
     for i in start.read..words.len() {
         let word = words.word(i);
         if state.expects(word) {
-            if state.read_word(start.applet, place_behind(i), word)? {
+            if state.read_word(start.applet, place_after_word(i), word)? {
                 continue;
             }
-            return Ok(Reading::up_to(place_behind(i), state, operands));
+            return Ok(Reading::up_to(place_after_word(i), state, operands));
         }
-        if is_end(word) {
+        if is_double_dash(word) {
             add_operands(&mut operands, words, i + 1)?;
             return Ok(Reading::whole(state, operands));
         }
-        operands.push(place_behind(i), word)?;
+        operands.push(place_after_word(i), word)?;
     }
-    Ok(Reading::ended(place_behind(words.len()), state, operands))
+    Ok(Reading::ended(place_after_word(words.len()), state, operands))
 }
 
 // Adds each word after the first ones, this many of them, as an operand.
@@ -358,7 +360,7 @@ fn add_operands(operands: &mut Operands, words: &Words, before: usize) -> Result
         ++ operands_of (before + 1) (drop before words.now)) }
 {
     for i in before..words.len() {
-        operands.push(place_behind(i), words.word(i))?;
+        operands.push(place_after_word(i), words.word(i))?;
     }
     Ok(())
 }

@@ -4,7 +4,7 @@ ghost use Rattle.std.specs.Prelude.{◌≡◌, ◌-◌, ◌+◌, ◌<◌, ◌≤
 ghost use Rattle.std.specs.Option.{option_map};
 ghost use Rattle.base_core.specs.Sink.{sink_change};
 ghost use Rattle.base_core.specs.Write.{Writes};
-ghost use Rattle.words_core.specs.Grammar.{applet_site, first_state, is_option, line_start, next_after, option_reading, reading_behind};
+ghost use Rattle.words_core.specs.Grammar.{applet_site, first_state, is_option, line_start, next_after, option_reading, reading_after_applet};
 ghost use Rattle.words_core.specs.Options.{options_of};
 ghost use Rattle.words_core.specs.Rows.{option_spec};
 ghost use Rattle.words_core.specs.Steps.{asks_flags, flags_spelled, has_no_values};
@@ -16,7 +16,7 @@ use crate::next::{NextWord, next_after};
 use crate::options::{Meaning, OptionRow, applet_word, option_spelled, with_option};
 use crate::reading::{Start, find_applet, read_start};
 use crate::usage_texts::{reason_kind, reason_text};
-use crate::word::{held_value, is_end, is_option, option_name};
+use crate::word::{attached_value, is_double_dash, is_option, option_name};
 use base_core::{Sink, SinkFault, Words, write_all};
 use command_core::{Applet, Flags, OperandKind, OperandRule, ValueKind, ValueRule};
 use itoa::Buffer;
@@ -176,7 +176,7 @@ fn free_reason(applet: Applet, rule: Option<OperandRule>, word: &[u8]) -> UsageR
     if !is_option(word) {
         return operand_reason(word, rule);
     }
-    if is_end(word) {
+    if is_double_dash(word) {
         return operand_reason(word, rule);
     }
     option_reason(word, option_spelled(applet, option_name(word)))
@@ -187,7 +187,7 @@ fn option_reason(word: &[u8], option: Option<OptionRow>) -> UsageReason
     ensures { result ≡ option_reason word.now (option_map option_spec option) }
 {
     match option {
-        Some(option) => meaning_reason(held_value(word), option.meaning),
+        Some(option) => meaning_reason(attached_value(word), option.meaning),
         None => UsageReason::OptionUnknown,
     }
 }
@@ -253,11 +253,11 @@ fn asks_flags(applet: Applet) -> bool
 }
 
 // The flags that are read, if no option of the command has values.
-#[tactic(auto, unfolding(crate::specs::Grammar::reading_behind))]
+#[tactic(auto, unfolding(crate::specs::Grammar::reading_after_applet))]
 fn read_flags(words: &Words, start: &Start) -> Flags
     requires read { start.now.read ≤ length words.now }
     requires plain { IsTrue (has_no_values start.now.applet) }
-    ensures { result ≡ (reading_behind start.now words.now).state.flags }
+    ensures { result ≡ (reading_after_applet start.now words.now).state.flags }
 {
     if start.ended {
         return start.flags;
@@ -276,7 +276,7 @@ fn flags_behind(words: &Words, start: &Start) -> Flags
     let mut flags = start.flags;
     for i in start.read..words.len() {
         let word = words.word(i);
-        if is_end(word) {
+        if is_double_dash(word) {
             return flags;
         }
         if !is_option(word) {
@@ -296,7 +296,7 @@ fn flags_with(applet: Applet, flags: Flags, word: &[u8]) -> Option<Flags>
     requires { IsTrue (is_option word.now) }
     ensures { result ≡ flags_spelled (options_of applet) flags word.now }
 {
-    if held_value(word).is_some() {
+    if attached_value(word).is_some() {
         return None;
     }
     with_option(flags, option_spelled(applet, option_name(word)))

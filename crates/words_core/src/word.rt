@@ -4,7 +4,7 @@
 ghost use Rattle.std.specs.Prelude.{◌≡◌, ◌+◌, ◌==◌, ◌<◌, IsTrue, drop};
 ghost use Rattle.std.specs.List.{position};
 ghost use Rattle.std.specs.Option.{option_map};
-ghost use Rattle.words_core.specs.Grammar.{held_value, is_end, is_option, option_name};
+ghost use Rattle.words_core.specs.Grammar.{attached_value, is_double_dash, is_option, option_name};
 
 /// 2^32 - 1: places count from 1 in 32 bits, and the one after the last word needs one too, so that
 /// this many words are too many (`docs/commands.md`, "Answers and statuses").
@@ -22,8 +22,8 @@ pub(crate) fn is_option(word: &[u8]) -> bool
 }
 
 /// Whether a word is `--`, after which there are no options.
-pub(crate) fn is_end(word: &[u8]) -> bool
-    ensures { result ≡ is_end word.now }
+pub(crate) fn is_double_dash(word: &[u8]) -> bool
+    ensures { result ≡ is_double_dash word.now }
 {
     word == b"--".as_slice()
 }
@@ -53,9 +53,9 @@ pub(crate) fn option_name(word: &[u8]) -> &[u8]
 
 /// The value that an option's word holds: the part after the first `=` of a long one, and after the
 /// letter of a short one.
-#[tactic(auto, unfolding(crate::specs::Grammar::held_value))]
-pub(crate) fn held_value(word: &[u8]) -> Option<&[u8]>
-    ensures { option_map (λ text. text.now) result ≡ held_value word.now }
+#[tactic(auto, unfolding(crate::specs::Grammar::attached_value))]
+pub(crate) fn attached_value(word: &[u8]) -> Option<&[u8]>
+    ensures { option_map (λ text. text.now) result ≡ attached_value word.now }
 {
     if word.starts_with(b"--".as_slice()) {
         return long_value(word);
@@ -78,7 +78,7 @@ fn long_value(word: &[u8]) -> Option<&[u8]>
 }
 
 /// The place of a word, counted from 1, if this many words precede it.
-pub(crate) fn place_behind(before: usize) -> u32
+pub(crate) fn place_after_word(before: usize) -> u32
     requires { before < MOST_PLACES }
     ensures { result ≡ before + 1 }
 {

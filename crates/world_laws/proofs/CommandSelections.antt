@@ -17,7 +17,7 @@ use Rattle.dep_core.specs.Dependency.{Dependency}
 use Rattle.engine_core.specs.Changed.{Selected, selected_by, selected_for, selected_of_inputs}
 use Rattle.engine_core.specs.Choice.{IsChoiceFrom}
 use Rattle.engine_core.specs.Selecting.{pool_by, pool_for, replacement_of_choice}
-use Rattle.engine_core.specs.Wishes.{names_to_reinstall, names_to_upgrade, operand_texts, unknown_place, unless_place}
+use Rattle.engine_core.specs.Wishes.{names_to_reinstall, names_to_upgrade, operand_texts, unknown_operand_place, unless_unknown_operand}
 use Rattle.make_info.specs.Reads.{Reads}
 use Rattle.package_changes.specs.Placed.{candidates_at}
 use Rattle.report_core.specs.declared.refusal.Refusal.{Refusal}
@@ -88,7 +88,7 @@ module _ (command : CommandLine) (read : Reads) where
     pub world : pool.world ≡ s.inputs.root.new_world
 
   taken_by : (inputs : Inputs) (pool : SealedPool) (place : Option ℕ) (chosen : Option (List ℕ)) (s : Selected) → pool_by command inputs ≡ Ok pool
-      → IsChoiceFrom (Ok pool) chosen → unless_place place (selected_by command inputs pool chosen) ≡ Ok s → IsTaken s
+      → IsChoiceFrom (Ok pool) chosen → unless_unknown_operand place (selected_by command inputs pool chosen) ≡ Ok s → IsTaken s
   taken_by inputs pool (Some place) chosen s is choice e = absurd (cc (e))
   taken_by inputs pool None None s is choice e = absurd (cc (e))
   taken_by inputs pool None (Some trace) s is choice e =
@@ -107,9 +107,9 @@ module _ (command : CommandLine) (read : Reads) where
   taken : (chosen : Option (List ℕ)) (s : Selected) → IsChoiceFrom (pool_for command read) chosen → selected_for command read chosen ≡ Ok s → IsTaken s
   taken chosen s choice e =
       let inputs = and_then_ok (inputs_of command read) (selected_of_inputs command chosen) s e in
-      let pool = and_then_ok (pool_by command inputs.0) (λ pool. unless_place (unknown_place command.applet inputs.0 command.operands) (selected_by command inputs.0 pool chosen)) s inputs.2 in
+      let pool = and_then_ok (pool_by command inputs.0) (λ pool. unless_unknown_operand (unknown_operand_place command.applet inputs.0 command.operands) (selected_by command inputs.0 pool chosen)) s inputs.2 in
       let is : pool_for command read ≡ Ok pool.0 = ap (λ (r : Result Inputs Refusal). and_then r (pool_by command)) inputs.1 ∙ pool.1 in
-      taken_by inputs.0 pool.0 (unknown_place command.applet inputs.0 command.operands) chosen s pool.1 (subst (λ (r : Result SealedPool Refusal). IsChoiceFrom r chosen) is choice) pool.2
+      taken_by inputs.0 pool.0 (unknown_operand_place command.applet inputs.0 command.operands) chosen s pool.1 (subst (λ (r : Result SealedPool Refusal). IsChoiceFrom r chosen) is choice) pool.2
 
   pub satisfies : (chosen : Option (List ℕ)) (s : Selected) → IsChoiceFrom (pool_for command read) chosen → selected_for command read chosen ≡ Ok s
       → SatisfyWorld (candidates_of s.inputs) s.inputs.root.new_world s.replacement.selected

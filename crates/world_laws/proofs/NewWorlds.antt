@@ -19,7 +19,7 @@ use Rattle.dep_core.specs.World.{IsWorld, is_in_order, with_entry, without_name}
 use Rattle.dep_core.proofs.ReadOut.{read-out}
 use Rattle.dep_core.proofs.Worlds.{IsWorld-with_entry, IsWorld-without, cmp-equal, is_behind, lt-less, names_total}
 use Rattle.base_core.specs.ByteOrder.{bytes_cmp}
-use Rattle.world_laws.specs.NewWorld.{HoldsAdded, HoldsOthers, HoldsWhatWasAsked, IsAdded, IsAddedByNone, IsNoOperand}
+use Rattle.world_laws.specs.NewWorld.{HasAddedEntries, HasOtherEntries, HasRequestedEntries, IsAdded, IsAddedByNone, IsNoOperand}
 
 -- ---- order
 
@@ -46,21 +46,21 @@ other_greater : (a b : List ℕ) → bytes_cmp a b ≡ Greater → b ≢ a
 other_greater a b greater same = let e : Greater ≡ Equal = sym greater ∙ (ap (bytes_cmp a) same ∙ self a) in absurd (cc (e))
 
 -- no entry behind the first has its name
-pub behind_other : (e : Dependency) (rest : List Dependency) (x : Dependency) → is_in_order (e ∷ rest) ≡ true → IsIn x rest → bytes_cmp e.name x.name ≡ Less
-behind_other e rest x h here =
+pub after_other : (e : Dependency) (rest : List Dependency) (x : Dependency) → is_in_order (e ∷ rest) ≡ true → IsIn x rest → bytes_cmp e.name x.name ≡ Less
+after_other e rest x h here =
     let parts = and_parts (list_all (is_behind e.name) rest) (is_in_order rest) h in
     lt-less (bytes_cmp e.name x.name) (all_in (is_behind e.name) rest x parts.0 here)
 
 -- of two entries, one behind the other, only the second comes behind
 pub behind_first : (x y : Dependency) (a : List Dependency) → is_in_order (x ∷ a) ≡ true → IsIn y a → bytes_cmp y.name x.name ≡ Less → ⊥
 behind_first x y a h here less =
-    other_less y.name y.name (names_total.trans y.name x.name y.name less (behind_other x a y h here)) refl
+    other_less y.name y.name (names_total.trans y.name x.name y.name less (after_other x a y h here)) refl
 
 -- each entry of a world has another name than one that comes before its first
 before_other : (name : List ℕ) (e : Dependency) (rest : List Dependency) (x : Dependency) → bytes_cmp name e.name ≡ Less → is_in_order (e ∷ rest) ≡ true → IsIn x (e ∷ rest) → x.name ≢ name
 before_other name e rest x less h (inl is) = λ same. other_less name e.name less (ap (λ (d : Dependency). d.name) (sym is) ∙ same)
 before_other name e rest x less h (inr more) =
-    other_less name x.name (names_total.trans name e.name x.name less (behind_other e rest x h more))
+    other_less name x.name (names_total.trans name e.name x.name less (after_other e rest x h more))
 
 pub tail_in_order : (e : Dependency) (rest : List Dependency) → is_in_order (e ∷ rest) ≡ true → is_in_order rest ≡ true
 tail_in_order e rest h = (and_parts (list_all (is_behind e.name) rest) (is_in_order rest) h).1
@@ -81,7 +81,7 @@ entry_to d (e ∷ rest) x h here = by (bytes_cmp d.name e.name) refl here (entry
     by Less c (inr stood) more = inr (stood, before_other d.name e rest x c h stood)
     by Equal c (inl is) more = inl is
     by Equal c (inr stood) more =
-        inr (inr stood, λ same. other_less e.name x.name (behind_other e rest x h stood) (same ∙ cmp-equal d.name e.name c))
+        inr (inr stood, λ same. other_less e.name x.name (after_other e rest x h stood) (same ∙ cmp-equal d.name e.name c))
     by Greater c (inl is) more = inr (inl is, λ same. other_greater d.name e.name c (ap (λ (f : Dependency). f.name) (sym is) ∙ same))
     by Greater c (inr further) more = elim (more further) [
       | inl is ↦ inl is
@@ -140,7 +140,7 @@ added_to (o ∷ os) d (inl here) = record {
   front = [];
   operand = o;
   behind = os;
-  stands = refl;
+  located = refl;
   says = here.0;
   last = here.1;
 }
@@ -150,7 +150,7 @@ added_to (o ∷ os) d (inr more) =
       front = o ∷ further.front;
       operand = further.operand;
       behind = further.behind;
-      stands = ap (λ (l : List Operand). o ∷ l) further.stands;
+      located = ap (λ (l : List Operand). o ∷ l) further.located;
       says = further.says;
       last = further.last;
     }
@@ -160,7 +160,7 @@ added_at [] o behind d says last = inl (says, last)
 added_at (f ∷ front) o behind d says last = inr (added_at front o behind d says last)
 
 added_from : (os : List Operand) (d : Dependency) → IsAdded os d → AddedIn os d
-added_from os d a = subst (λ (l : List Operand). AddedIn l d) (sym a.stands) (added_at a.front a.operand a.behind d a.says a.last)
+added_from os d a = subst (λ (l : List Operand). AddedIn l d) (sym a.located) (added_at a.front a.operand a.behind d a.says a.last)
 
 -- what stands after `add`
 abbrev StandsAfter : List Operand → List Dependency → Dependency → Type 0
@@ -244,7 +244,7 @@ others_from (o ∷ os) w x stood none =
 
 -- ---- each applet
 
-holds_added : (os : List Operand) (w : List Dependency) → IsWorld w → HoldsAdded os w (world_with_operands os w)
+holds_added : (os : List Operand) (w : List Dependency) → IsWorld w → HasAddedEntries os w (world_with_operands os w)
 holds_added os w h = record {
   world = world_added os w h;
   entries = λ d. (
@@ -259,13 +259,13 @@ holds_added os w h = record {
   );
 }
 
-holds_others : (os : List Operand) (w : List Dependency) → IsWorld w → HoldsOthers os w (world_without_operands os w)
+holds_others : (os : List Operand) (w : List Dependency) → IsWorld w → HasOtherEntries os w (world_without_operands os w)
 holds_others os w h = record {
   world = world_left os w h;
   entries = λ d. (λ here. others_to os w d here, λ stood. others_from os w d stood.0 stood.1);
 }
 
-pub holds_asked : (applet : Applet) (os : List Operand) (w : List Dependency) → IsWorld w → HoldsWhatWasAsked applet os w (new_world applet os w)
+pub holds_asked : (applet : Applet) (os : List Operand) (w : List Dependency) → IsWorld w → HasRequestedEntries applet os w (new_world applet os w)
 holds_asked Applets.Add os w h = holds_added os w h
 holds_asked Applets.Del os w h = holds_others os w h
 holds_asked other os w h = refl

@@ -117,7 +117,7 @@ module _ (pool : SealedPool) (chosen : List ℕ) where
   further e deps d head f = record {
     front = e ∷ f.front;
     behind = f.behind;
-    stands = ap (λ (l : List Dependency). e ∷ l) f.stands;
+    located = ap (λ (l : List Dependency). e ∷ l) f.located;
     before = more_met e f.front head f.before;
     positive = f.positive;
     unmet = f.unmet;
@@ -147,7 +147,7 @@ module _ (pool : SealedPool) (chosen : List ℕ) where
         record {
           front = [];
           behind = deps;
-          stands = refl;
+          located = refl;
           before = λ d none. absurd none;
           positive = positive;
           unmet = unmet (entry e) m;
@@ -184,7 +184,7 @@ module _ (pool : SealedPool) (chosen : List ℕ) where
           front = [];
           choice = c;
           behind = cs;
-          stands = refl;
+          located = refl;
           before = λ k none. absurd none;
           first = first;
         },
@@ -196,7 +196,7 @@ module _ (pool : SealedPool) (chosen : List ℕ) where
           front = c ∷ f.front;
           choice = f.choice;
           behind = f.behind;
-          stands = ap (λ (l : List ℕ). c ∷ l) f.stands;
+          located = ap (λ (l : List ℕ). c ∷ l) f.located;
           before = each_more c f.front all f.before;
           first = f.first;
         },
@@ -214,7 +214,7 @@ module _ (pool : SealedPool) (chosen : List ℕ) where
       let applies : install_if_applies pool chosen a.candidate ≡ true =
       and_from (has_usable_install_if pool.world a.candidate) (list_all (λ (d : Dependency). is_met pool chosen (entry d)) a.candidate.install_if) a.usable
       (all_pass (λ (d : Dependency). is_met pool chosen (entry d)) a.candidate.install_if (λ d here. is_met_by (entry d) (a.applies d here))) in
-      let here = in_filter (install_if_applies pool chosen) a.candidate pool.candidates a.stands applies in
+      let here = in_filter (install_if_applies pool chosen) a.candidate pool.candidates a.located applies in
       let there : IsIn a.candidate.name (names_by_install_if pool chosen) = in_map (λ (c : Candidate). c.name) a.candidate (filter (install_if_applies pool chosen) pool.candidates) here in
       in_filter (λ n. is_unmet pool chosen (named n)) name (names_by_install_if pool chosen) (subst (λ (n : List ℕ). IsIn n (names_by_install_if pool chosen)) a.is_named there)
       (is_unmet_by (named name) a.unmet (is_met pool chosen (named name)) refl)
@@ -227,7 +227,7 @@ module _ (pool : SealedPool) (chosen : List ℕ) where
       let parts = and_parts (has_usable_install_if pool.world from.0) (list_all (λ (d : Dependency). is_met pool chosen (entry d)) from.0.install_if) there.1 in
       record {
         candidate = from.0;
-        stands = there.0;
+        located = there.0;
         is_named = sym from.2;
         usable = parts.0;
         applies = λ d at. met (entry d) (all_in (λ (e : Dependency). is_met pool chosen (entry e)) from.0.install_if d parts.1 at);

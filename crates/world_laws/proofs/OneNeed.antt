@@ -38,21 +38,21 @@ module _ (pool : SealedPool) (chosen : List ℕ) where
 
   one_unmet : (deps : List Dependency) (d e : Dependency) → IsFirstUnmet pool chosen deps d → IsFirstUnmet pool chosen deps e → d ≡ e
   one_unmet deps d e f g =
-      one_place IsDone f.front g.front d e f.behind g.behind (sym f.stands ∙ g.stands) f.before g.before (λ done. f.unmet (done f.positive)) (λ done. g.unmet (done g.positive))
+      one_place IsDone f.front g.front d e f.behind g.behind (sym f.located ∙ g.located) f.before g.before (λ done. f.unmet (done f.positive)) (λ done. g.unmet (done g.positive))
 
   not_met : (deps : List Dependency) (d : Dependency) → IsFirstUnmet pool chosen deps d → ¬ AreMetByChoices pool chosen deps
   not_met deps d f all =
-      f.unmet (all d (subst (λ (l : List Dependency). IsIn d l) (sym f.stands) (member_at f.front d f.behind)) f.positive)
+      f.unmet (all d (subst (λ (l : List Dependency). IsIn d l) (sym f.located) (member_at f.front d f.behind)) f.positive)
 
   one_choice : (d e : Dependency) → IsFirstOfChoices pool chosen chosen d → IsFirstOfChoices pool chosen chosen e → d ≡ e
   one_choice d e f g =
-      let same : f.choice ≡ g.choice = one_place (λ c. AreMetByChoices pool chosen (depends_at pool c)) f.front g.front f.choice g.choice f.behind g.behind (sym f.stands ∙ g.stands) f.before g.before
+      let same : f.choice ≡ g.choice = one_place (λ c. AreMetByChoices pool chosen (depends_at pool c)) f.front g.front f.choice g.choice f.behind g.behind (sym f.located ∙ g.located) f.before g.before
       (not_met (depends_at pool f.choice) d f.first) (not_met (depends_at pool g.choice) e g.first) in
       one_unmet (depends_at pool g.choice) d e (subst (λ (c : ℕ). IsFirstUnmet pool chosen (depends_at pool c) d) same f.first) g.first
 
   not_each : (d : Dependency) → IsFirstOfChoices pool chosen chosen d → ¬ AreMetOfEach pool chosen chosen
   not_each d f all =
-      not_met (depends_at pool f.choice) d f.first (all f.choice (subst (λ (l : List ℕ). IsIn f.choice l) (sym f.stands) (member_at f.front f.choice f.behind)))
+      not_met (depends_at pool f.choice) d f.first (all f.choice (subst (λ (l : List ℕ). IsIn f.choice l) (sym f.located) (member_at f.front f.choice f.behind)))
 
   one_name : (n m : List ℕ) → IsFirstByInstallIf pool chosen n → IsFirstByInstallIf pool chosen m → n ≡ m
   one_name n m f g =

@@ -6,8 +6,8 @@ use Rattle.command_core.specs.declared.command.Applet.TheVariants as Applets
 use Rattle.command_core.specs.declared.operands.Operand.{Operand}
 use Rattle.dep_core.specs.Dependency.{Dependency}
 use Rattle.dep_core.specs.World.{IsWorld, is_in_order}
-use Rattle.world_laws.specs.NewWorld.{HoldsWhatWasAsked}
-use Rattle.world_laws.proofs.NewWorlds.{behind_other, in_order, other_less, tail_in_order, behind_first}
+use Rattle.world_laws.specs.NewWorld.{HasRequestedEntries}
+use Rattle.world_laws.proofs.NewWorlds.{after_other, in_order, other_less, tail_in_order, behind_first}
 
 AllOf : List Dependency → List Dependency → Type 0
 AllOf a b = (d : Dependency) → IsIn d a → IsIn d b
@@ -15,14 +15,14 @@ AllOf a b = (d : Dependency) → IsIn d a → IsIn d b
 one_first : (x y : Dependency) (a b : List Dependency) → is_in_order (x ∷ a) ≡ true → is_in_order (y ∷ b) ≡ true → IsIn x (y ∷ b) → IsIn y (x ∷ a) → x ≡ y
 one_first x y a b h k (inl is) there = is
 one_first x y a b h k (inr here) (inl is) = sym is
-one_first x y a b h k (inr here) (inr there) = absurd (behind_first x y a h there (behind_other y b x k here))
+one_first x y a b h k (inr here) (inr there) = absurd (behind_first x y a h there (after_other y b x k here))
 
 tail_of : (x y : Dependency) (a b : List Dependency) → x ≡ y → is_in_order (x ∷ a) ≡ true → AllOf (x ∷ a) (y ∷ b) → AllOf a b
 unfolding AllOf
 tail_of x y a b same h all d here = by (all d (inr here))
   where
     by : IsIn d (y ∷ b) → IsIn d b
-    by (inl is) = absurd (other_less x.name d.name (behind_other x a d h here) (ap (λ (e : Dependency). e.name) (is ∙ sym same)))
+    by (inl is) = absurd (other_less x.name d.name (after_other x a d h here) (ap (λ (e : Dependency). e.name) (is ∙ sym same)))
     by (inr there) = there
 
 same_entries : (a b : List Dependency) → is_in_order a ≡ true → is_in_order b ≡ true → AllOf a b → AllOf b a → a ≡ b
@@ -41,7 +41,7 @@ unfolding AllOf
 by_entries IsOne a b h k f g =
     same_entries a b (in_order a h) (in_order b k) (λ d here. (g d).1 ((f d).0 here)) (λ d here. (f d).1 ((g d).0 here))
 
-pub one_world : (applet : Applet) (os : List Operand) (w a b : List Dependency) → HoldsWhatWasAsked applet os w a → HoldsWhatWasAsked applet os w b → a ≡ b
+pub one_world : (applet : Applet) (os : List Operand) (w a b : List Dependency) → HasRequestedEntries applet os w a → HasRequestedEntries applet os w b → a ≡ b
 one_world Applets.Add os w a b f g = by_entries _ a b f.world g.world f.entries g.entries
 one_world Applets.Del os w a b f g = by_entries _ a b f.world g.world f.entries g.entries
 one_world other os w a b f g = f ∙ sym g

@@ -13,7 +13,7 @@ use Rattle.package_changes.specs.Placed.{candidates_at}
 use Rattle.search_tables.specs.Selection.{IsBestMember, IsSatisfying, IsWalkFrom, conflicts_with, depends_at, install_if_applies, is_met, names_by_install_if, next_need, positive_needs}
 use Rattle.search_tables.proofs.PoolFacts.{any_in, in_filter, in_map}
 use Rattle.world_laws.specs.NextNeed.{IsFirstUnmet, IsMetByChoice, IsNextOrNone}
-use Rattle.world_laws.specs.SatisfiedWorld.{HasInstallIf, IsNeeded, IsMetByOne, MeetsOne, SatisfyWorld}
+use Rattle.world_laws.specs.SatisfiedWorld.{InstallIfApplies, IsNeeded, IsMetByOne, MeetsOne, SatisfyWorld}
 use Rattle.world_laws.proofs.InstalledCounted.{in_append, in_right}
 use Rattle.world_laws.proofs.InstalledCounted as Lists
 
@@ -130,7 +130,7 @@ module _ (pool : SealedPool) (trace : List ℕ) (are : IsSatisfying pool trace) 
   all_met [] met = refl
   all_met (d ∷ deps) met = and_from (is_met pool trace (entry d)) (list_all (λ (x : Dependency). is_met pool trace (entry x)) deps) (met_one d (met d (inl refl))) (all_met deps (λ x here. met x (inr here)))
 
-  installs : (c : Candidate) → HasInstallIf pool.candidates pool.world packages c → (other : Candidate) × IsIn other packages × (other.name ≡ c.name)
+  installs : (c : Candidate) → InstallIfApplies pool.candidates pool.world packages c → (other : Candidate) × IsIn other packages × (other.name ≡ c.name)
   installs c h =
       let applies : install_if_applies pool trace c ≡ true = and_from (has_usable_install_if pool.world c) (list_all (λ (d : Dependency). is_met pool trace (entry d)) c.install_if) h.usable (all_met c.install_if h.met) in
       let name_in : IsIn c.name (names_by_install_if pool trace) = in_map (λ (x : Candidate). x.name) c (filter (install_if_applies pool trace) pool.candidates) (in_filter (install_if_applies pool trace) c pool.candidates h.is_candidate applies) in
@@ -168,13 +168,13 @@ module _ (pool : SealedPool) (trace : List ℕ) (are : IsSatisfying pool trace) 
       (c.0, at_in pool trace met.0 c.0 (of_trace met.0 met.1) c.1, c.2)
 
   unmet_in : (chosen : List ℕ) (deps : List Dependency) (d : Dependency) → IsFirstUnmet pool chosen deps d → IsIn d deps
-  unmet_in chosen deps d f = subst (IsIn d) (sym f.stands) (in_right d f.front (d ∷ f.behind) (inl refl))
+  unmet_in chosen deps d f = subst (IsIn d) (sym f.located) (in_right d f.front (d ∷ f.behind) (inl refl))
 
   -- a choice for the next need behind some choices
   needed_next : (chosen : List ℕ) (need : Need) (c : Candidate) → AreOfTrace chosen → IsNextOrNone pool chosen (Some need) → meets_need need c ≡ true → IsNeeded pool.candidates pool.world packages c
   needed_next chosen (entry d) c of_trace (inl f) meets = inl (d, unmet_in chosen pool.world d f, f.positive, meets)
   needed_next chosen (entry d) c of_trace (inr f) meets =
-      let choice_in : IsIn f.1.choice chosen = subst (IsIn f.1.choice) (sym f.1.stands) (in_right f.1.choice f.1.front (f.1.choice ∷ f.1.behind) (inl refl)) in
+      let choice_in : IsIn f.1.choice chosen = subst (IsIn f.1.choice) (sym f.1.located) (in_right f.1.choice f.1.front (f.1.choice ∷ f.1.behind) (inl refl)) in
       inr (inl (by (candidate_at pool f.1.choice) refl choice_in (unmet_in chosen (depends_at pool f.1.choice) d f.1.first)))
     where
       by : (o : Option Candidate) → candidate_at pool f.1.choice ≡ o → IsIn f.1.choice chosen → IsIn d (depends_at pool f.1.choice) → (other : Candidate) × IsIn other packages × MeetsOne other.depends c
@@ -183,7 +183,7 @@ module _ (pool : SealedPool) (trace : List ℕ) (are : IsSatisfying pool trace) 
           (other, at_in pool trace f.1.choice other (of_trace f.1.choice choice_in) e, (d, subst (IsIn d) (depends_of f.1.choice other e) among, f.1.first.positive, meets))
   needed_next chosen (named name) c of_trace f meets =
       let asked = f.2.asked in
-      let is : HasInstallIf pool.candidates pool.world packages asked.candidate = record { is_candidate = asked.stands; usable = asked.usable; met = λ d here. met_of chosen d of_trace (asked.applies d here) } in
+      let is : InstallIfApplies pool.candidates pool.world packages asked.candidate = record { is_candidate = asked.located; usable = asked.usable; met = λ d here. met_of chosen d of_trace (asked.applies d here) } in
       inr (inr (asked.candidate, is, sym ((bytes_eq-Decides name c.name).0 meets) ∙ sym asked.is_named))
 
   -- what the next need is

@@ -11,7 +11,7 @@ use Rattle.candidate_core.specs.Rank.{SealedPool, candidate_at, is_at, is_eligib
 use Rattle.package_changes.specs.Placed.{candidates_at}
 use Rattle.search_tables.specs.Selection.{AreDistinct, IsSatisfying, conflicts_with, depends_at, install_if_applies, is_met, names_by_install_if, positive_needs}
 use Rattle.search_tables.proofs.PoolFacts.{any_in, filter_in, map_in}
-use Rattle.world_laws.specs.SatisfiedWorld.{AreSamePackages, HasInstallIf, IsMetByOne, SatisfyWorld}
+use Rattle.world_laws.specs.SatisfiedWorld.{AreSamePackages, InstallIfApplies, IsMetByOne, SatisfyWorld}
 use Rattle.world_laws.proofs.InstalledCounted.{in_any, no_any}
 use Rattle.world_laws.proofs.InstalledCounted as Lists
 use Rattle.world_laws.proofs.NextNeeds.{all_in}
@@ -177,7 +177,7 @@ module _ (pool : SealedPool) (packages : List Candidate) (are : SatisfyWorld poo
         (are.names_alone q.0 r.0 name q.1 r.1 (sym (test_at pool (occupies_name name) a q.0 q.2) ∙ one) (sym (test_at pool (occupies_name name) b r.0 r.2) ∙ two))
 
     -- an install-if that applies to the places applies to the packages
-    applies : (c : Candidate) → IsIn c pool.candidates → install_if_applies pool places c ≡ true → HasInstallIf pool.candidates pool.world packages c
+    applies : (c : Candidate) → IsIn c pool.candidates → install_if_applies pool places c ≡ true → InstallIfApplies pool.candidates pool.world packages c
     applies c here e =
         let parts = and_parts (has_usable_install_if pool.world c) (list_all (λ (d : Dependency). is_met pool places (entry d)) c.install_if) e in
         record {

@@ -22,13 +22,13 @@ use Rattle.path_clashes.specs.Clash.{NamePair}
 use Rattle.candidate_core.specs.Rank.{SealedPool}
 use Rattle.report_core.specs.Reports.{change_lines, report_line, sum_text}
 use Rattle.report_core.specs.declared.refusal.Refusal.{Refusal}
-use Rattle.world_laws.specs.Simulation.{IsForetold, with_simulation}
+use Rattle.world_laws.specs.Simulation.{IsPredicted, with_simulation}
 use Rattle.world_laws.proofs.ReadWorlds.{and_then_ok}
 
-pub reports_alike : (r : Replacement) (wishes : ChangeWishes) (change : FileChange) (files : Files) → IsForetold (simulated_report r wishes.to_go) (change_report r wishes change files)
+pub reports_alike : (r : Replacement) (wishes : ChangeWishes) (change : FileChange) (files : Files) → IsPredicted (simulated_report r wishes.to_remove) (change_report r wishes change files)
 unfolding simulated_report
 reports_alike r wishes change files =
-    let told = change_lines (changes_of r) ++ stay_lines r.before r.selected wishes.to_go in
+    let told = change_lines (changes_of r) ++ stay_lines r.before r.selected wishes.to_remove in
     let configuration = configuration_lines (aside_of change files) (kept_of change files) in
     let triggers = trigger_lines (touched_paths change files) change.members in
     let sum = report_line (sum_text (sum_by member_size change.members) (length change.members)) in
@@ -62,7 +62,7 @@ unfolding inputs_of
 pool_alike command read = refl
 
 by_selected : IsMadeKnown → (command : CommandLine) (read : Reads) (files : Files) (other clash : Option NamePair) (s : Selected) (simulation done : ChangeDone) → command.flags.simulate ≡ false
-    → change_of_selected (with_simulation command) read files other s ≡ Ok simulation → change_of_selected command read files clash s ≡ Ok done → IsForetold simulation.report done.report
+    → change_of_selected (with_simulation command) read files other s ≡ Ok simulation → change_of_selected command read files clash s ≡ Ok done → IsPredicted simulation.report done.report
 by_selected known command read files other clash s simulation done real e d =
     let first : simulated_change s.replacement (wishes_of command) files ≡ simulation = cc in
     let is : change_or_refusal s.inputs s.replacement (wishes_of command) read clash files ≡ Ok done =
@@ -70,8 +70,8 @@ by_selected known command read files other clash s simulation done real e d =
     let made = known s.inputs s.replacement (wishes_of command) read clash files done is in
     let change = file_change s.inputs (wishes_of command) made.found in
     let report : change_report s.replacement (wishes_of command) change files ≡ done.report = sym (ap (λ (x : ChangeDone). x.report) made.is) in
-    subst (IsForetold simulation.report) report
-    (subst (λ (l : List ℕ). IsForetold l (change_report s.replacement (wishes_of command) change files)) (ap (λ (x : ChangeDone). x.report) first)
+    subst (IsPredicted simulation.report) report
+    (subst (λ (l : List ℕ). IsPredicted l (change_report s.replacement (wishes_of command) change files)) (ap (λ (x : ChangeDone). x.report) first)
     (reports_alike s.replacement (wishes_of command) change files))
 
 module _ (one : IsOneChoice) (command : CommandLine) (read : Reads) (files : Files) (expected chosen : Option (List ℕ)) (other clash : Option NamePair) where
@@ -80,7 +80,7 @@ module _ (one : IsOneChoice) (command : CommandLine) (read : Reads) (files : Fil
 
   pub foretold : IsMadeKnown → (simulation done : ChangeDone) → command.flags.simulate ≡ false
       → IsChoiceFrom (pool_for (with_simulation command) read) expected → IsChoiceFrom (pool_for command read) chosen
-      → change_of_command (with_simulation command) read files expected other ≡ Ok simulation → change_of_command command read files chosen clash ≡ Ok done → IsForetold simulation.report done.report
+      → change_of_command (with_simulation command) read files expected other ≡ Ok simulation → change_of_command command read files chosen clash ≡ Ok done → IsPredicted simulation.report done.report
   unfolding change_of_command
   foretold known simulation done real a b e d =
       let first = and_then_ok (selected_for (with_simulation command) read expected) (change_of_selected (with_simulation command) read files other) simulation e in

@@ -19,7 +19,7 @@ use Rattle.dep_core.specs.World.{world_of}
 use Rattle.engine_core.specs.Changed.{selected_by, selected_for, selected_of_inputs}
 use Rattle.engine_core.specs.Choice.{IsChoice, IsChoiceFrom}
 use Rattle.engine_core.specs.Selecting.{pool_by, pool_for}
-use Rattle.engine_core.specs.Wishes.{names_to_upgrade, unknown_place, unless_place}
+use Rattle.engine_core.specs.Wishes.{names_to_upgrade, unknown_operand_place, unless_unknown_operand}
 use Rattle.make_info.specs.Reads.{Reads}
 use Rattle.package_changes.specs.Placed.{candidates_at}
 use Rattle.report_core.specs.declared.refusal.Refusal.{Refusal}
@@ -138,22 +138,22 @@ module _ (command : CommandLine) (read : Reads) where
   refused chosen choice e = by (inputs_of command read) refl choice e
     where
       by_chosen : (inputs : Inputs) → inputs_of command read ≡ Ok inputs → (pool : SealedPool) → pool_by command inputs ≡ Ok pool → (place : Option ℕ) (chosen : Option (List ℕ)) → IsChoice pool chosen
-          → unless_place place (selected_by command inputs pool chosen) ≡ Err Unsatisfied → HasNone
+          → unless_unknown_operand place (selected_by command inputs pool chosen) ≡ Err Unsatisfied → HasNone
       by_chosen inputs is pool made (Some place) chosen choice e = absurd (cc (e))
       by_chosen inputs is pool made None (Some trace) choice e = absurd (cc (e))
       by_chosen inputs is pool made None None choice e = (inputs, is, (none_of_inputs inputs (names_to_upgrade command.applet command.operands) pool made).0 choice)
 
       by_pool : (inputs : Inputs) → inputs_of command read ≡ Ok inputs → (made : Result SealedPool Refusal) → pool_by command inputs ≡ made → IsChoiceFrom made chosen
-          → and_then made (λ pool. unless_place (unknown_place command.applet inputs command.operands) (selected_by command inputs pool chosen)) ≡ Err Unsatisfied → HasNone
+          → and_then made (λ pool. unless_unknown_operand (unknown_operand_place command.applet inputs command.operands) (selected_by command inputs pool chosen)) ≡ Err Unsatisfied → HasNone
       by_pool inputs is (Err refusal) made choice e = let same : refusal ≡ Unsatisfied = cc in absurd (pool_other inputs (made ∙ ap (λ r. Err r) same))
-      by_pool inputs is (Ok pool) made choice e = by_chosen inputs is pool made (unknown_place command.applet inputs command.operands) chosen choice e
+      by_pool inputs is (Ok pool) made choice e = by_chosen inputs is pool made (unknown_operand_place command.applet inputs command.operands) chosen choice e
 
       by : (r : Result Inputs Refusal) → inputs_of command read ≡ r → IsChoiceFrom (and_then r (pool_by command)) chosen → and_then r (selected_of_inputs command chosen) ≡ Err Unsatisfied → HasNone
       by (Err refusal) is choice e = let same : refusal ≡ Unsatisfied = cc in absurd (inputs_other (is ∙ ap (λ r. Err r) same))
       by (Ok inputs) is choice e = by_pool inputs is (pool_by command inputs) refl choice e
 
   pub refuses : (chosen : Option (List ℕ)) (inputs : Inputs) (pool : SealedPool) → IsChoiceFrom (pool_for command read) chosen → inputs_of command read ≡ Ok inputs → pool_for command read ≡ Ok pool
-      → unknown_place command.applet inputs command.operands ≡ None → IsUnsatisfiable (candidates_of inputs) inputs.root.new_world → selected_for command read chosen ≡ Err Unsatisfied
+      → unknown_operand_place command.applet inputs command.operands ≡ None → IsUnsatisfiable (candidates_of inputs) inputs.root.new_world → selected_for command read chosen ≡ Err Unsatisfied
   refuses chosen inputs pool choice e f known none = by chosen (subst (λ (r : Result SealedPool Refusal). IsChoiceFrom r chosen) f choice) refl
     where
       made : pool_by command inputs ≡ Ok pool
@@ -162,8 +162,8 @@ module _ (command : CommandLine) (read : Reads) where
       read_so : (taken : Option (List ℕ)) → selected_for command read taken ≡ selected_by command inputs pool taken
       read_so taken =
           ap (λ (r : Result Inputs Refusal). and_then r (selected_of_inputs command taken)) e
-          ∙ (ap (λ (r : Result SealedPool Refusal). and_then r (λ p. unless_place (unknown_place command.applet inputs command.operands) (selected_by command inputs p taken))) made
-          ∙ ap (λ (o : Option ℕ). unless_place o (selected_by command inputs pool taken)) known)
+          ∙ (ap (λ (r : Result SealedPool Refusal). and_then r (λ p. unless_unknown_operand (unknown_operand_place command.applet inputs command.operands) (selected_by command inputs p taken))) made
+          ∙ ap (λ (o : Option ℕ). unless_unknown_operand o (selected_by command inputs pool taken)) known)
 
       by : (taken : Option (List ℕ)) → IsChoice pool taken → chosen ≡ taken → selected_for command read chosen ≡ Err Unsatisfied
       by None choice same = ap (selected_for command read) same ∙ read_so None

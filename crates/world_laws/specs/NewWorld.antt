@@ -26,13 +26,13 @@ pub record IsAdded (operands : List Operand) (d : Dependency) : Type 0 where
   pub front : List Operand
   pub operand : Operand
   pub behind : List Operand
-  pub stands : operands ≡ front ++ operand ∷ behind
+  pub located : operands ≡ front ++ operand ∷ behind
   pub says : dependency_of operand.text ≡ Some d
   pub last : IsAddedByNone d.name behind
 
 -- world after `add`: an entry is one of the operands, or it was there before and no operand has its
 -- name
-pub record HoldsAdded (operands : List Operand) (before after : List Dependency) : Type 0 where
+pub record HasAddedEntries (operands : List Operand) (before after : List Dependency) : Type 0 where
   pub world : IsWorld after
   pub entries : (d : Dependency) → IsIn d after
       ↔ (IsAdded operands d ⊎ (IsIn d before × IsAddedByNone d.name operands))
@@ -44,18 +44,18 @@ abbrev pub IsNoOperand : List ℕ → List Operand → Type 0
 IsNoOperand name operands = (o : Operand) → IsIn o operands → o.text ≢ name
 
 -- world after `del`: an entry was there before, and no operand is its name
-pub record HoldsOthers (operands : List Operand) (before after : List Dependency) : Type 0 where
+pub record HasOtherEntries (operands : List Operand) (before after : List Dependency) : Type 0 where
   pub world : IsWorld after
   pub entries : (d : Dependency) → IsIn d after ↔ (IsIn d before × IsNoOperand d.name operands)
 
 -- ---- each applet
 
 -- world after a command, by its applet; all except `add` and `del` leave world unchanged
-abbrev pub HoldsWhatWasAsked :
+abbrev pub HasRequestedEntries :
     Applet → List Operand → List Dependency → List Dependency → Type 0
-HoldsWhatWasAsked Add operands before after = HoldsAdded operands before after
-HoldsWhatWasAsked Del operands before after = HoldsOthers operands before after
-HoldsWhatWasAsked applet operands before after = after ≡ before
+HasRequestedEntries Add operands before after = HasAddedEntries operands before after
+HasRequestedEntries Del operands before after = HasOtherEntries operands before after
+HasRequestedEntries applet operands before after = after ≡ before
 
 -- ---- among what a change reads of a root
 
@@ -63,4 +63,4 @@ HoldsWhatWasAsked applet operands before after = after ≡ before
 -- empty, and the new one holds what the command asks for
 pub record IsReadWorld (command : CommandLine) (read : Reads) (root : Root) : Type 0 where
   pub file : world_of (unwrap_or (read world_read world_name) []) ≡ Ok root.world
-  pub asked : HoldsWhatWasAsked command.applet command.operands root.world root.new_world
+  pub asked : HasRequestedEntries command.applet command.operands root.world root.new_world

@@ -24,7 +24,7 @@ pub record IsFirstUnmet (pool : SealedPool) (chosen : List ℕ) (deps : List Dep
     (d : Dependency) : Type 0 where
   pub front : List Dependency
   pub behind : List Dependency
-  pub stands : deps ≡ front ++ d ∷ behind
+  pub located : deps ≡ front ++ d ∷ behind
   pub before : AreMetByChoices pool chosen front
   pub positive : d.conflict ≡ false
   pub unmet : ¬ IsMetByChoice pool chosen (entry d)
@@ -42,7 +42,7 @@ pub record IsFirstOfChoices (pool : SealedPool) (chosen choices : List ℕ)
   pub front : List ℕ
   pub choice : ℕ
   pub behind : List ℕ
-  pub stands : choices ≡ front ++ choice ∷ behind
+  pub located : choices ≡ front ++ choice ∷ behind
   pub before : AreMetOfEach pool chosen front
   pub first : IsFirstUnmet pool chosen (depends_at pool choice) d
 
@@ -52,7 +52,7 @@ pub record IsFirstOfChoices (pool : SealedPool) (chosen choices : List ℕ)
 -- entry, and no choice meets the name
 pub record IsAskedByInstallIf (pool : SealedPool) (chosen name : List ℕ) : Type 0 where
   pub candidate : Candidate
-  pub stands : IsIn candidate pool.candidates
+  pub located : IsIn candidate pool.candidates
   pub is_named : candidate.name ≡ name
   pub usable : has_usable_install_if pool.world candidate ≡ true
   pub applies : (d : Dependency) → IsIn d candidate.install_if

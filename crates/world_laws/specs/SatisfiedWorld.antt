@@ -15,7 +15,7 @@ IsMetByOne packages d =
 
 -- an install-if applies: it is that of a candidate which may be selected, and the packages meet it
 -- entry by entry; it is not empty and has no conflict
-pub record HasInstallIf (candidates : List Candidate) (world : List Dependency)
+pub record InstallIfApplies (candidates : List Candidate) (world : List Dependency)
     (packages : List Candidate) (c : Candidate) : Type 0 where
   pub is_candidate : IsIn c candidates
   pub usable : has_usable_install_if world c ≡ true
@@ -42,7 +42,7 @@ pub record SatisfyWorld (candidates : List Candidate) (world : List Dependency)
       → IsIn other packages → occupies_name name c ≡ true → occupies_name name other ≡ true
       → other ≡ c
   -- 4: if an install-if applies there is a package of its name
-  pub installs : (c : Candidate) → HasInstallIf candidates world packages c
+  pub installs : (c : Candidate) → InstallIfApplies candidates world packages c
       → (other : Candidate) × IsIn other packages × (other.name ≡ c.name)
 
 -- the same packages, in any order and number
@@ -68,5 +68,5 @@ abbrev pub IsNeeded :
 IsNeeded candidates world packages c =
     MeetsOne world c
     ⊎ (((other : Candidate) × IsIn other packages × MeetsOne other.depends c)
-    ⊎ ((other : Candidate) × HasInstallIf candidates world packages other
+    ⊎ ((other : Candidate) × InstallIfApplies candidates world packages other
     × (c.name ≡ other.name)))

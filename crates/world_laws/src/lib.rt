@@ -21,7 +21,7 @@ ghost use Rattle.command_core.specs.Command.{CommandLine};
 ghost use Rattle.engine_core.specs.Changed.{Selected, change_of_command, selected_for};
 ghost use Rattle.engine_core.specs.Choice.{IsChoice, IsChoiceFrom};
 ghost use Rattle.engine_core.specs.Selecting.{pool_for};
-ghost use Rattle.engine_core.specs.Wishes.{unknown_place};
+ghost use Rattle.engine_core.specs.Wishes.{unknown_operand_place};
 ghost use Rattle.make_info.specs.Reads.{Reads};
 ghost use Rattle.package_changes.specs.Changes.{Replacement};
 ghost use Rattle.package_changes.specs.Placed.{candidates_at};
@@ -29,7 +29,7 @@ ghost use Rattle.package_changes.specs.Report.{simulated_report};
 ghost use Rattle.path_clashes.specs.Clash.{NamePair};
 ghost use Rattle.report_core.specs.declared.refusal.Refusal.{Refusal};
 ghost use Rattle.report_core.specs.declared.refusal.Refusal.TheVariants.{Unsatisfied};
-ghost use Rattle.world_laws.specs.Simulation.{IsForetold, with_simulation};
+ghost use Rattle.world_laws.specs.Simulation.{IsPredicted, with_simulation};
 ghost use Rattle.change_inputs.specs.Candidates.{candidates_of};
 ghost use Rattle.change_inputs.specs.Inputs.{Inputs, inputs_of};
 ghost use Rattle.change_inputs.specs.World.{new_world};
@@ -38,7 +38,7 @@ ghost use Rattle.command_core.specs.declared.operands.Operand.{Operand};
 ghost use Rattle.dep_core.specs.Dependency.{Dependency};
 ghost use Rattle.dep_core.specs.World.{IsWorld};
 ghost use Rattle.world_laws.specs.CommandPool.{IsCommandPool};
-ghost use Rattle.world_laws.specs.NewWorld.{HoldsWhatWasAsked, IsReadWorld};
+ghost use Rattle.world_laws.specs.NewWorld.{HasRequestedEntries, IsReadWorld};
 ghost use Rattle.world_laws.specs.SatisfiedWorld.{AreSamePackages, IsNeeded, SatisfyWorld};
 ghost use Rattle.world_laws.specs.SatisfiedWorld.{IsUnsatisfiable};
 
@@ -62,11 +62,11 @@ pub fn the_next_need_is_the_first_that_is_unmet()
 /// removed, and which are kept that were to be removed. The report of the change begins with the
 /// same bytes. The same holds of a command with and without `--simulate`, over the same reads and
 /// files.
-pub fn a_simulation_tells_what_the_change_does()
+pub fn a_simulation_predicts_the_change()
     // Of the two reports, by one replacement.
     ensures reports { (r : Replacement) (wishes : ChangeWishes) (change : FileChange)
         (files : Files)
-        → IsForetold (simulated_report r wishes.to_go) (change_report r wishes change files) }
+        → IsPredicted (simulated_report r wishes.to_remove) (change_report r wishes change files) }
     // Of one command with and without `--simulate`.
     ensures commands { (command : CommandLine) (read : Reads) (files : Files)
         (expected chosen : Option (List ℕ)) (other clash : Option NamePair)
@@ -75,7 +75,7 @@ pub fn a_simulation_tells_what_the_change_does()
         → IsChoiceFrom (pool_for command read) chosen
         → change_of_command (with_simulation command) read files expected other ≡ Ok simulation
         → change_of_command command read files chosen clash ≡ Ok done
-        → IsForetold simulation.report done.report }
+        → IsPredicted simulation.report done.report }
 {
     a_change_that_is_made_passes_each_test();
     a_choice_is_unique();
@@ -96,18 +96,18 @@ pub fn a_refused_simulation_refuses_the_change()
 /// World after `add` has the operands, for each name the last one, and the entries of all other
 /// names. After `del` it has the entries of all names except the operands. Any other command leaves
 /// it. Exactly one world holds what was asked. The same holds of what a change reads of a root.
-pub fn the_new_world_holds_what_was_asked()
+pub fn the_new_world_has_what_was_asked()
     // Of any world.
     ensures world { (applet : Applet) (operands : List Operand) (world : List Dependency)
         → IsWorld world
-        → HoldsWhatWasAsked applet operands world (new_world applet operands world) }
+        → HasRequestedEntries applet operands world (new_world applet operands world) }
     // Of what a change reads of a root.
     ensures read { (command : CommandLine) (read : Reads) (inputs : Inputs)
         → inputs_of command read ≡ Ok inputs → IsReadWorld command read inputs.root }
     // Exactly one world holds it.
     ensures one { (applet : Applet) (operands : List Operand) (world after other : List Dependency)
-        → HoldsWhatWasAsked applet operands world after
-        → HoldsWhatWasAsked applet operands world other → after ≡ other }
+        → HasRequestedEntries applet operands world after
+        → HasRequestedEntries applet operands world other → after ≡ other }
 {}
 
 /// A command chooses from the packages of all indexes, and the installed packages that no index
@@ -158,7 +158,7 @@ pub fn a_selection_satisfies_world_exactly_if_packages_do()
     ensures refuses { (command : CommandLine) (read : Reads) (chosen : Option (List ℕ))
         (inputs : Inputs) (pool : SealedPool) → IsChoiceFrom (pool_for command read) chosen
         → inputs_of command read ≡ Ok inputs → pool_for command read ≡ Ok pool
-        → unknown_place command.applet inputs command.operands ≡ None
+        → unknown_operand_place command.applet inputs command.operands ≡ None
         → IsUnsatisfiable (candidates_of inputs) inputs.root.new_world
         → selected_for command read chosen ≡ Err Unsatisfied }
 {}

@@ -11,7 +11,7 @@ pub returns-clause-works : goal.returns-clause-works
 returns-clause-works c = works_on_recovered
 
 pub returns-clause-leaves : goal.returns-clause-leaves
-returns-clause-leaves c = leaves_recovered c.what_is_read_of_a_root_stands_there.ensures c.a_change_that_writes_nothing_leaves_the_files.ensures.done
+returns-clause-leaves c = leaves_recovered c.what_is_read_of_a_root_is_in_the_tree.ensures c.a_change_that_writes_nothing_leaves_the_files.ensures.done
 
 pub returns-clause-others : goal.returns-clause-others
 returns-clause-others c = λ words command files o reads must is. (

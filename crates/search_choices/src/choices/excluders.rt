@@ -18,7 +18,7 @@ ghost use Rattle.search_tables.specs.Selection.{exclude_each_other, is_met, occu
 use super::Choices;
 use dep_core::Dep;
 use pool_core::{CandId, Details, PackageDep, PackageMatches};
-use search_tables::{choice_meeting_held, occupant};
+use search_tables::{choice_meeting_own, occupant};
 use std::alloc::AllocError;
 
 impl<'p> Choices<'p> {
@@ -238,6 +238,6 @@ impl<'p> Choices<'p> {
             package: id.place as usize,
             index,
         };
-        choice_meeting_held(self.pool, &self.choices, &held, matches)
+        choice_meeting_own(self.pool, &self.choices, &held, matches)
     }
 }

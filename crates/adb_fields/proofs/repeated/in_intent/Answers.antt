@@ -13,7 +13,7 @@ use Rattle.adb_fields.specs.NamedTexts.{named_by, plains_at}
 use Rattle.adb_view.specs.declared.tables.Kind.TheVariants as Kinds
 use Rattle.adb_view.specs.declared.tables.Which.TheVariants as Tables
 use Rattle.adb_fields.proofs.FieldReads.{entry_count}
-use Rattle.adb_fields.proofs.FirstKinds.{texts_behind}
+use Rattle.adb_fields.proofs.FirstKinds.{texts_after}
 use Rattle.adb_fields.proofs.NameLists.{plain_count}
 use Rattle.adb_fields.proofs.repeated.in_intent.Goals as goal
 
@@ -43,7 +43,7 @@ returns c =
     c.in_ok-add_texts.ensures.added ∙ (λ i. map named_by (c.new-names.ensures.items i) ++ numbered_from (c.new-names.ensures.len i + 1) front) in
     let count : length front ≡ length (array_entries c.texts_field-removals.result) = length-map (plains_at p Kinds.Text (array_entries c.texts_field-removals.result)) text_in ∙ plain_count p Kinds.Text (array_entries c.texts_field-removals.result) c.texts_field-removals.ensures.sound in
     let long : vec_len c.add_texts.new.names ≡ length front = (let l = c.in_ok-add_texts.ensures.len in omega arith) in
-    let all : map named_by c.add_texts-2.new.names.items ≡ numbered_from 1 (front ++ back) = texts_behind front back _ _ (vec_len c.add_texts.new.names) one long c.in_ok-add_texts-2.ensures.added in
+    let all : map named_by c.add_texts-2.new.names.items ≡ numbered_from 1 (front ++ back) = texts_after front back _ _ (vec_len c.add_texts.new.names) one long c.in_ok-add_texts-2.ensures.added in
     c.repeated_at.ensures
     ∙ ap (repeated_at (field_number Tables.Intent INTENT_WRITES)) (c.first_pair.ensures
     ∙ ap first_pair (ap (map named_by) c.deref_mut.ensures.value ∙ (all

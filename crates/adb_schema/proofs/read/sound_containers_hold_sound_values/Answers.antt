@@ -8,7 +8,7 @@ returns c =
       visited = c.values_of_few_visits_have_no_fault.ensures;
       shaped = c.values_have_their_shape.ensures.word;
       kept = c.no_text_is_bad_where_each_keeps_its_rule.ensures;
-      once = c.no_name_is_repeated_where_each_stands_once.ensures;
+      once = c.no_repeated_name_is_reported_if_there_is_none.ensures;
     } in
     record {
       value = λ which file sound. sound_value laws which (payload_in file) (sound_payload which file sound);

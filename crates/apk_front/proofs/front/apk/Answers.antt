@@ -1,4 +1,4 @@
-use Rattle.apk_front.proofs.Carried.{bad_by, crash_by, idle_by, last_by, left_by, orderly_by, reads_by, rest_by, settled_by}
+use Rattle.apk_front.proofs.Carried.{bad_by, crash_by, idle_by, last_by, left_by, durable_by, reads_by, rest_by, settled_by}
 use Rattle.apk_front.proofs.Judged.{answered, completed, answered_by_reads, answered_by_words, caused}
 use Rattle.apk_front.proofs.Unplanned.{ends_unless_memory}
 use Rattle.apk_front.proofs.Named.{memory_named}
@@ -33,8 +33,8 @@ returns-clause-bad_intent g c = bad_by c.args.words.now c.judge-judged.result _ 
 pub returns-clause-last : goal.returns-clause-last
 returns-clause-last g c = last_by c.args.words.now c.judge-judged.result _ _ c.judge-judged.ensures.run
 
-pub returns-clause-at_rest : goal.returns-clause-at_rest
-returns-clause-at_rest g c = rest_by c.args.words.now c.judge-judged.result c.show.result _ _ _ _ c.show.ensures.shown c.judge-judged.ensures.found c.judge-judged.ensures.run
+pub returns-clause-durable_state : goal.returns-clause-durable_state
+returns-clause-durable_state g c = rest_by c.args.words.now c.judge-judged.result c.show.result _ _ _ _ c.show.ensures.shown c.judge-judged.ensures.found c.judge-judged.ensures.run
 
 pub returns-clause-reads : goal.returns-clause-reads
 returns-clause-reads g c = reads_by c.args.words.now c.judge-judged.result _ _ c.judge-judged.ensures.run
@@ -42,8 +42,8 @@ returns-clause-reads g c = reads_by c.args.words.now c.judge-judged.result _ _ c
 pub returns-clause-crash : goal.returns-clause-crash
 returns-clause-crash g c = crash_by c.args.words.now c.judge-judged.result _ _ c.judge-judged.ensures.run
 
-pub returns-clause-orderly : goal.returns-clause-orderly
-returns-clause-orderly g c = orderly_by c.args.words.now c.judge-judged.result _ _ c.judge-judged.ensures.run
+pub returns-clause-is_durable : goal.returns-clause-is_durable
+returns-clause-is_durable g c = durable_by c.args.words.now c.judge-judged.result _ _ c.judge-judged.ensures.run
 
 pub returns-clause-settled : goal.returns-clause-settled
 returns-clause-settled g c = settled_by c.args.words.now c.judge-judged.result c.show.result _ _ _ _ c.show.ensures.shown c.judge-judged.ensures.found c.judge-judged.ensures.run

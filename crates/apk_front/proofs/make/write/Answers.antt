@@ -21,7 +21,7 @@ replace-requires-clause-length g c = c.an_output_is_short.ensures c.args.command
 pub returns-in_err-replace-clause-run : goal.returns-in_err-replace-clause-run
 returns-in_err-replace-clause-run g c =
     let p = err_from_is_err_and c.from_residual-in_err-replace.result c.from_residual-in_err-replace.ensures.1 in
-    cut_run c.an_image_has_the_state_of_its_map.ensures _ c.args.report c.args.file.now c.in-Some.output _ p.0 _ _ p.1 (sym c.in_ok-output.ensures ∙ c.in-Some.is) (ap is_reserved (sym c.as_bytes.ensures.value) ∙ (sym c.is_reserved.ensures ∙ c.if-is_reserved.false)) c.replace.ensures.moments c.replace.ensures.orderly c.replace.ensures.reads c.replace.ensures.others
+    cut_run c.an_image_has_the_state_of_its_map.ensures _ c.args.report c.args.file.now c.in-Some.output _ p.0 _ _ p.1 (sym c.in_ok-output.ensures ∙ c.in-Some.is) (ap is_reserved (sym c.as_bytes.ensures.value) ∙ (sym c.is_reserved.ensures ∙ c.if-is_reserved.false)) c.replace.ensures.moments c.replace.ensures.is_durable c.replace.ensures.reads c.replace.ensures.others
 
 pub returns-in_err-replace-clause-proper : goal.returns-in_err-replace-clause-proper
 returns-in_err-replace-clause-proper g c =
@@ -33,7 +33,7 @@ returns-clause-reported g c =
 
 pub returns-clause-run : goal.returns-clause-run
 returns-clause-run g c =
-    written_run c.an_image_has_the_state_of_its_map.ensures _ c.args.report c.args.file.now c.in-Some.output c.reported.result _ _ (sym c.in_ok-output.ensures ∙ c.in-Some.is) (ap is_reserved (sym c.as_bytes.ensures.value) ∙ (sym c.is_reserved.ensures ∙ c.if-is_reserved.false)) c.in_ok-replace.ensures.moments c.in_ok-replace.ensures.orderly c.in_ok-replace.ensures.reads c.in_ok-replace.ensures.settled c.in_ok-replace.ensures.ok c.in_ok-replace.ensures.synced c.replace.ensures.others
+    written_run c.an_image_has_the_state_of_its_map.ensures _ c.args.report c.args.file.now c.in-Some.output c.reported.result _ _ (sym c.in_ok-output.ensures ∙ c.in-Some.is) (ap is_reserved (sym c.as_bytes.ensures.value) ∙ (sym c.is_reserved.ensures ∙ c.if-is_reserved.false)) c.in_ok-replace.ensures.moments c.in_ok-replace.ensures.is_durable c.in_ok-replace.ensures.reads c.in_ok-replace.ensures.settled c.in_ok-replace.ensures.ok c.in_ok-replace.ensures.synced c.replace.ensures.others
 
 pub returns-clause-refused : goal.returns-clause-refused
 returns-clause-refused g c = report_no_refusal c.reported.result c.args.report _ c.reported.ensures

@@ -1,29 +1,29 @@
 use Rattle.std.proofs.Common.{Err, ap}
 use Rattle.outcome.specs.Effect.{effect_of, output_if}
-use Rattle.apk_front.proofs.Behind.{behind_found, behind_proper, behind_run, is_recovery, refused_found, refused_read, refused_run}
+use Rattle.apk_front.proofs.Behind.{after_found, after_proper, behind_run, is_recovery, refused_found, refused_read, refused_run}
 use Rattle.apk_front.proofs.Promised.{asked_behind, asked_unrecovered}
 use Rattle.apk_front.proofs.recovered.recover_and_run.Goals as goal
 
 pub returns-in-Ok-clause-found : goal.returns-in-Ok-clause-found
-returns-in-Ok-clause-found g c = behind_found c.args.command.now _ _ c.run_recovered.result c.requires c.in-Ok.ensures.good c.in-Ok.ensures.files c.run_recovered.ensures.found
+returns-in-Ok-clause-found g c = after_found c.args.command.now _ _ c.run_recovered.result c.requires c.in-Ok.ensures.good c.in-Ok.ensures.files c.run_recovered.ensures.found
 
 pub returns-in-Ok-clause-run : goal.returns-in-Ok-clause-run
 returns-in-Ok-clause-run g c =
     behind_run
     (record {
-      none = c.still_moments_join.ensures.none;
-      calls = c.still_moments_join.ensures.calls;
+      none = c.unchanged_moments_compose.ensures.none;
+      calls = c.unchanged_moments_compose.ensures.calls;
       lasts = c.settled_then_quiet_is_settled.ensures;
       quiet = c.quiet_then_old_or_new_is_old_or_new.ensures.old;
       behind = c.quiet_then_old_or_new_is_old_or_new.ensures.both;
-      still = c.moments_on_the_way_join.ensures.still;
-      before = c.moments_on_the_way_join.ensures.before;
+      is_unchanged = c.moments_old_until_commit_compose.ensures.is_unchanged;
+      before = c.moments_old_until_commit_compose.ensures.before;
     }) c.args.command.now (output_if (effect_of c.args.command.now.applet) c.args.command.now) c.run_recovered.result _ _ _ c.requires (is_recovery _ _ c.in-Ok.ensures.moments c.in-Ok.ensures.reads c.in-Ok.ensures.bytes c.in-Ok.ensures.waiting c.in-Ok.ensures.last c.in-Ok.ensures.idle) c.in-Ok.ensures.good c.in-Ok.ensures.files c.in-Ok.ensures.settled c.run_recovered.ensures.run
     c.run_recovered.ensures.undone
 
 pub returns-in-Ok-clause-proper : goal.returns-in-Ok-clause-proper
 returns-in-Ok-clause-proper g c =
-    behind_proper c.args.command.now (output_if (effect_of c.args.command.now.applet) c.args.command.now) _ _ _ _ _ c.requires c.in-Ok.ensures.good c.in-Ok.ensures.files c.in-Ok.ensures.proper c.run_recovered.ensures.proper
+    after_proper c.args.command.now (output_if (effect_of c.args.command.now.applet) c.args.command.now) _ _ _ _ _ c.requires c.in-Ok.ensures.good c.in-Ok.ensures.files c.in-Ok.ensures.proper c.run_recovered.ensures.proper
 
 pub returns-in-Err-clause-found : goal.returns-in-Err-clause-found
 returns-in-Err-clause-found g c = refused_found c.args.command.now _ _ _ c.refuse_to_recover.result c.requires (λ cause is. c.in-Err.ensures.bad cause (ap Err is)) c.refuse_to_recover.ensures.refused
@@ -35,13 +35,13 @@ pub returns-in-Err-clause-run : goal.returns-in-Err-clause-run
 returns-in-Err-clause-run g c =
     refused_run
     (record {
-      none = c.still_moments_join.ensures.none;
-      calls = c.still_moments_join.ensures.calls;
+      none = c.unchanged_moments_compose.ensures.none;
+      calls = c.unchanged_moments_compose.ensures.calls;
       lasts = c.settled_then_quiet_is_settled.ensures;
       quiet = c.quiet_then_old_or_new_is_old_or_new.ensures.old;
       behind = c.quiet_then_old_or_new_is_old_or_new.ensures.both;
-      still = c.moments_on_the_way_join.ensures.still;
-      before = c.moments_on_the_way_join.ensures.before;
+      is_unchanged = c.moments_old_until_commit_compose.ensures.is_unchanged;
+      before = c.moments_old_until_commit_compose.ensures.before;
     }) c.args.command.now _ (output_if (effect_of c.args.command.now.applet) c.args.command.now) c.refuse_to_recover.result _ _ c.requires (is_recovery _ _ c.in-Err.ensures.moments c.in-Err.ensures.reads c.in-Err.ensures.bytes c.in-Err.ensures.waiting c.in-Err.ensures.last c.in-Err.ensures.idle) (λ cause is. c.in-Err.ensures.bad cause (ap Err is)) c.in-Err.ensures.bad_idle c.refuse_to_recover.ensures.refused
 
 pub returns-in-Ok-clause-promised : goal.returns-in-Ok-clause-promised

@@ -2,7 +2,7 @@ use Rattle.std.proofs.Common.{◌∙◌, sym}
 use Rattle.outcome.specs.Effect.{effect_of}
 use Rattle.apk_front.proofs.Changing.{change_applet}
 use Rattle.apk_front.proofs.Carried.{index_found_one, index_proper, index_read_one, index_run, package_found_one, package_proper, package_read_one, package_run, undone_anyway}
-use Rattle.apk_front.proofs.Telling.{tell_applet}
+use Rattle.apk_front.proofs.OutcomeOfReport.{tell_applet}
 use Rattle.apk_front.proofs.Promised.{changes_not_mkndx, changes_not_mkpkg, changes_not_told}
 use Rattle.apk_front.proofs.recovered.run_recovered.Goals as goal
 

@@ -1,5 +1,5 @@
 use Rattle.apk_front.proofs.Carried.{undone_anyway}
-use Rattle.apk_front.proofs.Telling.{report_disk, report_found, report_kept, report_memory, report_proper, report_read, report_run}
+use Rattle.apk_front.proofs.OutcomeOfReport.{report_disk, report_found, report_kept, report_memory, report_proper, report_read, report_run}
 use Rattle.apk_front.proofs.report.report.Goals as goal
 
 pub returns-clause-found : goal.returns-clause-found

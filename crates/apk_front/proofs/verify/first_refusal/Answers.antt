@@ -6,7 +6,7 @@ pub loop-i-init : goal.loop-i-init
 loop-i-init g c = record {
   found = fine_none _ c.args.operands.now;
   by_reads = read_none c.args.operands.now;
-  tree = c.readings_in_a_row_join.ensures.none _ _ _ None;
+  tree = c.consecutive_reads_compose.ensures.none _ _ _ None;
 }
 
 pub returns-then-is_some-clause-found : goal.returns-then-is_some-clause-found
@@ -21,5 +21,5 @@ loop-i-preserved g c = record {
   by_reads = read_more c.args.operands.now c.loop-i.i c.get.result.now _ c.get.ensures c.loop-i.invariant.by_reads c.in_ok-refusal.ensures.by_reads c.if-is_some.ensures;
   tree =
       any_value _ _ _ _ _ c.test_file.result _ None c.in_ok-refusal.was
-      (c.readings_in_a_row_join.ensures.two _ _ _ _ _ _ _ None c.test_file.result c.loop-i.invariant.tree c.test_file.ensures.tree);
+      (c.consecutive_reads_compose.ensures.two _ _ _ _ _ _ _ None c.test_file.result c.loop-i.invariant.tree c.test_file.ensures.tree);
 }

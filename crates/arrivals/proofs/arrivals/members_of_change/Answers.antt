@@ -1,6 +1,6 @@
 use Rattle.std.proofs.Common.{◌≡◌, ◌<◌, ◌≤◌, ◌∙◌, ◌++◌, length, take, ap, sym, subst, arith, List}
 use Rattle.std.specs.Prelude.{option_to_list}
-use Rattle.db_core.specs.Members.{comes_behind, member_name}
+use Rattle.db_core.specs.Members.{is_after_members, member_name}
 use Rattle.adb_view.specs.Plain.{Plain}
 use Rattle.db_core.specs.Seen.{members_of, packages_before, packages_of}
 use Rattle.db_core.specs.declared.members.TheConstants.{MOST_MEMBERS}
@@ -24,7 +24,7 @@ push_read-requires c =
     let same : packages_before c.loop-read.members ≡ before = c.loop-read.invariant.before in
     let can : CanBeMembers before reads = subst (CanBeMembers before) (sym c.deref-read-items.ensures.value) c.requires in
     record {
-      behind = λ m is. ap (comes_behind (member_name m)) c.loop-read.invariant.read
+      behind = λ m is. ap (is_after_members (member_name m)) c.loop-read.invariant.read
           ∙ next_behind before reads i read c.loop-read-test.true can m
           (ap (member_read before) (sym c.read-item.is) ∙ (sym (ap (λ (b : List Plain). member_read b read) same) ∙ is));
       placed = subst (λ (b : List Plain). IsPlaced b read) (sym same) (subst (IsPlaced before) (sym c.read-item.is) (next_placed before reads i read c.loop-read-test.true can.placed));

@@ -1,9 +1,9 @@
 use Rattle.db_core.specs.Seen.{members_of, packages_before}
-use Rattle.arrivals.proofs.Behind.{comes_next, stays_added, stays_behind}
+use Rattle.arrivals.proofs.Behind.{comes_next, stays_added, stays_after}
 use Rattle.arrivals.proofs.arrivals.push_read.Goals as goal
 
 pub stays-requires-clause-behind : goal.stays-requires-clause-behind
-stays-requires-clause-behind c = stays_behind (packages_before c.args.members.now) (members_of c.args.members.now) c.args.read.now _ c.in-Stays.is c.requires.behind
+stays-requires-clause-behind c = stays_after (packages_before c.args.members.now) (members_of c.args.members.now) c.args.read.now _ c.in-Stays.is c.requires.behind
 
 pub returns-in-Stays-clause-added : goal.returns-in-Stays-clause-added
 returns-in-Stays-clause-added c = stays_added (packages_before c.args.members.now) _ _ c.args.read.now _ c.stays.result c.in-Stays.is c.requires.placed c.stays.ensures.ok

@@ -1,12 +1,12 @@
 use Rattle.std.proofs.Common.{◌≡◌, ◌∙◌, Some, None, Ok, Err, refl, ap, sym}
 use Rattle.std.specs.Prelude.{option_map}
-use Rattle.change_outcome.specs.MembersAfter.{name_that_goes, staying_found}
+use Rattle.change_outcome.specs.MembersAfter.{member_of_removed_name, kept_member_found}
 use Rattle.db_core.specs.Seen.{packages_of}
 use Rattle.package_changes.specs.Placed.{old_package}
 use Rattle.package_changes.specs.Seen.{change_seen, placed_name_seen}
 use Rattle.candidate_core.specs.Values.{candidate_value}
 use Rattle.arrivals.specs.Arrivals.{IsPackageRead}
-use Rattle.arrivals.specs.NameReads.{IsNameRead, coming_read, name_read}
+use Rattle.arrivals.specs.NameReads.{IsNameRead, added_package_read, name_read}
 use Rattle.arrivals.proofs.NameAnswers.{answer_handed, by_any_read, part_refused, test_refused}
 use Rattle.arrivals.proofs.NameSteps.{by_none, comes_found, comes_refused, goes}
 use Rattle.arrivals.proofs.arrivals.read_name.Goals as goal
@@ -15,19 +15,19 @@ pub returns-in_default-clause-found : goal.returns-in_default-clause-found
 returns-in_default-clause-found g c =
     let h = g.T.Tree.history c.args.tree.now in
     let n = placed_name_seen c.args.name.now in (
-      option_map staying_found (old_package (packages_of c.args.db.now) n),
+      option_map kept_member_found (old_package (packages_of c.args.db.now) n),
       by_none (packages_of c.args.db.now) c.args.pool.now c.args.repositories.now c.args.no_scripts n h (ap (option_map change_seen) c.in_default.is),
       c.staying.ensures h,
     )
 
-pub returns-in_err-test_leaving-in-None-clause-found : goal.returns-in_err-test_leaving-in-None-clause-found
-returns-in_err-test_leaving-in-None-clause-found g c =
+pub returns-in_err-test_removed-in-None-clause-found : goal.returns-in_err-test_removed-in-None-clause-found
+returns-in_err-test_removed-in-None-clause-found g c =
     let h = g.T.Tree.history c.args.tree.now in
     let before = packages_of c.args.db.now in
     let n = placed_name_seen c.args.name.now in
-    let test = name_that_goes c.args.no_scripts n.name (change_seen c.in-Some.change) (old_package before n) in
+    let test = member_of_removed_name c.args.no_scripts n.name (change_seen c.in-Some.change) (old_package before n) in
     test_refused {U = Unit {0}} (λ _. None) (IsNameRead h before) h (λ read k. test) (name_read before c.args.pool.now c.args.repositories.now c.args.no_scripts n) test test
-    c.from_residual.result c.in_err-test_leaving-in-None.field-0.0 c.from_residual.ensures.1 (by_any_read h _ _ (λ read k. refl)) c.in_err-test_leaving-in-None.ensures
+    c.from_residual.result c.in_err-test_removed-in-None.field-0.0 c.from_residual.ensures.1 (by_any_read h _ _ (λ read k. refl)) c.in_err-test_removed-in-None.ensures
     (λ read k refusal same is. goes before c.args.pool.now c.args.repositories.now c.args.no_scripts n (change_seen c.in-Some.change) (ap (option_map change_seen) c.in-Some.is) (sym c.candidate.ensures ∙ ap (option_map candidate_value) c.in-None.is) read k ∙ is)
 
 pub returns-in_err-pkg-in-Some-candidate-clause-found : goal.returns-in_err-pkg-in-Some-candidate-clause-found
@@ -37,17 +37,17 @@ returns-in_err-pkg-in-Some-candidate-clause-found g c =
     let n = placed_name_seen c.args.name.now in
     let whole = name_read before c.args.pool.now c.args.repositories.now c.args.no_scripts n in
     answer_handed (IsNameRead h before) h whole c.from_residual-in_err-pkg-in-Some-candidate.result c.in_err-pkg-in-Some-candidate.field-0.0 c.from_residual-in_err-pkg-in-Some-candidate.ensures.1
-    (part_refused (IsPackageRead h) (IsNameRead h before) h (coming_read c.args.repositories.now c.args.no_scripts n.name (change_seen c.in-Some.change) (candidate_value c.in-Some-candidate.c)) whole c.in_err-pkg-in-Some-candidate.field-0.0
+    (part_refused (IsPackageRead h) (IsNameRead h before) h (added_package_read c.args.repositories.now c.args.no_scripts n.name (change_seen c.in-Some.change) (candidate_value c.in-Some-candidate.c)) whole c.in_err-pkg-in-Some-candidate.field-0.0
     (comes_refused before c.args.pool.now c.args.repositories.now c.args.no_scripts n (change_seen c.in-Some.change) (candidate_value c.in-Some-candidate.c) (ap (option_map change_seen) c.in-Some.is) (sym c.candidate.ensures ∙ ap (option_map candidate_value) c.in-Some-candidate.is))
     c.in_err-pkg-in-Some-candidate.ensures.found)
 
-pub returns-in_ok-test_leaving-in-None-clause-found : goal.returns-in_ok-test_leaving-in-None-clause-found
-returns-in_ok-test_leaving-in-None-clause-found g c =
+pub returns-in_ok-test_removed-in-None-clause-found : goal.returns-in_ok-test_removed-in-None-clause-found
+returns-in_ok-test_removed-in-None-clause-found g c =
     let h = g.T.Tree.history c.args.tree.now in
     let before = packages_of c.args.db.now in
     let n = placed_name_seen c.args.name.now in (
       None,
-      by_any_read h _ _ (λ read k. goes before c.args.pool.now c.args.repositories.now c.args.no_scripts n (change_seen c.in-Some.change) (ap (option_map change_seen) c.in-Some.is) (sym c.candidate.ensures ∙ ap (option_map candidate_value) c.in-None.is) read k ∙ c.in_ok-test_leaving-in-None.ensures),
+      by_any_read h _ _ (λ read k. goes before c.args.pool.now c.args.repositories.now c.args.no_scripts n (change_seen c.in-Some.change) (ap (option_map change_seen) c.in-Some.is) (sym c.candidate.ensures ∙ ap (option_map candidate_value) c.in-None.is) read k ∙ c.in_ok-test_removed-in-None.ensures),
       tt,
     )
 

@@ -1,5 +1,5 @@
 use Rattle.std.proofs.Common.{◌≡◌, ◌∙◌, Some, None, Ok, Err, ap, sym}
-use Rattle.change_outcome.specs.MembersAfter.{coming_by_path}
+use Rattle.change_outcome.specs.MembersAfter.{added_package_by_path}
 use Rattle.candidate_core.specs.Values.{candidate_value}
 use Rattle.arrivals.specs.Arrivals.{IsPackageRead}
 use Rattle.arrivals.specs.NameReads.{candidate_read, file_read}
@@ -15,11 +15,11 @@ pub returns-in-None-clause-found : goal.returns-in-None-clause-found
 returns-in-None-clause-found g c =
     let h = g.T.Tree.history c.args.tree.now in
     told_answers (IsPackageRead h) h (candidate_read c.args.repositories.now (candidate_value c.args.c.now)) _ c.missing.result c.missing.ensures
-    (by_any_read h _ _ (λ read n. ap (coming_by_path read n (candidate_value c.args.c.now)) (sym c.in_ok-package_file_of.ensures ∙ c.in-None.is)))
+    (by_any_read h _ _ (λ read n. ap (added_package_by_path read n (candidate_value c.args.c.now)) (sym c.in_ok-package_file_of.ensures ∙ c.in-None.is)))
 
 pub returns-in-Some-clause-found : goal.returns-in-Some-clause-found
 returns-in-Some-clause-found g c =
     let h = g.T.Tree.history c.args.tree.now in
     same_answer (IsPackageRead h) h (file_read (candidate_value c.args.c.now) c.in-Some.path) (candidate_read c.args.repositories.now (candidate_value c.args.c.now)) c.read_beside.result
-    (λ read n. ap (coming_by_path read n (candidate_value c.args.c.now)) (sym c.in_ok-package_file_of.ensures ∙ c.in-Some.is))
+    (λ read n. ap (added_package_by_path read n (candidate_value c.args.c.now)) (sym c.in_ok-package_file_of.ensures ∙ c.in-Some.is))
     c.read_beside.ensures.found

@@ -1,5 +1,5 @@
 use Rattle.audit_laws.proofs.AfterRecords.{WrittenLaws}
-use Rattle.audit_laws.proofs.LeftDifferent.{Laws, empty_alone, is_left, left_is}
+use Rattle.audit_laws.proofs.LeftDifferent.{Laws, empty_alone, is_path_left_over, left_is}
 use Rattle.audit_laws.proofs.laws.after_a_change_an_audit_reports_what_it_left_to_the_user.Goals as goal
 
 pub returns-clause-each : goal.returns-clause-each
@@ -12,7 +12,7 @@ returns-clause-each c command read files chosen clash done left d e off =
       differences = c.an_audit_reports_just_the_files_that_differ.ensures.each;
       written = written;
     } in
-    (is_left laws command read files chosen clash done left e off d, left_is laws command read files chosen clash done left e off d)
+    (is_path_left_over laws command read files chosen clash done left e off d, left_is laws command read files chosen clash done left e off d)
 
 pub returns-clause-empty : goal.returns-clause-empty
-returns-clause-empty c = empty_alone c.the_first_bad_text_is_reported.ensures c.listings_stand_at_their_places.ensures c.what_a_package_brings_is_as_listed.ensures
+returns-clause-empty c = empty_alone c.the_first_bad_text_is_reported.ensures c.listings_are_at_their_places.ensures c.the_files_of_an_added_package_are_as_listed.ensures

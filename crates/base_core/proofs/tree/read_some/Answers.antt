@@ -1,6 +1,6 @@
 -- What the call filled stands behind the bytes that stood there.
 use Rattle.std.proofs.Common.{rules}
-use Rattle.base_core.proofs.ReadBehind.{added_behind, can_read_so_many, reading_done, reading_failed}
+use Rattle.base_core.proofs.ReadAfter.{added_behind, can_read_so_many, reading_done, reading_failed}
 use Rattle.base_core.specs.declared.tree.TreeFault.TheVariants.{Disk as DiskFault}
 use Rattle.base_core.proofs.tree.read_some.Goals as goal
 

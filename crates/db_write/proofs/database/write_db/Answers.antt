@@ -19,4 +19,4 @@ returns-clause-sound c listed =
     let written = file_written members flags c.as_slice.result.now _ _ _ c.as_slice.ensures c.in-Ok.ensures.written c.deref.ensures.value c.in_ok-file_of.ensures in
     no_cause (first_fault Idb _) c.packages_are_sound.ensures (λ sound.
     c.a_written_database_is_read_back.ensures.database members flags _
-    (c.a_database_of_sound_packages_may_stand_at_the_root.ensures members flags _ sound c.members_are_in_order.ensures listed written) written)
+    (c.a_database_of_sound_packages_may_be_the_root.ensures members flags _ sound c.members_are_in_order.ensures listed written) written)

@@ -25,8 +25,8 @@ write_folder-requires-clause-sound c =
 pub write_folder-requires-clause-known : goal.write_folder-requires-clause-known
 write_folder-requires-clause-known c = c.loop-i.invariant.known
 
-pub flags_behind_folder-left-requires : goal.flags_behind_folder-left-requires
-flags_behind_folder-left-requires c =
+pub flags_after_folder-left-requires : goal.flags_after_folder-left-requires
+flags_after_folder-left-requires c =
     let ws : List ℕ = array_entries c.args.folders in
     let within : c.loop-i.i < length ws = omega (arith, c.len-i-end.ensures.value, c.loop-i-test.true) in
     word_sound (payload_of c.args.adb) (Kinds.Obj Tables.Dir) ws c.loop-i.i c.entry_word-folder.result c.requires.sound within c.entry_word-folder.ensures
@@ -46,7 +46,7 @@ loop-i-preserved c =
     record {
       left =
           given_more file_count folder_after (list_of vs) c.loop-i.i (value_at p (Kinds.Obj Tables.Dir) c.entry_word-folder.result) c.loop-i.left.now _ _ _ _
-          (word_listed p (Kinds.Obj Tables.Dir) ws c.requires.sound c.loop-i.i c.entry_word-folder.result within c.entry_word-folder.ensures) c.loop-i.invariant.left c.in_ok-write_folder.ensures.folder c.flags_behind_folder-left.ensures;
+          (word_listed p (Kinds.Obj Tables.Dir) ws c.requires.sound c.loop-i.i c.entry_word-folder.result within c.entry_word-folder.ensures) c.loop-i.invariant.left c.in_ok-write_folder.ensures.folder c.flags_after_folder-left.ensures;
       known = c.in_ok-write_folder.ensures.known;
     }
 

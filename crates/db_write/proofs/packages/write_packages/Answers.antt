@@ -26,7 +26,7 @@ loop-i-preserved c =
     record {
       left =
           given_more member_file_count package_after members c.loop-i.i at.0 c.loop-i.left.now _ _ _ _
-          at.1 c.loop-i.invariant.left (c.in_ok-write_member.ensures.value at.0 at.1) (c.flags_behind_member-left.ensures at.0 at.1);
+          at.1 c.loop-i.invariant.left (c.in_ok-write_member.ensures.value at.0 at.1) (c.flags_after_member-left.ensures at.0 at.1);
       known = c.in_ok-write_member.ensures.known;
     }
 

@@ -11,11 +11,11 @@ use Rattle.stage_files.specs.Carried.{IsCarriedTo}
 use Rattle.stage_files.specs.Spoiled.{HasSpoiledFile}
 use Rattle.stage_files.specs.declared.writes.StagedWrite.{StagedWrite}
 use Rattle.engine_core.specs.Carrying.{ready_change}
-use Rattle.engine_core.specs.ChangeRun.{ComesTo}
-use Rattle.engine_core.specs.Finishing.{inputs_arrived, replacement_arrived}
+use Rattle.engine_core.specs.ChangeRun.{CarriesOut}
+use Rattle.engine_core.specs.Finishing.{arrived_inputs, arrived_replacement}
 use Rattle.engine_core.specs.Wishes.{wishes_of}
 use Rattle.engine_core.specs.Writing.{package_at, write_name}
-use Rattle.engine_core.proofs.Carries.{IsReady, bad_comes, commits_by, disk_comes, done_comes, few_writes, file_comes, fits_by, idle_comes, large_comes, may_be_changed, once_reserved, proper_shown, text_once, text_reserved, where_shown, within_length, written_once}
+use Rattle.engine_core.proofs.Carries.{IsReadyToCommit, bad_comes, commits_by, disk_comes, done_comes, few_writes, file_comes, fits_by, idle_comes, large_comes, may_be_changed, once_reserved, proper_shown, text_once, text_reserved, where_shown, within_length, written_once}
 use Rattle.engine_core.proofs.SelectedRuns.{with_error}
 use Rattle.engine_core.proofs.Sources.{FilesAreRead}
 use Rattle.engine_core.proofs.carrying.carry_change.Goals as goal
@@ -42,7 +42,7 @@ begin_stage-requires g c =
     let found = c.requires.plan.0 in
     let files = c.requires.plan.1 in
     let planned = c.requires.plan.2 in
-    let ready : IsReady (g.T.Tree.history c.args.tree.now) (wishes_of c.args.command.now) c.args.planned.now found files c.args.records.now c.record_writes_of-record_writes.result c.in_ok-writes.writes.items c.in_ok-removals.removals = record {
+    let ready : IsReadyToCommit (g.T.Tree.history c.args.tree.now) (wishes_of c.args.command.now) c.args.planned.now found files c.args.records.now c.record_writes_of-record_writes.result c.in_ok-writes.writes.items c.in_ok-removals.removals = record {
       plan = planned;
       own = c.requires.records;
       which = c.record_writes_of-record_writes.ensures;
@@ -54,7 +54,7 @@ begin_stage-requires g c =
 
 pub returns-in_err-stage-clause-comes : goal.returns-in_err-stage-clause-comes
 returns-in_err-stage-clause-comes g c = λ found files planned.
-    let ready : IsReady (g.T.Tree.history c.args.tree.now) (wishes_of c.args.command.now) c.args.planned.now found files c.args.records.now c.record_writes_of-record_writes.result c.in_ok-writes.writes.items c.in_ok-removals.removals = record {
+    let ready : IsReadyToCommit (g.T.Tree.history c.args.tree.now) (wishes_of c.args.command.now) c.args.planned.now found files c.args.records.now c.record_writes_of-record_writes.result c.in_ok-writes.writes.items c.in_ok-removals.removals = record {
       plan = planned;
       own = c.requires.records;
       which = c.record_writes_of-record_writes.ensures;
@@ -62,12 +62,12 @@ returns-in_err-stage-clause-comes g c = λ found files planned.
       each = c.in_ok-writes.ensures.each;
       removed = c.in_ok-removals.ensures ∙ (λ i. names_in_order (c.removals.ensures i ++ name_if_needed (c.is_from_text.ensures i) text_database_name));
     } in
-    with_error (λ r. ComesTo (Ok found) (ready_change (inputs_arrived c.args.planned.now.arrived.now) (replacement_arrived c.args.planned.now.arrived.now) (wishes_of c.args.command.now) found files c.args.records.now.database.items) (g.T.Tree.history c.args.tree.now) (g.T.Tree.history c.args.tree.now) (g.T.Tree.counts c.args.tree.now) (g.T.Tree.counts c.args.tree.now) r) c.from_residual-in_err-stage.result _ c.from_residual-in_err-stage.ensures.1
+    with_error (λ r. CarriesOut (Ok found) (ready_change (arrived_inputs c.args.planned.now.arrived.now) (arrived_replacement c.args.planned.now.arrived.now) (wishes_of c.args.command.now) found files c.args.records.now.database.items) (g.T.Tree.history c.args.tree.now) (g.T.Tree.history c.args.tree.now) (g.T.Tree.counts c.args.tree.now) (g.T.Tree.counts c.args.tree.now) r) c.from_residual-in_err-stage.result _ c.from_residual-in_err-stage.ensures.1
     (large_comes (g.T.Tree.history c.args.tree.now) (wishes_of c.args.command.now) c.args.planned.now found files c.args.records.now c.record_writes_of-record_writes.result c.in_ok-writes.writes.items c.in_ok-removals.removals ready c.in_ok-names.names (c.in_ok-names.ensures ∙ ap (map write_name) c.deref.ensures.value) (g.T.Tree.counts c.args.tree.now) _ c.in_err-stage.ensures.told)
 
 pub returns-then-is_idle-clause-comes : goal.returns-then-is_idle-clause-comes
 returns-then-is_idle-clause-comes g c = λ found files planned.
-    let ready : IsReady (g.T.Tree.history c.args.tree.now) (wishes_of c.args.command.now) c.args.planned.now found files c.args.records.now c.record_writes_of-record_writes.result c.in_ok-writes.writes.items c.in_ok-removals.removals = record {
+    let ready : IsReadyToCommit (g.T.Tree.history c.args.tree.now) (wishes_of c.args.command.now) c.args.planned.now found files c.args.records.now c.record_writes_of-record_writes.result c.in_ok-writes.writes.items c.in_ok-removals.removals = record {
       plan = planned;
       own = c.requires.records;
       which = c.record_writes_of-record_writes.ensures;
@@ -80,7 +80,7 @@ returns-then-is_idle-clause-comes g c = λ found files planned.
 
 pub returns-in-Ok-clause-comes : goal.returns-in-Ok-clause-comes
 returns-in-Ok-clause-comes g c = λ found files planned.
-    let ready : IsReady (g.T.Tree.history c.args.tree.now) (wishes_of c.args.command.now) c.args.planned.now found files c.args.records.now c.record_writes_of-record_writes.result c.in_ok-writes.writes.items c.in_ok-removals.removals = record {
+    let ready : IsReadyToCommit (g.T.Tree.history c.args.tree.now) (wishes_of c.args.command.now) c.args.planned.now found files c.args.records.now c.record_writes_of-record_writes.result c.in_ok-writes.writes.items c.in_ok-removals.removals = record {
       plan = planned;
       own = c.requires.records;
       which = c.record_writes_of-record_writes.ensures;
@@ -108,7 +108,7 @@ refused_package-requires g c =
 
 pub returns-in-Err-Bad-clause-comes : goal.returns-in-Err-Bad-clause-comes
 returns-in-Err-Bad-clause-comes g c = λ found files planned.
-    let ready : IsReady (g.T.Tree.history c.args.tree.now) (wishes_of c.args.command.now) c.args.planned.now found files c.args.records.now c.record_writes_of-record_writes.result c.in_ok-writes.writes.items c.in_ok-removals.removals = record {
+    let ready : IsReadyToCommit (g.T.Tree.history c.args.tree.now) (wishes_of c.args.command.now) c.args.planned.now found files c.args.records.now c.record_writes_of-record_writes.result c.in_ok-writes.writes.items c.in_ok-removals.removals = record {
       plan = planned;
       own = c.requires.records;
       which = c.record_writes_of-record_writes.ensures;
@@ -128,7 +128,7 @@ returns-in-Err-Bad-clause-comes g c = λ found files planned.
 
 pub returns-clause-comes : goal.returns-clause-comes
 returns-clause-comes g c = λ found files planned.
-    let ready : IsReady (g.T.Tree.history c.args.tree.now) (wishes_of c.args.command.now) c.args.planned.now found files c.args.records.now c.record_writes_of-record_writes.result c.in_ok-writes.writes.items c.in_ok-removals.removals = record {
+    let ready : IsReadyToCommit (g.T.Tree.history c.args.tree.now) (wishes_of c.args.command.now) c.args.planned.now found files c.args.records.now c.record_writes_of-record_writes.result c.in_ok-writes.writes.items c.in_ok-removals.removals = record {
       plan = planned;
       own = c.requires.records;
       which = c.record_writes_of-record_writes.ensures;

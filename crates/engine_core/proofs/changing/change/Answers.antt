@@ -7,7 +7,7 @@ use Rattle.engine_core.specs.ChangeRun.{IsChangeRun}
 use Rattle.engine_core.specs.Finishing.{IsRootRead}
 use Rattle.engine_core.specs.Runs.{IsRunCounted}
 use Rattle.engine_core.specs.SelectionSeen.{selection_seen}
-use Rattle.engine_core.proofs.Counted.{counted_behind, counted_fault, counted_report, memory_no_disk}
+use Rattle.engine_core.proofs.Counted.{counted_after, counted_fault, counted_report, memory_no_disk}
 use Rattle.engine_core.proofs.Early.{HaveClash, nothing_read, only_read, selected_failure}
 use Rattle.engine_core.proofs.SelectedRuns.{not_disk, run_failure, selected_run, simulated_run, unselected_run, with_error}
 use Rattle.engine_core.proofs.WholeRuns.{HaveOwnReads, joined, root_read, unread}
@@ -22,7 +22,7 @@ returns-in_err-loaded-clause-run g c =
 pub returns-in_err-upgraded-clause-run : goal.returns-in_err-upgraded-clause-run
 returns-in_err-upgraded-clause-run g c =
     let have : HaveClash = record { exists = c.a_change_has_a_first_clash_or_none.ensures.exists } in
-    let own : HaveOwnReads = record { inputs = c.inputs_rest_on_their_own_reads.ensures; members = c.packages_after_a_change_rest_on_later_reads.ensures } in
+    let own : HaveOwnReads = record { inputs = c.inputs_depend_on_their_own_reads.ensures; members = c.packages_after_a_change_depend_on_their_reads.ensures } in
     with_error (IsChangeRun c.args.command.now _ _ _ _) c.from_residual-in_err-upgraded.result Memory c.from_residual-in_err-upgraded.ensures.1
     (joined own c.args.command.now c.in_ok-loaded.loaded _ _ _ _ _ _ _ (only_read _ _ _ _ _ _ c.in_ok-loaded.ensures.tree) c.in_ok-loaded.ensures.found
     (run_failure c.args.command.now (inputs_seen c.in_ok-loaded.loaded) _ _ _ _ c.a_choice_exists.ensures have (g.met.T.Tree.whole c.read.new.tree) (nothing_read _ _) Memory tt))
@@ -30,7 +30,7 @@ returns-in_err-upgraded-clause-run g c =
 pub returns-in_err-selection-clause-run : goal.returns-in_err-selection-clause-run
 returns-in_err-selection-clause-run g c =
     let have : HaveClash = record { exists = c.a_change_has_a_first_clash_or_none.ensures.exists } in
-    let own : HaveOwnReads = record { inputs = c.inputs_rest_on_their_own_reads.ensures; members = c.packages_after_a_change_rest_on_later_reads.ensures } in
+    let own : HaveOwnReads = record { inputs = c.inputs_depend_on_their_own_reads.ensures; members = c.packages_after_a_change_depend_on_their_reads.ensures } in
     with_error (IsChangeRun c.args.command.now _ _ _ _) c.from_residual-in_err-selection.result _ c.from_residual-in_err-selection.ensures.1
     (joined own c.args.command.now c.in_ok-loaded.loaded _ _ _ _ _ _ _ (only_read _ _ _ _ _ _ c.in_ok-loaded.ensures.tree) c.in_ok-loaded.ensures.found
     (unselected_run c.args.command.now (inputs_seen c.in_ok-loaded.loaded) _ _ _ _ have (g.met.T.Tree.whole c.read.new.tree) (nothing_read _ _) _ c.in_err-selection.ensures.selected))
@@ -38,7 +38,7 @@ returns-in_err-selection-clause-run g c =
 pub returns-in_err-report-clause-run : goal.returns-in_err-report-clause-run
 returns-in_err-report-clause-run g c =
     let have : HaveClash = record { exists = c.a_change_has_a_first_clash_or_none.ensures.exists } in
-    let own : HaveOwnReads = record { inputs = c.inputs_rest_on_their_own_reads.ensures; members = c.packages_after_a_change_rest_on_later_reads.ensures } in
+    let own : HaveOwnReads = record { inputs = c.inputs_depend_on_their_own_reads.ensures; members = c.packages_after_a_change_depend_on_their_reads.ensures } in
     with_error (IsChangeRun c.args.command.now _ _ _ _) c.from_residual-in_err-report.result Memory c.from_residual-in_err-report.ensures.1
     (joined own c.args.command.now c.in_ok-loaded.loaded _ _ _ _ _ _ _ (only_read _ _ _ _ _ _ c.in_ok-loaded.ensures.tree) c.in_ok-loaded.ensures.found
     (selected_run c.args.command.now (inputs_seen c.in_ok-loaded.loaded) _ _ _ _ c.in_ok-selection.selection _ c.in_ok-selection.ensures.selected
@@ -47,7 +47,7 @@ returns-in_err-report-clause-run g c =
 pub returns-then-flags-clause-run : goal.returns-then-flags-clause-run
 returns-then-flags-clause-run g c =
     let have : HaveClash = record { exists = c.a_change_has_a_first_clash_or_none.ensures.exists } in
-    let own : HaveOwnReads = record { inputs = c.inputs_rest_on_their_own_reads.ensures; members = c.packages_after_a_change_rest_on_later_reads.ensures } in
+    let own : HaveOwnReads = record { inputs = c.inputs_depend_on_their_own_reads.ensures; members = c.packages_after_a_change_depend_on_their_reads.ensures } in
     joined own c.args.command.now c.in_ok-loaded.loaded _ _ _ _ _ _ _ (only_read _ _ _ _ _ _ c.in_ok-loaded.ensures.tree) c.in_ok-loaded.ensures.found
     (selected_run c.args.command.now (inputs_seen c.in_ok-loaded.loaded) _ _ _ _ c.in_ok-selection.selection _ c.in_ok-selection.ensures.selected
     (simulated_run have c.args.command.now (selection_seen c.in_ok-selection.selection) _ _ _ _ _ (g.met.T.Tree.whole c.read.new.tree) (nothing_read _ _)
@@ -74,13 +74,13 @@ returns-then-flags-clause-counts g c = counted_report _ _ _ _ c.in_ok-loaded.loa
 pub make_change-requires-clause-root : goal.make_change-requires-clause-root
 make_change-requires-clause-root g c =
     subst (λ (i : Inputs). IsRootRead (g.T.Tree.history c.read.new.tree) i) (sym c.in_ok-selection.ensures.parts.inputs_are)
-    (root_read c.what_is_read_of_a_root_stands_there.ensures c.args.command.now (inputs_seen c.in_ok-loaded.loaded) _ _ c.in_ok-loaded.ensures.tree.same c.in_ok-loaded.ensures.found)
+    (root_read c.what_is_read_of_a_root_is_in_the_tree.ensures c.args.command.now (inputs_seen c.in_ok-loaded.loaded) _ _ c.in_ok-loaded.ensures.tree.same c.in_ok-loaded.ensures.found)
 
 pub returns-clause-run : goal.returns-clause-run
 returns-clause-run g c =
-    let own : HaveOwnReads = record { inputs = c.inputs_rest_on_their_own_reads.ensures; members = c.packages_after_a_change_rest_on_later_reads.ensures } in
+    let own : HaveOwnReads = record { inputs = c.inputs_depend_on_their_own_reads.ensures; members = c.packages_after_a_change_depend_on_their_reads.ensures } in
     joined own c.args.command.now c.in_ok-loaded.loaded _ _ _ _ _ _ c.make_change.result (only_read _ _ _ _ _ _ c.in_ok-loaded.ensures.tree) c.in_ok-loaded.ensures.found
     (selected_run c.args.command.now (inputs_seen c.in_ok-loaded.loaded) _ _ _ _ c.in_ok-selection.selection c.make_change.result c.in_ok-selection.ensures.selected c.make_change.ensures.run)
 
 pub returns-clause-counts : goal.returns-clause-counts
-returns-clause-counts g c = counted_behind _ _ _ c.make_change.result c.in_ok-loaded.ensures.tree.goes_on c.in_ok-loaded.ensures.tree.kept c.counts_of_calls_in_a_row_join.ensures.cause_behind c.make_change.ensures.counts
+returns-clause-counts g c = counted_after _ _ _ c.make_change.result c.in_ok-loaded.ensures.tree.goes_on c.in_ok-loaded.ensures.tree.kept c.counts_of_consecutive_calls_compose.ensures.cause_after c.make_change.ensures.counts

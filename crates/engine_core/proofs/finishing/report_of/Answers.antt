@@ -6,7 +6,7 @@ use Rattle.adb_view.specs.Plain.{Plain}
 use Rattle.change_outcome.specs.ChangeOutcome.{change_report, file_change}
 use Rattle.package_changes.specs.Placed.{PlacedChange, candidates_at, change_in}
 use Rattle.package_changes.specs.Seen.{replacement_by}
-use Rattle.engine_core.specs.Finishing.{inputs_arrived}
+use Rattle.engine_core.specs.Finishing.{arrived_inputs}
 use Rattle.engine_core.specs.Wishes.{wishes_of}
 use Rattle.engine_core.proofs.Reporting.{changes_named}
 use Rattle.engine_core.proofs.finishing.report_of.Goals as goal
@@ -21,12 +21,12 @@ returns c =
     let s = a.selection.now in
     let wishes = wishes_of c.args.command.now in
     copied c.of.result c.bytes.result.now _ (λ history found files planned.
-    let change = file_change (inputs_arrived a) wishes found in
+    let change = file_change (arrived_inputs a) wishes found in
     c.bytes.ensures
     ∙ (c.in_ok-report.ensures s.again wishes change files (record {
       changes = ap (map (λ (p : PlacedChange). p.change)) (c.in_ok-changes.ensures ∙ ap (filter_map change_in) planned.arrived.read.placed)
           ∙ changes_named c.places_lead_to_packages_and_candidates.ensures.change (replacement_by s.db s.pool s.trace s.again);
-      to_go = sym (c.in_ok-to_go.ensures);
+      to_remove = sym (c.in_ok-to_remove.ensures);
       members = sym planned.arrived.members;
       plan = planned.lists;
     })

@@ -4,7 +4,7 @@ use Rattle.std.specs.Prelude.{Ok}
 use Rattle.engine_core.specs.Runs.{IsRunCounted, IsSelectedRun}
 use Rattle.engine_core.specs.SelectionSeen.{inputs_of_selection, replacement_seen, selection_seen}
 use Rattle.engine_core.specs.Wishes.{wishes_of}
-use Rattle.engine_core.proofs.Counted.{counted_behind, counted_error, counted_fault, memory_no_disk}
+use Rattle.engine_core.proofs.Counted.{counted_after, counted_error, counted_fault, memory_no_disk}
 use Rattle.engine_core.proofs.Early.{HaveClash, nothing_read, selected_failure}
 use Rattle.engine_core.proofs.Found.{found_failure, has_arrived, planned_step, planned_step_run, unplanned_step}
 use Rattle.engine_core.proofs.Made.{arrived, arrived_run, few_candidates, unarrived}
@@ -68,11 +68,11 @@ returns-in_err-plan-clause-run g c =
 pub returns-in_err-plan-clause-counts : goal.returns-in_err-plan-clause-counts
 returns-in_err-plan-clause-counts g c =
     with_error (IsRunCounted _ _) c.from_residual-in_err-plan.result _ c.from_residual-in_err-plan.ensures.1
-    (counted_behind _ _ _ _ c.in_ok-arrivals.ensures.tree.goes_on c.in_ok-arrivals.ensures.tree.kept c.counts_of_calls_in_a_row_join.ensures.cause_behind
+    (counted_after _ _ _ _ c.in_ok-arrivals.ensures.tree.goes_on c.in_ok-arrivals.ensures.tree.kept c.counts_of_consecutive_calls_compose.ensures.cause_after
     (counted_error _ _ _ _ _ c.in_err-plan.ensures.tree))
 
 pub returns-in_err-plan-clause-promised : goal.returns-in_err-plan-clause-promised
-returns-in_err-plan-clause-promised g c = c.asked_runs_begin_with_reads.ensures.same _ _ (c.in_err-plan.ensures.tree.same ∙ c.in_ok-arrivals.ensures.tree.same)
+returns-in_err-plan-clause-promised g c = c.runs_with_accepted_targets_begin_with_reads.ensures.same _ _ (c.in_err-plan.ensures.tree.same ∙ c.in_ok-arrivals.ensures.tree.same)
 
 pub finish_change-requires : goal.finish_change-requires
 finish_change-requires g c =
@@ -105,9 +105,9 @@ returns-clause-run g c =
 
 pub returns-clause-counts : goal.returns-clause-counts
 returns-clause-counts g c =
-    counted_behind _ _ _ c.finish_change.result c.in_ok-arrivals.ensures.tree.goes_on c.in_ok-arrivals.ensures.tree.kept c.counts_of_calls_in_a_row_join.ensures.cause_behind
-    (counted_behind _ _ _ c.finish_change.result c.in_ok-plan.ensures.tree.goes_on c.in_ok-plan.ensures.tree.kept c.counts_of_calls_in_a_row_join.ensures.cause_behind c.finish_change.ensures.counts)
+    counted_after _ _ _ c.finish_change.result c.in_ok-arrivals.ensures.tree.goes_on c.in_ok-arrivals.ensures.tree.kept c.counts_of_consecutive_calls_compose.ensures.cause_after
+    (counted_after _ _ _ c.finish_change.result c.in_ok-plan.ensures.tree.goes_on c.in_ok-plan.ensures.tree.kept c.counts_of_consecutive_calls_compose.ensures.cause_after c.finish_change.ensures.counts)
 
 pub returns-clause-promised : goal.returns-clause-promised
 returns-clause-promised g c =
-    c.asked_runs_begin_with_reads.ensures.later _ _ _ (c.in_ok-plan.ensures.tree.same ∙ c.in_ok-arrivals.ensures.tree.same) c.finish_change.ensures.promised
+    c.runs_with_accepted_targets_begin_with_reads.ensures.later _ _ _ (c.in_ok-plan.ensures.tree.same ∙ c.in_ok-arrivals.ensures.tree.same) c.finish_change.ensures.promised

@@ -1,7 +1,7 @@
 use Rattle.std.proofs.Common.{◌∙◌, ap, sym, refl, length, arith}
 use Rattle.std.specs.Prelude.{slice_get}
 use Rattle.db_core.specs.Seen.{members_of}
-use Rattle.own_core.specs.Planned.{IsOfComingFile}
+use Rattle.own_core.specs.Planned.{IsOfAddedFile}
 use Rattle.own_core.specs.WritesSeen.{write_seen, writes_in}
 use Rattle.own_core.specs.declared.writes.Writes.{Writes}
 use Rattle.engine_core.specs.Writing.{package_at}
@@ -11,7 +11,7 @@ use Rattle.engine_core.proofs.writes.push_files.Goals as goal
 
 pub source_of-source-requires-clause-file : goal.source_of-source-requires-clause-file
 source_of-source-requires-clause-file c =
-    all_at (IsOfComingFile (members_of c.args.members.now)) (writes_in c.args.plan.now.writes) c.loop-i.i (write_seen c.get-write.result.now) c.requires.sources
+    all_at (IsOfAddedFile (members_of c.args.members.now)) (writes_in c.args.plan.now.writes) c.loop-i.i (write_seen c.get-write.result.now) c.requires.sources
     (ap (λ (p : Writes). slice_get (writes_in p) c.loop-i.i) (sym c.writes-planned.ensures) ∙ c.get-write.ensures)
 
 pub loop-i-init : goal.loop-i-init

@@ -2,7 +2,7 @@ use Rattle.std.proofs.Common.{refl, [], ◌∷◌}
 use Rattle.journal_core.specs.Replacing.{scratch_of}
 use Rattle.journal_core.proofs.Maps.{lasting_synced, maps_none, scratch_maps}
 use Rattle.journal_core.proofs.History.{on_observable}
-use Rattle.file_replacement.proofs.Joined.{replacing_moments, replacing_orderly, replacing_reads, replaced_settled}
+use Rattle.file_replacement.proofs.Joined.{replacing_moments, replacing_durable, replacing_reads, replaced_settled}
 use Rattle.file_replacement.proofs.Proper.{room_proper}
 use Rattle.file_replacement.proofs.replacing.replace.Goals as goal
 
@@ -16,15 +16,15 @@ returns-clause-moments g c =
     on_observable (g.T.Tree.history c.args.tree.now) _ (λ v rest is.
     replacing_moments c.in_ok-scratch.scratch c.args.name.now c.args.bytes.now c.in_ok-scratch.ensures v _ _ rest is c.write_beside.ensures.moments)
 
-pub returns-in_err-write_beside-clause-orderly : goal.returns-in_err-write_beside-clause-orderly
-returns-in_err-write_beside-clause-orderly g c =
+pub returns-in_err-write_beside-clause-is_durable : goal.returns-in_err-write_beside-clause-is_durable
+returns-in_err-write_beside-clause-is_durable g c =
     on_observable (g.T.Tree.history c.args.tree.now) _ (λ v rest is.
-    replacing_orderly c.in_ok-scratch.scratch c.args.name.now c.args.bytes.now c.in_ok-scratch.ensures v _ _ rest is c.write_beside.ensures.moments)
+    replacing_durable c.in_ok-scratch.scratch c.args.name.now c.args.bytes.now c.in_ok-scratch.ensures v _ _ rest is c.write_beside.ensures.moments)
 
-pub returns-clause-orderly : goal.returns-clause-orderly
-returns-clause-orderly g c =
+pub returns-clause-is_durable : goal.returns-clause-is_durable
+returns-clause-is_durable g c =
     on_observable (g.T.Tree.history c.args.tree.now) _ (λ v rest is.
-    replacing_orderly c.in_ok-scratch.scratch c.args.name.now c.args.bytes.now c.in_ok-scratch.ensures v _ _ rest is c.write_beside.ensures.moments)
+    replacing_durable c.in_ok-scratch.scratch c.args.name.now c.args.bytes.now c.in_ok-scratch.ensures v _ _ rest is c.write_beside.ensures.moments)
 
 pub returns-in_err-write_beside-clause-reads : goal.returns-in_err-write_beside-clause-reads
 returns-in_err-write_beside-clause-reads g c =

@@ -13,5 +13,5 @@ returns-clause-promised g c =
       out = _;
       err = _;
       answer = c.apk.result;
-    }) (called c.whatever_a_root_has_seen_a_run_is_safe.ensures.safe c.whatever_a_root_has_seen_a_run_is_safe.ensures.atomic _
-    c.apk.ensures.same c.apk.ensures.stated c.apk.ensures.idle c.apk.ensures.bad_intent c.apk.ensures.reads c.apk.ensures.last c.apk.ensures.left c.apk.ensures.crash c.apk.ensures.orderly c.apk.ensures.settled c.apk.ensures.at_rest)
+    }) (called c.a_run_is_safe_after_any_events.ensures.safe c.a_run_is_safe_after_any_events.ensures.atomic _
+    c.apk.ensures.same c.apk.ensures.stated c.apk.ensures.idle c.apk.ensures.bad_intent c.apk.ensures.reads c.apk.ensures.last c.apk.ensures.left c.apk.ensures.crash c.apk.ensures.is_durable c.apk.ensures.settled c.apk.ensures.durable_state)

@@ -4,7 +4,7 @@ use Rattle.headline.proofs.sentence.the_sentence_holds.Goals as goal
 
 pub returns : goal.returns
 returns c =
-    let safe = c.whatever_a_root_has_seen_a_run_is_safe.ensures in
+    let safe = c.a_run_is_safe_after_any_events.ensures in
     let stopped = c.a_stopped_run_is_recovered.ensures in
     let recovers = c.a_command_recovers.ensures in
     promised safe.begins safe.safe safe.one_state safe.without_pending_run stopped.left stopped.two c.more_names_may_be_ignored.ensures.settled c.an_outcome_is_unique.ensures

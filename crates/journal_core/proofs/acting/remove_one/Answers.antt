@@ -2,22 +2,23 @@ use Rattle.journal_core.proofs.OldOrNew.{removal_bytes}
 use Rattle.journal_core.proofs.Leaving.{removal_waiting}
 use Rattle.journal_core.proofs.Acted.{remove_moments, remove_reads, removed_acting}
 use Rattle.journal_core.proofs.Keeping.{removal_keeps}
+use Rattle.journal_core.proofs.Images.{crash_laws}
 use Rattle.journal_core.proofs.acting.remove_one.Goals as goal
 
 pub returns-clause-moments : goal.returns-clause-moments
 returns-clause-moments g c =
-    remove_moments (record { left = c.a_crash_may_leave_the_files_as_read.ensures.by_map; outlasts = c.order_outlasts_a_crash.ensures }) _ c.names_are_free.ensures.free c.names_are_free.ensures.few _ _ _ c.requires _ c.removal.ensures c.remove.result c.remove.ensures.moves
+    remove_moments crash_laws _ c.names_are_free.ensures.free c.names_are_free.ensures.few _ _ _ c.requires _ c.removal.ensures c.remove.result c.remove.ensures.moves
 
 pub returns-clause-acting : goal.returns-clause-acting
 returns-clause-acting g c =
-    removed_acting (record { left = c.a_crash_may_leave_the_files_as_read.ensures.by_map; outlasts = c.order_outlasts_a_crash.ensures }) _ c.names_are_free.ensures.free c.names_are_free.ensures.few _ _ _ c.requires _ c.removal.ensures c.remove.result c.remove.ensures.moves
+    removed_acting crash_laws _ c.names_are_free.ensures.free c.names_are_free.ensures.few _ _ _ c.requires _ c.removal.ensures c.remove.result c.remove.ensures.moves
 
 pub returns-clause-others : goal.returns-clause-others
 returns-clause-others g c = removal_keeps c.args.intent.now _ _ c.remove.result c.args.i _ c.removal.ensures c.remove.ensures.moves
 
 pub returns-clause-reads : goal.returns-clause-reads
 returns-clause-reads g c =
-    remove_reads (record { left = c.a_crash_may_leave_the_files_as_read.ensures.by_map; outlasts = c.order_outlasts_a_crash.ensures }) _ c.names_are_free.ensures.free c.names_are_free.ensures.few _ _ _ c.requires _ c.removal.ensures c.remove.result c.remove.ensures.moves
+    remove_reads crash_laws _ c.names_are_free.ensures.free c.names_are_free.ensures.few _ _ _ c.requires _ c.removal.ensures c.remove.result c.remove.ensures.moves
 
 pub returns-clause-waiting : goal.returns-clause-waiting
 returns-clause-waiting g c = removal_waiting _ c.names_are_free.ensures.free c.names_are_free.ensures.few _ _ c.args.i _ c.removal.ensures c.remove.result c.remove.ensures.moves

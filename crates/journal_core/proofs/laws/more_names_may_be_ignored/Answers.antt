@@ -1,8 +1,10 @@
+use Rattle.base_core.proofs.Undone.{order_weaker}
+use Rattle.journal_core.specs.Recovery.{StateDependsOn}
 use Rattle.journal_core.proofs.More.{old_or_new_more, quiet_more, rests_fewer, settled_more, states_same}
 use Rattle.journal_core.proofs.laws.more_names_may_be_ignored.Goals as goal
 
 pub returns-clause-order : goal.returns-clause-order
-returns-clause-order c = λ few many v up. c.order_lasts_where_less_rests.ensures few many v (rests_fewer few many up)
+returns-clause-order c = λ few many v up. order_weaker (StateDependsOn few) (StateDependsOn many) v (rests_fewer few many up)
 
 pub returns-clause-state : goal.returns-clause-state
 returns-clause-state c = λ few many a b up. states_same few many up a b

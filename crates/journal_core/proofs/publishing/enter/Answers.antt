@@ -8,32 +8,33 @@ use Rattle.journal_core.proofs.Entered.{first_failed, first_done, rename_failed,
 use Rattle.journal_core.proofs.Lasting.{enter_last, enter_moved, enter_rename_failed, enter_renamed, enter_sync_failed, enter_synced}
 use Rattle.journal_core.proofs.Maps.{maps_on, names_maps, rename_maps}
 use Rattle.journal_core.proofs.Throughout.{free_on, free_renamed, free_synced, maps_moved}
+use Rattle.journal_core.proofs.Images.{crash_laws}
 use Rattle.journal_core.proofs.publishing.enter.Goals as goal
 
 pub returns-in_err-sync_all_names-clause-moments : goal.returns-in_err-sync_all_names-clause-moments
 returns-in_err-sync_all_names-clause-moments g c =
-    on_observable (g.T.Tree.history c.args.tree.now) _ (λ v rest is ignored intent base made orderly ready.
-    first_failed (record { left = c.a_crash_may_leave_the_files_as_read.ensures.by_map; outlasts = c.order_outlasts_a_crash.ensures }) ignored intent base made v _ rest is orderly ready (g.T.Tree.history c.args.tree.now) _ _ c.in_err-sync_all_names.ensures.moves)
+    on_observable (g.T.Tree.history c.args.tree.now) _ (λ v rest is ignored intent base made is_durable ready.
+    first_failed crash_laws ignored intent base made v _ rest is is_durable ready (g.T.Tree.history c.args.tree.now) _ _ c.in_err-sync_all_names.ensures.moves)
 
 pub returns-in_err-rename-clause-moments : goal.returns-in_err-rename-clause-moments
 returns-in_err-rename-clause-moments g c =
-    on_observable (g.T.Tree.history c.args.tree.now) _ (λ v rest is ignored intent base made orderly ready.
-    rename_failed (record { left = c.a_crash_may_leave_the_files_as_read.ensures.by_map; outlasts = c.order_outlasts_a_crash.ensures }) ignored intent base made v _ rest is orderly ready _ _ c.requires.place c.requires.name _ _ _
-    (first_done (record { left = c.a_crash_may_leave_the_files_as_read.ensures.by_map; outlasts = c.order_outlasts_a_crash.ensures }) ignored intent base made v _ rest is orderly ready (g.T.Tree.history c.args.tree.now) _ _ c.in_ok-sync_all_names.ensures.moves) c.in_err-rename.ensures.moves)
+    on_observable (g.T.Tree.history c.args.tree.now) _ (λ v rest is ignored intent base made is_durable ready.
+    rename_failed crash_laws ignored intent base made v _ rest is is_durable ready _ _ c.requires.place c.requires.name _ _ _
+    (first_done crash_laws ignored intent base made v _ rest is is_durable ready (g.T.Tree.history c.args.tree.now) _ _ c.in_ok-sync_all_names.ensures.moves) c.in_err-rename.ensures.moves)
 
 pub returns-clause-moments : goal.returns-clause-moments
 returns-clause-moments g c =
-    on_observable (g.T.Tree.history c.args.tree.now) _ (λ v rest is ignored intent base made orderly ready.
-    last_called (record { left = c.a_crash_may_leave_the_files_as_read.ensures.by_map; outlasts = c.order_outlasts_a_crash.ensures }) ignored intent base made v _ rest is orderly ready _ _ c.sync_all_names-2.result
-    (rename_done (record { left = c.a_crash_may_leave_the_files_as_read.ensures.by_map; outlasts = c.order_outlasts_a_crash.ensures }) ignored intent base made v _ rest is orderly ready _ _ c.requires.place c.requires.name _ _ _
-    (first_done (record { left = c.a_crash_may_leave_the_files_as_read.ensures.by_map; outlasts = c.order_outlasts_a_crash.ensures }) ignored intent base made v _ rest is orderly ready (g.T.Tree.history c.args.tree.now) _ _ c.in_ok-sync_all_names.ensures.moves) c.in_ok-rename.ensures.moves) c.sync_all_names-2.ensures.moves)
+    on_observable (g.T.Tree.history c.args.tree.now) _ (λ v rest is ignored intent base made is_durable ready.
+    last_called crash_laws ignored intent base made v _ rest is is_durable ready _ _ c.sync_all_names-2.result
+    (rename_done crash_laws ignored intent base made v _ rest is is_durable ready _ _ c.requires.place c.requires.name _ _ _
+    (first_done crash_laws ignored intent base made v _ rest is is_durable ready (g.T.Tree.history c.args.tree.now) _ _ c.in_ok-sync_all_names.ensures.moves) c.in_ok-rename.ensures.moves) c.sync_all_names-2.ensures.moves)
 
 pub returns-clause-entered : goal.returns-clause-entered
 returns-clause-entered g c =
-    on_observable (g.T.Tree.history c.args.tree.now) _ (λ v rest is ignored intent base made orderly ready.
-    last_entered (record { left = c.a_crash_may_leave_the_files_as_read.ensures.by_map; outlasts = c.order_outlasts_a_crash.ensures }) ignored intent base made v _ rest is orderly ready _ _ c.sync_all_names-2.result
-    (rename_done (record { left = c.a_crash_may_leave_the_files_as_read.ensures.by_map; outlasts = c.order_outlasts_a_crash.ensures }) ignored intent base made v _ rest is orderly ready _ _ c.requires.place c.requires.name _ _ _
-    (first_done (record { left = c.a_crash_may_leave_the_files_as_read.ensures.by_map; outlasts = c.order_outlasts_a_crash.ensures }) ignored intent base made v _ rest is orderly ready (g.T.Tree.history c.args.tree.now) _ _ c.in_ok-sync_all_names.ensures.moves) c.in_ok-rename.ensures.moves) c.sync_all_names-2.ensures.moves)
+    on_observable (g.T.Tree.history c.args.tree.now) _ (λ v rest is ignored intent base made is_durable ready.
+    last_entered crash_laws ignored intent base made v _ rest is is_durable ready _ _ c.sync_all_names-2.result
+    (rename_done crash_laws ignored intent base made v _ rest is is_durable ready _ _ c.requires.place c.requires.name _ _ _
+    (first_done crash_laws ignored intent base made v _ rest is is_durable ready (g.T.Tree.history c.args.tree.now) _ _ c.in_ok-sync_all_names.ensures.moves) c.in_ok-rename.ensures.moves) c.sync_all_names-2.ensures.moves)
 
 pub returns-clause-acting : goal.returns-clause-acting
 returns-clause-acting g c =

@@ -11,23 +11,23 @@ use Rattle.journal_core.proofs.publishing.publish_intent.Goals as goal
 
 pub returns-in_err-write_waiting-clause-moments : goal.returns-in_err-write_waiting-clause-moments
 returns-in_err-write_waiting-clause-moments g c =
-    on_observable (g.T.Tree.history c.args.tree.now) _ (λ v rest is ignored contents base orderly staged.
-    write_moments (full_stage c.args.intent.now) contents base v staged refl (few_writes _ _ c.names_are_free.ensures.few) c.names_are_free.ensures.free _ c.file.ensures _ c.stage_name.ensures _ rest _ (g.T.Tree.history c.args.tree.now) is ignored orderly c.write_waiting.ensures.moments)
+    on_observable (g.T.Tree.history c.args.tree.now) _ (λ v rest is ignored contents base is_durable staged.
+    write_moments (full_stage c.args.intent.now) contents base v staged refl (few_writes _ _ c.names_are_free.ensures.few) c.names_are_free.ensures.free _ c.file.ensures _ c.stage_name.ensures _ rest _ (g.T.Tree.history c.args.tree.now) is ignored is_durable c.write_waiting.ensures.moments)
 
 pub returns-clause-moments : goal.returns-clause-moments
 returns-clause-moments g c =
-    on_observable (g.T.Tree.history c.args.tree.now) _ (λ v rest is ignored contents base orderly staged.
-    enter_moments (full_stage c.args.intent.now) contents base v staged refl (few_writes _ _ c.names_are_free.ensures.few) c.names_are_free.ensures.free _ c.file.ensures _ c.stage_name.ensures _ rest _ _ is ignored orderly c.write_waiting.ensures.moments c.in_ok-write_waiting.ensures.written c.enter.ensures.moments)
+    on_observable (g.T.Tree.history c.args.tree.now) _ (λ v rest is ignored contents base is_durable staged.
+    enter_moments (full_stage c.args.intent.now) contents base v staged refl (few_writes _ _ c.names_are_free.ensures.few) c.names_are_free.ensures.free _ c.file.ensures _ c.stage_name.ensures _ rest _ _ is ignored is_durable c.write_waiting.ensures.moments c.in_ok-write_waiting.ensures.written c.enter.ensures.moments)
 
 pub returns-clause-settled : goal.returns-clause-settled
 returns-clause-settled g c =
-    on_observable (g.T.Tree.history c.args.tree.now) _ (λ v rest is ignored contents base orderly staged.
-    enter_settled (full_stage c.args.intent.now) contents base v staged refl (few_writes _ _ c.names_are_free.ensures.few) c.names_are_free.ensures.free _ c.file.ensures _ c.stage_name.ensures _ rest _ _ is ignored orderly c.write_waiting.ensures.moments c.enter.result c.in_ok-write_waiting.ensures.written c.enter.ensures.entered)
+    on_observable (g.T.Tree.history c.args.tree.now) _ (λ v rest is ignored contents base is_durable staged.
+    enter_settled (full_stage c.args.intent.now) contents base v staged refl (few_writes _ _ c.names_are_free.ensures.few) c.names_are_free.ensures.free _ c.file.ensures _ c.stage_name.ensures _ rest _ _ is ignored is_durable c.write_waiting.ensures.moments c.enter.result c.in_ok-write_waiting.ensures.written c.enter.ensures.entered)
 
 pub returns-clause-published : goal.returns-clause-published
 returns-clause-published g c =
-    on_observable (g.T.Tree.history c.args.tree.now) _ (λ v rest is ignored contents base orderly staged.
-    enter_published (full_stage c.args.intent.now) contents base v staged refl (few_writes _ _ c.names_are_free.ensures.few) c.names_are_free.ensures.free _ c.file.ensures _ c.stage_name.ensures _ rest _ _ is ignored orderly c.write_waiting.ensures.moments c.enter.result c.in_ok-write_waiting.ensures.written c.enter.ensures.moments c.enter.ensures.entered)
+    on_observable (g.T.Tree.history c.args.tree.now) _ (λ v rest is ignored contents base is_durable staged.
+    enter_published (full_stage c.args.intent.now) contents base v staged refl (few_writes _ _ c.names_are_free.ensures.few) c.names_are_free.ensures.free _ c.file.ensures _ c.stage_name.ensures _ rest _ _ is ignored is_durable c.write_waiting.ensures.moments c.enter.result c.in_ok-write_waiting.ensures.written c.enter.ensures.moments c.enter.ensures.entered)
 
 pub returns-clause-acting : goal.returns-clause-acting
 returns-clause-acting g c =

@@ -8,27 +8,28 @@ use Rattle.journal_core.proofs.Keeping.{append_keeps_waiting, create_keeps, sync
 use Rattle.journal_core.proofs.Lasting.{fill_done as unread_filled, fill_failed as unread_fill_failed, make_done as unread_made, make_failed as unread_make_failed, ok_absent, sync_done as unread_synced}
 use Rattle.journal_core.proofs.Maps.{append_maps, create_maps, maps_at, maps_on, sync_maps}
 use Rattle.journal_core.specs.Recovery.{stage_name}
+use Rattle.journal_core.proofs.Images.{crash_laws}
 use Rattle.journal_core.proofs.publishing.write_waiting.Goals as goal
 
 pub returns-in_err-create-clause-moments : goal.returns-in_err-create-clause-moments
 returns-in_err-create-clause-moments g c =
-    on_observable (g.T.Tree.history c.args.tree.now) _ (λ v rest is ignored orderly none.
-    make_failed (record { left = c.a_crash_may_leave_the_files_as_read.ensures.by_map; outlasts = c.order_outlasts_a_crash.ensures }) c.args.place.now 0 c.requires ignored v _ rest is (whole_now _ v rest is (g.met.T.Tree.whole c.args.tree.now)) orderly none (g.T.Tree.history c.args.tree.now) _ _ c.in_err-create.ensures.moves)
+    on_observable (g.T.Tree.history c.args.tree.now) _ (λ v rest is ignored is_durable none.
+    make_failed crash_laws c.args.place.now c.requires ignored v _ rest is (whole_now _ v rest is (g.met.T.Tree.whole c.args.tree.now)) is_durable (g.T.Tree.history c.args.tree.now) _ _ c.in_err-create.ensures.moves)
 
 pub returns-in_err-append-clause-moments : goal.returns-in_err-append-clause-moments
 returns-in_err-append-clause-moments g c =
-    on_observable (g.T.Tree.history c.args.tree.now) _ (λ v rest is ignored orderly none.
+    on_observable (g.T.Tree.history c.args.tree.now) _ (λ v rest is ignored is_durable none.
     let whole = whole_now _ v rest is (g.met.T.Tree.whole c.args.tree.now) in
-    extend_failed (record { left = c.a_crash_may_leave_the_files_as_read.ensures.by_map; outlasts = c.order_outlasts_a_crash.ensures }) c.args.place.now 0 c.requires ignored v _ rest is whole orderly none _ _ c.args.bytes.now _
-    (make_done (record { left = c.a_crash_may_leave_the_files_as_read.ensures.by_map; outlasts = c.order_outlasts_a_crash.ensures }) c.args.place.now 0 c.requires ignored v _ rest is whole orderly none (g.T.Tree.history c.args.tree.now) _ _ c.in_ok-create.ensures.moves) c.in_err-append.ensures.moves)
+    extend_failed crash_laws c.args.place.now c.requires ignored v _ rest is whole is_durable _ _ c.args.bytes.now _
+    (make_done crash_laws c.args.place.now c.requires ignored v _ rest is whole is_durable (g.T.Tree.history c.args.tree.now) _ _ c.in_ok-create.ensures.moves) c.in_err-append.ensures.moves)
 
 pub returns-clause-moments : goal.returns-clause-moments
 returns-clause-moments g c =
-    on_observable (g.T.Tree.history c.args.tree.now) _ (λ v rest is ignored orderly none.
+    on_observable (g.T.Tree.history c.args.tree.now) _ (λ v rest is ignored is_durable none.
     let whole = whole_now _ v rest is (g.met.T.Tree.whole c.args.tree.now) in
-    sync_called (record { left = c.a_crash_may_leave_the_files_as_read.ensures.by_map; outlasts = c.order_outlasts_a_crash.ensures }) c.args.place.now 0 c.requires ignored v _ rest is whole orderly none _ _ c.sync_file.result
-    (extend_done (record { left = c.a_crash_may_leave_the_files_as_read.ensures.by_map; outlasts = c.order_outlasts_a_crash.ensures }) c.args.place.now 0 c.requires ignored v _ rest is whole orderly none _ _ c.args.bytes.now _
-    (make_done (record { left = c.a_crash_may_leave_the_files_as_read.ensures.by_map; outlasts = c.order_outlasts_a_crash.ensures }) c.args.place.now 0 c.requires ignored v _ rest is whole orderly none (g.T.Tree.history c.args.tree.now) _ _ c.in_ok-create.ensures.moves) c.in_ok-append.ensures.moves) c.sync_file.ensures.moves)
+    sync_called crash_laws c.args.place.now c.requires ignored v _ rest is whole is_durable _ _ c.sync_file.result
+    (extend_done crash_laws c.args.place.now c.requires ignored v _ rest is whole is_durable _ _ c.args.bytes.now _
+    (make_done crash_laws c.args.place.now c.requires ignored v _ rest is whole is_durable (g.T.Tree.history c.args.tree.now) _ _ c.in_ok-create.ensures.moves) c.in_ok-append.ensures.moves) c.sync_file.ensures.moves)
 
 pub returns-clause-written : goal.returns-clause-written
 returns-clause-written g c =

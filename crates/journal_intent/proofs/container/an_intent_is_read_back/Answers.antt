@@ -22,7 +22,7 @@ returns-clause-read c = λ removals writes names none.
       fits = fits;
       few = few_of _ _ _ none over;
       texts = (c.no_text_is_bad_where_each_keeps_its_rule.ensures Tables.Intent v).1 (value_rules removals writes names);
-      once = (c.no_name_is_repeated_where_each_stands_once.ensures Tables.Intent v).1 (value_once removals writes names.once);
+      once = (c.no_repeated_name_is_reported_if_there_is_none.ensures Tables.Intent v).1 (value_once removals writes names.once);
     } in
     intent_read v (header_is c.a_file_is_spelled.ensures c.what_is_spelled_is_read.ensures v fits)
     (c.a_container_of_a_good_value_is_sound.ensures Tables.Intent INTENT_WORD v refl not_package root)

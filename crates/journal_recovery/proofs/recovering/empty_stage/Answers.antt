@@ -10,28 +10,28 @@ returns-in_err-folder-clause-moments g c = empty_none _ _ refl
 pub returns-in_err-names-clause-moments : goal.returns-in_err-names-clause-moments
 returns-in_err-names-clause-moments g c = empty_none _ _ c.list.ensures.same
 
-pub returns-in_err-remove_all-clause-moments : goal.returns-in_err-remove_all-clause-moments
-returns-in_err-remove_all-clause-moments g c =
-    empty_moments _ _ c.in_ok-folder.ensures _ _ _ c.list.ensures.same c.in_ok-names.ensures.order c.remove_all.ensures.moments
+pub returns-in_err-clear_all-clause-moments : goal.returns-in_err-clear_all-clause-moments
+returns-in_err-clear_all-clause-moments g c =
+    empty_moments _ _ c.in_ok-folder.ensures _ _ _ c.list.ensures.same c.in_ok-names.ensures.order c.clear_all.ensures.moments
 
 pub returns-clause-moments : goal.returns-clause-moments
 returns-clause-moments g c =
-    empty_moments _ _ c.in_ok-folder.ensures _ _ _ c.list.ensures.same c.in_ok-names.ensures.order c.remove_all.ensures.moments
+    empty_moments _ _ c.in_ok-folder.ensures _ _ _ c.list.ensures.same c.in_ok-names.ensures.order c.clear_all.ensures.moments
 
 pub returns-clause-emptied : goal.returns-clause-emptied
 returns-clause-emptied g c =
-    empty_emptied _ _ c.in_ok-folder.ensures _ _ _ c.list.ensures.same c.in_ok-names.ensures.value c.in_ok-remove_all.ensures.cleared
+    empty_emptied _ _ c.in_ok-folder.ensures _ _ _ c.list.ensures.same c.in_ok-names.ensures.value c.in_ok-clear_all.ensures.cleared
 
-pub returns-in_err-remove_all-clause-idle : goal.returns-in_err-remove_all-clause-idle
-returns-in_err-remove_all-clause-idle g c =
-    empty_idle _ _ c.in_ok-folder.ensures _ _ _ c.list.ensures.same c.in_ok-names.ensures.value c.remove_all.ensures.none
+pub returns-in_err-clear_all-clause-idle : goal.returns-in_err-clear_all-clause-idle
+returns-in_err-clear_all-clause-idle g c =
+    empty_idle _ _ c.in_ok-folder.ensures _ _ _ c.list.ensures.same c.in_ok-names.ensures.value c.clear_all.ensures.none
 
 pub returns-clause-idle : goal.returns-clause-idle
 returns-clause-idle g c =
-    empty_idle _ _ c.in_ok-folder.ensures _ _ _ c.list.ensures.same c.in_ok-names.ensures.value c.remove_all.ensures.none
+    empty_idle _ _ c.in_ok-folder.ensures _ _ _ c.list.ensures.same c.in_ok-names.ensures.value c.clear_all.ensures.none
 
 pub returns-clause-gone : goal.returns-clause-gone
-returns-clause-gone g c = stays_back _ _ _ c.list.ensures.same c.in_ok-remove_all.ensures.gone
+returns-clause-gone g c = stays_back _ _ _ c.list.ensures.same c.in_ok-clear_all.ensures.gone
 
 pub returns-in_err-folder-clause-shown : goal.returns-in_err-folder-clause-shown
 returns-in_err-folder-clause-shown g c = empty_shown_none _ _ refl
@@ -39,11 +39,11 @@ returns-in_err-folder-clause-shown g c = empty_shown_none _ _ refl
 pub returns-in_err-names-clause-shown : goal.returns-in_err-names-clause-shown
 returns-in_err-names-clause-shown g c = empty_shown_none _ _ c.list.ensures.same
 
-pub returns-in_err-remove_all-clause-shown : goal.returns-in_err-remove_all-clause-shown
-returns-in_err-remove_all-clause-shown g c = empty_shown _ _ c.in_ok-folder.ensures _ _ _ c.list.ensures.same c.in_ok-names.ensures.order c.remove_all.ensures.shown
+pub returns-in_err-clear_all-clause-shown : goal.returns-in_err-clear_all-clause-shown
+returns-in_err-clear_all-clause-shown g c = empty_shown _ _ c.in_ok-folder.ensures _ _ _ c.list.ensures.same c.in_ok-names.ensures.order c.clear_all.ensures.shown
 
 pub returns-clause-shown : goal.returns-clause-shown
-returns-clause-shown g c = empty_shown _ _ c.in_ok-folder.ensures _ _ _ c.list.ensures.same c.in_ok-names.ensures.order c.remove_all.ensures.shown
+returns-clause-shown g c = empty_shown _ _ c.in_ok-folder.ensures _ _ _ c.list.ensures.same c.in_ok-names.ensures.order c.clear_all.ensures.shown
 
 pub returns-in_err-folder-clause-waiting : goal.returns-in_err-folder-clause-waiting
 returns-in_err-folder-clause-waiting g c = waiting_none _ _ refl
@@ -51,11 +51,11 @@ returns-in_err-folder-clause-waiting g c = waiting_none _ _ refl
 pub returns-in_err-names-clause-waiting : goal.returns-in_err-names-clause-waiting
 returns-in_err-names-clause-waiting g c = waiting_none _ _ c.list.ensures.same
 
-pub returns-in_err-remove_all-clause-waiting : goal.returns-in_err-remove_all-clause-waiting
-returns-in_err-remove_all-clause-waiting g c = waiting_back _ _ _ c.list.ensures.same c.remove_all.ensures.waiting
+pub returns-in_err-clear_all-clause-waiting : goal.returns-in_err-clear_all-clause-waiting
+returns-in_err-clear_all-clause-waiting g c = waiting_back _ _ _ c.list.ensures.same c.clear_all.ensures.waiting
 
 pub returns-clause-waiting : goal.returns-clause-waiting
-returns-clause-waiting g c = waiting_back _ _ _ c.list.ensures.same c.remove_all.ensures.waiting
+returns-clause-waiting g c = waiting_back _ _ _ c.list.ensures.same c.clear_all.ensures.waiting
 
 pub returns-in_err-folder-clause-last : goal.returns-in_err-folder-clause-last
 returns-in_err-folder-clause-last g c = empty_lasts_none _ _ refl
@@ -63,8 +63,8 @@ returns-in_err-folder-clause-last g c = empty_lasts_none _ _ refl
 pub returns-in_err-names-clause-last : goal.returns-in_err-names-clause-last
 returns-in_err-names-clause-last g c = empty_lasts_none _ _ c.list.ensures.same
 
-pub returns-in_err-remove_all-clause-last : goal.returns-in_err-remove_all-clause-last
-returns-in_err-remove_all-clause-last g c = empty_lasts _ _ c.in_ok-folder.ensures _ _ _ c.list.ensures.same c.in_ok-names.ensures.order c.remove_all.ensures.last
+pub returns-in_err-clear_all-clause-last : goal.returns-in_err-clear_all-clause-last
+returns-in_err-clear_all-clause-last g c = empty_lasts _ _ c.in_ok-folder.ensures _ _ _ c.list.ensures.same c.in_ok-names.ensures.order c.clear_all.ensures.last
 
 pub returns-clause-last : goal.returns-clause-last
-returns-clause-last g c = empty_lasts _ _ c.in_ok-folder.ensures _ _ _ c.list.ensures.same c.in_ok-names.ensures.order c.remove_all.ensures.last
+returns-clause-last g c = empty_lasts _ _ c.in_ok-folder.ensures _ _ _ c.list.ensures.same c.in_ok-names.ensures.order c.clear_all.ensures.last

@@ -3,6 +3,7 @@ use Rattle.std.proofs.Common.{refl, arith}
 use Rattle.journal_core.proofs.Rowing.{goes_same, goes_through, none_same, none_through}
 use Rattle.journal_core.proofs.Emptied.{any_told, cleared_done, cleared_ends, cleared_failed, cleared_start, gone_done, gone_start, not_empty, shown_done, shown_ends, shown_failed, shown_start, take_all, take_more, told_misuses}
 use Rattle.journal_core.proofs.Lasting.{stays_done, stays_start}
+use Rattle.journal_core.proofs.Images.{crash_laws}
 use Rattle.journal_recovery.proofs.recovering.remove_all.Goals as goal
 
 pub loop-i-init : goal.loop-i-init
@@ -11,8 +12,8 @@ loop-i-init g c = (cleared_start _ _, gone_start _ _ refl, goes_same _, none_sam
 pub loop-i-preserved : goal.loop-i-preserved
 loop-i-preserved g c =
     let (cleared, gone, goes, none, proper, stays, shown, waiting, lasting, idle) = c.loop-i.invariant in (
-      cleared_done (record { left = c.a_crash_may_leave_the_files_as_read.ensures.by_map; outlasts = c.order_outlasts_a_crash.ensures }) c.args.names.now _ _ _ c.loop-i.i c.get.result.now c.get.ensures _ cleared c.in_ok-remove.ensures.moves,
-      gone_done (record { left = c.a_crash_may_leave_the_files_as_read.ensures.by_map; outlasts = c.order_outlasts_a_crash.ensures }) c.args.names.now _ _ _ c.loop-i.i c.get.result.now c.get.ensures _ _ _ (take_more c.args.names.now c.loop-i.i c.get.result.now c.get.ensures) gone c.in_ok-remove.ensures.moves,
+      cleared_done crash_laws c.args.names.now _ _ _ c.loop-i.i c.get.result.now c.get.ensures _ cleared c.in_ok-remove.ensures.moves,
+      gone_done crash_laws c.args.names.now _ _ _ c.loop-i.i c.get.result.now c.get.ensures _ _ _ (take_more c.args.names.now c.loop-i.i c.get.result.now c.get.ensures) gone c.in_ok-remove.ensures.moves,
       goes_through _ _ _ goes c.in_ok-remove.ensures.counts.goes_on,
       none_through _ _ _ none c.in_ok-remove.ensures.counts.kept,
       told_misuses _ _ _ _ _ _ gone proper c.in_ok-remove.ensures.counts,
@@ -26,7 +27,7 @@ loop-i-preserved g c =
 pub returns-in_err-remove-clause-moments : goal.returns-in_err-remove-clause-moments
 returns-in_err-remove-clause-moments g c =
     let (cleared, gone, goes, none, proper, stays, shown, waiting, lasting, idle) = c.loop-i.invariant in
-    cleared_failed (record { left = c.a_crash_may_leave_the_files_as_read.ensures.by_map; outlasts = c.order_outlasts_a_crash.ensures }) c.args.names.now _ _ _ c.loop-i.i c.get.result.now c.get.ensures _ cleared c.in_err-remove.ensures.moves
+    cleared_failed crash_laws c.args.names.now _ _ _ c.loop-i.i c.get.result.now c.get.ensures _ cleared c.in_err-remove.ensures.moves
 
 pub returns-in_err-remove-clause-none : goal.returns-in_err-remove-clause-none
 returns-in_err-remove-clause-none g c = λ e. absurd (not_empty c.args.names.now c.loop-i.i c.get.result.now c.get.ensures e)

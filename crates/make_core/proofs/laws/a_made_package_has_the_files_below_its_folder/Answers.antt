@@ -5,7 +5,7 @@ use Rattle.make_core.proofs.laws.a_made_package_has_the_files_below_its_folder.G
 
 pub returns : goal.returns
 returns c =
-    let sizes : Sizes = record { installed = c.the_installed_size_is_that_of_the_contents.ensures; container = c.contents_stand_in_their_container.ensures.container } in
+    let sizes : Sizes = record { installed = c.the_installed_size_is_that_of_the_contents.ensures; container = c.contents_are_in_their_container.ensures.container } in
     let needs : Needs = record { spelled = c.read_texts_are_spelled.ensures; back = c.values_are_read_back.ensures } in
-    made_below c.each_name_stands_in_one_folder.ensures.names c.what_a_container_is_made_of_is_read_back.ensures.contents sizes c.a_value_overflows_exactly_past_a_limit.ensures needs
+    made_below c.each_name_is_in_one_folder.ensures.names c.what_a_container_is_made_of_is_read_back.ensures.contents sizes c.a_value_overflows_exactly_past_a_limit.ensures needs
     c.the_first_pair_in_one_of_several_lists_is_reported.ensures

@@ -8,7 +8,7 @@ pub read_scripts-requires : goal.read_scripts-requires
 read_scripts-requires g c = values_allowed c.a_command_has_what_its_applet_may_have.ensures.values c.args.command.now _ c.values-values.ensures.command c.requires c.values-values.ensures.value
 
 pub package-requires : goal.package-requires
-package-requires g c = sizes_held c.contents_stand_in_their_container.ensures.blocks _ _ _ (c.in_ok-packing.ensures.read 0).is.2
+package-requires g c = sizes_held c.contents_are_in_their_container.ensures.blocks _ _ _ (c.in_ok-packing.ensures.read 0).is.2
 
 pub returns-in_err-scripts-clause-read : goal.returns-in_err-scripts-clause-read
 returns-in_err-scripts-clause-read g c =
@@ -36,4 +36,4 @@ returns-clause-read g c =
 pub returns-clause-tree : goal.returns-clause-tree
 returns-clause-tree g c =
     quiet_answer c.in_ok-packing.packing _ _ _ _ c.package.result
-    (c.readings_in_a_row_join.ensures.two _ _ _ _ _ _ _ _ _ c.in_ok-scripts.ensures.tree c.in_ok-packing.ensures.tree) c.package.ensures.disk
+    (c.consecutive_reads_compose.ensures.two _ _ _ _ _ _ _ _ _ c.in_ok-scripts.ensures.tree c.in_ok-packing.ensures.tree) c.package.ensures.disk

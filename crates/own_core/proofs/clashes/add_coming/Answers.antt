@@ -3,7 +3,7 @@ use Rattle.adb_fields.specs.JoinedPath.{joined_path}
 use Rattle.db_core.specs.Seen.{members_of}
 use Rattle.path_claims.specs.Seen.{claim_seen}
 use Rattle.path_claims.proofs.Places.{seen_at}
-use Rattle.own_core.specs.ClaimEntries.{comes_at}
+use Rattle.own_core.specs.ClaimEntries.{is_added_at}
 use Rattle.own_core.proofs.Written.{path_left, path_more, paths_whole}
 use Rattle.own_core.proofs.clashes.add_coming.Goals as goal
 use Rattle.own_core.proofs.clashes.add_coming.Goals.{then-comes+in_ok-push, else-comes}
@@ -14,14 +14,14 @@ comes-requires c = c.requires c.loop-claim.claim-index _ (seen_at claim_seen c.a
 pub loop-claim-preserved : goal.loop-claim-preserved
 loop-claim-preserved c = elim c.if-comes.branch [
   | then-comes+in_ok-push w ↦
-      path_more (λ d. comes_at (members_of c.args.members.now) d.member) c.args.claims.now c.loop-claim.claim-index _ c.comes.result (map joined_path c.args.paths.now.items) c.loop-claim.paths.items c.if-comes.paths.items
+      path_more (λ d. is_added_at (members_of c.args.members.now) d.member) c.args.claims.now c.loop-claim.claim-index _ c.comes.result (map joined_path c.args.paths.now.items) c.loop-claim.paths.items c.if-comes.paths.items
       c.loop-claim-test.true c.comes.ensures w.if-comes.true (ap (λ v. v.items) w.paths-is ∙ w.in_ok-push.ensures.items) c.loop-claim.invariant
   | else-comes w ↦
-      path_left (λ d. comes_at (members_of c.args.members.now) d.member) c.args.claims.now c.loop-claim.claim-index _ c.comes.result (map joined_path c.args.paths.now.items) c.loop-claim.paths.items c.if-comes.paths.items
+      path_left (λ d. is_added_at (members_of c.args.members.now) d.member) c.args.claims.now c.loop-claim.claim-index _ c.comes.result (map joined_path c.args.paths.now.items) c.loop-claim.paths.items c.if-comes.paths.items
       c.loop-claim-test.true c.comes.ensures w.if-comes.false (ap (λ v. v.items) w.paths-is) c.loop-claim.invariant
 ]
 
 pub returns : goal.returns
 returns c =
-    paths_whole (λ d. comes_at (members_of c.args.members.now) d.member) c.args.claims.now c.loop-claim.claim-index (map joined_path c.args.paths.now.items) (map joined_path c.loop-claim.paths.items)
+    paths_whole (λ d. is_added_at (members_of c.args.members.now) d.member) c.args.claims.now c.loop-claim.claim-index (map joined_path c.args.paths.now.items) (map joined_path c.loop-claim.paths.items)
     (omega (arith, c.loop-claim-test.false)) c.loop-claim.invariant

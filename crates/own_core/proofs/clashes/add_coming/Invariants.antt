@@ -4,9 +4,9 @@ use Rattle.std.specs.List.{filter}
 use Rattle.adb_fields.specs.JoinedPath.{joined_path}
 use Rattle.db_core.specs.Seen.{members_of}
 use Rattle.path_claims.specs.Seen.{claim_seen}
-use Rattle.own_core.specs.ClaimEntries.{comes_at}
+use Rattle.own_core.specs.ClaimEntries.{is_added_at}
 use Rattle.own_core.proofs.clashes.add_coming.Given as goal
 
 abbrev pub invariant-loop-claim : goal.invariant-loop-claim
 invariant-loop-claim l =
-    map joined_path l.paths.items ≡ map joined_path l.fn.paths.items ++ map (λ c. c.path) (filter (λ c. comes_at (members_of l.members) c.member) (take l.claim-index (map claim_seen l.claims)))
+    map joined_path l.paths.items ≡ map joined_path l.fn.paths.items ++ map (λ c. c.path) (filter (λ c. is_added_at (members_of l.members) c.member) (take l.claim-index (map claim_seen l.claims)))

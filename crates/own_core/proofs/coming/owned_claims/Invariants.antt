@@ -3,8 +3,8 @@ use Rattle.std.proofs.Common.{◌≡◌, map, take}
 use Rattle.std.specs.List.{filter}
 use Rattle.db_core.specs.Seen.{members_of}
 use Rattle.path_claims.specs.Seen.{claim_seen}
-use Rattle.own_core.specs.ClaimEntries.{is_of_coming_owner}
+use Rattle.own_core.specs.ClaimEntries.{is_of_added_owner}
 use Rattle.own_core.proofs.coming.owned_claims.Given as goal
 
 abbrev pub invariant-loop-i : goal.invariant-loop-i
-invariant-loop-i l = map claim_seen l.owned.items ≡ filter (is_of_coming_owner (members_of l.members)) (take l.i (map claim_seen l.claims))
+invariant-loop-i l = map claim_seen l.owned.items ≡ filter (is_of_added_owner (members_of l.members)) (take l.i (map claim_seen l.claims))

@@ -3,8 +3,8 @@ use Rattle.std.proofs.Common.{◌≡◌, None, map, take}
 use Rattle.std.specs.List.{find}
 use Rattle.db_core.specs.Seen.{members_of}
 use Rattle.path_claims.specs.Seen.{claim_seen}
-use Rattle.own_core.specs.ClaimEntries.{is_reserved_coming}
+use Rattle.own_core.specs.ClaimEntries.{is_added_and_reserved}
 use Rattle.own_core.proofs.planning.first_reserved.Given as goal
 
 abbrev pub invariant-loop-claim : goal.invariant-loop-claim
-invariant-loop-claim l = find (is_reserved_coming (members_of l.members)) (take l.claim-index (map claim_seen l.claims)) ≡ None
+invariant-loop-claim l = find (is_added_and_reserved (members_of l.members)) (take l.claim-index (map claim_seen l.claims)) ≡ None

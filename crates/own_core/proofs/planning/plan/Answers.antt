@@ -1,13 +1,13 @@
 use Rattle.std.proofs.Common.{◌∙◌, List, ap, sym, subst, map}
 use Rattle.std.specs.List.{filter}
 use Rattle.claim_lists.specs.Once.{HasFirsts}
-use Rattle.db_core.specs.Members.{staying_members}
+use Rattle.db_core.specs.Members.{members_of_kept}
 use Rattle.db_core.specs.Seen.{members_of, packages_of}
 use Rattle.file_owners.specs.Owners.{claims_in}
 use Rattle.path_claims.specs.Seen.{claim_seen}
 use Rattle.path_claims.specs.declared.claim.Claim.{Claim}
 use Rattle.path_claims.proofs.Whole.{is_sorted}
-use Rattle.own_core.specs.ClaimEntries.{is_of_coming_owner}
+use Rattle.own_core.specs.ClaimEntries.{is_of_added_owner}
 use Rattle.own_core.specs.Sides.{HasClaims}
 use Rattle.own_core.specs.declared.change.Change.{Change}
 use Rattle.own_core.proofs.Listings.{are_claims}
@@ -23,14 +23,14 @@ first_reserved-requires-clause-files g c =
 
 pub one_of_each_path-requires : goal.one_of_each_path-requires
 one_of_each_path-requires g c =
-    is_sorted (claims_in (staying_members (packages_of c.args.old.now))) (map claim_seen c.deref-2.result.now) (ap (map claim_seen) c.deref-2.ensures.value ∙ c.in_ok-listed.ensures)
+    is_sorted (claims_in (members_of_kept (packages_of c.args.old.now))) (map claim_seen c.deref-2.result.now) (ap (map claim_seen) c.deref-2.ensures.value ∙ c.in_ok-listed.ensures)
 
-pub coming_claims-requires-clause-files : goal.coming_claims-requires-clause-files
-coming_claims-requires-clause-files g c =
+pub added_claims-requires-clause-files : goal.added_claims-requires-clause-files
+added_claims-requires-clause-files g c =
     are_claims (members_of c.args.after.now) (map claim_seen c.deref-5.result.now) c.listed_paths_are_names-2.ensures (ap (map claim_seen) c.deref-5.ensures.value ∙ c.in_ok-found.ensures.claims)
 
-pub coming_claims-requires-clause-sorted : goal.coming_claims-requires-clause-sorted
-coming_claims-requires-clause-sorted g c =
+pub added_claims-requires-clause-sorted : goal.added_claims-requires-clause-sorted
+added_claims-requires-clause-sorted g c =
     is_sorted (claims_in (members_of c.args.after.now)) (map claim_seen c.deref-5.result.now) (ap (map claim_seen) c.deref-5.ensures.value ∙ c.in_ok-found.ensures.claims)
 
 pub plan_of_claims-requires-clause-claims : goal.plan_of_claims-requires-clause-claims
@@ -49,7 +49,7 @@ plan_of_claims-requires-clause-claims g c =
 
 pub plan_of_claims-requires-clause-firsts : goal.plan_of_claims-requires-clause-firsts
 plan_of_claims-requires-clause-firsts g c =
-    let firsts : HasFirsts (filter (is_of_coming_owner (members_of c.args.after.now)) (map claim_seen c.deref-4.result.now)) (map claim_seen c.deref-7.result.now) =
+    let firsts : HasFirsts (filter (is_of_added_owner (members_of c.args.after.now)) (map claim_seen c.deref-4.result.now)) (map claim_seen c.deref-7.result.now) =
     firsts_over (members_of c.args.after.now) c.deref-4.result.now c.deref-5.result.now c.in_ok-coming.coming.items c.deref-7.result.now (c.deref-5.ensures.value ∙ sym c.deref-4.ensures.value) c.deref-7.ensures.value c.in_ok-coming.ensures in
     firsts
 

@@ -3,7 +3,7 @@ use Rattle.change_files.specs.Fate.{aside_name}
 use Rattle.path_claims.specs.Seen.{claim_seen}
 use Rattle.path_claims.proofs.Places.{seen_at}
 use Rattle.own_core.specs.WritesSeen.{aside_write, write_seen}
-use Rattle.own_core.proofs.Written.{behind_all, written_more}
+use Rattle.own_core.proofs.Written.{after_all, written_more}
 use Rattle.own_core.proofs.writes.add_beside.Goals as goal
 
 pub name_of_path-requires : goal.name_of_path-requires
@@ -21,4 +21,4 @@ loop-claim-preserved c =
     c.loop-claim-test.true c.in_ok-add_write.ensures (c.in_ok-beside.ensures ∙ ap aside_name c.in_ok-name.ensures) c.loop-claim.invariant
 
 pub returns : goal.returns
-returns c = behind_all aside_write c.args.asides.now c.loop-claim.claim-index (map write_seen c.args.writes.now.items) (map write_seen c.loop-claim.writes.items) (omega (arith, c.loop-claim-test.false)) c.loop-claim.invariant
+returns c = after_all aside_write c.args.asides.now c.loop-claim.claim-index (map write_seen c.args.writes.now.items) (map write_seen c.loop-claim.writes.items) (omega (arith, c.loop-claim-test.false)) c.loop-claim.invariant

@@ -10,4 +10,4 @@ pub returns : goal.returns
 unfolding simulated_report
 returns c = λ again same.
     three_parts _ _ _ _ _ _ _ c.new-report.ensures c.in_ok-push_change_lines.ensures c.in_ok-push_stay_lines.ensures c.in_ok-push_selected_sum.ensures
-    ∙ ap (λ z. change_lines z ++ stay_lines (packages_of c.args.db.now) (candidates_at c.args.pool.now c.args.trace.now) c.args.to_go.now ++ selected_sum_line (candidates_at c.args.pool.now c.args.trace.now)) same
+    ∙ ap (λ z. change_lines z ++ stay_lines (packages_of c.args.db.now) (candidates_at c.args.pool.now c.args.trace.now) c.args.to_remove.now ++ selected_sum_line (candidates_at c.args.pool.now c.args.trace.now)) same

@@ -5,7 +5,7 @@ use Rattle.package_files.specs.Folders.{last_part_of}
 use Rattle.package_files.specs.Package.{kind_of_file}
 use Rattle.package_files.proofs.ReadLemmas.{explained_as, explained, same_fault, memory_fault}
 use Rattle.package_files.proofs.PackLemmas.{file_fault, packed_file_is}
-use Rattle.package_files.proofs.PlacedBlocks.{begun_behind, kind_of_rest, placed_is}
+use Rattle.package_files.proofs.PlacedBlocks.{begun_after, kind_of_rest, placed_is}
 use Rattle.package_files.proofs.packing.pack_file.Goals as goal
 
 pub returns-in_err-at-clause-read : goal.returns-in_err-at-clause-read
@@ -18,7 +18,7 @@ returns-in_err-kind-clause-read g c = λ n. explained _ _ (λ read. memory_fault
 
 pub end_block-requires : goal.end_block-requires
 end_block-requires g c =
-    let behind = begun_behind c.args.position.0 c.args.position.1 c.args.blocks.now.items c.read_listed.new.blocks.items c.in_ok-at.at c.in_ok-at.ensures.begun in
+    let behind = begun_after c.args.position.0 c.args.position.1 c.args.blocks.now.items c.read_listed.new.blocks.items c.in_ok-at.at c.in_ok-at.ensures.begun in
     omega arith
 
 pub returns-in_err-end_block-clause-read : goal.returns-in_err-end_block-clause-read

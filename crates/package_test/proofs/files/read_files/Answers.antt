@@ -9,7 +9,7 @@ use Rattle.pkg_core.specs.Front.{behind_front}
 use Rattle.pkg_core.specs.Values.{value_of_contents}
 use Rattle.pkg_core.proofs.SeenBytes.{reads_bad, reads_in_a_row}
 use Rattle.piece_reader.proofs.Readings.{renamed}
-use Rattle.piece_reader.specs.Readers.{handed_out_from, name_in_tree, package_len, start_of_file}
+use Rattle.piece_reader.specs.Readers.{returned_len_from, name_in_tree, package_len, start_of_file}
 use Rattle.piece_reader.specs.declared.piece.PieceFault.{PieceFault}
 use Rattle.piece_reader.specs.declared.piece.PieceFault.TheVariants.{Bad, Disk as PieceDisk}
 use Rattle.package_test.specs.Places.{AreFilesTested}
@@ -28,7 +28,7 @@ pieces-init g c =
     record {
       name = refl;
       len = refl;
-      passed = none_passed _ (name_in_tree reader) (package_len reader) reader c.new-places.result.items (omega (arith, offset, len, within)) (ap (handed_out_from reader.start) c.new-reader.ensures.start.1) c.new-places.ensures.items;
+      passed = none_passed _ (name_in_tree reader) (package_len reader) reader c.new-places.result.items (omega (arith, offset, len, within)) (ap (returned_len_from reader.start) c.new-reader.ensures.start.1) c.new-places.ensures.items;
       tree = reads_nothing _ _ _ _;
     }
 

@@ -3,7 +3,7 @@ use Rattle.base_core.specs.Tree.{TreeState}
 use Rattle.base_core.specs.declared.tree.TreeFault.{TreeFault}
 use Rattle.base_core.specs.declared.tree.TreeFault.TheVariants.{Disk as DiskFault}
 use Rattle.pkg_core.specs.Seen.{ReadsFile}
-use Rattle.piece_reader.specs.Readers.{due_files, name_in_tree, offset_of, package_len}
+use Rattle.piece_reader.specs.Readers.{files_to_read, name_in_tree, offset_of, package_len}
 use Rattle.package_test.proofs.PiecesPassed.{IsPassedTo, steps_left}
 use Rattle.package_test.proofs.files.read_files.Given as goal
 

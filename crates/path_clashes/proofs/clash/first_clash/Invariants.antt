@@ -17,7 +17,7 @@ abbrev pub invariant-loop-path : goal.invariant-loop-path
 invariant-loop-path g l = record {
   before : l.before.items ≡ name_before (map joined_path l.written) l.path-index;
   first : IfObservable (g.T.Tree.history l.initial.tree)
-      (λ v. IsFirstSoFar (change_by_paths l.written (g.G.LetGo.lets_go l.let_go)) (files_of v) (map joined_path l.written) l.path-index (option_map clash_seen l.first));
-  may : MayBeFirstSoFar (change_by_paths l.written (g.G.LetGo.lets_go l.let_go)) (map joined_path l.written) l.path-index (option_map clash_seen l.first);
+      (λ v. IsFirstSoFar (change_by_paths l.written (g.G.IsReleased.does_release l.let_go)) (files_of v) (map joined_path l.written) l.path-index (option_map clash_seen l.first));
+  may : MayBeFirstSoFar (change_by_paths l.written (g.G.IsReleased.does_release l.let_go)) (map joined_path l.written) l.path-index (option_map clash_seen l.first);
   tree : OnlyReads {A = Option Clash} {E = TreeFault} Disk (g.T.Tree.history l.initial.tree) (g.T.Tree.history l.tree) (g.T.Tree.counts l.initial.tree) (g.T.Tree.counts l.tree) (Ok None);
 }

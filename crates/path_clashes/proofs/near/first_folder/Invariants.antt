@@ -12,7 +12,7 @@ use Rattle.path_clashes.proofs.near.first_folder.Given as goal
 abbrev pub invariant-loop-i : goal.invariant-loop-i
 invariant-loop-i g l = record {
   long : l.len ≤ l.i;
-  may : IsNoneUpto (change_by_paths l.written (g.G.LetGo.lets_go l.let_go)) (files_with None) l.name l.len l.i;
-  none : IfObservable (g.T.Tree.history l.initial.tree) (λ v. IsNoneUpto (change_by_paths l.written (g.G.LetGo.lets_go l.let_go)) (files_of v) l.name l.len l.i);
+  may : IsNoneUpto (change_by_paths l.written (g.G.IsReleased.does_release l.let_go)) (files_with None) l.name l.len l.i;
+  none : IfObservable (g.T.Tree.history l.initial.tree) (λ v. IsNoneUpto (change_by_paths l.written (g.G.IsReleased.does_release l.let_go)) (files_of v) l.name l.len l.i);
   tree : OnlyReads {A = Option (List ℕ)} {E = TreeFault} Disk (g.T.Tree.history l.initial.tree) (g.T.Tree.history l.tree) (g.T.Tree.counts l.initial.tree) (g.T.Tree.counts l.tree) (Ok None);
 }

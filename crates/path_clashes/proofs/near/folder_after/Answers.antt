@@ -7,8 +7,8 @@ use Rattle.path_clashes.proofs.near.folder_after.Goals as goal
 
 pub returns-in_default-clause-found : goal.returns-in_default-clause-found
 returns-in_default-clause-found g c =
-    observed_by _ _ _ (λ v whole. no_name_after c.args.written.now (g.G.LetGo.lets_go c.args.let_go.now) v c.args.folder.now c.requires.names whole (sym c.in_ok-name.ensures.when ∙ ap is_some c.in_default.is))
+    observed_by _ _ _ (λ v whole. no_name_after c.args.written.now (g.G.IsReleased.does_release c.args.let_go.now) v c.args.folder.now c.requires.names whole (sym c.in_ok-name.ensures.when ∙ ap is_some c.in_default.is))
     (observed_whole _ (g.met.T.Tree.whole c.args.tree.now))
 
 pub returns-in_default-clause-may : goal.returns-in_default-clause-may
-returns-in_default-clause-may g c = no_name_alone c.args.written.now (g.G.LetGo.lets_go c.args.let_go.now) c.args.folder.now c.requires.names (sym c.in_ok-name.ensures.when ∙ ap is_some c.in_default.is)
+returns-in_default-clause-may g c = no_name_alone c.args.written.now (g.G.IsReleased.does_release c.args.let_go.now) c.args.folder.now c.requires.names (sym c.in_ok-name.ensures.when ∙ ap is_some c.in_default.is)

@@ -104,7 +104,7 @@ returns-in_err-new-clause-front g c =
     let eight = header_eight header c.in_ok-found.found (sym c.schema.ensures ∙ c.in_ok-found.was) in
     let long_header : length header ≡ 8 = omega (arith, n, eight) in
     let room = c.in_ok-framed.ensures.within.0 in
-    let pad = c.padding_behind-padding.ensures in
+    let pad = c.padding_after-padding.ensures in
     let head_len : framed.head_len ≡ length head = c.in_ok-framed.ensures.within.1 in
     let payload_len : length payload ≡ framed.payload_len = c.in_ok-payload.ensures.len in
     let both = length-append header head in
@@ -121,7 +121,7 @@ returns-in_err-new-clause-front g c =
           let here : HasAt file 8 head = subst (λ (k : ℕ). HasAt file k head) (zero_and long_header) (has_rest file 0 header head before) in
           let there : HasAt file (8 + framed.head_len) payload = subst (λ (k : ℕ). HasAt file k payload) (zero_and (sym starts)) (has_rest file 0 (header ++ head) payload has) in
           let step = subst (λ r. IsFramedBy r (drop 8 file) (next_step None 8 (drop 8 file))) c.in_ok-framed.was (c.first_framed.ensures.exact (drop 8 file) left here) in
-          let blocks = first_blocks file payload framed c.padding_behind-padding.result _ step c.in_ok-framed.ensures.order (subst (λ (k : ℕ). framed.head_len + framed.payload_len ≤ k) (sym left) room) (pad ∙ ap (λ (k : ℕ). min (padding_of (framed.head_len + framed.payload_len)) (k - (framed.head_len + framed.payload_len))) (sym left)) payload_len there refl in
+          let blocks = first_blocks file payload framed c.padding_after-padding.result _ step c.in_ok-framed.ensures.order (subst (λ (k : ℕ). framed.head_len + framed.payload_len ≤ k) (sym left) room) (pad ∙ ap (λ (k : ℕ). min (padding_of (framed.head_len + framed.payload_len)) (k - (framed.head_len + framed.payload_len))) (sym left)) payload_len there refl in
           present_bad c.args.schema c.from_residual-in_err-new.result (length ((header ++ head) ++ payload)) file c.in_err-new.field-0.0 c.from_residual-in_err-new.ensures.1 (first_bad file c.args.schema c.in_err-new.field-0.0 front (first_head_bad file payload _ c.in_err-new.field-0.0 blocks (sym (c.in_err-new.ensures.exact ∙ ap head_fault c.deref.ensures.value)) c.args.schema)),
     )
 
@@ -140,12 +140,12 @@ returns-clause-front g c =
     let head = c.in_ok-head.head in
     let payload = c.in_ok-payload.payload.items in
     let framed = c.in_ok-framed.framed in
-    let padding = c.padding_behind-padding.result in
+    let padding = c.padding_after-padding.result in
     let n = c.in_ok-header.ensures.len in
     let eight = header_eight header c.in_ok-found.found (sym c.schema.ensures ∙ c.in_ok-found.was) in
     let long_header : length header ≡ 8 = omega (arith, n, eight) in
     let room = c.in_ok-framed.ensures.within.0 in
-    let pad = c.padding_behind-padding.ensures in
+    let pad = c.padding_after-padding.ensures in
     let head_len : framed.head_len ≡ length head = c.in_ok-framed.ensures.within.1 in
     let payload_len : length payload ≡ framed.payload_len = c.in_ok-payload.ensures.len in
     let both = length-append header head in

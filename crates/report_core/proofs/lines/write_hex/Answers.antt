@@ -8,8 +8,8 @@ use Rattle.report_core.proofs.lines.write_hex.Goals as goal
 pub loop-byte-init : goal.loop-byte-init
 loop-byte-init g c = record {
   written = no_digits _;
-  goes_on = record { faults = omega arith; misuses = omega arith; wants = omega arith; fallible = λ x. x };
-  kept = record { faults = refl; wants = refl };
+  goes_on = record { faults = omega arith; misuses = omega arith; memory_faults = omega arith; fallible = λ x. x };
+  kept = record { faults = refl; memory_faults = refl };
   proper = refl;
 }
 

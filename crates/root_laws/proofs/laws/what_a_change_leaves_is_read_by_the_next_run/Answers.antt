@@ -12,11 +12,11 @@ returns c = λ command read files chosen clash done bytes ok off.
         visited = c.values_of_few_visits_have_no_fault.ensures;
         shaped = c.values_have_their_shape.ensures.word;
         kept = c.no_text_is_bad_where_each_keeps_its_rule.ensures;
-        once = c.no_name_is_repeated_where_each_stands_once.ensures;
+        once = c.no_repeated_name_is_reported_if_there_is_none.ensures;
       }) c.a_canonical_payload_is_read_back.ensures c.a_value_overflows_exactly_past_a_limit.ensures;
       written = record {
         one_owner = c.no_path_is_owned_by_two_members.ensures;
-        root = c.a_database_of_sound_packages_may_stand_at_the_root.ensures;
+        root = c.a_database_of_sound_packages_may_be_the_root.ensures;
         sound = c.a_written_database_is_read_back.ensures.database;
         packages = c.a_written_database_is_read_back.ensures.packages;
       };

@@ -3,7 +3,7 @@ use Rattle.run_lists.proofs.root.run_on_a_root.Goals as goal
 
 pub returns : goal.returns
 returns g c =
-    called c.whatever_a_root_has_seen_a_run_is_safe.ensures.safe c.whatever_a_root_has_seen_a_run_is_safe.ensures.atomic (record {
+    called c.a_run_is_safe_after_any_events.ensures.safe c.a_run_is_safe_after_any_events.ensures.atomic (record {
       words = c.args.words.now;
       old = _;
       now = _;
@@ -12,4 +12,4 @@ returns g c =
       out = _;
       err = _;
       answer = c.apk.result;
-    }) c.apk.ensures.same c.apk.ensures.stated c.apk.ensures.idle c.apk.ensures.bad_intent c.apk.ensures.reads c.apk.ensures.last c.apk.ensures.left c.apk.ensures.crash c.apk.ensures.orderly c.apk.ensures.settled c.apk.ensures.at_rest
+    }) c.apk.ensures.same c.apk.ensures.stated c.apk.ensures.idle c.apk.ensures.bad_intent c.apk.ensures.reads c.apk.ensures.last c.apk.ensures.left c.apk.ensures.crash c.apk.ensures.is_durable c.apk.ensures.settled c.apk.ensures.durable_state

@@ -6,7 +6,7 @@ use Rattle.search_tables.specs.Selection.{IsFirstSelection}
 use Rattle.search_choices.specs.Choices.{choices_of, pool_of}
 use Rattle.search_choices.specs.declared.choices.Choices.{Choices}
 use Rattle.solve_core.specs.Measure.{weight_of}
-use Rattle.search_tables.specs.Reasons.{FrameValue, IsReason, IsSpentFrame, IsFrameTaking}
+use Rattle.search_tables.specs.Reasons.{FrameValue, IsReason, IsExhaustedFrame, IsFrameTaking}
 use Rattle.search_tables.proofs.Places.{none_of}
 use Rattle.solve_core.proofs.FirstFound.{first_found, none_satisfies}
 use Rattle.solve_core.proofs.Weights.{opened_lighter, not_heavier, few_turns, few_options}
@@ -47,7 +47,7 @@ loop-top-smaller-in-Some-2 c =
 pub step_back-requires-clause-spent : goal.step_back-requires-clause-spent
 step_back-requires-clause-spent c =
     let found = rw c.in-None.is at c.in_ok-id.ensures.found in
-    subst (λ (z : Choices). IsSpentFrame (pool_of z) (choices_of z) c.next_option.new.top) (sym c.next_option.ensures.chosen) found
+    subst (λ (z : Choices). IsExhaustedFrame (pool_of z) (choices_of z) c.next_option.new.top) (sym c.next_option.ensures.chosen) found
 
 pub returns-in_default-3 : goal.returns-in_default-3
 returns-in_default-3 c =

@@ -4,14 +4,14 @@ use Rattle.base_core.specs.Crash.{Since}
 use Rattle.base_core.specs.Tree.{files_of}
 use Rattle.base_core.specs.declared.cause.Cause.{Cause}
 use Rattle.journal_core.specs.Recovery.{after_actions}
-use Rattle.journal_core.specs.Staged.{HasRoomBeside, Staging, with_staged}
+use Rattle.journal_core.specs.Staged.{AreJournalPathsFree, Staging, with_staged}
 use Rattle.stage_files.specs.Carried.{IsCarriedTo}
-use Rattle.stage_files.specs.Sources.{MayStandForEach}
+use Rattle.stage_files.specs.Sources.{EachMayDenote}
 use Rattle.stage_files.specs.declared.writes.StageFault.TheVariants.{Bad, Disk}
 use Rattle.stage_files.proofs.Carried.{carried, carried_from, carried_on, of_each, where_seen}
 use Rattle.stage_files.proofs.OneFile.{same_fault, if_disk, not_ok, on_err}
-use Rattle.stage_run.specs.Asked.{PromisesAccepted}
-use Rattle.stage_run.specs.StageRun.{IsStageRun, IsStageRunDone, IsStagingRun}
+use Rattle.stage_run.specs.Asked.{HasAcceptedTargets}
+use Rattle.stage_run.specs.StageRun.{IsStageRun, IsStageRunComplete, IsStagingRun}
 use Rattle.stage_run.proofs.Asked.{change_promises, staging_promises}
 use Rattle.stage_files.proofs.carrying.carry_out.Goals as goal
 
@@ -32,7 +32,7 @@ returns-in_err-stage_each-clause-bad g c = λ member cause is.
 pub returns-in_err-stage_each-clause-proper : goal.returns-in_err-stage_each-clause-proper
 returns-in_err-stage_each-clause-proper g c =
     carried c.a_new_stage_is_staging.ensures (g.T.Tree.history c.args.tree.now) (g.T.Tree.history c.check_targets.new.tree) c.args.stage.now _ _ c.args.writes.now c.requires.new c.check_targets.ensures.tree.same
-    (λ v contents. HasRoomBeside (files_of v) → HasRoomBeside (after_actions c.args.stage.now.intent (with_staged 1 contents (files_of v))) → (g.T.Tree.counts c.stage_each.new.tree).misuses ≡ (g.T.Tree.counts c.args.tree.now).misuses)
+    (λ v contents. AreJournalPathsFree (files_of v) → AreJournalPathsFree (after_actions c.args.stage.now.intent (with_staged 1 contents (files_of v))) → (g.T.Tree.counts c.stage_each.new.tree).misuses ≡ (g.T.Tree.counts c.args.tree.now).misuses)
     (λ v contents staging stand room more.
     c.in_err-stage_each.ensures.proper contents v (g.T.Tree.history c.args.tree.now) staging stand room ∙ where_seen (g.T.Tree.history c.args.tree.now) v _ staging.start c.check_targets.ensures.tree.proper)
 
@@ -50,10 +50,10 @@ returns-in_err-carry_through-clause-run g c =
 pub returns-in_err-carry_through-clause-proper : goal.returns-in_err-carry_through-clause-proper
 returns-in_err-carry_through-clause-proper g c =
     carried c.a_new_stage_is_staging.ensures (g.T.Tree.history c.args.tree.now) (g.T.Tree.history c.check_targets.new.tree) c.args.stage.now _ _ c.args.writes.now c.requires.new c.check_targets.ensures.tree.same
-    (λ v contents. HasRoomBeside (files_of v) → HasRoomBeside (after_actions c.args.stage.now.intent (with_staged 1 contents (files_of v))) → (g.T.Tree.counts c.carry_through.new.tree).misuses ≡ (g.T.Tree.counts c.args.tree.now).misuses)
+    (λ v contents. AreJournalPathsFree (files_of v) → AreJournalPathsFree (after_actions c.args.stage.now.intent (with_staged 1 contents (files_of v))) → (g.T.Tree.counts c.carry_through.new.tree).misuses ≡ (g.T.Tree.counts c.args.tree.now).misuses)
     (λ v contents staging stand room more.
     c.in_err-carry_through.ensures.proper contents v (g.T.Tree.history c.args.tree.now) (c.in_ok-stage_each.ensures.staging contents v (g.T.Tree.history c.args.tree.now) staging stand) room
-    (subst (λ (s : Staging). HasRoomBeside (after_actions s.intent (with_staged 1 contents (files_of v)))) (sym c.in_ok-stage_each.ensures.view) more)
+    (subst (λ (s : Staging). AreJournalPathsFree (after_actions s.intent (with_staged 1 contents (files_of v)))) (sym c.in_ok-stage_each.ensures.view) more)
     ∙ (c.in_ok-stage_each.ensures.proper contents v (g.T.Tree.history c.args.tree.now) staging stand room ∙ where_seen (g.T.Tree.history c.args.tree.now) v _ staging.start c.check_targets.ensures.tree.proper))
 
 pub returns-clause-run : goal.returns-clause-run
@@ -63,7 +63,7 @@ returns-clause-run g c =
     (λ v contents staging stand. record {
       run = subst (λ (s : Staging). IsStageRun (after_actions s.intent (with_staged 1 contents (files_of v))) v (g.T.Tree.history c.args.tree.now) (g.T.Tree.history c.carry_through.new.tree)) c.in_ok-stage_each.ensures.view
           (c.in_ok-carry_through.ensures.run contents v (g.T.Tree.history c.args.tree.now) (c.in_ok-stage_each.ensures.staging contents v (g.T.Tree.history c.args.tree.now) staging stand));
-      ok = subst (λ (s : Staging). IsStageRunDone (after_actions s.intent (with_staged 1 contents (files_of v))) v (g.T.Tree.history c.carry_through.new.tree)) c.in_ok-stage_each.ensures.view
+      ok = subst (λ (s : Staging). IsStageRunComplete (after_actions s.intent (with_staged 1 contents (files_of v))) v (g.T.Tree.history c.carry_through.new.tree)) c.in_ok-stage_each.ensures.view
           (c.in_ok-carry_through.ensures.done contents v (g.T.Tree.history c.args.tree.now) (c.in_ok-stage_each.ensures.staging contents v (g.T.Tree.history c.args.tree.now) staging stand));
       err = tt;
     })
@@ -71,10 +71,10 @@ returns-clause-run g c =
 pub returns-clause-proper : goal.returns-clause-proper
 returns-clause-proper g c =
     carried c.a_new_stage_is_staging.ensures (g.T.Tree.history c.args.tree.now) (g.T.Tree.history c.check_targets.new.tree) c.args.stage.now _ _ c.args.writes.now c.requires.new c.check_targets.ensures.tree.same
-    (λ v contents. HasRoomBeside (files_of v) → HasRoomBeside (after_actions c.args.stage.now.intent (with_staged 1 contents (files_of v))) → (g.T.Tree.counts c.carry_through.new.tree).misuses ≡ (g.T.Tree.counts c.args.tree.now).misuses)
+    (λ v contents. AreJournalPathsFree (files_of v) → AreJournalPathsFree (after_actions c.args.stage.now.intent (with_staged 1 contents (files_of v))) → (g.T.Tree.counts c.carry_through.new.tree).misuses ≡ (g.T.Tree.counts c.args.tree.now).misuses)
     (λ v contents staging stand room more.
     c.in_ok-carry_through.ensures.proper contents v (g.T.Tree.history c.args.tree.now) (c.in_ok-stage_each.ensures.staging contents v (g.T.Tree.history c.args.tree.now) staging stand) room
-    (subst (λ (s : Staging). HasRoomBeside (after_actions s.intent (with_staged 1 contents (files_of v)))) (sym c.in_ok-stage_each.ensures.view) more)
+    (subst (λ (s : Staging). AreJournalPathsFree (after_actions s.intent (with_staged 1 contents (files_of v)))) (sym c.in_ok-stage_each.ensures.view) more)
     ∙ (c.in_ok-stage_each.ensures.proper contents v (g.T.Tree.history c.args.tree.now) staging stand room ∙ where_seen (g.T.Tree.history c.args.tree.now) v _ staging.start c.check_targets.ensures.tree.proper))
 
 pub returns-in_err-stage_each-clause-listed : goal.returns-in_err-stage_each-clause-listed
@@ -88,12 +88,12 @@ returns-in_err-carry_through-clause-listed g c = of_each (g.T.Tree.history c.arg
 pub returns-clause-listed : goal.returns-clause-listed
 returns-clause-listed g c =
     carried_on c.a_new_stage_is_staging.ensures (g.T.Tree.history c.args.tree.now) (g.T.Tree.history c.check_targets.new.tree) c.args.stage.now _ _ c.requires.new c.check_targets.ensures.tree.same
-    (λ v. (contents : List (List ℕ)) × MayStandForEach c.args.writes.now contents × IsStageRunDone (after_actions c.args.stage.now.intent (with_staged 1 contents (files_of v))) v (g.T.Tree.history c.carry_through.new.tree))
+    (λ v. (contents : List (List ℕ)) × EachMayDenote c.args.writes.now contents × IsStageRunComplete (after_actions c.args.stage.now.intent (with_staged 1 contents (files_of v))) v (g.T.Tree.history c.carry_through.new.tree))
     (λ v staging.
     let found = c.in_ok-stage_each.ensures.listed v (g.T.Tree.history c.args.tree.now) staging in (
       found.0,
       found.1,
-      subst (λ (s : Staging). IsStageRunDone (after_actions s.intent (with_staged 1 found.0 (files_of v))) v (g.T.Tree.history c.carry_through.new.tree)) c.in_ok-stage_each.ensures.view
+      subst (λ (s : Staging). IsStageRunComplete (after_actions s.intent (with_staged 1 found.0 (files_of v))) v (g.T.Tree.history c.carry_through.new.tree)) c.in_ok-stage_each.ensures.view
           (c.in_ok-carry_through.ensures.done found.0 v (g.T.Tree.history c.args.tree.now) found.2),
     ))
 
@@ -106,7 +106,7 @@ returns-in_err-check_targets-clause-unpublished g c =
 pub returns-in_err-check_targets-clause-cut_off : goal.returns-in_err-check_targets-clause-cut_off
 returns-in_err-check_targets-clause-cut_off g c =
     carried_on c.a_new_stage_is_staging.ensures (g.T.Tree.history c.args.tree.now) (g.T.Tree.history c.check_targets.new.tree) c.args.stage.now _ _ c.requires.new c.check_targets.ensures.tree.same
-    (λ v. OnErr c.from_residual.result (IsStagingRun v (g.T.Tree.history c.args.tree.now) (g.T.Tree.history c.check_targets.new.tree) ⊎ ((contents : List (List ℕ)) × MayStandForEach c.args.writes.now contents × IsStageRun (after_actions c.args.stage.now.intent (with_staged 1 contents (files_of v))) v (g.T.Tree.history c.args.tree.now) (g.T.Tree.history c.check_targets.new.tree))))
+    (λ v. OnErr c.from_residual.result (IsStagingRun v (g.T.Tree.history c.args.tree.now) (g.T.Tree.history c.check_targets.new.tree) ⊎ ((contents : List (List ℕ)) × EachMayDenote c.args.writes.now contents × IsStageRun (after_actions c.args.stage.now.intent (with_staged 1 contents (files_of v))) v (g.T.Tree.history c.args.tree.now) (g.T.Tree.history c.check_targets.new.tree))))
     (λ v staging. on_err c.from_residual.result _ (inl staging.run))
 
 pub returns-in_err-stage_each-clause-unpublished : goal.returns-in_err-stage_each-clause-unpublished
@@ -118,7 +118,7 @@ returns-in_err-stage_each-clause-unpublished g c =
 pub returns-in_err-stage_each-clause-cut_off : goal.returns-in_err-stage_each-clause-cut_off
 returns-in_err-stage_each-clause-cut_off g c =
     carried_on c.a_new_stage_is_staging.ensures (g.T.Tree.history c.args.tree.now) (g.T.Tree.history c.check_targets.new.tree) c.args.stage.now _ _ c.requires.new c.check_targets.ensures.tree.same
-    (λ v. OnErr c.from_residual-in_err-stage_each.result (IsStagingRun v (g.T.Tree.history c.args.tree.now) (g.T.Tree.history c.stage_each.new.tree) ⊎ ((contents : List (List ℕ)) × MayStandForEach c.args.writes.now contents × IsStageRun (after_actions c.args.stage.now.intent (with_staged 1 contents (files_of v))) v (g.T.Tree.history c.args.tree.now) (g.T.Tree.history c.stage_each.new.tree))))
+    (λ v. OnErr c.from_residual-in_err-stage_each.result (IsStagingRun v (g.T.Tree.history c.args.tree.now) (g.T.Tree.history c.stage_each.new.tree) ⊎ ((contents : List (List ℕ)) × EachMayDenote c.args.writes.now contents × IsStageRun (after_actions c.args.stage.now.intent (with_staged 1 contents (files_of v))) v (g.T.Tree.history c.args.tree.now) (g.T.Tree.history c.stage_each.new.tree))))
     (λ v staging. on_err c.from_residual-in_err-stage_each.result _ (inl (c.in_err-stage_each.ensures.run v (g.T.Tree.history c.args.tree.now) staging)))
 
 pub returns-in_err-carry_through-clause-unpublished : goal.returns-in_err-carry_through-clause-unpublished
@@ -128,7 +128,7 @@ returns-in_err-carry_through-clause-unpublished g c = of_each (g.T.Tree.history 
 pub returns-in_err-carry_through-clause-cut_off : goal.returns-in_err-carry_through-clause-cut_off
 returns-in_err-carry_through-clause-cut_off g c =
     carried_on c.a_new_stage_is_staging.ensures (g.T.Tree.history c.args.tree.now) (g.T.Tree.history c.check_targets.new.tree) c.args.stage.now _ _ c.requires.new c.check_targets.ensures.tree.same
-    (λ v. OnErr c.from_residual-in_err-carry_through.result (IsStagingRun v (g.T.Tree.history c.args.tree.now) (g.T.Tree.history c.carry_through.new.tree) ⊎ ((contents : List (List ℕ)) × MayStandForEach c.args.writes.now contents × IsStageRun (after_actions c.args.stage.now.intent (with_staged 1 contents (files_of v))) v (g.T.Tree.history c.args.tree.now) (g.T.Tree.history c.carry_through.new.tree))))
+    (λ v. OnErr c.from_residual-in_err-carry_through.result (IsStagingRun v (g.T.Tree.history c.args.tree.now) (g.T.Tree.history c.carry_through.new.tree) ⊎ ((contents : List (List ℕ)) × EachMayDenote c.args.writes.now contents × IsStageRun (after_actions c.args.stage.now.intent (with_staged 1 contents (files_of v))) v (g.T.Tree.history c.args.tree.now) (g.T.Tree.history c.carry_through.new.tree))))
     (λ v staging.
     let found = c.in_ok-stage_each.ensures.listed v (g.T.Tree.history c.args.tree.now) staging in
     on_err c.from_residual-in_err-carry_through.result _ (inr (
@@ -147,13 +147,13 @@ returns-clause-cut_off g c = of_each (g.T.Tree.history c.args.tree.now) _ (λ v 
 pub returns-in_err-stage_each-clause-promised : goal.returns-in_err-stage_each-clause-promised
 returns-in_err-stage_each-clause-promised g c =
     carried_from c.a_new_stage_is_staging.ensures (g.T.Tree.history c.args.tree.now) (g.T.Tree.history c.check_targets.new.tree) c.args.stage.now _ _ c.requires.new c.check_targets.ensures.tree.same
-    (λ v. Since (PromisesAccepted g.T.Tree.accepts (files_of v)) (g.T.Tree.history c.args.tree.now) (g.T.Tree.history c.stage_each.new.tree))
+    (λ v. Since (HasAcceptedTargets g.T.Tree.accepts (files_of v)) (g.T.Tree.history c.args.tree.now) (g.T.Tree.history c.stage_each.new.tree))
     (λ v unread empty staging. staging_promises g.T.Tree.accepts v unread empty _ _ (c.in_err-stage_each.ensures.run v (g.T.Tree.history c.args.tree.now) staging))
 
 pub returns-in_err-carry_through-clause-promised : goal.returns-in_err-carry_through-clause-promised
 returns-in_err-carry_through-clause-promised g c =
     carried_from c.a_new_stage_is_staging.ensures (g.T.Tree.history c.args.tree.now) (g.T.Tree.history c.check_targets.new.tree) c.args.stage.now _ _ c.requires.new c.check_targets.ensures.tree.same
-    (λ v. Since (PromisesAccepted g.T.Tree.accepts (files_of v)) (g.T.Tree.history c.args.tree.now) (g.T.Tree.history c.carry_through.new.tree))
+    (λ v. Since (HasAcceptedTargets g.T.Tree.accepts (files_of v)) (g.T.Tree.history c.args.tree.now) (g.T.Tree.history c.carry_through.new.tree))
     (λ v unread empty staging.
     let found = c.in_ok-stage_each.ensures.listed v (g.T.Tree.history c.args.tree.now) staging in
     change_promises g.T.Tree.accepts v unread empty c.args.stage.now.intent found.0 c.names_are_free.ensures.free c.in_ok-check_targets.ensures.accepted _ _
@@ -163,7 +163,7 @@ returns-in_err-carry_through-clause-promised g c =
 pub returns-clause-promised : goal.returns-clause-promised
 returns-clause-promised g c =
     carried_from c.a_new_stage_is_staging.ensures (g.T.Tree.history c.args.tree.now) (g.T.Tree.history c.check_targets.new.tree) c.args.stage.now _ _ c.requires.new c.check_targets.ensures.tree.same
-    (λ v. Since (PromisesAccepted g.T.Tree.accepts (files_of v)) (g.T.Tree.history c.args.tree.now) (g.T.Tree.history c.carry_through.new.tree))
+    (λ v. Since (HasAcceptedTargets g.T.Tree.accepts (files_of v)) (g.T.Tree.history c.args.tree.now) (g.T.Tree.history c.carry_through.new.tree))
     (λ v unread empty staging.
     let found = c.in_ok-stage_each.ensures.listed v (g.T.Tree.history c.args.tree.now) staging in
     change_promises g.T.Tree.accepts v unread empty c.args.stage.now.intent found.0 c.names_are_free.ensures.free c.in_ok-check_targets.ensures.accepted _ _

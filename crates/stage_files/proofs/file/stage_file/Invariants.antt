@@ -1,6 +1,6 @@
 use Rattle.std.proofs.Common.{◌≡◌, true}
-use Rattle.base_core.specs.Faults.{GoesOn, IsNoFault}
-use Rattle.piece_reader.specs.FileReading.{bytes_left_of, file_due}
+use Rattle.base_core.specs.Faults.{CountsOnlyRise, IsNoFault}
+use Rattle.piece_reader.specs.FileReading.{bytes_left_of, expected_file_of}
 use Rattle.stage_files.proofs.OneFile.{HasComeOn, IsBegunOn, IsListedOn, IsProperOn, IsReadOn}
 use Rattle.stage_files.proofs.file.stage_file.Given as goal
 
@@ -11,8 +11,8 @@ invariant-pieces g l = record {
   read : IsReadOn l.fn.stage l.stage l.fn.file l.file (g.T.Tree.history l.fn.tree) (g.T.Tree.history l.tree);
   listed : IsListedOn l.fn.stage l.stage l.fn.file l.file (g.T.Tree.history l.fn.tree) (g.T.Tree.history l.tree);
   come : HasComeOn l.fn.file l.file;
-  due : file_due l.file ≡ file_due l.fn.file;
-  goes_on : GoesOn (g.T.Tree.counts l.fn.tree) (g.T.Tree.counts l.tree);
+  due : expected_file_of l.file ≡ expected_file_of l.fn.file;
+  goes_on : CountsOnlyRise (g.T.Tree.counts l.fn.tree) (g.T.Tree.counts l.tree);
   kept : IsNoFault (g.T.Tree.counts l.fn.tree) (g.T.Tree.counts l.tree);
   proper : IsProperOn l.fn.stage l.fn.file (g.T.Tree.history l.fn.tree) (g.T.Tree.counts l.fn.tree).misuses (g.T.Tree.counts l.tree).misuses;
 }

@@ -1,6 +1,6 @@
 use Rattle.std.proofs.Common.{◌≡◌, Option, Err, ap, subst}
-use Rattle.stage_files.specs.Spoiled.{IsSpoiledSince}
-use Rattle.piece_reader.specs.FileReading.{AreAsDue}
+use Rattle.stage_files.specs.Spoiled.{IsSpoiledForEachTested}
+use Rattle.piece_reader.specs.FileReading.{AreAsExpected}
 use Rattle.pkg_core.specs.Contents.{Expected}
 use Rattle.stage_files.proofs.Files.{source_reading, spoiled_since}
 use Rattle.stage_files.proofs.writes.stage_packaged.Goals as goal
@@ -33,14 +33,14 @@ returns-in-Err-Disk-clause-proper g c = λ contents v first bytes staging source
 pub returns-in-Ok-clause-listed : goal.returns-in-Ok-clause-listed
 returns-in-Ok-clause-listed g c = λ contents v first staging.
     let found = c.in-Ok.ensures.listed c.file-file.ensures.begun contents v first staging in
-    (found.0, subst (λ (d : Option Expected). AreAsDue d found.0) c.file-file.ensures.due found.1, found.2)
+    (found.0, subst (λ (d : Option Expected). AreAsExpected d found.0) c.file-file.ensures.due found.1, found.2)
 
 pub returns-in-Err-Bad-clause-bad : goal.returns-in-Err-Bad-clause-bad
 returns-in-Err-Bad-clause-bad g c = λ member cause is.
     let place : c.args.f.now.member ≡ member = cc in
     let same : c.in-Err-Bad.cause ≡ cause = cc in (
       place,
-      subst (IsSpoiledSince c.args.f.now) same
+      subst (IsSpoiledForEachTested c.args.f.now) same
           (spoiled_since c.args.f.now c.file-file.result c.in-Err-Bad.cause c.file-file.ensures.due c.file-file.ensures.reading
           (λ none. c.in-Err-Bad.ensures.bad c.file-file.ensures.begun none c.in-Err-Bad.cause (ap Err c.in-Err-Bad.field-0-is))),
     )

@@ -2,7 +2,7 @@ use Rattle.change_inputs.specs.Seen.{installed_seen}
 use Rattle.change_inputs.specs.declared.root.Refused.TheVariants.{Disk, Memory}
 use Rattle.std.proofs.Common.{Err, refl}
 use Rattle.tell_core.proofs.AuditSteps.{audit_failed, audit_made}
-use Rattle.tell_core.specs.AuditTold.{first_audit_read}
+use Rattle.tell_core.specs.AuditResult.{first_audit_read}
 use Rattle.tell_core.proofs.audit.audit_installed.Goals as goal
 
 pub returns-in_err-db-clause-told : goal.returns-in_err-db-clause-told

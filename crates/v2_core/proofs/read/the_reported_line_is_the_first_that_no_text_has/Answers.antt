@@ -13,7 +13,7 @@ returns c text number h =
     record {
       front = t.front;
       rest = t.rest;
-      stands = t.stands;
+      located = t.located;
       up_to = omega (arith, t.up_to);
       bad = t.bad;
       earlier = λ k l.

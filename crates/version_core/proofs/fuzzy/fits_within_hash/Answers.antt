@@ -3,14 +3,14 @@ use Rattle.std.specs.Ordering.{is_eq, nat_cmp}
 use Rattle.std.specs.Cmp.Lexicographic.{slice_cmp}
 use Rattle.version_core.specs.declared.token.Class.TheVariants.{Hash}
 use Rattle.version_core.specs.Matching.{all_fit}
-use Rattle.version_core.specs.Order.{tokens_behind}
+use Rattle.version_core.specs.Order.{tokens_after}
 use Rattle.version_core.specs.Token.{leading_hex_digits}
 use Rattle.version_core.proofs.Orders.{not_equal, tied}
 use Rattle.version_core.proofs.fuzzy.fits_within_hash.Goals as goal
 
-abbrev fit_behind : List ℕ → List ℕ → Bool
-fit_behind wanted found =
-    all_fit (tokens_behind (Some Hash) (length (leading_hex_digits wanted)) wanted) (tokens_behind (Some Hash) (length (leading_hex_digits found)) found)
+abbrev fit_after : List ℕ → List ℕ → Bool
+fit_after wanted found =
+    all_fit (tokens_after (Some Hash) (length (leading_hex_digits wanted)) wanted) (tokens_after (Some Hash) (length (leading_hex_digits found)) found)
 
 pub returns-then-is_ne : goal.returns-then-is_ne
 returns-then-is_ne c =
@@ -18,7 +18,7 @@ returns-then-is_ne c =
     let found : List ℕ = c.args.found.now in
     let apart : is_eq (slice_cmp nat_cmp (leading_hex_digits found) (leading_hex_digits wanted)) ≡ false =
     ap is_eq (sym c.compare_hex_digits.ensures) ∙ not_equal c.compare_hex_digits.result (sym c.is_ne.ensures ∙ c.if-is_ne.true) in
-    sym (ap (λ b. b && fit_behind wanted found) apart)
+    sym (ap (λ b. b && fit_after wanted found) apart)
 
 pub returns : goal.returns
 returns c =
@@ -28,4 +28,4 @@ returns c =
     ap is_eq (sym c.compare_hex_digits.ensures ∙ tied c.compare_hex_digits.result (sym c.is_ne.ensures ∙ c.if-is_ne.false)) in
     c.all_fit.ensures
     ∙ (λ i. all_fit (c.behind.ensures i) (c.behind-2.ensures i))
-    ∙ sym (ap (λ b. b && fit_behind wanted found) equal)
+    ∙ sym (ap (λ b. b && fit_after wanted found) equal)

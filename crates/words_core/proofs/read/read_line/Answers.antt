@@ -4,8 +4,8 @@ use Rattle.words_core.proofs.KindsKept.{IsPlain, start_known}
 use Rattle.words_core.proofs.GivenKept.{from_kept}
 use Rattle.words_core.proofs.read.read_line.Goals as goal
 
-pub read_behind-requires : goal.read_behind-requires
-read_behind-requires c =
+pub read_after_applet-requires : goal.read_after_applet-requires
+read_after_applet-requires c =
     let known : IsPlain c.in-Ok.start (1 + length c.args.words.now) = start_known c.args.words.now c.in-Ok.start (sym c.read_start.ensures ∙ c.in-Ok.is) in
     omega (arith, known.read)
 

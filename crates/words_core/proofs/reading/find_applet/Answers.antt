@@ -2,11 +2,11 @@ use Rattle.std.proofs.Common.{sym, ◌∙◌, ap, Err, arith}
 use Rattle.words_core.proofs.OneMore.{site_ended, site_more, site_named, site_unread}
 use Rattle.words_core.proofs.reading.find_applet.Goals as goal
 
-pub returns-then-is_end : goal.returns-then-is_end
-returns-then-is_end c =
+pub returns-then-is_double_dash : goal.returns-then-is_double_dash
+returns-then-is_double_dash c =
     record {
-      site = c.applet_behind_end.ensures
-          ∙ sym (c.loop-i.invariant ∙ site_ended c.args.words.now c.loop-i.i c.word-word.result.now c.word-word.ensures (sym c.is_end.ensures ∙ c.if-is_end.true));
+      site = c.applet_after_end.ensures
+          ∙ sym (c.loop-i.invariant ∙ site_ended c.args.words.now c.loop-i.i c.word-word.result.now c.word-word.ensures (sym c.is_double_dash.ensures ∙ c.if-is_double_dash.true));
       few = omega arith;
     }
 
@@ -14,19 +14,19 @@ pub returns-then-not-is_option : goal.returns-then-not-is_option
 returns-then-not-is_option c =
     record {
       site = c.applet_at.ensures
-          ∙ sym (c.loop-i.invariant ∙ site_named c.args.words.now c.loop-i.i c.word-word.result.now c.word-word.ensures (sym c.is_end.ensures ∙ c.if-is_end.false) (sym c.is_option.ensures ∙ c.if-not-is_option.true));
+          ∙ sym (c.loop-i.invariant ∙ site_named c.args.words.now c.loop-i.i c.word-word.result.now c.word-word.ensures (sym c.is_double_dash.ensures ∙ c.if-is_double_dash.false) (sym c.is_option.ensures ∙ c.if-not-is_option.true));
       few = omega arith;
     }
 
 pub returns-then-not-is_early : goal.returns-then-not-is_early
 returns-then-not-is_early c =
     record {
-      site = ap Err c.place_behind.ensures
-          ∙ sym (c.loop-i.invariant ∙ site_unread c.args.words.now c.loop-i.i c.word-word.result.now c.word-word.ensures (sym c.is_end.ensures ∙ c.if-is_end.false) (sym c.is_option.ensures ∙ c.if-not-is_option.false) (sym c.is_early.ensures ∙ c.if-not-is_early.true));
+      site = ap Err c.place_after_word.ensures
+          ∙ sym (c.loop-i.invariant ∙ site_unread c.args.words.now c.loop-i.i c.word-word.result.now c.word-word.ensures (sym c.is_double_dash.ensures ∙ c.if-is_double_dash.false) (sym c.is_option.ensures ∙ c.if-not-is_option.false) (sym c.is_early.ensures ∙ c.if-not-is_early.true));
       few = omega arith;
     }
 
 pub loop-i-preserved : goal.loop-i-preserved
 loop-i-preserved c =
     c.loop-i.invariant
-    ∙ site_more c.args.words.now c.loop-i.i c.word-word.result.now c.word-word.ensures (sym c.is_end.ensures ∙ c.if-is_end.false) (sym c.is_option.ensures ∙ c.if-not-is_option.false) (sym c.is_early.ensures ∙ c.if-not-is_early.false)
+    ∙ site_more c.args.words.now c.loop-i.i c.word-word.result.now c.word-word.ensures (sym c.is_double_dash.ensures ∙ c.if-is_double_dash.false) (sym c.is_option.ensures ∙ c.if-not-is_option.false) (sym c.is_early.ensures ∙ c.if-not-is_early.false)

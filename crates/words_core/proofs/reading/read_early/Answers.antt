@@ -4,19 +4,19 @@ use Rattle.words_core.specs.Options.{options_of}
 use Rattle.words_core.proofs.OneMore.{early_done, early_ended, early_more, option_found, taken_at}
 use Rattle.words_core.proofs.reading.read_early.Goals as goal
 
-pub returns-then-is_end : goal.returns-then-is_end
-returns-then-is_end c =
-    sym (c.loop-i.invariant ∙ early_ended (options_of c.args.site.now.applet) c.loop-i.flags (take (c.args.site.now.read - 1) c.args.words.now) c.loop-i.i c.word-word.result.now (taken_at c.args.words.now (c.args.site.now.read - 1) c.loop-i.i c.word-word.result.now (omega arith) c.word-word.ensures) (sym c.is_end.ensures ∙ c.if-is_end.true))
+pub returns-then-is_double_dash : goal.returns-then-is_double_dash
+returns-then-is_double_dash c =
+    sym (c.loop-i.invariant ∙ early_ended (options_of c.args.site.now.applet) c.loop-i.flags (take (c.args.site.now.read - 1) c.args.words.now) c.loop-i.i c.word-word.result.now (taken_at c.args.words.now (c.args.site.now.read - 1) c.loop-i.i c.word-word.result.now (omega arith) c.word-word.ensures) (sym c.is_double_dash.ensures ∙ c.if-is_double_dash.true))
 
 pub returns-in-None : goal.returns-in-None
 returns-in-None c =
-    ap Err c.place_behind.ensures
-    ∙ sym (c.loop-i.invariant ∙ early_more (options_of c.args.site.now.applet) c.loop-i.flags (take (c.args.site.now.read - 1) c.args.words.now) c.loop-i.i c.word-word.result.now None (taken_at c.args.words.now (c.args.site.now.read - 1) c.loop-i.i c.word-word.result.now (omega arith) c.word-word.ensures) (sym c.is_end.ensures ∙ c.if-is_end.false) (option_found (options_of c.args.site.now.applet) c.loop-i.flags c.word-word.result.now _ _ None c.option_spelled.ensures c.with_option.ensures c.in-None.is))
+    ap Err c.place_after_word.ensures
+    ∙ sym (c.loop-i.invariant ∙ early_more (options_of c.args.site.now.applet) c.loop-i.flags (take (c.args.site.now.read - 1) c.args.words.now) c.loop-i.i c.word-word.result.now None (taken_at c.args.words.now (c.args.site.now.read - 1) c.loop-i.i c.word-word.result.now (omega arith) c.word-word.ensures) (sym c.is_double_dash.ensures ∙ c.if-is_double_dash.false) (option_found (options_of c.args.site.now.applet) c.loop-i.flags c.word-word.result.now _ _ None c.option_spelled.ensures c.with_option.ensures c.in-None.is))
 
 pub loop-i-preserved : goal.loop-i-preserved
 loop-i-preserved c =
     c.loop-i.invariant
-    ∙ early_more (options_of c.args.site.now.applet) c.loop-i.flags (take (c.args.site.now.read - 1) c.args.words.now) c.loop-i.i c.word-word.result.now (Some c.in-Some.more) (taken_at c.args.words.now (c.args.site.now.read - 1) c.loop-i.i c.word-word.result.now (omega arith) c.word-word.ensures) (sym c.is_end.ensures ∙ c.if-is_end.false) (option_found (options_of c.args.site.now.applet) c.loop-i.flags c.word-word.result.now _ _ (Some c.in-Some.more) c.option_spelled.ensures c.with_option.ensures c.in-Some.is)
+    ∙ early_more (options_of c.args.site.now.applet) c.loop-i.flags (take (c.args.site.now.read - 1) c.args.words.now) c.loop-i.i c.word-word.result.now (Some c.in-Some.more) (taken_at c.args.words.now (c.args.site.now.read - 1) c.loop-i.i c.word-word.result.now (omega arith) c.word-word.ensures) (sym c.is_double_dash.ensures ∙ c.if-is_double_dash.false) (option_found (options_of c.args.site.now.applet) c.loop-i.flags c.word-word.result.now _ _ (Some c.in-Some.more) c.option_spelled.ensures c.with_option.ensures c.in-Some.is)
 
 pub returns : goal.returns
 returns c =

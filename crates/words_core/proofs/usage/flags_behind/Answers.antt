@@ -3,20 +3,20 @@ use Rattle.words_core.specs.Options.{options_of}
 use Rattle.words_core.proofs.Hints.{flags_ended, flags_operand, flags_taken, flags_unread, plain_options}
 use Rattle.words_core.proofs.usage.flags_behind.Goals as goal
 
-pub returns-then-is_end : goal.returns-then-is_end
-returns-then-is_end c = sym (c.loop-i.invariant ∙ flags_ended (options_of c.args.start.now.applet) c.loop-i.flags c.args.words.now c.loop-i.i c.word-word.result.now c.word-word.ensures (sym c.is_end.ensures ∙ c.if-is_end.true))
+pub returns-then-is_double_dash : goal.returns-then-is_double_dash
+returns-then-is_double_dash c = sym (c.loop-i.invariant ∙ flags_ended (options_of c.args.start.now.applet) c.loop-i.flags c.args.words.now c.loop-i.i c.word-word.result.now c.word-word.ensures (sym c.is_double_dash.ensures ∙ c.if-is_double_dash.true))
 
 pub loop-i-preserved-then-not-is_option : goal.loop-i-preserved-then-not-is_option
 loop-i-preserved-then-not-is_option c =
     c.loop-i.invariant
-    ∙ flags_operand (options_of c.args.start.now.applet) c.loop-i.flags c.args.words.now c.loop-i.i c.word-word.result.now c.word-word.ensures (sym c.is_end.ensures ∙ c.if-is_end.false) (sym c.is_option.ensures ∙ c.if-not-is_option.true)
+    ∙ flags_operand (options_of c.args.start.now.applet) c.loop-i.flags c.args.words.now c.loop-i.i c.word-word.result.now c.word-word.ensures (sym c.is_double_dash.ensures ∙ c.if-is_double_dash.false) (sym c.is_option.ensures ∙ c.if-not-is_option.true)
 
 pub returns-in-None : goal.returns-in-None
 returns-in-None c =
     sym (c.loop-i.invariant
-    ∙ flags_unread (options_of c.args.start.now.applet) c.loop-i.flags c.args.words.now c.loop-i.i c.word-word.result.now c.word-word.ensures (plain_options c.args.start.now.applet c.requires.plain) (sym c.is_end.ensures ∙ c.if-is_end.false) (sym c.is_option.ensures ∙ c.if-not-is_option.false) (sym c.flags_with.ensures ∙ c.in-None.is))
+    ∙ flags_unread (options_of c.args.start.now.applet) c.loop-i.flags c.args.words.now c.loop-i.i c.word-word.result.now c.word-word.ensures (plain_options c.args.start.now.applet c.requires.plain) (sym c.is_double_dash.ensures ∙ c.if-is_double_dash.false) (sym c.is_option.ensures ∙ c.if-not-is_option.false) (sym c.flags_with.ensures ∙ c.in-None.is))
 
 pub loop-i-preserved : goal.loop-i-preserved
 loop-i-preserved c =
     c.loop-i.invariant
-    ∙ flags_taken (options_of c.args.start.now.applet) c.loop-i.flags c.args.words.now c.loop-i.i c.word-word.result.now c.word-word.ensures c.in-Some.more (plain_options c.args.start.now.applet c.requires.plain) (sym c.is_end.ensures ∙ c.if-is_end.false) (sym c.is_option.ensures ∙ c.if-not-is_option.false) (sym c.flags_with.ensures ∙ c.in-Some.is)
+    ∙ flags_taken (options_of c.args.start.now.applet) c.loop-i.flags c.args.words.now c.loop-i.i c.word-word.result.now c.word-word.ensures c.in-Some.more (plain_options c.args.start.now.applet c.requires.plain) (sym c.is_double_dash.ensures ∙ c.if-is_double_dash.false) (sym c.is_option.ensures ∙ c.if-not-is_option.false) (sym c.flags_with.ensures ∙ c.in-Some.is)

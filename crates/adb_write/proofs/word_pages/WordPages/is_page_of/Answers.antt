@@ -16,6 +16,6 @@ returns-in-Some-get c =
     let page : page_at pages k ≡ c.deref-2.result.now = page_of_map (λ page. page.items) c.args.self.now.pages.items k c.in-Some.here.now look.0 ∙ ap (λ page. page.items) (sym look.1) ∙ sym c.deref-2.ensures.value in
     let look_next = subst (λ vs. (k + 1 < length vs) × (c.in-Some-get.next.now ≡ get_or vs (k + 1) c.in-Some-get.next.now)) c.deref-3.ensures.value (c.in-Some-get.ensures.lookup.3.0, c.in-Some-get.ensures.lookup.3.1 c.in-Some-get.next.now) in
     let next_page : page_at pages (k + 1) ≡ c.deref-in-Some-get.result.now = page_of_map (λ page. page.items) c.args.self.now.pages.items (k + 1) c.in-Some-get.next.now look_next.0 ∙ ap (λ page. page.items) (sym look_next.1) ∙ sym c.deref-in-Some-get.ensures.value in
-    let here : begins_above p key (page_at pages k) ≡ false = ap (begins_above p key) page ∙ sym c.begins_behind.ensures ∙ c.if-begins_behind.false in
-    let next : c.begins_behind-in-Some-get.result ≡ begins_above p key (page_at pages (suc k)) = c.begins_behind-in-Some-get.ensures ∙ ap (begins_above p key) (sym next_page ∙ ap (page_at pages) (omega arith)) in
-    next_begins p key pages k c.begins_behind-in-Some-get.result (omega (arith, look.0, length-map c.args.self.now.pages.items (λ page. page.items))) here next
+    let here : begins_above p key (page_at pages k) ≡ false = ap (begins_above p key) page ∙ sym c.begins_after.ensures ∙ c.if-begins_after.false in
+    let next : c.begins_after-in-Some-get.result ≡ begins_above p key (page_at pages (suc k)) = c.begins_after-in-Some-get.ensures ∙ ap (begins_above p key) (sym next_page ∙ ap (page_at pages) (omega arith)) in
+    next_begins p key pages k c.begins_after-in-Some-get.result (omega (arith, look.0, length-map c.args.self.now.pages.items (λ page. page.items))) here next

@@ -6,7 +6,7 @@ use Rattle.adb_write.specs.Canonical.{gap, Item, WrittenItem, is_equal_item, wor
 use Rattle.adb_write.specs.Writing.{Writing, Grows, call, writing_by}
 use Rattle.adb_write.specs.Items.{item_of}
 use Rattle.adb_write.specs.Keys.{fingerprint_of, key_of, locator_of}
-use Rattle.adb_write.specs.WordPages.{pages_of, words_before, words_behind}
+use Rattle.adb_write.specs.WordPages.{pages_of, words_before, words_from_slot}
 use Rattle.adb_write.specs.WriterState.{items_of_locators, written_item, FindsWord}
 use Rattle.adb_write.proofs.WriterSteps.{end_of, written_at, call_past, call_stops, call_fits, call_grows, on_err}
 use Rattle.adb_write.proofs.AnyOrder.{fits_of}
@@ -54,7 +54,7 @@ returns-then-passes-2-clause-ok c =
     let agree : s.counts.bytes ≡ 8 + length body = c.self.invariant.agree fine in
     let few : length p ≤ MOST_BYTES = omega (arith, fits_of (s.counts.bytes, s.counts.values) fine, length-drop 8 p) in
     let none : find (is_equal_item body i) items ≡ None =
-    not_found p c.args.parts.now (concat pages) (words_before pages c.in-Err.slot.page c.in-Err.slot.index) (words_behind pages c.in-Err.slot.page c.in-Err.slot.index) (parts_at pages c.in-Err.slot.page c.in-Err.slot.index) c.self.invariant.stored c.requires few c.in-Err.ensures.lower c.in-Err.ensures.higher in
+    not_found p c.args.parts.now (concat pages) (words_before pages c.in-Err.slot.page c.in-Err.slot.index) (words_from_slot pages c.in-Err.slot.page c.in-Err.slot.index) (parts_at pages c.in-Err.slot.page c.in-Err.slot.index) c.self.invariant.stored c.requires few c.in-Err.ensures.lower c.in-Err.ensures.higher in
     let zeros : c.gap.result ≡ gap i.align s.counts.bytes = rw (c.gap.ensures.value, c.len.ensures.value, c.width.ensures) refl in
     let end : s.counts.bytes + c.gap.result + c.len-2.result ≡ end_of i s.counts.bytes = rw (c.len-2.ensures.value, zeros) refl in
     let count : s.counts.values + c.entries.result ≡ s.counts.values + i.entries = ap (λ (k : ℕ). s.counts.values + k) c.entries.ensures.value in
@@ -73,7 +73,7 @@ returns-in_err-append-clause-wants c =
     let agree : s.counts.bytes ≡ 8 + length body = c.self.invariant.agree fine in
     let few : length p ≤ MOST_BYTES = omega (arith, fits_of (s.counts.bytes, s.counts.values) fine, length-drop 8 p) in
     let none : find (is_equal_item body i) items ≡ None =
-    not_found p c.args.parts.now (concat pages) (words_before pages c.in-Err.slot.page c.in-Err.slot.index) (words_behind pages c.in-Err.slot.page c.in-Err.slot.index) (parts_at pages c.in-Err.slot.page c.in-Err.slot.index) c.self.invariant.stored c.requires few c.in-Err.ensures.lower c.in-Err.ensures.higher in
+    not_found p c.args.parts.now (concat pages) (words_before pages c.in-Err.slot.page c.in-Err.slot.index) (words_from_slot pages c.in-Err.slot.page c.in-Err.slot.index) (parts_at pages c.in-Err.slot.page c.in-Err.slot.index) c.self.invariant.stored c.requires few c.in-Err.ensures.lower c.in-Err.ensures.higher in
     let zeros : c.gap.result ≡ gap i.align s.counts.bytes = rw (c.gap.ensures.value, c.len.ensures.value, c.width.ensures) refl in
     let end : s.counts.bytes + c.gap.result + c.len-2.result ≡ end_of i s.counts.bytes = rw (c.len-2.ensures.value, zeros) refl in
     let count : s.counts.values + c.entries.result ≡ s.counts.values + i.entries = ap (λ (k : ℕ). s.counts.values + k) c.entries.ensures.value in
@@ -93,7 +93,7 @@ invariant_of-self-2 c =
     let agree : s.counts.bytes ≡ 8 + length body = c.self.invariant.agree fine in
     let few : length p ≤ MOST_BYTES = omega (arith, fits_of (s.counts.bytes, s.counts.values) fine, length-drop 8 p) in
     let none : find (is_equal_item body i) items ≡ None =
-    not_found p c.args.parts.now (concat pages) (words_before pages c.in-Err.slot.page c.in-Err.slot.index) (words_behind pages c.in-Err.slot.page c.in-Err.slot.index) (parts_at pages c.in-Err.slot.page c.in-Err.slot.index) c.self.invariant.stored c.requires few c.in-Err.ensures.lower c.in-Err.ensures.higher in
+    not_found p c.args.parts.now (concat pages) (words_before pages c.in-Err.slot.page c.in-Err.slot.index) (words_from_slot pages c.in-Err.slot.page c.in-Err.slot.index) (parts_at pages c.in-Err.slot.page c.in-Err.slot.index) c.self.invariant.stored c.requires few c.in-Err.ensures.lower c.in-Err.ensures.higher in
     let zeros : c.gap.result ≡ gap i.align s.counts.bytes = rw (c.gap.ensures.value, c.len.ensures.value, c.width.ensures) refl in
     let end : s.counts.bytes + c.gap.result + c.len-2.result ≡ end_of i s.counts.bytes = rw (c.len-2.ensures.value, zeros) refl in
     let count : s.counts.values + c.entries.result ≡ s.counts.values + i.entries = ap (λ (k : ℕ). s.counts.values + k) c.entries.ensures.value in
@@ -125,7 +125,7 @@ returns-clause-ok c =
     let agree : s.counts.bytes ≡ 8 + length body = c.self.invariant.agree fine in
     let few : length p ≤ MOST_BYTES = omega (arith, fits_of (s.counts.bytes, s.counts.values) fine, length-drop 8 p) in
     let none : find (is_equal_item body i) items ≡ None =
-    not_found p c.args.parts.now (concat pages) (words_before pages c.in-Err.slot.page c.in-Err.slot.index) (words_behind pages c.in-Err.slot.page c.in-Err.slot.index) (parts_at pages c.in-Err.slot.page c.in-Err.slot.index) c.self.invariant.stored c.requires few c.in-Err.ensures.lower c.in-Err.ensures.higher in
+    not_found p c.args.parts.now (concat pages) (words_before pages c.in-Err.slot.page c.in-Err.slot.index) (words_from_slot pages c.in-Err.slot.page c.in-Err.slot.index) (parts_at pages c.in-Err.slot.page c.in-Err.slot.index) c.self.invariant.stored c.requires few c.in-Err.ensures.lower c.in-Err.ensures.higher in
     let zeros : c.gap.result ≡ gap i.align s.counts.bytes = rw (c.gap.ensures.value, c.len.ensures.value, c.width.ensures) refl in
     let end : s.counts.bytes + c.gap.result + c.len-2.result ≡ end_of i s.counts.bytes = rw (c.len-2.ensures.value, zeros) refl in
     let count : s.counts.values + c.entries.result ≡ s.counts.values + i.entries = ap (λ (k : ℕ). s.counts.values + k) c.entries.ensures.value in

@@ -1,7 +1,7 @@
 use Rattle.std.proofs.Common.{◌≡◌, ℕ, ◌+◌, true, false, List, drop, sym, ap, subst, ◌∙◌}
 use Rattle.std.specs.List.{concat}
 use Rattle.adb_write.specs.Canonical.{Item, WrittenItem, apart, passes}
-use Rattle.adb_write.specs.Writing.{Writing, is_over, call, writing_by}
+use Rattle.adb_write.specs.Writing.{Writing, is_past_limit, call, writing_by}
 use Rattle.adb_write.specs.Items.{item_of}
 use Rattle.adb_write.specs.WordPages.{pages_of}
 use Rattle.adb_write.specs.WriterState.{items_of_locators, FindsWord}
@@ -14,7 +14,7 @@ returns-then-passes c =
     let i : Item = item_of c.args.parts.now in
     let body : List ℕ = drop 8 s.store.payload.items in
     let items : List WrittenItem = items_of_locators (concat (pages_of s.store.words)) in
-    let fine : passes (s.counts.bytes, s.counts.values) ≡ false = subst (λ (x : Writing). is_over x ≡ false) (sym c.self.view_is) c.requires.fine in
+    let fine : passes (s.counts.bytes, s.counts.values) ≡ false = subst (λ (x : Writing). is_past_limit x ≡ false) (sym c.self.view_is) c.requires.fine in
     let found : FindsWord i (writing_by body items s.counts.bytes s.counts.values) c.args.word = subst (λ (x : Writing). FindsWord i x c.args.word) (sym c.self.view_is) c.requires.found in
     let count : s.counts.values + c.entries.result ≡ s.counts.values + i.entries = ap (λ (k : ℕ). s.counts.values + k) c.entries.ensures.value in
     let past : passes (s.counts.bytes, s.counts.values + i.entries) ≡ true = rw (sym count) (sym c.passes.ensures ∙ c.if-passes.true) in
@@ -26,7 +26,7 @@ returns c =
     let i : Item = item_of c.args.parts.now in
     let body : List ℕ = drop 8 s.store.payload.items in
     let items : List WrittenItem = items_of_locators (concat (pages_of s.store.words)) in
-    let fine : passes (s.counts.bytes, s.counts.values) ≡ false = subst (λ (x : Writing). is_over x ≡ false) (sym c.self.view_is) c.requires.fine in
+    let fine : passes (s.counts.bytes, s.counts.values) ≡ false = subst (λ (x : Writing). is_past_limit x ≡ false) (sym c.self.view_is) c.requires.fine in
     let found : FindsWord i (writing_by body items s.counts.bytes s.counts.values) c.args.word = subst (λ (x : Writing). FindsWord i x c.args.word) (sym c.self.view_is) c.requires.found in
     let count : s.counts.values + c.entries.result ≡ s.counts.values + i.entries = ap (λ (k : ℕ). s.counts.values + k) c.entries.ensures.value in
     let fits : passes (s.counts.bytes, s.counts.values + i.entries) ≡ false = rw (sym count) (sym c.passes.ensures ∙ c.if-passes.false) in

@@ -1,9 +1,9 @@
-use Rattle.std.proofs.Common.{refl, sym, ap}
+use Rattle.std.proofs.Common.{◌≡◌, refl, sym, ap}
 use Rattle.base_core.specs.Crash.{Since}
 use Rattle.journal_core.specs.Acting.{acting_stage}
 use Rattle.journal_core.specs.Kept.{KeepsOldOrNewBytes, RecoversTo}
-use Rattle.journal_core.specs.Staged.{Staging}
-use Rattle.journal_core.proofs.Again.{moments_as, behind_as, told_as}
+use Rattle.journal_core.specs.Staged.{Staging, AreJournalPathsFree}
+use Rattle.journal_core.proofs.Again.{moments_as, after_as, told_as}
 use Rattle.journal_core.proofs.Keeping.{action_keeps_as}
 use Rattle.journal_core.proofs.stage.Stage.apply_one.Goals as goal
 
@@ -17,7 +17,7 @@ returns-clause-moments g c =
 
 pub returns-clause-acting : goal.returns-clause-acting
 returns-clause-acting g c =
-    behind_as c.args.self.now (acting_stage c.self.inside.intent c.self.inside.acted) (acting_stage c.self.inside.intent c.in_ok-acted.acted) _ _ _
+    after_as c.args.self.now (acting_stage c.self.inside.intent c.self.inside.acted) (acting_stage c.self.inside.intent c.in_ok-acted.acted) _ _ _
     (ap (λ (s : Staging). s.intent) (sym c.self.view_is)) (ap (λ (s : Staging). s.acted) (sym c.self.view_is)) refl refl c.in_ok-acted.ensures.acting
 
 pub returns-in_err-acted-clause-others : goal.returns-in_err-acted-clause-others
@@ -45,3 +45,13 @@ pub returns-clause-bytes : goal.returns-clause-bytes
 returns-clause-bytes g c =
     told_as c.args.self.now (acting_stage c.self.inside.intent c.self.inside.acted) _ (λ files v. KeepsOldOrNewBytes files v (g.T.Tree.history c.args.tree.now) (g.T.Tree.history c.act.new.tree))
     (ap (λ (s : Staging). s.intent) (sym c.self.view_is)) (ap (λ (s : Staging). s.acted) (sym c.self.view_is)) c.act.ensures.bytes
+
+pub returns-in_err-acted-clause-proper : goal.returns-in_err-acted-clause-proper
+returns-in_err-acted-clause-proper g c =
+    told_as c.args.self.now (acting_stage c.self.inside.intent c.self.inside.acted) _ (λ files v. AreJournalPathsFree files → (g.T.Tree.counts c.act.new.tree).misuses ≡ (g.T.Tree.counts c.args.tree.now).misuses)
+    (ap (λ (s : Staging). s.intent) (sym c.self.view_is)) (ap (λ (s : Staging). s.acted) (sym c.self.view_is)) c.act.ensures.proper
+
+pub returns-clause-proper : goal.returns-clause-proper
+returns-clause-proper g c =
+    told_as c.args.self.now (acting_stage c.self.inside.intent c.self.inside.acted) _ (λ files v. AreJournalPathsFree files → (g.T.Tree.counts c.act.new.tree).misuses ≡ (g.T.Tree.counts c.args.tree.now).misuses)
+    (ap (λ (s : Staging). s.intent) (sym c.self.view_is)) (ap (λ (s : Staging). s.acted) (sym c.self.view_is)) c.act.ensures.proper

@@ -4,44 +4,45 @@ use Rattle.std.proofs.Common.{◌∙◌, ◌≡◌, refl}
 use Rattle.journal_core.specs.Recovery.{intent_name}
 use Rattle.journal_core.proofs.History.{on_observable}
 use Rattle.journal_core.specs.Kept.{RecoversTo}
-use Rattle.journal_core.specs.Quiet.{IsStill}
+use Rattle.journal_core.specs.Quiet.{StateIsUnchanged}
 use Rattle.journal_core.proofs.OneCall.{one_failed}
 use Rattle.journal_core.proofs.Waiting.{still_self}
 use Rattle.journal_core.proofs.Chain.{IsAny, any_now, any_step, proper_now}
 use Rattle.journal_core.proofs.Finishing.{sync_done, drop_failed, drop_done, last_called, last_settled, last_files, stands_drop_failed, stands_dropped, stands_last, stands_synced}
 use Rattle.journal_core.proofs.Keeping.{keeps_now, keeps_removed, keeps_synced}
 use Rattle.journal_core.proofs.Lasting.{finish_gone, finish_last, finish_remove_failed, finish_removed, finish_sync_failed, finish_synced}
+use Rattle.journal_core.proofs.Images.{crash_laws}
 use Rattle.journal_core.proofs.stage.Stage.finish.Goals as goal
 
 pub returns-in_err-sync_all_names-clause-moments : goal.returns-in_err-sync_all_names-clause-moments
 returns-in_err-sync_all_names-clause-moments g c =
-    on_observable (g.T.Tree.history c.args.tree.now) _ (λ v rest is ignored files orderly acting.
-    one_failed _ _ v rest is (IsStill ignored v) _ c.in_err-sync_all_names.ensures.moves (λ may. still_self ignored v orderly))
+    on_observable (g.T.Tree.history c.args.tree.now) _ (λ v rest is ignored files is_durable acting.
+    one_failed _ _ v rest is (StateIsUnchanged ignored v) _ c.in_err-sync_all_names.ensures.moves (λ may. still_self ignored v is_durable))
 
 pub returns-in_err-remove-clause-moments : goal.returns-in_err-remove-clause-moments
 returns-in_err-remove-clause-moments g c =
-    on_observable (g.T.Tree.history c.args.tree.now) _ (λ v rest is ignored files orderly acting.
-    drop_failed (record { left = c.a_crash_may_leave_the_files_as_read.ensures.by_map; outlasts = c.order_outlasts_a_crash.ensures }) _ c.requires.all _ c.name.ensures ignored files v _ rest is orderly acting _ _ _
-    (sync_done (record { left = c.a_crash_may_leave_the_files_as_read.ensures.by_map; outlasts = c.order_outlasts_a_crash.ensures }) _ c.requires.all _ c.name.ensures ignored files v _ rest is orderly acting (g.T.Tree.history c.args.tree.now) _ _ c.in_ok-sync_all_names.ensures.moves) c.in_err-remove.ensures.moves)
+    on_observable (g.T.Tree.history c.args.tree.now) _ (λ v rest is ignored files is_durable acting.
+    drop_failed crash_laws _ c.requires.all _ c.name.ensures ignored files v _ rest is is_durable acting _ _ _
+    (sync_done crash_laws _ c.requires.all _ c.name.ensures ignored files v _ rest is is_durable acting (g.T.Tree.history c.args.tree.now) _ _ c.in_ok-sync_all_names.ensures.moves) c.in_err-remove.ensures.moves)
 
 pub returns-clause-moments : goal.returns-clause-moments
 returns-clause-moments g c =
-    on_observable (g.T.Tree.history c.args.tree.now) _ (λ v rest is ignored files orderly acting.
-    last_called (record { left = c.a_crash_may_leave_the_files_as_read.ensures.by_map; outlasts = c.order_outlasts_a_crash.ensures }) _ c.requires.all _ c.name.ensures ignored files v _ rest is orderly acting _ _ c.sync_all_names-2.result
-    (drop_done (record { left = c.a_crash_may_leave_the_files_as_read.ensures.by_map; outlasts = c.order_outlasts_a_crash.ensures }) _ c.requires.all _ c.name.ensures ignored files v _ rest is orderly acting _ _ _
-    (sync_done (record { left = c.a_crash_may_leave_the_files_as_read.ensures.by_map; outlasts = c.order_outlasts_a_crash.ensures }) _ c.requires.all _ c.name.ensures ignored files v _ rest is orderly acting (g.T.Tree.history c.args.tree.now) _ _ c.in_ok-sync_all_names.ensures.moves) c.in_ok-remove.ensures.moves) c.sync_all_names-2.ensures.moves)
+    on_observable (g.T.Tree.history c.args.tree.now) _ (λ v rest is ignored files is_durable acting.
+    last_called crash_laws _ c.requires.all _ c.name.ensures ignored files v _ rest is is_durable acting _ _ c.sync_all_names-2.result
+    (drop_done crash_laws _ c.requires.all _ c.name.ensures ignored files v _ rest is is_durable acting _ _ _
+    (sync_done crash_laws _ c.requires.all _ c.name.ensures ignored files v _ rest is is_durable acting (g.T.Tree.history c.args.tree.now) _ _ c.in_ok-sync_all_names.ensures.moves) c.in_ok-remove.ensures.moves) c.sync_all_names-2.ensures.moves)
 
 pub returns-clause-settled : goal.returns-clause-settled
 returns-clause-settled g c =
-    on_observable (g.T.Tree.history c.args.tree.now) _ (λ v rest is ignored files orderly acting.
-    last_settled (record { left = c.a_crash_may_leave_the_files_as_read.ensures.by_map; outlasts = c.order_outlasts_a_crash.ensures }) _ c.requires.all _ c.name.ensures ignored files v _ rest is orderly acting _ _ c.sync_all_names-2.result
-    (drop_done (record { left = c.a_crash_may_leave_the_files_as_read.ensures.by_map; outlasts = c.order_outlasts_a_crash.ensures }) _ c.requires.all _ c.name.ensures ignored files v _ rest is orderly acting _ _ _
-    (sync_done (record { left = c.a_crash_may_leave_the_files_as_read.ensures.by_map; outlasts = c.order_outlasts_a_crash.ensures }) _ c.requires.all _ c.name.ensures ignored files v _ rest is orderly acting (g.T.Tree.history c.args.tree.now) _ _ c.in_ok-sync_all_names.ensures.moves) c.in_ok-remove.ensures.moves) c.sync_all_names-2.ensures.moves)
+    on_observable (g.T.Tree.history c.args.tree.now) _ (λ v rest is ignored files is_durable acting.
+    last_settled crash_laws _ c.requires.all _ c.name.ensures ignored files v _ rest is is_durable acting _ _ c.sync_all_names-2.result
+    (drop_done crash_laws _ c.requires.all _ c.name.ensures ignored files v _ rest is is_durable acting _ _ _
+    (sync_done crash_laws _ c.requires.all _ c.name.ensures ignored files v _ rest is is_durable acting (g.T.Tree.history c.args.tree.now) _ _ c.in_ok-sync_all_names.ensures.moves) c.in_ok-remove.ensures.moves) c.sync_all_names-2.ensures.moves)
 
 pub returns-clause-files : goal.returns-clause-files
 returns-clause-files g c =
     on_observable (g.T.Tree.history c.args.tree.now) _ (λ v rest is files acting.
-    last_files (record { left = c.a_crash_may_leave_the_files_as_read.ensures.by_map; outlasts = c.order_outlasts_a_crash.ensures }) _ c.requires.all _ c.name.ensures files v _ rest is acting _ _ _ _ _ c.sync_all_names-2.result c.in_ok-sync_all_names.ensures.moves c.in_ok-remove.ensures.moves c.sync_all_names-2.ensures.moves)
+    last_files crash_laws _ c.requires.all _ c.name.ensures files v _ rest is acting _ _ _ _ _ c.sync_all_names-2.result c.in_ok-sync_all_names.ensures.moves c.in_ok-remove.ensures.moves c.sync_all_names-2.ensures.moves)
 
 pub returns-in_err-sync_all_names-clause-proper : goal.returns-in_err-sync_all_names-clause-proper
 returns-in_err-sync_all_names-clause-proper g c =
@@ -111,15 +112,15 @@ returns-in_err-sync_all_names-clause-reads g c =
 pub returns-in_err-remove-clause-reads : goal.returns-in_err-remove-clause-reads
 returns-in_err-remove-clause-reads g c =
     on_observable (g.T.Tree.history c.args.tree.now) _ (λ v rest is files acting.
-    stands_drop_failed (record { left = c.a_crash_may_leave_the_files_as_read.ensures.by_map; outlasts = c.order_outlasts_a_crash.ensures }) _ c.requires.all _ c.name.ensures files v _ rest is acting _ _ _
-    (stands_synced (record { left = c.a_crash_may_leave_the_files_as_read.ensures.by_map; outlasts = c.order_outlasts_a_crash.ensures }) _ c.requires.all _ c.name.ensures files v _ rest is acting (g.T.Tree.history c.args.tree.now) _ _ c.in_ok-sync_all_names.ensures.moves) c.in_err-remove.ensures.moves)
+    stands_drop_failed crash_laws _ c.requires.all _ c.name.ensures files v _ rest is acting _ _ _
+    (stands_synced crash_laws _ c.requires.all _ c.name.ensures files v _ rest is acting (g.T.Tree.history c.args.tree.now) _ _ c.in_ok-sync_all_names.ensures.moves) c.in_err-remove.ensures.moves)
 
 pub returns-clause-reads : goal.returns-clause-reads
 returns-clause-reads g c =
     on_observable (g.T.Tree.history c.args.tree.now) _ (λ v rest is files acting.
-    stands_last (record { left = c.a_crash_may_leave_the_files_as_read.ensures.by_map; outlasts = c.order_outlasts_a_crash.ensures }) _ c.requires.all _ c.name.ensures files v _ rest is acting _ _ c.sync_all_names-2.result
-    (stands_dropped (record { left = c.a_crash_may_leave_the_files_as_read.ensures.by_map; outlasts = c.order_outlasts_a_crash.ensures }) _ c.requires.all _ c.name.ensures files v _ rest is acting _ _ _
-    (stands_synced (record { left = c.a_crash_may_leave_the_files_as_read.ensures.by_map; outlasts = c.order_outlasts_a_crash.ensures }) _ c.requires.all _ c.name.ensures files v _ rest is acting (g.T.Tree.history c.args.tree.now) _ _ c.in_ok-sync_all_names.ensures.moves) c.in_ok-remove.ensures.moves) c.sync_all_names-2.ensures.moves)
+    stands_last crash_laws _ c.requires.all _ c.name.ensures files v _ rest is acting _ _ c.sync_all_names-2.result
+    (stands_dropped crash_laws _ c.requires.all _ c.name.ensures files v _ rest is acting _ _ _
+    (stands_synced crash_laws _ c.requires.all _ c.name.ensures files v _ rest is acting (g.T.Tree.history c.args.tree.now) _ _ c.in_ok-sync_all_names.ensures.moves) c.in_ok-remove.ensures.moves) c.sync_all_names-2.ensures.moves)
 
 pub returns-in_err-sync_all_names-clause-waiting : goal.returns-in_err-sync_all_names-clause-waiting
 returns-in_err-sync_all_names-clause-waiting g c = sync_waiting _ _ _ c.in_err-sync_all_names.ensures.moves

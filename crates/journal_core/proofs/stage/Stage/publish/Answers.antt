@@ -1,42 +1,42 @@
 use Rattle.std.proofs.Common.{ap, ◌≡◌, IsSome, refl}
-use Rattle.base_core.specs.Calls.{HasNow}
+use Rattle.base_core.specs.Calls.{HoldsNow}
 use Rattle.base_core.specs.Crash.{Since}
 use Rattle.base_core.specs.Restart.{SinceBy}
 use Rattle.base_core.specs.Tree.{files_of}
 use Rattle.journal_core.specs.Acting.{acting_stage}
-use Rattle.journal_core.specs.Recovery.{IsSettled, after_actions, intent_name}
+use Rattle.journal_core.specs.Recovery.{EachCrashLeaves, after_actions, intent_name}
 use Rattle.journal_core.specs.Kept.{RecoversTo}
-use Rattle.journal_core.specs.Staged.{Staging, HasRoomToStage, IsActing, IsOnTheWay, PublishedBy}
-use Rattle.journal_core.proofs.Again.{acting_published, publish_as, publish_orderly}
+use Rattle.journal_core.specs.Staged.{Staging, AreStagingPathsFree, IsActing, IsOldUntilCommit, CommittedBy}
+use Rattle.journal_core.proofs.Again.{acting_published, publish_as, publish_durable}
 use Rattle.journal_core.proofs.stage.Stage.publish.Goals as goal
 
 pub returns-in_err-publish_intent-clause-moments : goal.returns-in_err-publish_intent-clause-moments
 returns-in_err-publish_intent-clause-moments g c =
-    publish_orderly (λ ignored i v. SinceBy (IsOnTheWay ignored (after_actions i (files_of v)) v) (g.T.Tree.history c.args.tree.now) (g.T.Tree.history c.publish_intent.new.tree)) c.self.inside.intent c.args.self.now _ (ap (λ (s : Staging). s.intent) c.self.view_is) c.requires.all c.in_err-publish_intent.ensures.moments
+    publish_durable (λ ignored i v. SinceBy (IsOldUntilCommit ignored (after_actions i (files_of v)) v) (g.T.Tree.history c.args.tree.now) (g.T.Tree.history c.publish_intent.new.tree)) c.self.inside.intent c.args.self.now _ (ap (λ (s : Staging). s.intent) c.self.view_is) c.requires.all c.in_err-publish_intent.ensures.moments
 
 pub returns-in_err-publish_intent-clause-proper : goal.returns-in_err-publish_intent-clause-proper
 returns-in_err-publish_intent-clause-proper g c =
-    publish_as (λ i base v. HasRoomToStage base → (g.T.Tree.counts c.publish_intent.new.tree).misuses ≡ (g.T.Tree.counts c.args.tree.now).misuses) c.self.inside.intent c.args.self.now _ (ap (λ (s : Staging). s.intent) c.self.view_is) c.requires.all c.in_err-publish_intent.ensures.proper
+    publish_as (λ i base v. AreStagingPathsFree base → (g.T.Tree.counts c.publish_intent.new.tree).misuses ≡ (g.T.Tree.counts c.args.tree.now).misuses) c.self.inside.intent c.args.self.now _ (ap (λ (s : Staging). s.intent) c.self.view_is) c.requires.all c.in_err-publish_intent.ensures.proper
 
 pub returns-clause-moments : goal.returns-clause-moments
 returns-clause-moments g c =
-    publish_orderly (λ ignored i v. SinceBy (IsOnTheWay ignored (after_actions i (files_of v)) v) (g.T.Tree.history c.args.tree.now) (g.T.Tree.history c.publish_intent.new.tree)) c.self.inside.intent c.args.self.now _ (ap (λ (s : Staging). s.intent) c.self.view_is) c.requires.all c.in_ok-publish_intent.ensures.moments
+    publish_durable (λ ignored i v. SinceBy (IsOldUntilCommit ignored (after_actions i (files_of v)) v) (g.T.Tree.history c.args.tree.now) (g.T.Tree.history c.publish_intent.new.tree)) c.self.inside.intent c.args.self.now _ (ap (λ (s : Staging). s.intent) c.self.view_is) c.requires.all c.in_ok-publish_intent.ensures.moments
 
 pub returns-clause-proper : goal.returns-clause-proper
 returns-clause-proper g c =
-    publish_as (λ i base v. HasRoomToStage base → (g.T.Tree.counts c.publish_intent.new.tree).misuses ≡ (g.T.Tree.counts c.args.tree.now).misuses) c.self.inside.intent c.args.self.now _ (ap (λ (s : Staging). s.intent) c.self.view_is) c.requires.all c.in_ok-publish_intent.ensures.proper
+    publish_as (λ i base v. AreStagingPathsFree base → (g.T.Tree.counts c.publish_intent.new.tree).misuses ≡ (g.T.Tree.counts c.args.tree.now).misuses) c.self.inside.intent c.args.self.now _ (ap (λ (s : Staging). s.intent) c.self.view_is) c.requires.all c.in_ok-publish_intent.ensures.proper
 
 pub returns-clause-published : goal.returns-clause-published
 returns-clause-published g c =
-    publish_orderly (λ ignored i v. PublishedBy ignored (after_actions i (files_of v)) v (g.T.Tree.history c.args.tree.now) (g.T.Tree.history c.publish_intent.new.tree)) c.self.inside.intent c.args.self.now _ (ap (λ (s : Staging). s.intent) c.self.view_is) c.requires.all c.in_ok-publish_intent.ensures.published
+    publish_durable (λ ignored i v. CommittedBy ignored (after_actions i (files_of v)) v (g.T.Tree.history c.args.tree.now) (g.T.Tree.history c.publish_intent.new.tree)) c.self.inside.intent c.args.self.now _ (ap (λ (s : Staging). s.intent) c.self.view_is) c.requires.all c.in_ok-publish_intent.ensures.published
 
 pub returns-clause-settled : goal.returns-clause-settled
 returns-clause-settled g c =
-    publish_orderly (λ ignored i v. HasNow (g.T.Tree.history c.publish_intent.new.tree) (IsSettled ignored (after_actions i (files_of v)))) c.self.inside.intent c.args.self.now _ (ap (λ (s : Staging). s.intent) c.self.view_is) c.requires.all c.in_ok-publish_intent.ensures.settled
+    publish_durable (λ ignored i v. HoldsNow (g.T.Tree.history c.publish_intent.new.tree) (EachCrashLeaves ignored (after_actions i (files_of v)))) c.self.inside.intent c.args.self.now _ (ap (λ (s : Staging). s.intent) c.self.view_is) c.requires.all c.in_ok-publish_intent.ensures.settled
 
 pub returns-clause-acting : goal.returns-clause-acting
 returns-clause-acting g c =
-    acting_published c.args.self.now _ _ _ (ap (λ (s : Staging). s.intent) c.self.view_is) refl (publish_as (λ i base v. HasNow (g.T.Tree.history c.publish_intent.new.tree) (IsActing (acting_stage i 0) (after_actions i (files_of v)))) c.self.inside.intent c.args.self.now _ (ap (λ (s : Staging). s.intent) c.self.view_is) c.requires.all c.in_ok-publish_intent.ensures.acting)
+    acting_published c.args.self.now _ _ _ (ap (λ (s : Staging). s.intent) c.self.view_is) refl (publish_as (λ i base v. HoldsNow (g.T.Tree.history c.publish_intent.new.tree) (IsActing (acting_stage i 0) (after_actions i (files_of v)))) c.self.inside.intent c.args.self.now _ (ap (λ (s : Staging). s.intent) c.self.view_is) c.requires.all c.in_ok-publish_intent.ensures.acting)
 
 pub returns-in_err-publish_intent-clause-reads : goal.returns-in_err-publish_intent-clause-reads
 returns-in_err-publish_intent-clause-reads g c =

@@ -1,6 +1,6 @@
 -- The next bytes of the file that is open.
 use Rattle.std.proofs.Common.{◌≡◌, None, sym, ◌∙◌, arith}
-use Rattle.piece_reader.specs.Opened.{AreToCome}
+use Rattle.piece_reader.specs.Opened.{AreUnreadBytes}
 use Rattle.piece_reader.proofs.FileRead.{ends_within, gives_fault, gives_piece}
 use Rattle.piece_reader.proofs.one_file.FilePieces.read_next.Goals as goal
 
@@ -12,7 +12,7 @@ next_piece-requires g c =
 pub returns-in_err-_part-clause-piece : goal.returns-in_err-_part-clause-piece
 returns-in_err-_part-clause-piece g c =
     let opened = sym c.take.ensures.value ∙ c.in-Some.is in
-    gives_fault _ c.args.self.now (λ pkg further. (c.args.self.now.refused ≡ None) × AreToCome c.take.new.self pkg further) c.in-Some.file c.next_piece.new.piece c.in_err-_part.field-0.0 _ opened (c.args.self.now.more c.in-Some.file opened) c.from_residual.ensures.1 c.in_err-_part.ensures.seen c.in_err-_part.ensures.piece
+    gives_fault _ c.args.self.now (λ pkg further. (c.args.self.now.refused ≡ None) × AreUnreadBytes c.take.new.self pkg further) c.in-Some.file c.next_piece.new.piece c.in_err-_part.field-0.0 _ opened (c.args.self.now.more c.in-Some.file opened) c.from_residual.ensures.1 c.in_err-_part.ensures.seen c.in_err-_part.ensures.piece
 
 pub returns-clause-piece : goal.returns-clause-piece
 returns-clause-piece g c =

@@ -7,7 +7,7 @@ use Rattle.piece_reader.specs.declared.piece.PieceFault.TheVariants.{Disk as Dis
 use Rattle.pkg_core.proofs.SeenBytes.{reads_err, reads_in_a_row, reads_ok}
 use Rattle.piece_reader.proofs.BlockSeen.{not_ok}
 use Rattle.piece_reader.proofs.FilesFound.{seen_up_to}
-use Rattle.piece_reader.proofs.Readings.{behind, behind_part, behind_within, read_err, read_some, renamed, seen_unless_disk}
+use Rattle.piece_reader.proofs.Readings.{behind, behind_part, after_within, read_err, read_some, renamed, seen_unless_disk}
 use Rattle.piece_reader.proofs.reader.PieceReader.read_next.Goals as goal
 
 pub next_piece-requires : goal.next_piece-requires
@@ -61,7 +61,7 @@ returns-clause-piece g c =
     let b = rw c.in-Some.is at c.in_ok-file.ensures.file in
     let is_part = c.in_ok-part.ensures.part in
     let start = rw c.in-Some.is at c.in_ok-file.ensures.start in
-    let within = behind_within mid.place o rest part (length bytes) room mid.within few is_part in
+    let within = after_within mid.place o rest part (length bytes) room mid.within few is_part in
     let seen = seen_up_to _ _ _ (package_len old) (offset_of old) _ o.at b.0 bytes c.open_next.ensures.tree.same b.2 (behind mid.place o rest part (length bytes) room few is_part) (omega (arith, within, len)) b.1 (record { seen = rw c.open_next.ensures.name at (c.in_ok-part.ensures.seen tt (package_len old)); within = omega (arith, room, len, mid.within, few) }) in (
       seen.all,
       seen.is_seen,
@@ -69,7 +69,7 @@ returns-clause-piece g c =
       λ pkg long has before are.
           let opened = b.3 pkg long (seen.has_first pkg has) before are in (
             read_some old mid o rest pkg bytes before part opened (λ so_far further pieces file. c.in_ok-part.ensures.piece pkg so_far further pieces (seen.has_second pkg has) (omega (arith, room, len, mid.within, long)) file),
-            subst (λ (n : ℕ). HasAt pkg n bytes) start.stands (seen.has_second pkg has),
+            subst (λ (n : ℕ). HasAt pkg n bytes) start.located (seen.has_second pkg has),
           ),
     )
 

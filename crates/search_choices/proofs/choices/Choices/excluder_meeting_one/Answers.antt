@@ -9,8 +9,8 @@ use Rattle.search_tables.proofs.Excluders.{found_meeting, match_both}
 use Rattle.search_tables.proofs.Places.{there_is}
 use Rattle.search_choices.proofs.choices.Choices.excluder_meeting_one.Goals as goal
 
-pub choice_meeting_held-requires-clause-held : goal.choice_meeting_held-requires-clause-held
-choice_meeting_held-requires-clause-held c = λ one at.
+pub choice_meeting_own-requires-clause-held : goal.choice_meeting_own-requires-clause-held
+choice_meeting_own-requires-clause-held c = λ one at.
     let here : slice_get (pool_of c.args.self.now).candidates c.id.inside.place ≡ Some c.args.details.now =
     subst (λ (n : ℕ). slice_get (pool_of c.args.self.now).candidates n ≡ Some c.args.details.now) (sym c.id.view_is) c.requires.here in
     let both : Some c.args.details.now ≡ Some one = sym here ∙ at in
@@ -23,4 +23,4 @@ returns-clause-found c =
     let has = (there_is c.args.details.now.depends c.args.index d c.requires.depends).1 in
     if_ok_map _ _ (λ found h. match_both found _ _ _ _ (λ none conflict. none)
     (λ k met. found_meeting (pool_of c.args.self.now) (choices_of c.args.self.now) c.args.id c.args.details.now d k c.requires.here c.requires.once has c.if-not-dep.false met.0 met.1) h)
-    c.choice_meeting_held.result c.choice_meeting_held.ensures.found
+    c.choice_meeting_own.result c.choice_meeting_own.ensures.found

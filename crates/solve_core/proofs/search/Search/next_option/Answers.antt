@@ -2,7 +2,7 @@ use Rattle.std.proofs.Common.{◌∙◌, ◌∷◌, ◌++◌, [], ℕ, List, len
 use Rattle.candidate_core.specs.PackageMatches.{AreMatchesAmong}
 use Rattle.search_choices.specs.Choices.{IsSearch, choices_of, pool_of}
 use Rattle.search_choices.specs.declared.choices.Choices.{Choices}
-use Rattle.search_tables.specs.Reasons.{FrameValue, AreCompatible, IsFrameOf, IsSpentFrame, IsFrameTaking}
+use Rattle.search_tables.specs.Reasons.{FrameValue, AreCompatible, IsFrameOf, IsExhaustedFrame, IsFrameTaking}
 use Rattle.solve_core.proofs.Steps.{taken_of_open, spent_of_open, fits_in}
 use Rattle.search_tables.proofs.Turns.{passed_over}
 use Rattle.search_choices.proofs.Consistency.{taken_once, taken_within}
@@ -37,7 +37,7 @@ loop-id-preserved c =
 pub returns-clause-found : goal.returns-clause-found
 returns-clause-found c =
     let none = c.in_default.ensures in
-    subst (λ (z : Choices). IsSpentFrame (pool_of z) (choices_of z) c.take_next.new.self) c.loop-id.invariant.chosen
+    subst (λ (z : Choices). IsExhaustedFrame (pool_of z) (choices_of z) c.take_next.new.self) c.loop-id.invariant.chosen
     (spent_of_open (pool_of c.loop-id.self.chosen) (choices_of c.loop-id.self.chosen) c.loop-id.top c.take_next.new.self c.loop-id.invariant.open_now none.ruled_out none.left.0 none.left.1 none.by)
 
 pub reason_against-requires-clause-within : goal.reason_against-requires-clause-within

@@ -3,7 +3,7 @@ use Rattle.tree_memory.specs.Changes.{contents_of}
 use Rattle.tree_memory.specs.Images.{crash_bytes, picked_map}
 use Rattle.tree_memory.specs.Stores.{store_state}
 use Rattle.tree_memory.specs.Table.{IsTable}
-use Rattle.tree_memory.specs.WholeLaw.{bounded_state}
+use Rattle.tree_memory.specs.WellFormedLaw.{bounded_state}
 use Rattle.base_core.specs.Tree.{files_of}
 use Rattle.tree_memory.proofs.Imaging.{so_far_none, can_next, so_far_next, number_made, image_files, image_crash, IsPickedMap, picked_from, picked_files, file_at}
 use Rattle.tree_memory.proofs.Keeping.{newest, store_sound}

@@ -19,10 +19,10 @@ invariant_of-self-in-Err c =
 pub returns-in-Ok-clause-ok : goal.returns-in-Ok-clause-ok
 returns-in-Ok-clause-ok c q =
     let named : IsNamed c.args.self.now.entries.items c.in-Ok.i c.as_bytes.result.now = c.in-Ok.ensures.found in
-    let stands : c.index_mut.result.now.name ≡ c.as_bytes.result.now = ap (λ (e : NameAndFile). e.name) c.index_mut.ensures.value ∙ named.here c.index_mut.result.now in
+    let located : c.index_mut.result.now.name ≡ c.as_bytes.result.now = ap (λ (e : NameAndFile). e.name) c.index_mut.ensures.value ∙ named.here c.index_mut.result.now in
     let e : NameAndFile = record { name = c.index_mut.result.now.name; file = c.args.file } in
-    lookup-set c.args.self.now.entries.items c.in-Ok.i e e c.args.self.now.rising (subst (IsNamed c.args.self.now.entries.items c.in-Ok.i) (sym stands) named) q
-    ∙ ap (λ (n : List ℕ). put_name (lookup c.args.self.now.entries.items) n c.args.file q) (stands ∙ c.as_bytes.ensures.value)
+    lookup-set c.args.self.now.entries.items c.in-Ok.i e e c.args.self.now.rising (subst (IsNamed c.args.self.now.entries.items c.in-Ok.i) (sym located) named) q
+    ∙ ap (λ (n : List ℕ). put_name (lookup c.args.self.now.entries.items) n c.args.file q) (located ∙ c.as_bytes.ensures.value)
 
 pub returns-in_ok-insert-in-Err-clause-ok : goal.returns-in_ok-insert-in-Err-clause-ok
 returns-in_ok-insert-in-Err-clause-ok c q =

@@ -3,7 +3,7 @@ use Rattle.std.proofs.lemmas.Result.{on_ok_weaker}
 use Rattle.base_core.specs.Files.{put_name}
 use Rattle.base_core.specs.Tree.{files_of}
 use Rattle.tree_memory.specs.Changes.{contents_of}
-use Rattle.tree_memory.specs.WholeLaw.{bounded_state}
+use Rattle.tree_memory.specs.WellFormedLaw.{bounded_state}
 use Rattle.tree_memory.specs.Memory.{tree_state}
 use Rattle.tree_memory.proofs.Keeping.{read-after_put, newest}
 use Rattle.tree_memory.proofs.tree.MemoryTree.put.Goals as goal

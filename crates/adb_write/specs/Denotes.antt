@@ -1,0 +1,39 @@
+-- What a word represents in a payload or in a writer, for any schema. The meaning of a word is defined
+-- in `docs/formats.md`, "Values"; the laws over these definitions are in the README of this crate.
+use Rattle.std.specs.Prelude.{◌≡◌, ◌≢◌, ℕ, ◌<◌, ◌^◌, false, List, [], ◌∷◌, Ok}
+use Rattle.adb_view.specs.Plain.{Plain, null, int, blob, arr, obj, Plains, none, more}
+use Rattle.adb_view.specs.Readers.{int_of, blob_of, run_of, ARRAY, OBJECT}
+use Rattle.adb_write.specs.Canonical.{Layout, payload_with_root}
+use Rattle.adb_write.specs.Writing.{Writing, is_past_limit, layout_of}
+
+-- the word `w` points to this value in the payload `p`
+unfoldable mutual
+  pub Holds : List ℕ → Plain → ℕ → Type 0
+  Holds p null w = w ≡ 0
+  Holds p (int n) w = (w ≢ 0) × (int_of p w ≡ Ok n)
+  Holds p (blob b) w = (w ≢ 0) × (blob_of p w ≡ Ok b)
+  Holds p (arr vs) w = (w ≢ 0) × (ws : List ℕ) × (run_of ARRAY p w ≡ Ok ws) × HoldAll p vs ws
+  Holds p (obj vs) w = (w ≢ 0) × (ws : List ℕ) × (run_of OBJECT p w ≡ Ok ws) × HoldAll p vs ws
+
+  -- the words point to these values, one for one
+  pub HoldAll : List ℕ → Plains → List ℕ → Type 0
+  HoldAll p none [] = Unit {0}
+  HoldAll p none (w ∷ ws) = ⊥
+  HoldAll p (more v vs) [] = ⊥
+  HoldAll p (more v vs) (w ∷ ws) = Holds p v w × HoldAll p vs ws
+
+-- in a layout the word is one of this value, whatever the root will be
+pub record IsWordOf (out : Layout) (v : Plain) (word : ℕ) : Type 0 where
+  pub small : word < 2 ^ 32
+  pub holds : (root : ℕ) → Holds (payload_with_root root out) v word
+
+-- unless the writer passed a limit, the word represents this value in its payload
+abbrev pub Denotes : Writing → Plain → ℕ → Type 0
+Denotes w v word = is_past_limit w ≡ false → IsWordOf (layout_of w) v word
+
+-- in a writer's payload the words represent these values, one for one
+abbrev pub AllDenote : Writing → Plains → List ℕ → Type 0
+AllDenote w none [] = Unit {0}
+AllDenote w none (x ∷ xs) = ⊥
+AllDenote w (more v vs) [] = ⊥
+AllDenote w (more v vs) (x ∷ xs) = Denotes w v x × AllDenote w vs xs

@@ -1,5 +1,0 @@
-use Rattle.db_core.proofs.ListingPlaces.{stands_at}
-use Rattle.db_core.proofs.members.listings_stand_at_their_places.Goals as goal
-
-pub returns : goal.returns
-returns c = stands_at

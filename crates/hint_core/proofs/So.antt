@@ -1,0 +1,238 @@
+-- Each hint is so.
+use Rattle.std.proofs.Common.{◌≡◌, ◌≢◌, ◌∙◌, ◌+◌, ◌-◌, ◌/◌, ◌%◌, ◌≤◌, ℕ, zero, suc, true, false, cond, eqb, List, [], ◌∷◌, ◌++◌, length, Option, Some, None, Result, Ok, Err, refl, sym, ap, arith, inl, inr}
+use Rattle.std.specs.List.{onto_first, slice_get, slice_split}
+use Rattle.std.specs.Option.{option_map}
+use Rattle.std.proofs.lemmas.Bool.{eq-eqb, eqb-true, false≢true}
+use Rattle.std.proofs.lemmas.Option.{none-some, same_Some}
+use Rattle.adb_view.specs.Schema.{schema_number, table}
+use Rattle.adb_view.specs.declared.tables.Field.{Field}
+use Rattle.adb_view.specs.declared.tables.Which.{Which}
+use Rattle.adb_view.specs.declared.tables.Which.TheVariants as Tables
+use Rattle.base_core.specs.declared.cause.Cause.{Cause}
+use Rattle.dep_core.specs.Repositories.{Repository, is_comment, repositories_from, repositories_of, repositories_on, repository_of, singleton, with_repositories, without_outer_blanks}
+use Rattle.dep_core.specs.World.{is_line_end, lines_of}
+use Rattle.report_core.specs.declared.refusal.Refusal.{Refusal}
+use Rattle.hint_core.specs.declared.find.PathAlone.TheVariants.{Path}
+use Rattle.hint_core.specs.declared.find.RepositoryLine.{RepositoryLine}
+use Rattle.hint_core.specs.declared.hint.Hint.TheVariants as Hinted
+use Rattle.hint_core.specs.declared.hint.HintFile.{HintFile}
+use Rattle.hint_core.specs.declared.hint.Subject.{Subject}
+use Rattle.hint_core.specs.declared.hint.Subject.TheVariants.{Word, Information, Line, Database}
+use Rattle.hint_core.specs.declared.hint.Subject.TheVariants as Subjects
+use Rattle.hint_core.specs.Hints.{cause_hint, cause_of, cause_place, field_of, found_field, found_line, found_repository, information_hint, named_place, subject_hint, subject_of, table_numbered, word_hint}
+use Rattle.hint_core.specs.Repositories.{on_line, path_alone, repository_at, repository_line_by}
+use Rattle.hint_core.specs.Truths.{HasPath, IsSo, NamesPlace}
+
+-- ---- lines, each without a line end
+
+-- each of these lines is the one line of itself
+abbrev pub AreAlone : List (List ℕ) → Type 0
+AreAlone [] = Unit {0}
+AreAlone (x ∷ xs) = (slice_split is_line_end x ≡ x ∷ []) × AreAlone xs
+
+onto_alone : (x : ℕ) (lines : List (List ℕ)) → is_line_end x ≡ false → AreAlone lines → AreAlone (onto_first x lines)
+onto_alone x [] n h = (rw n refl, tt)
+onto_alone x (line ∷ lines) n h = (ap (λ b. cond b ([] ∷ slice_split is_line_end line) (onto_first x (slice_split is_line_end line))) n ∙ ap (onto_first x) h.0, h.1)
+
+pub lines_alone : (text : List ℕ) → AreAlone (slice_split is_line_end text)
+lines_alone [] = (refl, tt)
+lines_alone (x ∷ text) =
+    elim (is_line_end x) as (λ b. is_line_end x ≡ b → AreAlone (cond b ([] ∷ slice_split is_line_end text) (onto_first x (slice_split is_line_end text)))) [
+      | true ↦ λ e. (refl, lines_alone text)
+      | false ↦ λ e. onto_alone x (slice_split is_line_end text) e (lines_alone text)
+    ] refl
+
+read_alone : (line : List ℕ) → slice_split is_line_end line ≡ line ∷ [] → repositories_of line ≡ with_repositories 1 (repositories_on line) (Ok [])
+unfolding repositories_of
+read_alone line alone = ap (repositories_from 1) alone
+
+-- ---- the repository of a number
+
+-- a line between others: what it names is nothing, one repository, or bad
+data OnLine (line : List ℕ) : Type 0 where
+  skipped : repositories_on line ≡ Some [] → OnLine line
+  named : (found : Repository) → repositories_on line ≡ Some (found ∷ []) → OnLine line
+  bad : repositories_on line ≡ None → OnLine line
+
+on_line_is : (line : List ℕ) → OnLine line
+on_line_is line =
+    elim (is_comment (without_outer_blanks line)) as (λ b. is_comment (without_outer_blanks line) ≡ b → OnLine line) [
+      | true ↦ λ e. skipped (rw e refl)
+      | false ↦ λ e. elim (repository_of (without_outer_blanks line)) as (λ o. repository_of (without_outer_blanks line) ≡ o → OnLine line) [
+        | None ↦ λ r. bad (rw e (ap (option_map singleton) r))
+        | Some found ↦ λ r. named found (rw e (ap (option_map singleton) r))
+      ] refl
+    ] refl
+
+-- the line of a repository, of lines the first of which has a number, and what it names alone
+record IsNamed (line : ℕ) (lines : List (List ℕ)) (r : RepositoryLine) : Type 0 where
+  within : line ≤ r.line
+  alone : List ℕ
+  found : Repository
+  more : List Repository
+  at : slice_get lines (r.line - line) ≡ Some alone
+  named : repositories_of alone ≡ Ok (found ∷ more)
+  path : found.path ≡ r.path
+
+named_later : (line : ℕ) (text : List ℕ) (rest : List (List ℕ)) (r : RepositoryLine) → IsNamed (line + 1) rest r → IsNamed line (text ∷ rest) r
+named_later line text rest r n =
+    let step : r.line - line ≡ suc (r.line - (line + 1)) = omega (arith, n.within) in
+    record { within = omega (arith, n.within); alone = n.alone; found = n.found; more = n.more; at = ap (slice_get (text ∷ rest)) step ∙ n.at; named = n.named; path = n.path }
+
+named_here : (line : ℕ) (text : List ℕ) (rest : List (List ℕ)) (found : Repository) (more : List Repository) (r : RepositoryLine) → repositories_of text ≡ Ok (found ∷ more) → repository_line_by line found.path ≡ r → IsNamed line (text ∷ rest) r
+named_here line text rest found more r alone is =
+    let same : line ≡ r.line = ap (λ (x : RepositoryLine). x.line) is in
+    let none : r.line - line ≡ 0 = omega (arith, same) in
+    record { within = omega (arith, same); alone = text; found = found; more = more; at = ap (slice_get (text ∷ rest)) none; named = alone; path = ap (λ (x : RepositoryLine). x.path) is }
+
+named_at : (number line : ℕ) (lines : List (List ℕ)) (r : RepositoryLine) → repository_at number line lines ≡ Some r → IsNamed line lines r
+named_at number line [] r e = absurd (none-some r e)
+named_at number line (text ∷ rest) r e =
+    elim (repositories_of text) as (λ o. repositories_of text ≡ o → on_line (path_alone o) number line (λ left. repository_at left (line + 1) rest) ≡ Some r → IsNamed line (text ∷ rest) r) [
+      | Err at ↦ λ o h. absurd (none-some r h)
+      | Ok [] ↦ λ o h. named_later line text rest r (named_at number (line + 1) rest r h)
+      | Ok (found ∷ more) ↦ λ o h. elim (eqb number 1) as (λ b. cond b (Some (repository_line_by line found.path)) (repository_at (number - 1) (line + 1) rest) ≡ Some r → IsNamed line (text ∷ rest) r) [
+        | true ↦ λ k. named_here line text rest found more r o (same_Some _ _ k)
+        | false ↦ λ k. named_later line text rest r (named_at (number - 1) (line + 1) rest r k)
+      ] h
+    ] refl e
+
+-- no repository has the number 0
+never : (line : ℕ) (lines : List (List ℕ)) (r : RepositoryLine) → repository_at 0 line lines ≡ Some r → ⊥
+never line [] r e = none-some r e
+never line (text ∷ rest) r e =
+    elim (repositories_of text) as (λ o. on_line (path_alone o) 0 line (λ left. repository_at left (line + 1) rest) ≡ Some r → ⊥) [
+      | Err at ↦ λ h. none-some r h
+      | Ok [] ↦ λ h. never (line + 1) rest r h
+      | Ok (found ∷ more) ↦ λ h. never (line + 1) rest r h
+    ] e
+
+-- what is left of the repositories behind those of a line
+record IsBehind (found rs : List Repository) (rest : Result (List Repository) ℕ) : Type 0 where
+  others : List Repository
+  are : rest ≡ Ok others
+  joined : found ++ others ≡ rs
+
+behind : (k : ℕ) (found : List Repository) (rest : Result (List Repository) ℕ) (rs : List Repository) → with_repositories k (Some found) rest ≡ Ok rs → IsBehind found rs rest
+behind k found (Ok others) rs h = record { others = others; are = refl; joined = cc }
+behind k found (Err at) rs h = absurd cc
+
+abbrev path_at : List Repository → ℕ → Option (List ℕ)
+path_at rs i = option_map (λ (found : Repository). found.path) (slice_get rs i)
+
+one_before : (number line : ℕ) (found : Repository) (others : List Repository) (rest : List (List ℕ)) (r : RepositoryLine) → eqb number 1 ≡ false → repository_at (number - 1) (line + 1) rest ≡ Some r → path_at others (number - 1 - 1) ≡ Some r.path → path_at (found ∷ others) (number - 1) ≡ Some r.path
+one_before zero line found others rest r e h is = absurd (never (line + 1) rest r h)
+one_before (suc zero) line found others rest r e h is = absurd (false≢true (sym e))
+one_before (suc (suc n)) line found others rest r e h is =
+    let step : suc (suc n) - 1 ≡ suc n = omega arith in
+    let less : suc (suc n) - 1 - 1 ≡ n = omega arith in
+    ap (path_at (found ∷ others)) step ∙ (ap (path_at others) (sym less) ∙ is)
+
+has_none : (k : ℕ) (rest : Result (List Repository) ℕ) (rs : List Repository) → with_repositories k None rest ≡ Ok rs → ⊥
+has_none k rest rs h = cc
+
+counted : (number line k : ℕ) (lines : List (List ℕ)) → AreAlone lines → (r : RepositoryLine) → repository_at number line lines ≡ Some r → (rs : List Repository) → repositories_from k lines ≡ Ok rs → path_at rs (number - 1) ≡ Some r.path
+counted number line k [] a r e rs f = absurd (none-some r e)
+counted number line k (text ∷ rest) a r e rs f =
+    elim (on_line_is text) [
+      | skipped s ↦
+          let is : repositories_of text ≡ Ok [] = read_alone text a.0 ∙ ap (λ o. with_repositories 1 o (Ok [])) s in
+          let h : repository_at number (line + 1) rest ≡ Some r = sym (ap (λ o. on_line (path_alone o) number line (λ left. repository_at left (line + 1) rest)) is) ∙ e in
+          let b : IsBehind [] rs (repositories_from (k + 1) rest) = behind k [] (repositories_from (k + 1) rest) rs (sym (ap (λ o. with_repositories k o (repositories_from (k + 1) rest)) s) ∙ f) in
+          counted number (line + 1) (k + 1) rest a.1 r h rs (b.are ∙ ap Ok b.joined)
+      | named found s ↦
+          let is : repositories_of text ≡ Ok (found ∷ []) = read_alone text a.0 ∙ ap (λ o. with_repositories 1 o (Ok [])) s in
+          let h : on_line (Path found.path) number line (λ left. repository_at left (line + 1) rest) ≡ Some r = sym (ap (λ o. on_line (path_alone o) number line (λ left. repository_at left (line + 1) rest)) is) ∙ e in
+          let b : IsBehind (found ∷ []) rs (repositories_from (k + 1) rest) = behind k (found ∷ []) (repositories_from (k + 1) rest) rs (sym (ap (λ o. with_repositories k o (repositories_from (k + 1) rest)) s) ∙ f) in
+          ap (λ x. path_at x (number - 1)) (sym b.joined) ∙ elim (eqb number 1) as (λ t. eqb number 1 ≡ t → cond t (Some (repository_line_by line found.path)) (repository_at (number - 1) (line + 1) rest) ≡ Some r → path_at (found ∷ b.others) (number - 1) ≡ Some r.path) [
+            | true ↦ λ t y.
+                let one : number ≡ 1 = eqb-true number 1 t in
+                let none : number - 1 ≡ 0 = omega (arith, one) in
+                ap (path_at (found ∷ b.others)) none ∙ ap (option_map (λ (x : RepositoryLine). x.path)) y
+            | false ↦ λ t y. one_before number line found b.others rest r t y (counted (number - 1) (line + 1) (k + 1) rest a.1 r y b.others b.are)
+          ] refl h
+      | bad s ↦ absurd (has_none k (repositories_from (k + 1) rest) rs (sym (ap (λ o. with_repositories k o (repositories_from (k + 1) rest)) s) ∙ f))
+    ]
+
+-- ---- the hints
+
+word_so : (words : List (List ℕ)) (refusal : Refusal) (found : Option (List ℕ)) (place : ℕ) (o : Option (List ℕ)) → subject_of refusal ≡ Word place → slice_get words (place - 1) ≡ o → IsSo words refusal found (word_hint place o)
+word_so words refusal found place (Some word) s h = (inl s, h)
+word_so words refusal found place None s h = tt
+
+past : (xs : List (List ℕ)) (i : ℕ) → slice_get xs i ≡ None → length xs ≤ i
+past [] i h = omega arith
+past (x ∷ xs) zero h = absurd (none-some x (sym h))
+past (x ∷ xs) (suc i) h = let less = past xs i h in omega (arith, less)
+
+information_so : (words : List (List ℕ)) (refusal : Refusal) (found : Option (List ℕ)) (place : ℕ) (o : Option (List ℕ)) → subject_of refusal ≡ Information place → slice_get words (place - 1) ≡ o → IsSo words refusal found (information_hint place o)
+information_so words refusal found place (Some word) s h = (inr s, h)
+information_so words refusal found place None s h = (s, past words (place - 1) h)
+
+has_path : (text : List ℕ) (number : ℕ) (r : RepositoryLine) → repository_at number 1 (lines_of text) ≡ Some r → HasPath text number r.path
+unfolding repositories_of
+has_path text number r h = λ rs f. counted number 1 1 (lines_of text) (lines_alone text) r h rs f
+
+repository_so : (words : List (List ℕ)) (refusal : Refusal) (text : List ℕ) (number : ℕ) (o : Option RepositoryLine) → subject_of refusal ≡ Subjects.Repository number → repository_at number 1 (lines_of text) ≡ o → IsSo words refusal (Some text) (found_repository number o)
+repository_so words refusal text number None s h = tt
+repository_so words refusal text number (Some r) s h =
+    let n = named_at number 1 (lines_of text) r h in
+    (s, text, refl, has_path text number r h, (n.alone, n.found, n.more, n.at, n.named, n.path))
+
+line_so : (words : List (List ℕ)) (refusal : Refusal) (whole : List ℕ) (file : HintFile) (line : ℕ) (o : Option (List ℕ)) → subject_of refusal ≡ Line file line → slice_get (lines_of whole) (line - 1) ≡ o → IsSo words refusal (Some whole) (found_line file line o)
+line_so words refusal whole file line None s h = tt
+line_so words refusal whole file line (Some text) s h = (s, whole, refl, h)
+
+pub subject_so : (words : List (List ℕ)) (refusal : Refusal) (found : Option (List ℕ)) (subject : Subject) → subject_of refusal ≡ subject → IsSo words refusal found (subject_hint words found subject)
+subject_so words refusal found (Word place) s = word_so words refusal found place (slice_get words (place - 1)) s refl
+subject_so words refusal found (Information place) s = information_so words refusal found place (slice_get words (place - 1)) s refl
+subject_so words refusal None (Subjects.Repository number) s = tt
+subject_so words refusal (Some text) (Subjects.Repository number) s = repository_so words refusal text number (repository_at number 1 (lines_of text)) s refl
+subject_so words refusal None (Line file line) s = tt
+subject_so words refusal (Some whole) (Line file line) s = line_so words refusal whole file line (slice_get (lines_of whole) (line - 1)) s refl
+subject_so words refusal found Database s = (s, refl)
+subject_so words refusal found Subjects.Nothing s = tt
+
+-- ---- the field at a place
+
+numbered : (n k : ℕ) (t which : Which) (rest : Option Which) → schema_number t ≡ k → (rest ≡ Some which → schema_number which ≡ n) → cond (eqb n k) (Some t) rest ≡ Some which → schema_number which ≡ n
+numbered n k t which rest s later h =
+    elim (eqb n k) as (λ b. eqb n k ≡ b → cond b (Some t) rest ≡ Some which → schema_number which ≡ n) [
+      | true ↦ λ e y. ap schema_number (sym (same_Some _ _ y)) ∙ (s ∙ sym (eqb-true n k e))
+      | false ↦ λ e y. later y
+    ] refl h
+
+table_is : (n : ℕ) (which : Which) → table_numbered n ≡ Some which → schema_number which ≡ n
+table_is n which h =
+    numbered n 1 Tables.Dep which _ refl
+    (numbered n 2 Tables.Acl which _ refl
+    (numbered n 3 Tables.PkgInfo which _ refl
+    (numbered n 4 Tables.File which _ refl
+    (numbered n 5 Tables.Dir which _ refl
+    (numbered n 6 Tables.Scripts which _ refl
+    (numbered n 7 Tables.Package which _ refl
+    (numbered n 8 Tables.Index which _ refl
+    (numbered n 9 Tables.Idb which _ refl
+    (numbered n 10 Tables.Intent which _ refl (λ e. absurd (none-some which e))))))))))) h
+
+field_so : (words : List (List ℕ)) (refusal : Refusal) (found : Option (List ℕ)) (place : ℕ) (which : Which) (o : Option Field) → NamesPlace refusal place → schema_number which ≡ place / 100 → eqb (place % 100) 0 ≡ false → slice_get (table which) (place % 100 - 1) ≡ o → IsSo words refusal found (found_field place which o)
+field_so words refusal found place which None p s e h = tt
+field_so words refusal found place which (Some field) p s e h =
+    let some : place % 100 ≢ 0 = λ none. false≢true (sym e ∙ eq-eqb (place % 100) 0 none) in
+    (p, place % 100, omega (arith, s), omega (arith, some), (field, h, refl))
+
+table_so : (words : List (List ℕ)) (refusal : Refusal) (found : Option (List ℕ)) (place : ℕ) (o : Option Which) → NamesPlace refusal place → table_numbered (place / 100) ≡ o → IsSo words refusal found (field_of place o)
+table_so words refusal found place None p h = tt
+table_so words refusal found place (Some which) p h =
+    elim (eqb (place % 100) 0) as (λ b. eqb (place % 100) 0 ≡ b → IsSo words refusal found (cond b Hinted.Nothing (found_field place which (slice_get (table which) (place % 100 - 1))))) [
+      | true ↦ λ e. tt
+      | false ↦ λ e. field_so words refusal found place which _ p (table_is (place / 100) which h) e refl
+    ] refl
+
+named_so : (words : List (List ℕ)) (refusal : Refusal) (found : Option (List ℕ)) (cause : Cause) (o : Option ℕ) → cause_of refusal ≡ Some cause → cause_place cause ≡ o → IsSo words refusal found (named_place o)
+named_so words refusal found cause None c h = tt
+named_so words refusal found cause (Some place) c h = table_so words refusal found place (table_numbered (place / 100)) (cause, c, h) refl
+
+pub cause_so : (words : List (List ℕ)) (refusal : Refusal) (found : Option (List ℕ)) (o : Option Cause) → cause_of refusal ≡ o → IsSo words refusal found (cause_hint o)
+cause_so words refusal found None c = tt
+cause_so words refusal found (Some cause) c = named_so words refusal found cause (cause_place cause) c refl

@@ -1,0 +1,182 @@
+-- What a refusal is about, and what its numbers stand for. The rules are in `docs/commands.md`,
+-- "Hints".
+use Rattle.std.specs.Prelude.{ℕ, ◌-◌, ◌/◌, ◌%◌, ◌==◌, Bool, true, false, if◌then◌else◌, List, Option, Some, None, is_some, Result, Ok, Err}
+use Rattle.std.specs.List.{slice_get}
+use Rattle.adb_view.specs.Schema.{table}
+use Rattle.adb_view.specs.declared.tables.Field.{Field}
+use Rattle.adb_view.specs.declared.tables.Which.{Which}
+use Rattle.adb_view.specs.declared.tables.Which.TheVariants as Tables
+use Rattle.base_core.specs.declared.cause.Cause.{Cause}
+use Rattle.base_core.specs.declared.cause.Cause.TheVariants.{BadText, Repeated, TextLine}
+use Rattle.command_core.specs.Command.{CommandLine}
+use Rattle.command_core.specs.declared.command.Applet.{Applet}
+use Rattle.command_core.specs.declared.command.Applet.TheVariants.{Demo}
+use Rattle.dep_core.specs.World.{lines_of}
+use Rattle.report_core.specs.declared.refusal.Refusal.{Refusal}
+use Rattle.report_core.specs.declared.refusal.Refusal.TheVariants.{IntentBad, FileMissing, FileBad, TextBad, VersionBad, InfoBad, DatabaseBad, WorldBad, RepositoriesBad, IndexMissing, IndexBad, NotInstalled, PackageBad}
+use Rattle.root_names.specs.RootNames.{database_name, repositories_name, text_database_name, world_name}
+use Rattle.hint_core.specs.declared.find.RepositoryLine.{RepositoryLine}
+use Rattle.hint_core.specs.declared.hint.Hint.{Hint}
+use Rattle.hint_core.specs.declared.hint.Hint.TheVariants as Hinted
+use Rattle.hint_core.specs.declared.hint.HintFile.{HintFile}
+use Rattle.hint_core.specs.declared.hint.HintFile.TheVariants as Files
+use Rattle.hint_core.specs.declared.hint.Hints.{Hints}
+use Rattle.hint_core.specs.declared.hint.Subject.{Subject}
+use Rattle.hint_core.specs.declared.hint.Subject.TheVariants.{Word, Information, Repository, Line, Database, Nothing}
+use Rattle.hint_core.specs.Repositories.{repository_at}
+
+-- ---- what a refusal is about
+
+-- whether the refusals of a command are about its own words: those of `demo` are not
+abbrev pub is_own : Applet → Bool
+is_own Demo = false
+is_own applet = true
+
+-- whether refusals are explained: those of a command that are about its own words
+abbrev pub is_explained : Result CommandLine ℕ → Bool
+is_explained (Ok command) = is_own command.applet
+is_explained (Err place) = false
+
+-- what the refusal of a database is about: a line of a text, or else the database
+abbrev pub database_subject : Cause → Subject
+database_subject (TextLine line) = Line Files.TextDatabase line
+database_subject cause = Database
+
+-- what a refusal is about
+abbrev pub subject_of : Refusal → Subject
+subject_of (FileMissing place) = Word place
+subject_of (FileBad place cause) = Word place
+subject_of (TextBad place line) = Word place
+subject_of (VersionBad place) = Word place
+subject_of (NotInstalled place) = Word place
+subject_of (InfoBad place) = Information place
+subject_of (IndexMissing number) = Repository number
+subject_of (IndexBad number cause) = Repository number
+subject_of (WorldBad line) = Line Files.World line
+subject_of (RepositoriesBad line) = Line Files.Repositories line
+subject_of (DatabaseBad cause) = database_subject cause
+subject_of refusal = Nothing
+
+-- the name of a file of which refusals name lines
+abbrev pub file_name : HintFile → List ℕ
+file_name Files.World = world_name
+file_name Files.Repositories = repositories_name
+file_name Files.TextDatabase = text_database_name
+
+-- the name of the file that a refusal is about, if there is one
+abbrev pub subject_file : Subject → Option (List ℕ)
+subject_file (Repository number) = Some repositories_name
+subject_file (Line file line) = Some (file_name file)
+subject_file Database = Some database_name
+subject_file subject = None
+
+-- the cause of a refusal, if it has one
+abbrev pub cause_of : Refusal → Option Cause
+cause_of (IntentBad cause) = Some cause
+cause_of (FileBad place cause) = Some cause
+cause_of (DatabaseBad cause) = Some cause
+cause_of (IndexBad number cause) = Some cause
+cause_of (PackageBad name version cause) = Some cause
+cause_of refusal = None
+
+-- the place of a field that a cause names, if it names one
+abbrev pub cause_place : Cause → Option ℕ
+cause_place (BadText place) = Some place
+cause_place (Repeated place first second) = Some place
+cause_place cause = None
+
+-- ---- what it is
+
+-- the word at a place, if there is one
+abbrev pub word_hint : ℕ → Option (List ℕ) → Hint
+word_hint place (Some word) = Hinted.Word place word
+word_hint place None = Hinted.Nothing
+
+-- the word at a place, or that information of a package is missing there
+abbrev pub information_hint : ℕ → Option (List ℕ) → Hint
+information_hint place (Some word) = Hinted.Word place word
+information_hint place None = Hinted.Missing place
+
+-- a repository that was found on a line
+abbrev pub found_repository : ℕ → Option RepositoryLine → Hint
+found_repository number (Some found) = Hinted.Repository number found.line found.path
+found_repository number None = Hinted.Nothing
+
+-- the index of a repository, by the text that names the repositories
+abbrev pub repository_hint : ℕ → Option (List ℕ) → Hint
+repository_hint number (Some text) = found_repository number (repository_at number 1 (lines_of text))
+repository_hint number None = Hinted.Nothing
+
+-- a line that was found in a file
+abbrev pub found_line : HintFile → ℕ → Option (List ℕ) → Hint
+found_line file line (Some text) = Hinted.Line file line text
+found_line file line None = Hinted.Nothing
+
+-- a line of a file, counted from 1, by the file's text
+abbrev pub line_hint : HintFile → ℕ → Option (List ℕ) → Hint
+line_hint file line (Some text) = found_line file line (slice_get (lines_of text) (line - 1))
+line_hint file line None = Hinted.Nothing
+
+-- what a refusal is about, given the words and the file that it is about
+abbrev pub subject_hint : List (List ℕ) → Option (List ℕ) → Subject → Hint
+subject_hint words found (Word place) = word_hint place (slice_get words (place - 1))
+subject_hint words found (Information place) = information_hint place (slice_get words (place - 1))
+subject_hint words found (Repository number) = repository_hint number found
+subject_hint words found (Line file line) = line_hint file line found
+subject_hint words found Database = Hinted.Database (is_some found)
+subject_hint words found Nothing = Hinted.Nothing
+
+-- ---- the field at a place
+
+-- the table of a number, if there is one
+abbrev pub table_numbered : ℕ → Option Which
+table_numbered number =
+    if number == 1 then Some Tables.Dep else
+    if number == 2 then Some Tables.Acl else
+    if number == 3 then Some Tables.PkgInfo else
+    if number == 4 then Some Tables.File else
+    if number == 5 then Some Tables.Dir else
+    if number == 6 then Some Tables.Scripts else
+    if number == 7 then Some Tables.Package else
+    if number == 8 then Some Tables.Index else
+    if number == 9 then Some Tables.Idb else
+    if number == 10 then Some Tables.Intent else None
+
+-- a field that a table has at a place
+abbrev pub found_field : ℕ → Which → Option Field → Hint
+found_field place which (Some field) = Hinted.Field place which field.name
+found_field place which None = Hinted.Nothing
+
+-- the field of a table at a place; fields count from 1
+abbrev pub field_in : ℕ → Which → Hint
+field_in place which =
+    if place % 100 == 0 then Hinted.Nothing else
+    found_field place which (slice_get (table which) (place % 100 - 1))
+
+-- the field of a table that was found, at a place
+abbrev pub field_of : ℕ → Option Which → Hint
+field_of place (Some which) = field_in place which
+field_of place None = Hinted.Nothing
+
+-- the field at a place: 100 times the number of its table plus its own
+abbrev pub place_hint : ℕ → Hint
+place_hint place = field_of place (table_numbered (place / 100))
+
+-- the field at the place that a cause names, if it names one
+abbrev pub named_place : Option ℕ → Hint
+named_place (Some place) = place_hint place
+named_place None = Hinted.Nothing
+
+-- what the number of a cause stands for
+abbrev pub cause_hint : Option Cause → Hint
+cause_hint (Some cause) = named_place (cause_place cause)
+cause_hint None = Hinted.Nothing
+
+-- ---- both
+
+-- the hints of a refusal, given the words and the file that it is about
+abbrev pub hints_of : List (List ℕ) → Refusal → Option (List ℕ) → Hints
+hints_of words refusal found = record {
+  subject = subject_hint words found (subject_of refusal);
+  cause = cause_hint (cause_of refusal);
+}

@@ -1,0 +1,7 @@
+-- what a refusal is about, and what its numbers stand for
+pub mod Hints
+pub mod Repositories
+pub mod Lines
+pub mod Told
+-- what the law says of hints
+pub mod Truths

@@ -1,0 +1,109 @@
+-- The lines of hints. The rules are in `docs/commands.md`, "Hints".
+use Rattle.std.specs.Prelude.{ℕ, ◌==◌, nat_lt, Bool, true, false, not, ◌&&◌, ◌||◌, if◌then◌else◌, List, [], ◌∷◌, ◌++◌, length, take, codes}
+use Rattle.std.specs.Fmt.{decimal}
+use Rattle.std.specs.Char.{is_ascii_graphic}
+use Rattle.hex.specs.Hex.{encode_lower}
+use Rattle.adb_view.specs.Schema.{field_name_text}
+use Rattle.adb_view.specs.declared.tables.Which.{Which}
+use Rattle.adb_view.specs.declared.tables.Which.TheVariants as Tables
+use Rattle.root_names.specs.RootNames.{database_name, text_database_name}
+use Rattle.words_core.specs.Usage.{longest_shown, texts_joined}
+use Rattle.hint_core.specs.declared.hint.Hint.{Hint}
+use Rattle.hint_core.specs.declared.hint.Hint.TheVariants.{Word, Missing, Repository, Line, Database, Field, Nothing}
+use Rattle.hint_core.specs.declared.hint.HintFile.{HintFile}
+use Rattle.hint_core.specs.declared.hint.Hints.{Hints}
+use Rattle.hint_core.specs.Hints.{file_name}
+
+-- ---- bytes as they are shown
+
+-- whether a byte is shown as it is: a space (32) or a visible ASCII character, but no backslash (92)
+abbrev pub is_printed : ℕ → Bool
+is_printed byte = ((byte == 32) || is_ascii_graphic byte) && not (byte == 92)
+
+-- a byte as it is shown: as it is, or as `\xNN`
+abbrev pub printed_byte : ℕ → List ℕ
+printed_byte byte =
+    if is_printed byte then byte ∷ [] else 92 ∷ (120 ∷ encode_lower (byte ∷ []))
+
+-- bytes as they are shown
+abbrev pub printed_bytes : List ℕ → List ℕ
+printed_bytes [] = []
+printed_bytes (byte ∷ bytes) = printed_byte byte ++ printed_bytes bytes
+
+-- what follows the bytes that are shown: two dots if there are more
+abbrev pub cut_mark : List ℕ → List ℕ
+cut_mark bytes = if nat_lt longest_shown (length bytes) then codes ".." else []
+
+-- bytes as a line shows them, of which there may be many
+abbrev pub printed_text : List ℕ → List ℕ
+printed_text bytes = printed_bytes (take longest_shown bytes) ++ cut_mark bytes
+
+-- ---- what is named
+
+-- the path of the file that the database is in: a container, or else a text
+abbrev pub database_text : Bool → List ℕ
+database_text true = database_name
+database_text false = text_database_name
+
+-- what the objects of a table are
+abbrev pub table_text : Which → List ℕ
+table_text Tables.Dep = codes "a dependency"
+table_text Tables.Acl = codes "an access list"
+table_text Tables.PkgInfo = codes "the information of a package"
+table_text Tables.File = codes "a file"
+table_text Tables.Dir = codes "a folder"
+table_text Tables.Scripts = codes "the scripts of a package"
+table_text Tables.Package = codes "a package"
+table_text Tables.Index = codes "an index"
+table_text Tables.Idb = codes "an installed database"
+table_text Tables.Intent = codes "a journal entry"
+
+-- ---- the lines
+
+-- the line of a word
+abbrev pub word_line : ℕ → List ℕ → List ℕ
+word_line place word = texts_joined
+    (codes "apk: word " ∷ (decimal place ∷ (codes " is " ∷ (printed_text word ∷ (codes "\n" ∷ [])))))
+
+-- the line that says that information of a package is missing
+abbrev pub missing_line : ℕ → List ℕ
+missing_line place = texts_joined
+    (codes "apk: there is no word " ∷ (decimal place
+    ∷ (codes ": a package needs -I name:NAME and -I version:VERSION\n" ∷ [])))
+
+-- the line of a repository
+abbrev pub repository_line : ℕ → ℕ → List ℕ → List ℕ
+repository_line number line path = texts_joined
+    (codes "apk: repository " ∷ (decimal number ∷ (codes " is " ∷ (printed_text path
+    ∷ (codes ", line " ∷ (decimal line ∷ (codes " of etc/apk/repositories\n" ∷ [])))))))
+
+-- the line of a line of a file
+abbrev pub line_line : HintFile → ℕ → List ℕ → List ℕ
+line_line file line text = texts_joined
+    (codes "apk: line " ∷ (decimal line ∷ (codes " of " ∷ (file_name file
+    ∷ (codes " is " ∷ (printed_text text ∷ (codes "\n" ∷ [])))))))
+
+-- the line of the database
+abbrev pub database_line : Bool → List ℕ
+database_line is_container = texts_joined
+    (codes "apk: the package database is " ∷ (database_text is_container ∷ (codes "\n" ∷ [])))
+
+-- the line of a field
+abbrev pub field_line : ℕ → Which → List ℕ → List ℕ
+field_line place table name = texts_joined
+    (codes "apk: field " ∷ (decimal place ∷ (codes " is '" ∷ (name
+    ∷ (codes "' of " ∷ (table_text table ∷ (codes "\n" ∷ [])))))))
+
+-- the line of a hint, if it has one
+abbrev pub hint_line : Hint → List ℕ
+hint_line (Word place word) = word_line place word
+hint_line (Missing place) = missing_line place
+hint_line (Repository number line path) = repository_line number line path
+hint_line (Line file line text) = line_line file line text
+hint_line (Database is_container) = database_line is_container
+hint_line (Field place table name) = field_line place table (field_name_text name)
+hint_line Nothing = []
+
+-- the lines of hints
+abbrev pub hint_lines : Hints → List ℕ
+hint_lines hints = hint_line hints.subject ++ hint_line hints.cause

@@ -1,0 +1,47 @@
+-- What a call that explains a refusal writes. The rules are in `docs/commands.md`, "Hints".
+use Rattle.std.specs.Prelude.{◌≡◌, ℕ, List, [], if◌then◌else◌, Option, Some, None, Result, OnOk, OnErr}
+use Rattle.base_core.specs.Calls.{IfObservable}
+use Rattle.base_core.specs.Sink.{SinkChange, Gets, GetsSome}
+use Rattle.base_core.specs.Tree.{TreeState, files_of}
+use Rattle.base_core.specs.declared.tree.TreeFault.{TreeFault}
+use Rattle.base_core.specs.declared.tree.TreeFault.TheVariants as Trees
+use Rattle.report_core.specs.declared.refusal.Refusal.{Refusal}
+use Rattle.words_core.specs.Grammar.{command_of}
+use Rattle.hint_core.specs.declared.telling.HintFault.{HintFault}
+use Rattle.hint_core.specs.declared.telling.HintFault.TheVariants.{Disk, Memory, Sink}
+use Rattle.hint_core.specs.declared.hint.Subject.{Subject}
+use Rattle.hint_core.specs.Hints.{hints_of, is_explained, subject_file}
+use Rattle.hint_core.specs.Lines.{hint_lines}
+
+-- a fault of a read, as the fault of the hints
+abbrev pub as_hint_fault : TreeFault → HintFault
+as_hint_fault Trees.Disk = Disk
+as_hint_fault Trees.Memory = Memory
+
+-- a fault is not one of a tree
+abbrev pub IsNoDisk : HintFault → Type 0
+IsNoDisk Disk = ⊥
+IsNoDisk Memory = Unit {0}
+IsNoDisk Sink = Unit {0}
+
+-- what was found is the file under a name, if there is one; nothing is found if no name is asked for
+abbrev pub IsFoundIn : List TreeState → Option (List ℕ) → Option (List ℕ) → Type 0
+IsFoundIn history None found = found ≡ None
+IsFoundIn history (Some name) found = IfObservable history (λ v. found ≡ files_of v name)
+
+-- what was found is the file that a refusal is about
+abbrev pub IsFoundFor : List TreeState → Subject → Option (List ℕ) → Type 0
+IsFoundFor history subject found = IsFoundIn history (subject_file subject) found
+
+-- the lines that are written after a refusal, given the file that it is about
+abbrev pub lines_told : List (List ℕ) → Refusal → Option (List ℕ) → List ℕ
+lines_told words refusal found =
+    if is_explained (command_of words) then hint_lines (hints_of words refusal found) else []
+
+-- a call has written these lines to a sink, or a prefix of them if it failed
+pub record Tells {T E : Type 0} (lines : List ℕ) (sink : SinkChange)
+    (result : Result T E) : Type 0 where
+  -- all lines were written
+  pub ok : OnOk result (Gets sink lines)
+  -- a prefix of the lines was written
+  pub err : OnErr result (GetsSome sink lines)

@@ -1,0 +1,70 @@
+-- When a hint is so. Serves the law `hints_are_so`; the rules are in `docs/commands.md`, "Hints".
+use Rattle.std.specs.Prelude.{◌≡◌, ◌⊎◌, ℕ, ◌+◌, ◌-◌, ◌*◌, ◌<◌, ◌≤◌, List, ◌∷◌, length, Option, Some, is_some, Ok}
+use Rattle.std.specs.List.{slice_get}
+use Rattle.std.specs.Option.{option_map}
+use Rattle.adb_view.specs.Schema.{schema_number, table}
+use Rattle.adb_view.specs.declared.tables.Field.{Field}
+use Rattle.adb_view.specs.declared.tables.FieldName.{FieldName}
+use Rattle.adb_view.specs.declared.tables.Which.{Which}
+use Rattle.base_core.specs.declared.cause.Cause.{Cause}
+use Rattle.dep_core.specs.Repositories.{Repository, repositories_of}
+use Rattle.dep_core.specs.World.{lines_of}
+use Rattle.report_core.specs.declared.refusal.Refusal.{Refusal}
+use Rattle.hint_core.specs.declared.hint.Hint.{Hint}
+use Rattle.hint_core.specs.declared.hint.Hint.TheVariants as Hinted
+use Rattle.hint_core.specs.declared.hint.Subject.TheVariants.{Word, Information, Line, Database}
+use Rattle.hint_core.specs.declared.hint.Subject.TheVariants as Subjects
+use Rattle.hint_core.specs.Hints.{cause_of, cause_place, subject_of}
+
+-- the refusal is about the word at this place
+abbrev pub NamesWord : Refusal → ℕ → Type 0
+NamesWord refusal place = (subject_of refusal ≡ Word place) ⊎ (subject_of refusal ≡ Information place)
+
+-- the refusal has a cause that names the field at this place
+abbrev pub NamesPlace : Refusal → ℕ → Type 0
+NamesPlace refusal place =
+    (cause : Cause) × (cause_of refusal ≡ Some cause) × (cause_place cause ≡ Some place)
+
+-- the repository with a number, counted from 1, has this path, if all lines can be read
+abbrev pub HasPath : List ℕ → ℕ → List ℕ → Type 0
+HasPath text number path =
+    (repositories : List Repository) → repositories_of text ≡ Ok repositories
+    → option_map (λ repository. repository.path) (slice_get repositories (number - 1)) ≡ Some path
+
+-- the line of a text names, read alone, a repository with this path
+abbrev pub NamesPath : List ℕ → ℕ → List ℕ → Type 0
+NamesPath text line path =
+    (alone : List ℕ) × (found : Repository) × (more : List Repository)
+    × (slice_get (lines_of text) (line - 1) ≡ Some alone)
+    × (repositories_of alone ≡ Ok (found ∷ more)) × (found.path ≡ path)
+
+-- the field of a table with this number has this name
+abbrev pub HasField : Which → ℕ → FieldName → Type 0
+HasField which number name =
+    (field : Field) × (slice_get (table which) (number - 1) ≡ Some field) × (field.name ≡ name)
+
+-- a hint is so, of a refusal, of the words that were refused, and of the file that was found for it
+abbrev pub IsSo : List (List ℕ) → Refusal → Option (List ℕ) → Hint → Type 0
+-- the word is the one at the place that the refusal names; places count from 1
+IsSo words refusal found (Hinted.Word place word) =
+    NamesWord refusal place × (slice_get words (place - 1) ≡ Some word)
+-- the refusal is about information of a package, and its place is behind the words
+IsSo words refusal found (Hinted.Missing place) =
+    (subject_of refusal ≡ Information place) × (length words ≤ place - 1)
+-- the refusal names the repository, which has this path, and the line names it
+IsSo words refusal found (Hinted.Repository number line path) =
+    (subject_of refusal ≡ Subjects.Repository number)
+    × (text : List ℕ) × (found ≡ Some text) × HasPath text number path × NamesPath text line path
+-- the refusal names the line, and it is that of the file
+IsSo words refusal found (Hinted.Line file line text) =
+    (subject_of refusal ≡ Line file line)
+    × (whole : List ℕ) × (found ≡ Some whole) × (slice_get (lines_of whole) (line - 1) ≡ Some text)
+-- the refusal is about the database, whose container was found, or else not
+IsSo words refusal found (Hinted.Database is_container) =
+    (subject_of refusal ≡ Database) × (is_container ≡ is_some found)
+-- the place is 100 times the number of the table plus that of the field
+IsSo words refusal found (Hinted.Field place which name) =
+    NamesPlace refusal place
+    × (number : ℕ) × (place ≡ 100 * schema_number which + number) × (0 < number)
+    × HasField which number name
+IsSo words refusal found Hinted.Nothing = Unit {0}

@@ -1,0 +1,215 @@
+//! Finds what the numbers of a refusal stand for. The rules are in `docs/commands.md`, "Hints".
+ghost use Rattle.std.specs.Prelude.{◌≡◌, ◌-◌, IfOk, Ok, Some, map, slice_get};
+ghost use Rattle.std.specs.Option.{option_copied, option_map};
+ghost use Rattle.dep_core.specs.Repositories.{repositories_of};
+ghost use Rattle.dep_core.specs.World.{lines_of};
+ghost use Rattle.hint_core.specs.Hints.{cause_hint, hints_of, information_hint, line_hint, place_hint, repository_hint, subject_hint, word_hint};
+ghost use Rattle.hint_core.specs.Repositories.{path_alone, repository_at};
+
+use crate::hint::{Hint, HintFile, Hints, Subject, cause_of, cause_place, subject_of};
+use crate::places::place_hint;
+use base_core::{Cause, Text, Words};
+use dep_core::{Repos, ReposFault};
+use report_core::Refusal;
+use std::alloc::{AllocError, Global};
+
+/// The hints of a refusal: on what it is about, given the file that it is about, and on its cause.
+pub fn hints(
+    alloc: Global,
+    words: &Words,
+    refusal: &Refusal,
+    found: Option<&[u8]>,
+) -> Result<Hints, AllocError>
+    ensures { IfOk result (λ hints. hints
+        ≡ hints_of words.now refusal.now (option_copied found.entry)) }
+{
+    let subject = subject_hint(alloc, words, subject_of(refusal), found)?;
+    let cause = cause_hint(cause_of(refusal));
+    Ok(Hints { subject, cause })
+}
+
+// What the number of a cause stands for, if it has one that names a field.
+fn cause_hint(cause: Option<Cause>) -> Hint
+    ensures { result ≡ cause_hint cause }
+{
+    let Some(cause) = cause else {
+        return Hint::Nothing;
+    };
+    match cause_place(cause) {
+        Some(place) => place_hint(place),
+        None => Hint::Nothing,
+    }
+}
+
+// What a refusal is about, given the file that it is about.
+fn subject_hint(
+    alloc: Global,
+    words: &Words,
+    subject: Subject,
+    found: Option<&[u8]>,
+) -> Result<Hint, AllocError>
+    ensures { IfOk result (λ hint. hint
+        ≡ subject_hint words.now (option_copied found.entry) subject) }
+{
+    match subject {
+        Subject::Word { place } => word_hint(alloc, place, word_at(words, place)),
+        Subject::Information { place } => information_hint(alloc, place, word_at(words, place)),
+        Subject::Repository { number } => repository_hint(alloc, number, found),
+        Subject::Line { file, line } => line_hint(alloc, file, line, found),
+        Subject::Database => Ok(Hint::Database {
+            is_container: found.is_some(),
+        }),
+        Subject::Nothing => Ok(Hint::Nothing),
+    }
+}
+
+// The word at a place, if there is one.
+fn word_at(words: &Words, place: u32) -> Option<&[u8]>
+    ensures { option_map (λ word. word.now) result ≡ slice_get words.now (place - 1) }
+{
+    let before = (place as usize).saturating_sub(1);
+    if before < words.len() {
+        return Some(words.word(before));
+    }
+    None
+}
+
+// The word at a place, if there is one.
+fn word_hint(alloc: Global, place: u32, word: Option<&[u8]>) -> Result<Hint, AllocError>
+    ensures { IfOk result (λ hint. hint
+        ≡ word_hint place (option_map (λ w. w.now) word.entry)) }
+{
+    match word {
+        Some(word) => Ok(Hint::Word {
+            place,
+            word: Text::of(alloc, word)?,
+        }),
+        None => Ok(Hint::Nothing),
+    }
+}
+
+// The word at a place, or that information of a package is missing there.
+fn information_hint(alloc: Global, place: u32, word: Option<&[u8]>) -> Result<Hint, AllocError>
+    ensures { IfOk result (λ hint. hint
+        ≡ information_hint place (option_map (λ w. w.now) word.entry)) }
+{
+    match word {
+        Some(word) => Ok(Hint::Word {
+            place,
+            word: Text::of(alloc, word)?,
+        }),
+        None => Ok(Hint::Missing { place }),
+    }
+}
+
+// The index of a repository, by the text that names the repositories.
+fn repository_hint(alloc: Global, number: u64, text: Option<&[u8]>) -> Result<Hint, AllocError>
+    ensures { IfOk result (λ hint. hint
+        ≡ repository_hint number (option_copied text.entry)) }
+{
+    let Some(text) = text else {
+        return Ok(Hint::Nothing);
+    };
+    match repository_at(alloc, number, text)? {
+        Some(found) => Ok(Hint::Repository {
+            number,
+            line: found.line,
+            path: found.path,
+        }),
+        None => Ok(Hint::Nothing),
+    }
+}
+
+/// The path of a repository, and the line that names it.
+#[derive(Drop)]
+pub(crate) struct RepositoryLine {
+    /// The line, counted from 1.
+    pub(crate) line: u64,
+    /// The path of the index.
+    pub(crate) path: Text,
+}
+
+// The repository with a number, if the lines before it and its own can be read.
+fn repository_at(
+    alloc: Global,
+    number: u64,
+    text: &[u8],
+) -> Result<Option<RepositoryLine>, AllocError>
+    ensures { IfOk result (λ found. found ≡ repository_at number 1 (lines_of text.now)) }
+{
+    let mut left = number;
+    let mut line = 0;
+    for part in text.split(|byte| *byte == b'\n') {
+        line += 1;
+        match path_alone(alloc, part)? {
+            PathAlone::Bad => return Ok(None),
+            PathAlone::Skipped => {}
+            PathAlone::Path(path) if left == 1 => return Ok(Some(RepositoryLine { line, path })),
+            PathAlone::Path(_) => left = left.saturating_sub(1),
+        }
+    }
+    Ok(None)
+}
+
+/// What a line says of repositories.
+#[derive(Drop)]
+pub(crate) enum PathAlone {
+    /// It names a repository with this path.
+    Path(Text),
+    /// It is skipped.
+    Skipped,
+    /// It is bad.
+    Bad,
+}
+
+// What a line says, read alone.
+fn path_alone(alloc: Global, line: &[u8]) -> Result<PathAlone, AllocError>
+    ensures { IfOk result (λ found. found ≡ path_alone (repositories_of line.now)) }
+{
+    let repos = match Repos::read(alloc, line) {
+        Ok(repos) => repos,
+        Err(ReposFault::Bad { line: _ }) => return Ok(PathAlone::Bad),
+        Err(ReposFault::Memory) => return Err(AllocError),
+    };
+    if repos.is_empty() {
+        return Ok(PathAlone::Skipped);
+    }
+    let path = Text::of(alloc, repos.path(0).as_bytes())?;
+    Ok(PathAlone::Path(path))
+}
+
+// A line of a file, given its text.
+fn line_hint(
+    alloc: Global,
+    file: HintFile,
+    line: u64,
+    text: Option<&[u8]>,
+) -> Result<Hint, AllocError>
+    ensures { IfOk result (λ hint. hint ≡ line_hint file line (option_copied text.entry)) }
+{
+    let Some(text) = text else {
+        return Ok(Hint::Nothing);
+    };
+    match line_at(text, line.saturating_sub(1)) {
+        Some(found) => Ok(Hint::Line {
+            file,
+            line,
+            text: Text::of(alloc, found)?,
+        }),
+        None => Ok(Hint::Nothing),
+    }
+}
+
+// The line of a text after this many others.
+fn line_at(text: &[u8], before: u64) -> Option<&[u8]>
+    ensures { option_map (λ line. line.now) result ≡ slice_get (lines_of text.now) before }
+{
+    let mut left = before;
+    for line in text.split(|byte| *byte == b'\n') {
+        if left == 0 {
+            return Some(line);
+        }
+        left -= 1;
+    }
+    None
+}

@@ -1,0 +1,166 @@
+//! What a refusal is about, and what its numbers stand for. The rules are in `docs/commands.md`,
+//! "Hints".
+ghost use Rattle.std.specs.Prelude.{◌≡◌};
+ghost use Rattle.hint_core.specs.Hints.{cause_of, cause_place, database_subject, subject_of};
+
+use adb_view::{FieldName, Which};
+use base_core::{Cause, Text};
+use report_core::Refusal;
+
+/// What a refusal is about.
+#[derive(Clone, Copy)]
+pub enum Subject {
+    /// The word at this place.
+    Word { place: u32 },
+    /// The information of a package, which the word at this place has; it is missing if there is no
+    /// such word.
+    Information { place: u32 },
+    /// The index of this repository.
+    Repository { number: u64 },
+    /// This line of a file of the root.
+    Line { file: HintFile, line: u64 },
+    /// The database, which is in one of two files.
+    Database,
+    /// Nothing that a number names.
+    Nothing,
+}
+
+/// A text file of a root, of which refusals name lines.
+#[derive(Clone, Copy)]
+pub enum HintFile {
+    /// `etc/apk/world`.
+    World,
+    /// `etc/apk/repositories`.
+    Repositories,
+    /// `lib/apk/db/installed`, which version 2 wrote.
+    TextDatabase,
+}
+
+/// What a number of a refusal stands for.
+#[derive(Drop)]
+pub enum Hint {
+    /// The word at this place.
+    Word {
+        place: u32,
+        word: Text,
+    },
+    /// There is no word at this place: the information of a package is missing.
+    Missing {
+        place: u32,
+    },
+    /// The index of this repository, by its path, and the line that names it.
+    Repository {
+        number: u64,
+        line: u64,
+        path: Text,
+    },
+    /// This line of a file of the root.
+    Line {
+        file: HintFile,
+        line: u64,
+        text: Text,
+    },
+    /// The database is a container, or else a text.
+    Database {
+        is_container: bool,
+    },
+    /// The field at this place of a container.
+    Field {
+        place: u16,
+        table: Which,
+        name: FieldName,
+    },
+    /// No number, or nothing true and short is known.
+    Nothing,
+}
+
+/// The hints of a refusal: on what it is about, and on its cause.
+#[derive(Drop)]
+pub struct Hints {
+    /// What the refusal is about.
+    pub subject: Hint,
+    /// The number of its cause.
+    pub cause: Hint,
+}
+
+/// What a refusal is about.
+pub(crate) fn subject_of(refusal: &Refusal) -> Subject
+    ensures { result ≡ subject_of refusal.now }
+{
+    match refusal {
+        Refusal::FileMissing { place } => Subject::Word { place: *place },
+        Refusal::FileBad { place, cause: _ } => Subject::Word { place: *place },
+        Refusal::TextBad { place, line: _ } => Subject::Word { place: *place },
+        Refusal::VersionBad { place } => Subject::Word { place: *place },
+        Refusal::NotInstalled { place } => Subject::Word { place: *place },
+        Refusal::InfoBad { place } => Subject::Information { place: *place },
+        Refusal::IndexMissing { repository } => Subject::Repository {
+            number: *repository,
+        },
+        Refusal::IndexBad {
+            repository,
+            cause: _,
+        } => Subject::Repository {
+            number: *repository,
+        },
+        Refusal::WorldBad { line } => Subject::Line {
+            file: HintFile::World,
+            line: *line,
+        },
+        Refusal::RepositoriesBad { line } => Subject::Line {
+            file: HintFile::Repositories,
+            line: *line,
+        },
+        Refusal::DatabaseBad { cause } => database_subject(*cause),
+        _ => Subject::Nothing,
+    }
+}
+
+// What the refusal of a database is about: a line of a text, or else the database.
+fn database_subject(cause: Cause) -> Subject
+    ensures { result ≡ database_subject cause }
+{
+    match cause {
+        Cause::TextLine { line } => Subject::Line {
+            file: HintFile::TextDatabase,
+            line,
+        },
+        _ => Subject::Database,
+    }
+}
+
+/// The cause of a refusal, if it has one.
+pub(crate) fn cause_of(refusal: &Refusal) -> Option<Cause>
+    ensures { result ≡ cause_of refusal.now }
+{
+    match refusal {
+        Refusal::IntentBad { cause } => Some(*cause),
+        Refusal::FileBad { place: _, cause } => Some(*cause),
+        Refusal::DatabaseBad { cause } => Some(*cause),
+        Refusal::IndexBad {
+            repository: _,
+            cause,
+        } => Some(*cause),
+        Refusal::PackageBad {
+            name: _,
+            version: _,
+            cause,
+        } => Some(*cause),
+        _ => None,
+    }
+}
+
+/// The place of a field that a cause names, if it names one.
+pub(crate) fn cause_place(cause: Cause) -> Option<u16>
+    ensures { result ≡ cause_place cause }
+{
+    match cause {
+        Cause::BadText { place } => Some(place),
+        Cause::Repeated {
+            place,
+            first: _,
+            second: _,
+        } => Some(place),
+        _ => None,
+    }
+}

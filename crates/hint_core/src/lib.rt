@@ -1,0 +1,22 @@
+//! What the numbers of a refusal stand for: lines for a person, which follow the error line.
+//!
+//! A refusal names words, repositories, lines and fields by their numbers. `hints` finds the word,
+//! the path, the line or the field, and `explain` writes a line for each. Nothing is changed: the
+//! tree is only read, and only if the refusal is about one of its files. The contracts cite `Hints`
+//! (what a refusal is about, and what its numbers stand for), `Lines` (the lines that are written)
+//! and `Told` (what a call writes) of `specs/`. `Truths` says when a hint is so, apart from how it
+//! is found, and the law `hints_are_so` proves it. The rules are in `docs/commands.md`, "Hints".
+#![tactic(auto)]
+
+mod find;
+mod hint;
+mod laws;
+mod lines;
+mod places;
+mod printed;
+mod telling;
+
+pub use find::hints;
+pub use hint::{Hint, HintFile, Hints, Subject};
+pub use laws::hints_are_so;
+pub use telling::{HintFault, explain};

@@ -1,0 +1,197 @@
+//! The lines of hints. The rules are in `docs/commands.md`, "Hints".
+ghost use Rattle.std.specs.Prelude.{◌≡◌, ◌++◌, codes, IfOk, OnOk};
+ghost use Rattle.adb_view.specs.Schema.{field_name_text};
+ghost use Rattle.hint_core.specs.Hints.{file_name};
+ghost use Rattle.hint_core.specs.Lines.{database_text, field_line, hint_line, hint_lines, line_line, missing_line, repository_line, table_text, word_line};
+
+use crate::hint::{Hint, HintFile, Hints};
+use crate::printed::{printed, push_texts};
+use adb_view::{FieldName, Which};
+use itoa::Buffer;
+use std::alloc::{AllocError, Global};
+
+/// The lines of hints.
+pub fn hint_lines(alloc: Global, hints: &Hints) -> Result<Vec<u8>, AllocError>
+    ensures { IfOk result (λ lines. lines.items ≡ hint_lines hints.now) }
+{
+    let mut lines = Vec::new(alloc);
+    push_hint(alloc, &mut lines, &hints.subject)?;
+    push_hint(alloc, &mut lines, &hints.cause)?;
+    Ok(lines)
+}
+
+// Adds the line of a hint, if it has one.
+fn push_hint(alloc: Global, lines: &mut Vec<u8>, hint: &Hint) -> Result<(), AllocError>
+    ensures { OnOk result (lines.new.items ≡ lines.old.items ++ hint_line hint.now) }
+{
+    match hint {
+        Hint::Word { place, word } => push_word(alloc, lines, *place, word.as_bytes()),
+        Hint::Missing { place } => push_missing(lines, *place),
+        Hint::Repository { number, line, path } => {
+            push_repository(alloc, lines, *number, *line, path.as_bytes())
+        }
+        Hint::Line { file, line, text } => push_line(alloc, lines, *file, *line, text.as_bytes()),
+        Hint::Database { is_container } => push_texts(
+            lines,
+            &[
+                b"apk: the package database is ",
+                database_text(*is_container),
+                b"\n",
+            ],
+        ),
+        Hint::Field { place, table, name } => push_field(lines, *place, *table, *name),
+        Hint::Nothing => Ok(()),
+    }
+}
+
+// Adds the line of a word.
+fn push_word(alloc: Global, lines: &mut Vec<u8>, place: u32, word: &[u8]) -> Result<(), AllocError>
+    ensures { OnOk result (lines.new.items ≡ lines.old.items ++ word_line place word.now) }
+{
+    let shown = printed(alloc, word)?;
+    let mut digits = Buffer::new();
+    push_texts(
+        lines,
+        &[
+            b"apk: word ",
+            digits.format(place).as_bytes(),
+            b" is ",
+            &shown,
+            b"\n",
+        ],
+    )
+}
+
+// Adds the line that says that information of a package is missing.
+fn push_missing(lines: &mut Vec<u8>, place: u32) -> Result<(), AllocError>
+    ensures { OnOk result (lines.new.items ≡ lines.old.items ++ missing_line place) }
+{
+    let mut digits = Buffer::new();
+    push_texts(
+        lines,
+        &[
+            b"apk: there is no word ",
+            digits.format(place).as_bytes(),
+            b": a package needs -I name:NAME and -I version:VERSION\n",
+        ],
+    )
+}
+
+// Adds the line of a repository.
+fn push_repository(
+    alloc: Global,
+    lines: &mut Vec<u8>,
+    number: u64,
+    line: u64,
+    path: &[u8],
+) -> Result<(), AllocError>
+    ensures { OnOk result (lines.new.items
+        ≡ lines.old.items ++ repository_line number line path.now) }
+{
+    let shown = printed(alloc, path)?;
+    let mut number_digits = Buffer::new();
+    let mut line_digits = Buffer::new();
+    push_texts(
+        lines,
+        &[
+            b"apk: repository ",
+            number_digits.format(number).as_bytes(),
+            b" is ",
+            &shown,
+            b", line ",
+            line_digits.format(line).as_bytes(),
+            b" of etc/apk/repositories\n",
+        ],
+    )
+}
+
+// Adds the line of a line of a file.
+fn push_line(
+    alloc: Global,
+    lines: &mut Vec<u8>,
+    file: HintFile,
+    line: u64,
+    text: &[u8],
+) -> Result<(), AllocError>
+    ensures { OnOk result (lines.new.items ≡ lines.old.items ++ line_line file line text.now) }
+{
+    let shown = printed(alloc, text)?;
+    let mut digits = Buffer::new();
+    push_texts(
+        lines,
+        &[
+            b"apk: line ",
+            digits.format(line).as_bytes(),
+            b" of ",
+            file_text(file),
+            b" is ",
+            &shown,
+            b"\n",
+        ],
+    )
+}
+
+// Adds the line of a field.
+fn push_field(
+    lines: &mut Vec<u8>,
+    place: u16,
+    table: Which,
+    name: FieldName,
+) -> Result<(), AllocError>
+    ensures { OnOk result (lines.new.items
+        ≡ lines.old.items ++ field_line place table (field_name_text name)) }
+{
+    let mut digits = Buffer::new();
+    push_texts(
+        lines,
+        &[
+            b"apk: field ",
+            digits.format(place).as_bytes(),
+            b" is '",
+            name.text().as_bytes(),
+            b"' of ",
+            table_text(table),
+            b"\n",
+        ],
+    )
+}
+
+// The path of a file of which refusals name lines.
+fn file_text(file: HintFile) -> &'static [u8]
+    ensures { result.now ≡ file_name file }
+{
+    match file {
+        HintFile::World => b"etc/apk/world",
+        HintFile::Repositories => b"etc/apk/repositories",
+        HintFile::TextDatabase => b"lib/apk/db/installed",
+    }
+}
+
+// The path of the file that the database is in.
+fn database_text(is_container: bool) -> &'static [u8]
+    ensures { result.now ≡ database_text is_container }
+{
+    if is_container {
+        b"lib/apk/db/installed.adb"
+    } else {
+        b"lib/apk/db/installed"
+    }
+}
+
+// What the objects of a table are.
+fn table_text(table: Which) -> &'static [u8]
+    ensures { result.now ≡ table_text table }
+{
+    match table {
+        Which::Dep => b"a dependency",
+        Which::Acl => b"an access list",
+        Which::PkgInfo => b"the information of a package",
+        Which::File => b"a file",
+        Which::Dir => b"a folder",
+        Which::Scripts => b"the scripts of a package",
+        Which::Package => b"a package",
+        Which::Index => b"an index",
+        Which::Idb => b"an installed database",
+        Which::Intent => b"a journal entry",
+    }
+}

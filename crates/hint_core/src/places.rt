@@ -1,0 +1,54 @@
+//! The field at a place of a container: 100 times the number of a table plus the number of a field.
+//! The rules are in `docs/formats.md`, "Schemas".
+ghost use Rattle.std.specs.Prelude.{◌≡◌};
+ghost use Rattle.hint_core.specs.Hints.{field_in, place_hint, table_numbered};
+
+use crate::hint::Hint;
+use adb_view::{Which, fields_of};
+
+/// The field at a place.
+pub(crate) fn place_hint(place: u16) -> Hint
+    ensures { result ≡ place_hint place }
+{
+    match table_numbered(place / 100) {
+        Some(table) => field_in(place, table),
+        None => Hint::Nothing,
+    }
+}
+
+// The table of a number, if there is one.
+fn table_numbered(number: u16) -> Option<Which>
+    ensures { result ≡ table_numbered number }
+{
+    match number {
+        1 => Some(Which::Dep),
+        2 => Some(Which::Acl),
+        3 => Some(Which::PkgInfo),
+        4 => Some(Which::File),
+        5 => Some(Which::Dir),
+        6 => Some(Which::Scripts),
+        7 => Some(Which::Package),
+        8 => Some(Which::Index),
+        9 => Some(Which::Idb),
+        10 => Some(Which::Intent),
+        _ => None,
+    }
+}
+
+// The field of a table at a place.
+fn field_in(place: u16, table: Which) -> Hint
+    ensures { result ≡ field_in place table }
+{
+    let number = usize::from(place % 100);
+    if number == 0 {
+        return Hint::Nothing;
+    }
+    match fields_of(table).get(number - 1) {
+        Some(field) => Hint::Field {
+            place,
+            table,
+            name: field.name,
+        },
+        None => Hint::Nothing,
+    }
+}

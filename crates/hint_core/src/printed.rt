@@ -1,0 +1,98 @@
+//! Bytes as a line shows them, and texts one after another. The rules are in `docs/commands.md`,
+//! "Hints".
+ghost use Rattle.std.specs.Prelude.{◌≡◌, ◌++◌, ◌∷◌, [], IfOk, OnOk, map, take};
+ghost use Rattle.hex.specs.Hex.{encode_lower};
+ghost use Rattle.words_core.specs.Usage.{longest_shown, texts_joined};
+ghost use Rattle.hint_core.specs.Lines.{cut_mark, is_printed, printed_byte, printed_bytes, printed_text};
+
+use std::alloc::{AllocError, Global};
+
+// How many bytes of a text are shown.
+const LONGEST_SHOWN: usize = 64;
+
+/// The text that shows bytes: no more than 64 of them, and two dots if there are more.
+pub(crate) fn printed(alloc: Global, bytes: &[u8]) -> Result<Vec<u8>, AllocError>
+    ensures { IfOk result (λ text. text.items ≡ printed_text bytes.now) }
+{
+    let mut text = Vec::new(alloc);
+    push_printed(&mut text, shown_part(bytes))?;
+    text.extend_from_slice(cut_mark(bytes))?;
+    Ok(text)
+}
+
+// The bytes that are shown.
+fn shown_part(bytes: &[u8]) -> &[u8]
+    ensures { result.now ≡ take longest_shown bytes.now }
+{
+    if bytes.len() > LONGEST_SHOWN {
+        &bytes[..LONGEST_SHOWN]
+    } else {
+        bytes
+    }
+}
+
+// What follows the bytes that are shown, if there are more.
+fn cut_mark(bytes: &[u8]) -> &'static [u8]
+    ensures { result.now ≡ cut_mark bytes.now }
+{
+    if bytes.len() > LONGEST_SHOWN {
+        b".."
+    } else {
+        b""
+    }
+}
+
+// Adds bytes as they are shown.
+fn push_printed(text: &mut Vec<u8>, bytes: &[u8]) -> Result<(), AllocError>
+    ensures { OnOk result (text.new.items ≡ text.old.items ++ printed_bytes bytes.now) }
+{
+    for byte in bytes {
+        push_byte(text, *byte)?;
+    }
+    Ok(())
+}
+
+// Adds a byte as it is shown.
+fn push_byte(text: &mut Vec<u8>, byte: u8) -> Result<(), AllocError>
+    ensures { OnOk result (text.new.items ≡ text.old.items ++ printed_byte byte) }
+{
+    if is_printed(byte) {
+        text.push(byte)?;
+        return Ok(());
+    }
+    push_escaped(text, byte)
+}
+
+// Adds a byte as its two hexadecimal digits.
+fn push_escaped(text: &mut Vec<u8>, byte: u8) -> Result<(), AllocError>
+    ensures { OnOk result (text.new.items
+        ≡ text.old.items ++ 92 ∷ (120 ∷ encode_lower (byte ∷ []))) }
+{
+    let mut digits = [0; 2];
+    // A byte has two digits, which fit.
+    let _ = hex::encode_to_slice([byte], &mut digits);
+    text.extend_from_slice(b"\\x")?;
+    text.extend_from_slice(&digits)?;
+    Ok(())
+}
+
+// Whether a byte is shown as it is.
+fn is_printed(byte: u8) -> bool
+    ensures { result ≡ is_printed byte }
+{
+    if byte == b'\\' {
+        return false;
+    }
+    byte == b' ' || byte.is_ascii_graphic()
+}
+
+/// Adds texts, one after another.
+pub(crate) fn push_texts(line: &mut Vec<u8>, texts: &[&[u8]]) -> Result<(), AllocError>
+    ensures { OnOk result (line.new.items
+        ≡ line.old.items ++ texts_joined (map (λ text. text.now) texts.now)) }
+{
+    for text in texts {
+        line.extend_from_slice(*text)?;
+    }
+    Ok(())
+}

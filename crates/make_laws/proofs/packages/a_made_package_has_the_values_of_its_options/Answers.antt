@@ -1,0 +1,61 @@
+use Rattle.std.proofs.Common.{◌≡◌, ℕ, List, [], Result, Ok, Err, ap, sym, subst}
+use Rattle.adb_view.specs.Values.{entry_in}
+use Rattle.adb_view.specs.declared.tables.Which.TheVariants.{PkgInfo}
+use Rattle.adb_view.specs.Plain.{Plain}
+use Rattle.command_core.specs.Command.{CommandLine}
+use Rattle.make_info.specs.declared.field.Field.{Field}
+use Rattle.make_info.specs.declared.field.Field.TheVariants as Fields
+use Rattle.make_info.specs.FieldTexts.{is_too_long, values_of_info}
+use Rattle.make_info.specs.Fields.{field_word}
+use Rattle.make_info.specs.Information.{InfoItem, information}
+use Rattle.make_info.specs.Reads.{Reads}
+use Rattle.make_package.specs.Making.{or_info_bad}
+use Rattle.package_files.specs.Package.{installed_size}
+use Rattle.make_laws.proofs.MadeFrom.{IsMadeFrom, info_is, made_from, priority_is}
+use Rattle.make_laws.proofs.ToldFields.{items_of, say_of_field, told_info, told_priority, values_for}
+use Rattle.make_laws.specs.MadePackages.{contained_package}
+use Rattle.make_laws.specs.NamedFields.{field_named}
+use Rattle.make_laws.specs.SaidOfFields.{SayOfField, HasValuesOfField, field_value_in_package}
+use Rattle.make_laws.proofs.packages.a_made_package_has_the_values_of_its_options.Goals as goal
+
+info_ok : (r : Result (List InfoItem) ℕ) (items : List InfoItem) → or_info_bad r ≡ Ok items → r ≡ Ok items
+info_ok (Ok x) items e = let same : x ≡ items = cc (e) in ap Ok same
+info_ok (Err place) items e = absurd (cc (e))
+
+module _ (command : CommandLine) (names : List (List ℕ)) (read : Reads) (pkg : Plain) (m : IsMadeFrom command names read pkg) where
+  abbrev Tells : Field → Plain → Type 0
+  Tells f v = HasValuesOfField f (values_for f m.items) v
+
+  in_info : (f : Field) → (f ≡ Fields.ReplacesPriority → ⊥) → Tells f (field_named PkgInfo (field_word f) (entry_in pkg 0))
+  in_info f other =
+      subst (Tells f) (sym (ap (field_named PkgInfo (field_word f)) (info_is command names read pkg m))) (told_info f m.items (installed_size m.sources) other)
+
+  tells : (f : Field) → SayOfField Fields.ReplacesPriority (values_of_info command.values) (values_for Fields.ReplacesPriority m.items) → Tells f (field_value_in_package f pkg)
+  tells Fields.Name say = in_info Fields.Name (λ e. cc (e))
+  tells Fields.Version say = in_info Fields.Version (λ e. cc (e))
+  tells Fields.Description say = in_info Fields.Description (λ e. cc (e))
+  tells Fields.Arch say = in_info Fields.Arch (λ e. cc (e))
+  tells Fields.License say = in_info Fields.License (λ e. cc (e))
+  tells Fields.Origin say = in_info Fields.Origin (λ e. cc (e))
+  tells Fields.Maintainer say = in_info Fields.Maintainer (λ e. cc (e))
+  tells Fields.Url say = in_info Fields.Url (λ e. cc (e))
+  tells Fields.RepoCommit say = in_info Fields.RepoCommit (λ e. cc (e))
+  tells Fields.BuildTime say = in_info Fields.BuildTime (λ e. cc (e))
+  tells Fields.ProviderPriority say = in_info Fields.ProviderPriority (λ e. cc (e))
+  tells Fields.ReplacesPriority say = told_priority (values_of_info command.values) m.items say (field_value_in_package Fields.ReplacesPriority pkg) (priority_is command names read pkg m)
+  tells Fields.Depends say = in_info Fields.Depends (λ e. cc (e))
+  tells Fields.Provides say = in_info Fields.Provides (λ e. cc (e))
+  tells Fields.Replaces say = in_info Fields.Replaces (λ e. cc (e))
+  tells Fields.InstallIf say = in_info Fields.InstallIf (λ e. cc (e))
+  tells Fields.Recommends say = in_info Fields.Recommends (λ e. cc (e))
+  tells Fields.Tags say = in_info Fields.Tags (λ e. cc (e))
+
+pub returns : goal.returns
+returns c = λ command names read bytes f made.
+    let pkg : Plain = contained_package bytes in
+    let m = made_from c.a_made_package_is_read_back.ensures command names read bytes made in
+    let are = items_of command.values command.behind m.items (info_ok (information command) m.items m.items_read) in
+    let say : (g : Field) → SayOfField g (values_of_info command.values) (values_for g m.items) =
+    λ g. subst (λ (items : List InfoItem). SayOfField g (values_of_info command.values) (values_for g items)) (sym are.all)
+    (say_of_field c.read_texts_are_spelled.ensures c.spelled_texts_are_read.ensures g (is_too_long command.values) [] (values_of_info command.values) are.none) in
+    record { said = values_for f m.items; say = say f; tells = tells command names read pkg m f (say Fields.ReplacesPriority) }

@@ -1,0 +1,17 @@
+use Rattle.std.proofs.Common.{refl}
+use Rattle.adb_view.proofs.ValueEntries.{nth_obj}
+use Rattle.adb_view.specs.Plain.{none, more, blob_value}
+use Rattle.dep_core.specs.Value.{dep_value}
+use Rattle.make_info.specs.Values.{number_value}
+use Rattle.make_laws.proofs.values.a_value_is_stored_as_given.Goals as goal
+
+pub returns : goal.returns
+returns c =
+    record {
+      text = λ bytes. refl;
+      number = λ n. refl;
+      need = λ d.
+          let v = dep_value d in
+          let fields = more (blob_value v.name) (more (blob_value v.version) (more (number_value v.matching) none)) in
+          (nth_obj fields 0, nth_obj fields 1, nth_obj fields 2);
+    }

@@ -1,0 +1,13 @@
+-- The commands that only report on what is installed or available. The rules are in `docs/commands.md`,
+-- under each command's name; their reports and refusals are defined in `tell_core`.
+use Rattle.std.specs.Prelude.{Result, Ok, Err}
+use Rattle.base_core.specs.Files.{Files}
+use Rattle.installed_info.specs.declared.telling.ReportAndRefusal.{ReportAndRefusal}
+use Rattle.report_core.specs.declared.refusal.Refusal.{Refusal}
+use Rattle.outcome.specs.Outcome.{Outcome, just_refusal, outcome_of}
+
+-- the outcome of a report: it is printed, with the refusal after it, if there is one; or a refusal
+-- instead. Nothing is written.
+abbrev pub outcome_of_report : Files → Result ReportAndRefusal Refusal → Outcome
+outcome_of_report files (Ok done) = outcome_of done.following_refusal done.report files
+outcome_of_report files (Err refusal) = just_refusal files refusal

@@ -1,0 +1,12 @@
+use Rattle.std.proofs.Common.{inl, inr, ◌∙◌, sym}
+use Rattle.path_claims.specs.Seen.{claim_seen}
+use Rattle.own_core.specs.Sides.{file_change_of}
+use Rattle.own_core.proofs.OneFile.{no_stay}
+use Rattle.own_core.proofs.parts.is_file_kept.Goals as goal
+use Rattle.own_core.proofs.parts.is_file_kept.Goals.{then-change-via-then-change, then-change-via-else-change+then-not-is_guarded}
+
+pub returns-then-change-clause-stays : goal.returns-then-change-clause-stays
+returns-then-change-clause-stays g c = no_stay (file_change_of c.args.change.now) _ (claim_seen c.args.claim.now) (elim c.then-change.branch [
+  | then-change-via-then-change w ↦ inl w.if-change.true
+  | then-change-via-else-change+then-not-is_guarded w ↦ inr (sym w.is_guarded.ensures ∙ w.if-not-is_guarded.true)
+])

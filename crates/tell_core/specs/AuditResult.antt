@@ -1,0 +1,37 @@
+-- The results of `audit` and `manifest`, by what reads find. The rules are in `docs/commands.md`,
+-- "`audit`" and "`manifest`"; the reports are defined in `audit_core`.
+use Rattle.std.specs.Prelude.{ℕ, None, Result, Ok}
+use Rattle.audit_core.specs.Audit.{audit_report}
+use Rattle.audit_core.specs.Manifest.{manifest_of}
+use Rattle.change_inputs.specs.Chains.{and_then}
+use Rattle.change_inputs.specs.Database.{Database}
+use Rattle.change_inputs.specs.Inputs.{database_for}
+use Rattle.command_core.specs.Command.{CommandLine}
+use Rattle.installed_info.specs.Info.{report_and_refusal}
+use Rattle.installed_info.specs.declared.telling.ReportAndRefusal.{ReportAndRefusal}
+use Rattle.make_info.specs.Reads.{Reads}
+use Rattle.report_core.specs.declared.refusal.Refusal.{Refusal}
+
+-- the number of the read of the first listed file: the reads of the two databases precede it
+abbrev pub first_audit_read : ℕ
+first_audit_read = 2
+
+-- what an `audit` reports of the files of all packages of a database
+abbrev pub audit_of : Reads → Database → Result ReportAndRefusal Refusal
+audit_of read database =
+    Ok (report_and_refusal (audit_report read first_audit_read database.packages) None)
+
+-- the result of `audit`: its report on the database, or the database's refusal
+abbrev pub audit_result : CommandLine → Reads → Result ReportAndRefusal Refusal
+audit_result command read = and_then (database_for command read) (audit_of read)
+
+-- what a `manifest` reports on the packages of a database that it names, or its refusal
+abbrev pub manifest_report : CommandLine → Database → Result ReportAndRefusal Refusal
+manifest_report command database =
+    and_then (manifest_of database.packages command.operands) (λ report.
+    Ok (report_and_refusal report None))
+
+-- the result of `manifest`: its report on the database, or the database's refusal
+abbrev pub manifest_result : CommandLine → Reads → Result ReportAndRefusal Refusal
+manifest_result command read =
+    and_then (database_for command read) (manifest_report command)

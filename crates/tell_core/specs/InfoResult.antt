@@ -1,0 +1,15 @@
+-- The result of `info`, by what reads find. The rules are in `docs/commands.md`, "`info`"; the text is
+-- made by `installed_info`.
+use Rattle.std.specs.Prelude.{Result}
+use Rattle.change_inputs.specs.Chains.{and_then}
+use Rattle.change_inputs.specs.Inputs.{database_for}
+use Rattle.command_core.specs.Command.{CommandLine}
+use Rattle.installed_info.specs.Info.{info_of}
+use Rattle.installed_info.specs.declared.telling.ReportAndRefusal.{ReportAndRefusal}
+use Rattle.make_info.specs.Reads.{Reads}
+use Rattle.report_core.specs.declared.refusal.Refusal.{Refusal}
+
+-- what `info` reports on the packages of the database, which alone is read, or its refusal
+abbrev pub info_result : CommandLine → Reads → Result ReportAndRefusal Refusal
+info_result command read =
+    and_then (database_for command read) (λ database. info_of command database.packages)

@@ -1,0 +1,24 @@
+-- The results of `list`, `search` and `policy`, by what reads find. The rules are in
+-- `docs/commands.md`, under each command's name; the reports are defined in `query_core`.
+use Rattle.std.specs.Prelude.{None, Result, Ok}
+use Rattle.candidate_core.specs.Rank.{no_names}
+use Rattle.change_inputs.specs.Candidates.{root_pool}
+use Rattle.change_inputs.specs.Chains.{and_then}
+use Rattle.change_inputs.specs.Inputs.{Inputs, inputs_of}
+use Rattle.command_core.specs.Command.{CommandLine}
+use Rattle.installed_info.specs.Info.{report_and_refusal}
+use Rattle.installed_info.specs.declared.telling.ReportAndRefusal.{ReportAndRefusal}
+use Rattle.make_info.specs.Reads.{Reads}
+use Rattle.query_core.specs.Queries.{queried}
+use Rattle.report_core.specs.declared.refusal.Refusal.{Refusal}
+
+-- what a query reports on the candidates and repositories of inputs; or the refusal of too many
+-- candidates. It upgrades no names.
+abbrev pub query_report : CommandLine → Inputs → Result ReportAndRefusal Refusal
+query_report command inputs =
+    and_then (root_pool inputs no_names) (λ pool.
+    Ok (report_and_refusal (queried command pool inputs.root.repositories) None))
+
+-- the result of a query: its report on the inputs, or their refusal
+abbrev pub query_result : CommandLine → Reads → Result ReportAndRefusal Refusal
+query_result command read = and_then (inputs_of command read) (query_report command)

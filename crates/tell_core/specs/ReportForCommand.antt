@@ -1,0 +1,28 @@
+-- The results of the commands that only report on an installed root: their reports, and their refusals.
+-- Each command's rules are in `docs/commands.md`, under its name.
+use Rattle.std.specs.Prelude.{[], None, Result, Ok}
+use Rattle.command_core.specs.Command.{CommandLine}
+use Rattle.command_core.specs.declared.command.Applet.{Applet}
+use Rattle.command_core.specs.declared.command.Applet.TheVariants.{Audit, Info, List as ListApplet, Manifest, Policy, Search}
+use Rattle.installed_info.specs.Info.{report_and_refusal}
+use Rattle.installed_info.specs.declared.telling.ReportAndRefusal.{ReportAndRefusal}
+use Rattle.make_info.specs.Reads.{Reads}
+use Rattle.report_core.specs.declared.refusal.Refusal.{Refusal}
+use Rattle.tell_core.specs.AuditResult.{audit_result, manifest_result}
+use Rattle.tell_core.specs.InfoResult.{info_result}
+use Rattle.tell_core.specs.QueryResult.{query_result}
+
+-- what an applet reports for a command, by what reads find, or why it is refused; each other applet
+-- reports nothing here
+abbrev pub report_for_applet : Applet → CommandLine → Reads → Result ReportAndRefusal Refusal
+report_for_applet Info command read = info_result command read
+report_for_applet Audit command read = audit_result command read
+report_for_applet Manifest command read = manifest_result command read
+report_for_applet ListApplet command read = query_result command read
+report_for_applet Search command read = query_result command read
+report_for_applet Policy command read = query_result command read
+report_for_applet other command read = Ok (report_and_refusal [] None)
+
+-- what a command reports, by what reads find, or why it is refused
+abbrev pub report_for_command : CommandLine → Reads → Result ReportAndRefusal Refusal
+report_for_command command read = report_for_applet command.applet command read

@@ -1,0 +1,5 @@
+pub mod Sound
+pub mod Steps
+pub mod AddedTexts
+pub mod Excluding
+pub mod FirstUnmet

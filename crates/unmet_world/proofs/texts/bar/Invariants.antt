@@ -1,0 +1,9 @@
+-- No entry so far is a conflict that the candidate meets.
+use Rattle.std.proofs.Common.{◌≡◌, take}
+use Rattle.std.specs.Prelude.{None}
+use Rattle.std.specs.List.{find}
+use Rattle.unmet_world.specs.Exclusion.{is_conflict_met_by}
+use Rattle.unmet_world.proofs.texts.bar.Given as goal
+
+abbrev pub invariant-loop-i : goal.invariant-loop-i
+invariant-loop-i l = find (is_conflict_met_by l.details) (take l.i l.world) ≡ None

@@ -1,0 +1,44 @@
+-- By what two candidates exclude each other. The rules are in `docs/selection.md`, "What satisfies
+-- world", 2 (conflicts) and 3 (names that are occupied).
+use Rattle.std.specs.Prelude.{ℕ, Bool, not, ◌&&◌, if◌then◌else◌, List, Option, Some, is_some}
+use Rattle.std.specs.Option.{option_and_then, option_map}
+use Rattle.std.specs.List.{find}
+use Rattle.dep_core.specs.Dependency.{Dependency}
+use Rattle.candidate_core.specs.Candidates.{Candidate, meets_dependency, occupies_name}
+use Rattle.candidate_core.specs.Rank.{SealedPool, candidate_at}
+
+-- whether a dependency is a conflict, and a candidate meets it
+abbrev pub is_conflict_met_by : Candidate → Dependency → Bool
+is_conflict_met_by c d = d.conflict && meets_dependency d c
+
+-- the first conflict of a candidate that another one meets
+abbrev pub conflict_with : Candidate → Candidate → Option Dependency
+conflict_with one other = find (is_conflict_met_by other) one.depends
+
+-- whether an entry of provides occupies its name, and a candidate does too
+abbrev pub both_occupy : Candidate → Dependency → Bool
+both_occupy other p = not p.conflict && (is_some p.version && occupies_name p.name other)
+
+-- the first name of some provides that they occupy, and that a candidate occupies too
+abbrev pub occupied_among : List Dependency → Candidate → Option (List ℕ)
+occupied_among provides other =
+    option_map (λ (p : Dependency). p.name) (find (both_occupy other) provides)
+
+-- the first name that two candidates both occupy: that of the first one, or one of its provides
+abbrev pub shared_name : Candidate → Candidate → Option (List ℕ)
+shared_name one other =
+    if occupies_name one.name other then Some one.name else occupied_among one.provides other
+
+-- what a function of two candidates gives for those at two places; None if one is not there
+abbrev pub of_both :
+    {X : Type 0} → (Candidate → Candidate → Option X) → SealedPool → ℕ → ℕ → Option X
+of_both f pool a b =
+    option_and_then (λ one. option_and_then (f one) (candidate_at pool b)) (candidate_at pool a)
+
+-- the first conflict of the candidate at a place that the one at another place meets
+abbrev pub conflict_between : SealedPool → ℕ → ℕ → Option Dependency
+conflict_between pool a b = of_both conflict_with pool a b
+
+-- the first name that the candidates at two places both occupy
+abbrev pub name_of_both : SealedPool → ℕ → ℕ → Option (List ℕ)
+name_of_both pool a b = of_both shared_name pool a b

@@ -1,0 +1,225 @@
+-- The lines that explain why nothing can be selected.
+use Rattle.std.specs.Prelude.{◌≡◌, ℕ, ◌+◌, ◌-◌, ◌==◌, nat_lt, Bool, true, false, if◌then◌else◌, List, [], ◌∷◌, ◌++◌, codes, length, map, take, Option, Some, None, IfSome, slice_get, unwrap_or}
+use Rattle.std.specs.Option.{option_map_or}
+use Rattle.std.specs.List.{find, flat_map, list_any}
+use Rattle.std.specs.Str.{bytes_eq}
+use Rattle.dep_core.specs.Dependency.{Dependency}
+use Rattle.dep_core.specs.DependencyText.{dep_text}
+use Rattle.dep_core.specs.Repositories.{Repository}
+use Rattle.candidate_core.specs.Candidates.{Candidate, entry, is_allowed}
+use Rattle.candidate_core.specs.Rank.{SealedPool, candidate_at}
+use Rattle.candidate_core.specs.Options.{options_for, places_offering}
+use Rattle.words_core.specs.Usage.{shown_bytes}
+use Rattle.unmet_world.specs.declared.refutation.Owner.{Owner}
+use Rattle.unmet_world.specs.declared.refutation.Owner.TheVariants.{World, Package}
+use Rattle.unmet_world.specs.declared.refutation.Want.{Want}
+use Rattle.unmet_world.specs.declared.refutation.Step.{Step}
+use Rattle.unmet_world.specs.declared.refutation.Step.TheVariants.{Broken, Excluded, Sure}
+use Rattle.unmet_world.specs.declared.refutation.Refutation.{Refutation}
+use Rattle.unmet_world.specs.Exclusion.{conflict_between, is_conflict_met_by, name_of_both}
+use Rattle.unmet_world.specs.Refutation.{IsRefutation, if_positive, wanted}
+
+-- ---- packages
+
+-- where a candidate is from: the path of its repository, or the database
+abbrev pub origin_text : List Repository → Option ℕ → List ℕ
+origin_text repositories None = codes "installed"
+origin_text repositories (Some number) =
+    option_map_or (λ (r : Repository). r.path) (slice_get repositories (number - 1)) []
+
+-- a package: `app-2.1-r0`
+abbrev pub package_text : Candidate → List ℕ
+package_text c = c.name ++ codes "-" ++ unwrap_or c.version []
+
+-- a package with where it is from: `app-2.1-r0 (edge/index.adb)`
+abbrev pub candidate_text : List Repository → Candidate → List ℕ
+candidate_text repositories c =
+    package_text c ++ codes " (" ++ origin_text repositories c.repository ++ codes ")"
+
+-- the candidate at a place
+abbrev pub text_at : SealedPool → List Repository → ℕ → List ℕ
+text_at pool repositories c =
+    option_map_or (candidate_text repositories) (candidate_at pool c) []
+
+-- who has a dependency
+abbrev pub owner_text : SealedPool → List Repository → Owner → List ℕ
+owner_text pool repositories World = codes "world"
+owner_text pool repositories (Package c) = text_at pool repositories c
+
+-- an owner needs a dependency: `world needs app>=2`
+abbrev pub needs_text : SealedPool → List Repository → Owner → Dependency → List ℕ
+needs_text pool repositories owner d =
+    owner_text pool repositories owner ++ codes " needs " ++ dep_text d
+
+-- ---- what there is of a name
+
+-- the conflict of world that a candidate meets
+abbrev pub bar_text : Option Dependency → List ℕ
+bar_text None = []
+bar_text (Some d) = codes " (world has " ++ dep_text d ++ codes ")"
+
+-- why a candidate may not be selected: its tag, which world does not use, or a conflict of world;
+-- nothing if it may
+abbrev pub refusal_text : List Dependency → Candidate → List ℕ
+refusal_text world c =
+    if is_allowed world c then
+    bar_text (find (is_conflict_met_by c) world) else
+    codes " (tagged @" ++ unwrap_or c.tag [] ++ codes ")"
+
+-- a candidate that offers a name: its version, or the package if it has another name
+abbrev pub offer_text : List Dependency → List ℕ → Candidate → List ℕ
+offer_text world name c =
+    (if bytes_eq name c.name then unwrap_or c.version [] else package_text c)
+    ++ refusal_text world c
+
+-- the candidate at a place, which offers a name
+abbrev pub offer_text_at : SealedPool → List ℕ → ℕ → List ℕ
+offer_text_at pool name c = option_map_or (offer_text pool.world name) (candidate_at pool c) []
+
+-- some texts with one more, unless they have it
+abbrev pub with_text : List (List ℕ) → List ℕ → List (List ℕ)
+with_text texts text = if list_any (bytes_eq text) texts then texts else texts ++ text ∷ []
+
+-- some texts with more of them, each once
+abbrev pub with_texts : List (List ℕ) → List (List ℕ) → List (List ℕ)
+with_texts texts [] = texts
+with_texts texts (text ∷ more) = with_texts (with_text texts text) more
+
+-- texts with commas between them
+abbrev pub joined_texts : List (List ℕ) → List ℕ
+joined_texts [] = []
+joined_texts (text ∷ []) = text
+joined_texts (text ∷ (next ∷ more)) = text ++ codes ", " ++ joined_texts (next ∷ more)
+
+-- how many candidates of a name are shown
+abbrev pub most_offers : ℕ
+most_offers = 16
+
+-- two dots say that there are more
+abbrev pub dots_if : Bool → List ℕ
+dots_if true = codes ", .."
+dots_if false = []
+
+-- the candidates at some places, which offer a name
+abbrev pub offered_text : SealedPool → List ℕ → List ℕ → List ℕ
+offered_text pool name [] = codes "no package"
+offered_text pool name (c ∷ cs) =
+    codes "only "
+    ++ joined_texts (with_texts [] (map (offer_text_at pool name) (take most_offers (c ∷ cs))))
+    ++ dots_if (nat_lt most_offers (length (c ∷ cs)))
+
+-- what there is of a name: `lib: only 1.0-r0, 1.2-r0`
+abbrev pub offers_line : SealedPool → List ℕ → List ℕ
+offers_line pool name =
+    name ++ codes ": " ++ offered_text pool name (places_offering name pool.candidates)
+
+-- ---- steps
+
+-- what there is of the name of a dependency, if no candidate that may be selected meets it
+abbrev pub missing_lines : SealedPool → Dependency → List (List ℕ)
+missing_lines pool d =
+    if length (options_for pool (entry d)) == 0 then offers_line pool d.name ∷ [] else []
+
+-- what an owner needs, and, if nothing meets it, what there is
+abbrev pub need_lines : SealedPool → List Repository → Owner → Option Dependency → List (List ℕ)
+need_lines pool repositories owner None = []
+need_lines pool repositories owner (Some d) =
+    needs_text pool repositories owner d ∷ missing_lines pool d
+
+-- what is wanted
+abbrev pub want_lines : SealedPool → List Repository → Want → List (List ℕ)
+want_lines pool repositories want =
+    need_lines pool repositories want.owner (wanted pool want)
+
+-- the only candidate that is left for what is wanted
+abbrev pub only_lines :
+    SealedPool → List Repository → Owner → ℕ → Option Dependency → List (List ℕ)
+only_lines pool repositories owner id None = []
+only_lines pool repositories owner id (Some d) =
+    (needs_text pool repositories owner d ++ codes ": only " ++ text_at pool repositories id) ∷ []
+
+-- a candidate has a conflict that another one meets
+abbrev pub conflict_text : SealedPool → List Repository → ℕ → ℕ → Dependency → List ℕ
+conflict_text pool repositories a b d =
+    text_at pool repositories a ++ codes " conflicts with " ++ text_at pool repositories b
+    ++ codes ": " ++ dep_text d
+
+-- two candidates both occupy a name
+abbrev pub sharing_text : SealedPool → List Repository → ℕ → ℕ → List ℕ → List ℕ
+sharing_text pool repositories a b name =
+    text_at pool repositories a ++ codes " and " ++ text_at pool repositories b
+    ++ codes " exclude each other: both are " ++ name
+
+-- by what two candidates exclude each other: a conflict of the first, one of the second, or a name
+abbrev pub exclusion_lines :
+    SealedPool → List Repository → ℕ → ℕ → Option Dependency → Option Dependency →
+    Option (List ℕ) → List (List ℕ)
+exclusion_lines pool repositories a b (Some d) other name =
+    conflict_text pool repositories a b d ∷ []
+exclusion_lines pool repositories a b None (Some d) name =
+    conflict_text pool repositories b a d ∷ []
+exclusion_lines pool repositories a b None None (Some name) =
+    sharing_text pool repositories a b name ∷ []
+exclusion_lines pool repositories a b None None None = []
+
+-- a step
+abbrev pub step_lines : SealedPool → List Repository → Step → List (List ℕ)
+step_lines pool repositories (Broken id index) =
+    want_lines pool repositories (record { owner = Package id; index = index })
+step_lines pool repositories (Excluded id by) =
+    exclusion_lines pool repositories by id (conflict_between pool by id)
+    (conflict_between pool id by) (name_of_both pool by id)
+step_lines pool repositories (Sure id want) =
+    only_lines pool repositories want.owner id (wanted pool want)
+
+-- ---- all lines
+
+-- how many lines there are at most
+abbrev pub most_lines : ℕ
+most_lines = 10
+
+-- the lines of a refutation, each once: those of its end, and of its first steps
+abbrev pub refutation_lines : SealedPool → List Repository → Refutation → List (List ℕ)
+refutation_lines pool repositories r =
+    with_texts (with_texts [] (want_lines pool repositories r.end))
+    (flat_map (step_lines pool repositories) (take most_lines r.steps.items))
+
+-- an entry of world
+abbrev pub world_lines_of : Option Dependency → List (List ℕ)
+world_lines_of None = []
+world_lines_of (Some d) = (codes "world needs " ++ dep_text d) ∷ []
+
+-- the entries of world that are no conflicts
+abbrev pub world_lines : List Dependency → List (List ℕ)
+world_lines world =
+    flat_map (λ (d : Dependency). world_lines_of (if_positive (Some d))) world
+
+-- a line as it is printed: bytes that do not print are escaped
+abbrev pub printed_line : List ℕ → List ℕ
+printed_line line = codes "apk: " ++ shown_bytes line ++ codes "\n"
+
+-- lines as they are printed, at most ten; if there are more, two dots say so
+abbrev pub printed_lines : List (List ℕ) → List ℕ
+printed_lines lines =
+    if nat_lt most_lines (length lines) then
+    flat_map printed_line (take (most_lines - 1) lines) ++ printed_line (codes "..") else
+    flat_map printed_line lines
+
+-- the explanation of a refutation that was found, or else the entries of world, of which only the first
+-- are looked at
+abbrev pub explanation_lines :
+    SealedPool → List Repository → Option Refutation → List (List ℕ)
+explanation_lines pool repositories None = world_lines (take (most_lines + 1) pool.world)
+explanation_lines pool repositories (Some r) = refutation_lines pool repositories r
+
+-- the explanation, as it is printed
+abbrev pub explanation_text : SealedPool → List Repository → Option Refutation → List ℕ
+explanation_text pool repositories found =
+    printed_lines (explanation_lines pool repositories found)
+
+-- a text explains a world: it is that of a refutation, or without one that of the entries of world
+pub record ExplainsWorld (pool : SealedPool) (repositories : List Repository) (text : List ℕ) :
+    Type 0 where
+  pub found : Option Refutation
+  pub refutes : IfSome found (IsRefutation pool)
+  pub says : text ≡ explanation_text pool repositories found

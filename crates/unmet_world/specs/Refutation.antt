@@ -1,0 +1,101 @@
+-- A refutation of a world: steps from which it follows that no selection satisfies the world. The rules
+-- of a satisfying selection are in `docs/selection.md`, "What satisfies world". The law
+-- `a_refuted_world_has_no_selection` says that a refutation is a proof.
+use Rattle.std.specs.Prelude.{◌≡◌, ◌<◌, ℕ, true, if◌then◌else◌, List, [], ◌∷◌, ◌++◌, Option, Some, None, slice_get}
+use Rattle.dep_core.specs.Dependency.{Dependency}
+use Rattle.candidate_core.specs.Candidates.{entry}
+use Rattle.candidate_core.specs.Rank.{SealedPool}
+use Rattle.candidate_core.specs.Options.{IsIn, options_for}
+use Rattle.search_tables.specs.Selection.{AreMembers, depends_at, exclude_each_other}
+use Rattle.unmet_world.specs.declared.refutation.Owner.{Owner}
+use Rattle.unmet_world.specs.declared.refutation.Owner.TheVariants.{World, Package}
+use Rattle.unmet_world.specs.declared.refutation.Want.{Want}
+use Rattle.unmet_world.specs.declared.refutation.Step.{Step}
+use Rattle.unmet_world.specs.declared.refutation.Step.TheVariants.{Broken, Excluded, Sure}
+use Rattle.unmet_world.specs.declared.refutation.Refutation.{Refutation}
+
+-- ---- what is wanted
+
+-- the dependencies of an owner, conflicts too
+abbrev pub owned_by : SealedPool → Owner → List Dependency
+owned_by pool World = pool.world
+owned_by pool (Package c) = depends_at pool c
+
+-- a dependency that is no conflict
+abbrev pub if_positive : Option Dependency → Option Dependency
+if_positive None = None
+if_positive (Some d) = if d.conflict then None else Some d
+
+-- the dependency that an owner wants to be met; None if there is none at the index, or a conflict
+abbrev pub wanted : SealedPool → Want → Option Dependency
+wanted pool want = if_positive (slice_get (owned_by pool want.owner) want.index)
+
+-- each candidate that may be selected and meets what is wanted is one of these
+abbrev pub IsMetOnlyBy : SealedPool → Want → List ℕ → Type 0
+IsMetOnlyBy pool want ids =
+    (d : Dependency) × (wanted pool want ≡ Some d) × AreMembers (options_for pool (entry d)) ids
+
+-- no candidate that may be selected meets what is wanted
+abbrev pub IsUnmet : SealedPool → Want → Type 0
+IsUnmet pool want = IsMetOnlyBy pool want []
+
+-- an entry of world
+abbrev pub world_want : ℕ → Want
+world_want index = record { owner = World; index = index }
+
+-- the entry of world at an index is the first that no candidate meets which may be selected
+pub record IsFirstUnmet (pool : SealedPool) (index : ℕ) : Type 0 where
+  pub unmet : IsUnmet pool (world_want index)
+  pub first : (before : ℕ) → before < index → IsUnmet pool (world_want before) → ⊥
+
+-- ---- steps
+
+-- the candidate that a step rules out: no satisfying selection has it
+abbrev pub rules_out : Step → List ℕ
+rules_out (Broken id index) = id ∷ []
+rules_out (Excluded id by) = id ∷ []
+rules_out (Sure id want) = []
+
+-- the candidate that a step makes sure: each satisfying selection has it
+abbrev pub makes_sure : Step → List ℕ
+makes_sure (Broken id index) = []
+makes_sure (Excluded id by) = []
+makes_sure (Sure id want) = id ∷ []
+
+-- the candidates that some steps rule out
+abbrev pub ruled_out : List Step → List ℕ
+ruled_out [] = []
+ruled_out (step ∷ steps) = rules_out step ++ ruled_out steps
+
+-- the candidates that some steps make sure
+abbrev pub made_sure : List Step → List ℕ
+made_sure [] = []
+made_sure (step ∷ steps) = makes_sure step ++ made_sure steps
+
+-- an owner whose dependencies each satisfying selection meets: world, or a candidate that is sure
+abbrev pub IsSure : List ℕ → Owner → Type 0
+IsSure sure World = Unit {0}
+IsSure sure (Package c) = IsIn c sure
+
+-- a step follows, if some candidates are ruled out and some are sure. A candidate is ruled out if it has
+-- a dependency that only candidates meet which are ruled out, or if it and a sure one exclude each
+-- other. It is sure if all others that meet what is wanted for sure are ruled out
+abbrev pub Follows : SealedPool → List ℕ → List ℕ → Step → Type 0
+Follows pool out sure (Broken id index) =
+    IsMetOnlyBy pool (record { owner = Package id; index = index }) out
+Follows pool out sure (Excluded id by) = IsIn by sure × (exclude_each_other pool by id ≡ true)
+Follows pool out sure (Sure id want) = IsSure sure want.owner × IsMetOnlyBy pool want (id ∷ out)
+
+-- each step follows from those after it: the first one is the last that was taken
+abbrev pub AreSteps : SealedPool → List Step → Type 0
+AreSteps pool [] = Unit {0}
+AreSteps pool (step ∷ steps) =
+    Follows pool (ruled_out steps) (made_sure steps) step × AreSteps pool steps
+
+-- ---- refutations
+
+-- a refutation: by its steps, all candidates are ruled out that meet a dependency which is sure
+pub record IsRefutation (pool : SealedPool) (r : Refutation) : Type 0 where
+  pub steps : AreSteps pool r.steps.items
+  pub sure : IsSure (made_sure r.steps.items) r.end.owner
+  pub none_left : IsMetOnlyBy pool r.end (ruled_out r.steps.items)

@@ -1,0 +1,101 @@
+//! Candidates that exclude each other, and by what: a conflict that one of them has, or a name that
+//! both occupy. The rules are in `docs/selection.md`, "What satisfies world", 2 and 3.
+ghost use Rattle.std.specs.Prelude.{◌≡◌, true, find, option_map, option_copied};
+ghost use Rattle.dep_core.specs.Meets.{dependency};
+ghost use Rattle.search_tables.specs.Selection.{exclude_each_other};
+ghost use Rattle.unmet_world.specs.Exclusion.{both_occupy, conflict_between, is_conflict_met_by, name_of_both, occupied_among, shared_name};
+
+use dep_core::Dep;
+use pool_core::{CandId, Deps, Details, Sealed};
+
+/// Whether two candidates exclude each other, so that no selection has both.
+pub(crate) fn exclude_each_other(pool: &Sealed<'_>, a: CandId, b: CandId) -> bool
+    ensures { result ≡ true → exclude_each_other pool.now a b ≡ true }
+{
+    if a == b {
+        return false;
+    }
+    if conflict_between(pool, a, b).is_some() {
+        return true;
+    }
+    if conflict_between(pool, b, a).is_some() {
+        return true;
+    }
+    name_of_both(pool, a, b).is_some()
+}
+
+/// The first conflict of a candidate that another one meets.
+pub(crate) fn conflict_between<'a>(pool: &Sealed<'a>, a: CandId, b: CandId) -> Option<Dep<'a>>
+    ensures { option_map dependency result ≡ conflict_between pool.now a b }
+{
+    match (pool.at(a), pool.at(b)) {
+        (Some(one), Some(other)) => conflict_among(&one.depends(), &other),
+        _ => None,
+    }
+}
+
+// The first of some dependencies that is a conflict and is met by a candidate.
+fn conflict_among<'a>(depends: &Deps<'a>, other: &Details<'_>) -> Option<Dep<'a>>
+    ensures { option_map dependency result ≡ find (is_conflict_met_by other.now) depends.now }
+{
+    for i in 0..depends.len() {
+        let dep = depends.get(i);
+        if is_conflict_met_by(&dep, other) {
+            return Some(dep);
+        }
+    }
+    None
+}
+
+/// Whether a dependency is a conflict, and a candidate meets it.
+pub(crate) fn is_conflict_met_by(dep: &Dep<'_>, other: &Details<'_>) -> bool
+    ensures { result ≡ is_conflict_met_by other.now (dependency dep.now) }
+{
+    if !dep.conflict {
+        return false;
+    }
+    other.meets(dep)
+}
+
+/// The first name that two candidates both occupy.
+pub(crate) fn name_of_both<'a>(pool: &Sealed<'a>, a: CandId, b: CandId) -> Option<&'a [u8]>
+    ensures { option_copied result ≡ name_of_both pool.now a b }
+{
+    match (pool.at(a), pool.at(b)) {
+        (Some(one), Some(other)) => shared_name(&one, &other),
+        _ => None,
+    }
+}
+
+// The first name that two candidates both occupy: that of the first one, or one of its provides.
+fn shared_name<'a>(one: &Details<'a>, other: &Details<'_>) -> Option<&'a [u8]>
+    ensures { option_copied result ≡ shared_name one.now other.now }
+{
+    if other.occupies(one.name()) {
+        return Some(one.name());
+    }
+    occupied_among(&one.provides(), other)
+}
+
+// The first name that some provides have with a version, and that a candidate occupies.
+fn occupied_among<'a>(provides: &Deps<'a>, other: &Details<'_>) -> Option<&'a [u8]>
+    ensures { option_copied result ≡ occupied_among provides.now other.now }
+{
+    for i in 0..provides.len() {
+        let entry = provides.get(i);
+        if occupies(&entry, other) {
+            return Some(entry.name);
+        }
+    }
+    None
+}
+
+// Whether an entry of provides occupies its name, and a candidate does too.
+fn occupies(entry: &Dep<'_>, other: &Details<'_>) -> bool
+    ensures { result ≡ both_occupy other.now (dependency entry.now) }
+{
+    if entry.conflict || entry.version.is_none() {
+        return false;
+    }
+    other.occupies(entry.name)
+}

@@ -1,0 +1,379 @@
+//! The lines that explain why nothing can be selected. They are listed in `specs/Lines.antt`.
+ghost use Rattle.std.specs.Prelude.{◌≡◌, ◌++◌, ◌<◌, ◌+◌, OnOk, IfOk, option_copied, option_to_list, take};
+ghost use Rattle.std.specs.List.{flat_map};
+ghost use Rattle.dep_core.specs.Meets.{dependency};
+ghost use Rattle.words_core.specs.Usage.{shown_bytes, shown_byte, is_plain_byte, hex_digit};
+ghost use Rattle.unmet_world.specs.Exclusion.{conflict_between, name_of_both};
+ghost use Rattle.unmet_world.specs.Refutation.{wanted};
+ghost use Rattle.unmet_world.specs.Lines.{needs_text, with_texts, missing_lines, want_lines, only_lines, conflict_text, sharing_text, exclusion_lines, step_lines, most_lines, refutation_lines, world_lines, printed_line, printed_lines, explanation_lines, explanation_text};
+
+use crate::exclusion::{conflict_between, name_of_both};
+use crate::refutation::{Owner, Refutation, Step, Want, candidate, wanted};
+use crate::texts::{Sources, add_candidate_at, add_dep, add_once, add_owner, offers_line};
+use base_core::Text;
+use dep_core::Dep;
+use pool_core::{CandId, NeedRef};
+use std::alloc::{AllocError, Global};
+
+/// How many lines there are at most.
+const MOST_LINES: usize = 10;
+
+// ---- steps
+
+// What an owner needs.
+fn needs(
+    alloc: Global,
+    sources: &Sources<'_>,
+    owner: Owner,
+    dep: &Dep<'_>,
+) -> Result<Vec<u8>, AllocError>
+    ensures { IfOk result (λ line. line.items
+        ≡ needs_text sources.now.pool.now sources.now.repositories.now owner (dependency dep.now)) }
+{
+    let mut line = Vec::new(alloc);
+    add_owner(&mut line, sources, owner)?;
+    line.extend_from_slice(b" needs ")?;
+    add_dep(&mut line, dep)?;
+    Ok(line)
+}
+
+// Adds what there is of the name of a dependency, if no candidate that may be selected meets it.
+fn add_missing(
+    alloc: Global,
+    lines: &mut Vec<Text>,
+    sources: &Sources<'_>,
+    dep: &Dep<'_>,
+) -> Result<(), AllocError>
+    requires { sources.now.world.now ≡ sources.now.pool.now.world }
+    ensures { OnOk result (lines.new.items ≡ with_texts lines.old.items
+        (missing_lines sources.now.pool.now (dependency dep.now))) }
+{
+    let options = sources.pool.options_for(alloc, &NeedRef::Entry(dep))?;
+    if !options.is_empty() {
+        return Ok(());
+    }
+    let line = offers_line(alloc, sources, dep.name)?;
+    add_once(lines, line)
+}
+
+// Adds what is wanted.
+fn add_want(
+    alloc: Global,
+    lines: &mut Vec<Text>,
+    sources: &Sources<'_>,
+    want: Want,
+) -> Result<(), AllocError>
+    requires { sources.now.world.now ≡ sources.now.pool.now.world }
+    ensures { OnOk result (lines.new.items ≡ with_texts lines.old.items
+        (want_lines sources.now.pool.now sources.now.repositories.now want)) }
+{
+    let owner = want.owner;
+    match wanted(sources.pool, sources.world, want) {
+        None => Ok(()),
+        Some(dep) => {
+            let line = needs(alloc, sources, owner, &dep)?;
+            add_once(lines, Text::from_vec(line))?;
+            add_missing(alloc, lines, sources, &dep)
+        }
+    }
+}
+
+// Adds the only candidate that is left for what is wanted.
+fn add_only(
+    alloc: Global,
+    lines: &mut Vec<Text>,
+    sources: &Sources<'_>,
+    want: Want,
+    id: CandId,
+) -> Result<(), AllocError>
+    requires { sources.now.world.now ≡ sources.now.pool.now.world }
+    ensures { OnOk result (lines.new.items ≡ with_texts lines.old.items
+        (only_lines sources.now.pool.now sources.now.repositories.now want.owner id
+        (wanted sources.now.pool.now want))) }
+{
+    let owner = want.owner;
+    match wanted(sources.pool, sources.world, want) {
+        None => Ok(()),
+        Some(dep) => {
+            let mut line = needs(alloc, sources, owner, &dep)?;
+            line.extend_from_slice(b": only ")?;
+            add_candidate_at(&mut line, sources, id)?;
+            add_once(lines, Text::from_vec(line))
+        }
+    }
+}
+
+// A candidate has a conflict that another one meets.
+fn conflict(
+    alloc: Global,
+    sources: &Sources<'_>,
+    a: CandId,
+    b: CandId,
+    dep: &Dep<'_>,
+) -> Result<Text, AllocError>
+    ensures { IfOk result (λ line. line ≡ conflict_text sources.now.pool.now
+        sources.now.repositories.now a b (dependency dep.now)) }
+{
+    let mut line = Vec::new(alloc);
+    add_candidate_at(&mut line, sources, a)?;
+    line.extend_from_slice(b" conflicts with ")?;
+    add_candidate_at(&mut line, sources, b)?;
+    line.extend_from_slice(b": ")?;
+    add_dep(&mut line, dep)?;
+    Ok(Text::from_vec(line))
+}
+
+// Two candidates both occupy a name.
+fn sharing(
+    alloc: Global,
+    sources: &Sources<'_>,
+    a: CandId,
+    b: CandId,
+    name: &[u8],
+) -> Result<Text, AllocError>
+    ensures { IfOk result (λ line. line ≡ sharing_text sources.now.pool.now
+        sources.now.repositories.now a b name.now) }
+{
+    let mut line = Vec::new(alloc);
+    add_candidate_at(&mut line, sources, a)?;
+    line.extend_from_slice(b" and ")?;
+    add_candidate_at(&mut line, sources, b)?;
+    line.extend_from_slice(b" exclude each other: both are ")?;
+    line.extend_from_slice(name)?;
+    Ok(Text::from_vec(line))
+}
+
+// By what two candidates exclude each other, if they do.
+fn exclusion(
+    alloc: Global,
+    sources: &Sources<'_>,
+    a: CandId,
+    b: CandId,
+) -> Result<Option<Text>, AllocError>
+    ensures { IfOk result (λ line. option_to_list line ≡ exclusion_lines sources.now.pool.now
+        sources.now.repositories.now a b (conflict_between sources.now.pool.now a b)
+        (conflict_between sources.now.pool.now b a) (name_of_both sources.now.pool.now a b)) }
+{
+    if let Some(dep) = conflict_between(sources.pool, a, b) {
+        return Ok(Some(conflict(alloc, sources, a, b, &dep)?));
+    }
+    if let Some(dep) = conflict_between(sources.pool, b, a) {
+        return Ok(Some(conflict(alloc, sources, b, a, &dep)?));
+    }
+    match name_of_both(sources.pool, a, b) {
+        None => Ok(None),
+        Some(name) => Ok(Some(sharing(alloc, sources, a, b, name)?)),
+    }
+}
+
+// Adds by what two candidates exclude each other, if they do.
+fn add_exclusion(
+    alloc: Global,
+    lines: &mut Vec<Text>,
+    sources: &Sources<'_>,
+    a: CandId,
+    b: CandId,
+) -> Result<(), AllocError>
+    ensures { OnOk result (lines.new.items ≡ with_texts lines.old.items
+        (exclusion_lines sources.now.pool.now
+        sources.now.repositories.now a b (conflict_between sources.now.pool.now a b)
+        (conflict_between sources.now.pool.now b a) (name_of_both sources.now.pool.now a b))) }
+{
+    match exclusion(alloc, sources, a, b)? {
+        None => Ok(()),
+        Some(line) => add_once(lines, line),
+    }
+}
+
+// Adds the lines of a step.
+fn add_step(
+    alloc: Global,
+    lines: &mut Vec<Text>,
+    sources: &Sources<'_>,
+    step: Step,
+) -> Result<(), AllocError>
+    requires { sources.now.world.now ≡ sources.now.pool.now.world }
+    ensures { OnOk result (lines.new.items ≡ with_texts lines.old.items
+        (step_lines sources.now.pool.now sources.now.repositories.now step)) }
+{
+    match step {
+        Step::Broken { id, index } => {
+            let owner = Owner::Package(id);
+            add_want(alloc, lines, sources, Want { owner, index })
+        }
+        Step::Excluded { id, by } => {
+            add_exclusion(alloc, lines, sources, candidate(by), candidate(id))
+        }
+        Step::Sure { id, want } => add_only(alloc, lines, sources, want, candidate(id)),
+    }
+}
+
+// Adds the lines of some steps.
+fn add_steps(
+    alloc: Global,
+    lines: &mut Vec<Text>,
+    sources: &Sources<'_>,
+    steps: &[Step],
+) -> Result<(), AllocError>
+    requires { sources.now.world.now ≡ sources.now.pool.now.world }
+    ensures { OnOk result (lines.new.items ≡ with_texts lines.old.items
+        (flat_map (step_lines sources.now.pool.now sources.now.repositories.now) steps.now)) }
+{
+    for step in steps {
+        add_step(alloc, lines, sources, *step)?;
+    }
+    Ok(())
+}
+
+// The first of some steps, at most as many as there are lines.
+fn first_of(steps: &[Step]) -> &[Step]
+    ensures { result.now ≡ take most_lines steps.now }
+{
+    if steps.len() > MOST_LINES {
+        &steps[..MOST_LINES]
+    } else {
+        steps
+    }
+}
+
+// The lines of a refutation.
+fn refutation_lines(
+    alloc: Global,
+    sources: &Sources<'_>,
+    refutation: &Refutation,
+) -> Result<Vec<Text>, AllocError>
+    requires { sources.now.world.now ≡ sources.now.pool.now.world }
+    ensures { IfOk result (λ lines. lines.items
+        ≡ refutation_lines sources.now.pool.now sources.now.repositories.now refutation.now) }
+{
+    let mut lines = Vec::new(alloc);
+    add_want(alloc, &mut lines, sources, refutation.end)?;
+    add_steps(alloc, &mut lines, sources, first_of(&refutation.steps))?;
+    Ok(lines)
+}
+
+// The first entries of world that are no conflicts.
+fn world_lines(alloc: Global, sources: &Sources<'_>) -> Result<Vec<Text>, AllocError>
+    requires { sources.now.world.now ≡ sources.now.pool.now.world }
+    ensures { IfOk result (λ lines. lines.items
+        ≡ world_lines (take (most_lines + 1) sources.now.pool.now.world)) }
+{
+    let mut lines = Vec::new(alloc);
+    let world = sources.world;
+    for i in 0..world.len().min(MOST_LINES + 1) {
+        let dep = world.entry(i);
+        if !dep.conflict {
+            let line = needs(alloc, sources, Owner::World, &dep)?;
+            lines.push(Text::from_vec(line))?;
+        }
+    }
+    Ok(lines)
+}
+
+// ---- printing
+
+// Adds a line as it is printed.
+fn add_printed(text: &mut Vec<u8>, line: &[u8]) -> Result<(), AllocError>
+    ensures { OnOk result (text.new.items ≡ text.old.items ++ printed_line line.now) }
+{
+    text.extend_from_slice(b"apk: ")?;
+    add_shown(text, line)?;
+    text.extend_from_slice(b"\n")
+}
+
+// Adds some lines as they are printed.
+fn add_all_printed(text: &mut Vec<u8>, lines: &[Text]) -> Result<(), AllocError>
+    ensures { OnOk result (text.new.items ≡ text.old.items ++ flat_map printed_line lines.now) }
+{
+    for line in lines {
+        add_printed(text, line.as_bytes())?;
+    }
+    Ok(())
+}
+
+// Adds bytes as they are shown.
+fn add_shown(text: &mut Vec<u8>, bytes: &[u8]) -> Result<(), AllocError>
+    ensures { OnOk result (text.new.items ≡ text.old.items ++ shown_bytes bytes.now) }
+{
+    for byte in bytes {
+        add_byte(text, *byte)?;
+    }
+    Ok(())
+}
+
+// Adds a byte as it is shown.
+fn add_byte(text: &mut Vec<u8>, byte: u8) -> Result<(), AllocError>
+    ensures { OnOk result (text.new.items ≡ text.old.items ++ shown_byte byte) }
+{
+    if is_plain_byte(byte) {
+        text.push(byte)?;
+        return Ok(());
+    }
+    text.extend_from_slice(&[b'\\', b'x', hex_digit(byte / 16), hex_digit(byte % 16)])
+}
+
+// Whether a byte is shown as it is.
+fn is_plain_byte(byte: u8) -> bool
+    ensures { result ≡ is_plain_byte byte }
+{
+    if byte == b'"' || byte == b'\\' {
+        return false;
+    }
+    byte == b' ' || byte.is_ascii_graphic()
+}
+
+// The hexadecimal digit of a number below 16.
+fn hex_digit(number: u8) -> u8
+    requires { number < 16 }
+    ensures { result ≡ hex_digit number }
+{
+    if number < 10 {
+        b'0' + number
+    } else {
+        b'a' - 10 + number
+    }
+}
+
+// Lines as they are printed, at most ten.
+fn printed(alloc: Global, lines: &[Text]) -> Result<Vec<u8>, AllocError>
+    ensures { IfOk result (λ text. text.items ≡ printed_lines lines.now) }
+{
+    let mut text = Vec::new(alloc);
+    if lines.len() > MOST_LINES {
+        add_all_printed(&mut text, &lines[..MOST_LINES - 1])?;
+        add_printed(&mut text, b"..")?;
+        return Ok(text);
+    }
+    add_all_printed(&mut text, lines)?;
+    Ok(text)
+}
+
+/// The explanation of a refutation, or else the first entries of world, as it is printed.
+pub(crate) fn explanation(
+    alloc: Global,
+    sources: &Sources<'_>,
+    found: &Option<Refutation>,
+) -> Result<Vec<u8>, AllocError>
+    requires { sources.now.world.now ≡ sources.now.pool.now.world }
+    ensures { IfOk result (λ text. text.items ≡ explanation_text sources.now.pool.now
+        sources.now.repositories.now found.now) }
+{
+    let lines = lines_of(alloc, sources, found)?;
+    printed(alloc, &lines)
+}
+
+// The lines of a refutation, or else the first entries of world.
+fn lines_of(
+    alloc: Global,
+    sources: &Sources<'_>,
+    found: &Option<Refutation>,
+) -> Result<Vec<Text>, AllocError>
+    requires { sources.now.world.now ≡ sources.now.pool.now.world }
+    ensures { IfOk result (λ lines. lines.items ≡ explanation_lines sources.now.pool.now
+        sources.now.repositories.now found.now) }
+{
+    match found {
+        None => world_lines(alloc, sources),
+        Some(refutation) => refutation_lines(alloc, sources, refutation),
+    }
+}

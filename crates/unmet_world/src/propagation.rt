@@ -1,0 +1,518 @@
+//! The search for a refutation, by unit propagation. It follows what is sure: the entries of world,
+//! the dependencies of a sure candidate, and a candidate that alone is left for one of these. It
+//! rules out a candidate that has a dependency for which none is left, or that a sure one excludes.
+//!
+//! No contract says what the search finds: `is_refutation` checks it, so a wrong step costs time
+//! only. It looks at a bounded number of options.
+use crate::exclusion::exclude_each_other;
+use crate::refutation::{Owner, Refutation, Step, Want, candidate, wanted};
+use dep_core::World;
+use pool_core::{CandId, Deps, NeedRef, Options, Sealed};
+use search_tables::NameTable;
+use std::alloc::{AllocError, Global};
+
+/// How many options the search lists at most, how many pairs of candidates it compares, and how
+/// many events it handles. This bounds its time and its memory.
+const MOST_LOOKED_AT: usize = 262144;
+
+/// What is wanted, and how many of its options are left.
+#[derive(Clone, Copy)]
+struct Open {
+    /// What is wanted.
+    want: Want,
+    /// How many of its options are not ruled out.
+    left: usize,
+}
+
+/// A candidate among the options of what is wanted.
+#[derive(Clone, Copy)]
+struct Listed {
+    /// The index of what is wanted.
+    open: usize,
+    /// The index of the place of the same candidate that was listed before.
+    before: Option<usize>,
+}
+
+/// What is known of a candidate.
+#[derive(Clone, Copy)]
+struct Known {
+    /// Whether it is among some options.
+    is_seen: bool,
+    /// Whether its dependencies are listed as wanted.
+    is_expanded: bool,
+    /// The index of the step that rules it out.
+    out: Option<usize>,
+    /// The index of the step that makes it sure.
+    sure: Option<usize>,
+    /// The index of its latest place among some options.
+    listed: Option<usize>,
+    /// The index of what it wants first.
+    first: usize,
+    /// The index after what it wants last.
+    end: usize,
+}
+
+/// Nothing is known of a candidate.
+const NOTHING: Known = Known {
+    is_seen: false,
+    is_expanded: false,
+    out: None,
+    sure: None,
+    listed: None,
+    first: 0,
+    end: 0,
+};
+
+/// A search under way.
+#[derive(Drop)]
+struct Propagation<'p> {
+    /// The allocator.
+    alloc: Global,
+    /// The candidates.
+    pool: &'p Sealed<'p>,
+    /// The world that the pool was sealed with.
+    world: &'p World,
+    /// What is wanted.
+    open: Vec<Open>,
+    /// The candidates among the options of what is wanted.
+    listed: Vec<Listed>,
+    /// What is known of each candidate.
+    known: Vec<Known>,
+    /// The steps so far.
+    steps: Vec<Step>,
+    /// The indexes of what is wanted that has one option left, or none.
+    few: Vec<usize>,
+    /// How many of these were looked at.
+    few_done: usize,
+    /// The candidates that are among some options.
+    seen: Vec<CandId>,
+    /// How many of these were expanded.
+    seen_done: usize,
+    /// The expanded candidates that have conflicts, by the names of the conflicts.
+    conflicts: NameTable<'p, CandId>,
+    /// How many pairs of candidates were compared.
+    compared: usize,
+    /// What is wanted for sure, and has no option left.
+    end: Option<Want>,
+}
+
+/// A refutation that the search finds, if it finds one.
+pub(crate) fn propagate<'p>(
+    alloc: Global,
+    pool: &'p Sealed<'p>,
+    world: &'p World,
+) -> Result<Option<Refutation>, AllocError> {
+    let mut search = Propagation::new(alloc, pool, world)?;
+    search.run()?;
+    let end = search.end;
+    match end {
+        None => Ok(None),
+        Some(end) => {
+            let refutation = search.refutation(end)?;
+            Ok(Some(refutation))
+        }
+    }
+}
+
+impl<'p> Propagation<'p> {
+    // A search that has looked at nothing.
+    fn new(
+        alloc: Global,
+        pool: &'p Sealed<'p>,
+        world: &'p World,
+    ) -> Result<Propagation<'p>, AllocError> {
+        let mut known = Vec::with_capacity(alloc, pool.len())?;
+        for _ in 0..pool.len() {
+            known.push(NOTHING)?;
+        }
+        Ok(Propagation {
+            alloc,
+            pool,
+            world,
+            open: Vec::new(alloc),
+            listed: Vec::new(alloc),
+            known,
+            steps: Vec::new(alloc),
+            few: Vec::new(alloc),
+            few_done: 0,
+            seen: Vec::new(alloc),
+            seen_done: 0,
+            conflicts: NameTable::new(alloc),
+            compared: 0,
+            end: None,
+        })
+    }
+
+    // Looks at what is wanted and at candidates, until there is an end or nothing is left.
+    fn run(&mut self) -> Result<(), AllocError> {
+        for index in 0..self.world.len() {
+            self.want(Owner::World, index)?;
+        }
+        for _ in 0..MOST_LOOKED_AT {
+            if self.end.is_some() || !self.go_on()? {
+                return Ok(());
+            }
+        }
+        Ok(())
+    }
+
+    // Looks at what has few options, and else at the next candidate; false if nothing is left.
+    fn go_on(&mut self) -> Result<bool, AllocError> {
+        if let Some(open) = self.few.get(self.few_done).copied() {
+            self.few_done = self.few_done.saturating_add(1);
+            self.look_at(open)?;
+            return Ok(true);
+        }
+        if let Some(id) = self.seen.get(self.seen_done).copied() {
+            self.seen_done = self.seen_done.saturating_add(1);
+            self.expand(id)?;
+            return Ok(true);
+        }
+        Ok(false)
+    }
+
+    // What is known of a candidate.
+    fn known_of(&self, id: CandId) -> Known {
+        match self.known.get(id.place as usize) {
+            Some(known) => *known,
+            None => NOTHING,
+        }
+    }
+
+    // Sets what is known of a candidate.
+    fn set_known(&mut self, id: CandId, known: Known) {
+        let place = id.place as usize;
+        if place < self.known.len() {
+            self.known[place] = known;
+        }
+    }
+
+    // Whether an owner is sure.
+    fn is_sure(&self, owner: Owner) -> bool {
+        match owner {
+            Owner::World => true,
+            Owner::Package(id) => self.known_of(candidate(id)).sure.is_some(),
+        }
+    }
+
+    // The options of what is wanted; none if it is a conflict.
+    fn options_of(&self, want: Want) -> Result<Option<Options>, AllocError> {
+        match wanted(self.pool, self.world, want) {
+            None => Ok(None),
+            Some(dep) => {
+                let options = self.pool.options_for(self.alloc, &NeedRef::Entry(&dep))?;
+                Ok(Some(options))
+            }
+        }
+    }
+
+    // Lists what an owner wants, and its options.
+    fn want(&mut self, owner: Owner, index: usize) -> Result<(), AllocError> {
+        let want = Want { owner, index };
+        let Some(options) = self.options_of(want)? else {
+            return Ok(());
+        };
+        if self.listed.len() >= MOST_LOOKED_AT {
+            return Ok(());
+        }
+        let open = self.open.len();
+        let left = self.list_all(open, &options)?;
+        self.open.push(Open { want, left })?;
+        if left <= 1 {
+            self.few.push(open)?;
+        }
+        Ok(())
+    }
+
+    // Lists the options of what is wanted; how many of them are left.
+    fn list_all(&mut self, open: usize, options: &Options) -> Result<usize, AllocError> {
+        let mut left: usize = 0;
+        for i in 0..options.len() {
+            let is_path_left_over = self.list(open, options.get(i))?;
+            if is_path_left_over {
+                left = left.saturating_add(1);
+            }
+        }
+        Ok(left)
+    }
+
+    // Lists an option of what is wanted; whether it is left.
+    fn list(&mut self, open: usize, id: CandId) -> Result<bool, AllocError> {
+        let mut known = self.known_of(id);
+        let place = self.listed.len();
+        self.listed.push(Listed {
+            open,
+            before: known.listed,
+        })?;
+        known.listed = Some(place);
+        if !known.is_seen {
+            self.seen.push(id)?;
+        }
+        known.is_seen = true;
+        self.set_known(id, known);
+        Ok(known.out.is_none())
+    }
+
+    // Looks at what has one option left, or none.
+    fn look_at(&mut self, open: usize) -> Result<(), AllocError> {
+        if open >= self.open.len() {
+            return Ok(());
+        }
+        let Open { want, left } = self.open[open];
+        if left == 0 {
+            return self.none_left(want);
+        }
+        if left == 1 && self.is_sure(want.owner) {
+            return self.one_left(want);
+        }
+        Ok(())
+    }
+
+    // No option is left for what is wanted: a candidate that wants it is ruled out, and if world
+    // wants it, the search ends. A sure candidate is ruled out too, so that the end is an entry of
+    // world.
+    fn none_left(&mut self, want: Want) -> Result<(), AllocError> {
+        match want.owner {
+            Owner::World => {
+                self.end = Some(want);
+                Ok(())
+            }
+            Owner::Package(id) => {
+                let index = want.index;
+                self.rule_out(candidate(id), Step::Broken { id, index })
+            }
+        }
+    }
+
+    // One option is left for what is wanted for sure: it is sure.
+    fn one_left(&mut self, want: Want) -> Result<(), AllocError> {
+        let Some(options) = self.options_of(want)? else {
+            return Ok(());
+        };
+        for i in 0..options.len() {
+            let id = options.get(i);
+            if self.known_of(id).out.is_none() {
+                return self.make_sure(id, want);
+            }
+        }
+        Ok(())
+    }
+
+    // Rules a candidate out by a step: it is left for nothing that is wanted.
+    fn rule_out(&mut self, id: CandId, step: Step) -> Result<(), AllocError> {
+        let mut known = self.known_of(id);
+        if known.out.is_some() {
+            return Ok(());
+        }
+        known.out = Some(self.steps.len());
+        self.set_known(id, known);
+        self.steps.push(step)?;
+        let mut next = known.listed;
+        for _ in 0..self.listed.len() {
+            let Some(place) = next else {
+                return Ok(());
+            };
+            next = self.one_less(place)?;
+        }
+        Ok(())
+    }
+
+    // One option less is left for what is wanted, by a place of the option; its place before that.
+    fn one_less(&mut self, place: usize) -> Result<Option<usize>, AllocError> {
+        let Some(listed) = self.listed.get(place).copied() else {
+            return Ok(None);
+        };
+        if let Some(open) = self.open.get_mut(listed.open) {
+            open.left = open.left.saturating_sub(1);
+            if open.left <= 1 {
+                self.few.push(listed.open)?;
+            }
+        }
+        Ok(listed.before)
+    }
+
+    // Makes a candidate sure: what it wants is wanted for sure, and what it excludes is ruled out.
+    fn make_sure(&mut self, id: CandId, want: Want) -> Result<(), AllocError> {
+        let mut known = self.known_of(id);
+        if known.sure.is_some() {
+            return Ok(());
+        }
+        known.sure = Some(self.steps.len());
+        self.set_known(id, known);
+        self.steps.push(Step::Sure { id: id.place, want })?;
+        self.expand(id)?;
+        for open in known.first..known.end {
+            self.few.push(open)?;
+        }
+        self.exclude_with(id)
+    }
+
+    // Lists what a candidate wants, and its conflicts.
+    fn expand(&mut self, id: CandId) -> Result<(), AllocError> {
+        if self.known_of(id).is_expanded {
+            return Ok(());
+        }
+        let Some(details) = self.pool.at(id) else {
+            return Ok(());
+        };
+        let first = self.open.len();
+        self.want_all(id, &details.depends())?;
+        let mut known = self.known_of(id);
+        known.is_expanded = true;
+        known.first = first;
+        known.end = self.open.len();
+        self.set_known(id, known);
+        Ok(())
+    }
+
+    // Lists the dependencies of a candidate as wanted, and its conflicts by their names.
+    fn want_all(&mut self, id: CandId, depends: &Deps<'p>) -> Result<(), AllocError> {
+        for index in 0..depends.len() {
+            let dep = depends.get(index);
+            if dep.conflict {
+                self.conflicts.add(dep.name, id)?;
+                self.exclude_by_sure(id, dep.name)?;
+            } else {
+                self.want(Owner::Package(id.place), index)?;
+            }
+        }
+        Ok(())
+    }
+
+    // Rules a candidate out if a sure one that offers a name excludes it.
+    fn exclude_by_sure(&mut self, id: CandId, name: &[u8]) -> Result<(), AllocError> {
+        let pool = self.pool;
+        for by in pool.offers(name) {
+            if self.known_of(*by).sure.is_some() {
+                self.exclude(id, *by)?;
+            }
+        }
+        Ok(())
+    }
+
+    // Rules out what a sure candidate excludes.
+    fn exclude_with(&mut self, by: CandId) -> Result<(), AllocError> {
+        let Some(details) = self.pool.at(by) else {
+            return Ok(());
+        };
+        self.exclude_at(details.name(), by)?;
+        self.exclude_at_all(&details.provides(), by)?;
+        self.exclude_at_all(&details.depends(), by)
+    }
+
+    // Rules out what a sure candidate excludes, by the names of some dependencies.
+    fn exclude_at_all(&mut self, deps: &Deps<'p>, by: CandId) -> Result<(), AllocError> {
+        for i in 0..deps.len() {
+            let dep = deps.get(i);
+            if dep.conflict || dep.version.is_some() {
+                self.exclude_at(dep.name, by)?;
+            }
+            self.exclude_conflicting(dep.name, by)?;
+        }
+        Ok(())
+    }
+
+    // Rules out what a sure candidate excludes, among those that offer a name or have a conflict of
+    // the name.
+    fn exclude_at(&mut self, name: &[u8], by: CandId) -> Result<(), AllocError> {
+        let pool = self.pool;
+        for id in pool.offers(name) {
+            self.exclude(*id, by)?;
+        }
+        self.exclude_conflicting(name, by)
+    }
+
+    // Rules out what a sure candidate excludes, among those that have a conflict of a name.
+    fn exclude_conflicting(&mut self, name: &[u8], by: CandId) -> Result<(), AllocError> {
+        let ids = Vec::from_slice(self.alloc, self.conflicts.get(name))?;
+        for id in &ids {
+            self.exclude(*id, by)?;
+        }
+        Ok(())
+    }
+
+    // Rules a candidate out if a sure one excludes it.
+    fn exclude(&mut self, id: CandId, by: CandId) -> Result<(), AllocError> {
+        if self.compared >= MOST_LOOKED_AT {
+            return Ok(());
+        }
+        self.compared = self.compared.saturating_add(1);
+        if exclude_each_other(self.pool, by, id) {
+            return self.rule_out(
+                id,
+                Step::Excluded {
+                    id: id.place,
+                    by: by.place,
+                },
+            );
+        }
+        Ok(())
+    }
+
+    // ---- what an end needs
+
+    // The refutation with an end: the steps that the end needs, the last one first.
+    fn refutation(&self, end: Want) -> Result<Refutation, AllocError> {
+        let mut needed = Vec::with_capacity(self.alloc, self.steps.len())?;
+        for _ in 0..self.steps.len() {
+            needed.push(false)?;
+        }
+        self.mark_owner(&mut needed, end.owner);
+        self.mark_options(&mut needed, end)?;
+        let mut steps = Vec::new(self.alloc);
+        let mut left = self.steps.len();
+        while left > 0 {
+            left -= 1;
+            if needed.get(left).copied() == Some(true) {
+                steps.push(self.steps[left])?;
+                self.mark_step(&mut needed, self.steps[left])?;
+            }
+        }
+        Ok(Refutation { steps, end })
+    }
+
+    // Marks what a step needs.
+    fn mark_step(&self, needed: &mut Vec<bool>, step: Step) -> Result<(), AllocError> {
+        match step {
+            Step::Broken { id, index } => {
+                let owner = Owner::Package(id);
+                self.mark_options(needed, Want { owner, index })
+            }
+            Step::Excluded { id: _, by } => {
+                self.mark_owner(needed, Owner::Package(by));
+                Ok(())
+            }
+            Step::Sure { id: _, want } => {
+                self.mark_owner(needed, want.owner);
+                self.mark_options(needed, want)
+            }
+        }
+    }
+
+    // Marks the step that makes an owner sure.
+    fn mark_owner(&self, needed: &mut Vec<bool>, owner: Owner) {
+        if let Owner::Package(id) = owner {
+            mark(needed, self.known_of(candidate(id)).sure);
+        }
+    }
+
+    // Marks the steps that rule out the options of what is wanted.
+    fn mark_options(&self, needed: &mut Vec<bool>, want: Want) -> Result<(), AllocError> {
+        let Some(options) = self.options_of(want)? else {
+            return Ok(());
+        };
+        for i in 0..options.len() {
+            mark(needed, self.known_of(options.get(i)).out);
+        }
+        Ok(())
+    }
+}
+
+// Marks a step, if there is one.
+fn mark(needed: &mut Vec<bool>, step: Option<usize>) {
+    if let Some(step) = step {
+        if step < needed.len() {
+            needed[step] = true;
+        }
+    }
+}

@@ -1,0 +1,283 @@
+//! Refutations of a world: steps from which it follows that no selection satisfies the world, and
+//! the check that they do. The rules of a satisfying selection are in `docs/selection.md`, "What
+//! satisfies world". How the steps were found does not matter here.
+ghost use Rattle.std.specs.Prelude.{◌≡◌, ◌<◌, ◌∷◌, ◌++◌, [], length, Some, true, OnOk, IfOk, option_map, option_to_list, slice_get};
+ghost use Rattle.dep_core.specs.Meets.{dependency};
+ghost use Rattle.candidate_core.specs.Options.{IsIn};
+ghost use Rattle.search_tables.specs.Selection.{AreMembers, depends_at};
+ghost use Rattle.unmet_world.specs.Refutation.{Follows, IsMetOnlyBy, IsRefutation, IsSure, if_positive, makes_sure, owned_by, rules_out, wanted};
+
+use crate::exclusion::exclude_each_other;
+use dep_core::{Dep, World};
+use pool_core::{CandId, Deps, NeedRef, Options, Sealed};
+use search_tables::CandidateSet;
+use std::alloc::{AllocError, Global};
+
+/// Who has dependencies.
+#[derive(Clone, Copy)]
+pub enum Owner {
+    /// World, whose entries are its dependencies.
+    World,
+    /// The candidate at a place.
+    Package(u32),
+}
+
+/// A dependency of an owner that is to be met.
+#[derive(Clone, Copy)]
+pub struct Want {
+    /// Who has the dependency.
+    pub owner: Owner,
+    /// The index of the dependency among those of the owner, counted from 0.
+    pub index: usize,
+}
+
+/// A step of a refutation. Candidates are named by their places.
+#[derive(Clone, Copy)]
+pub enum Step {
+    /// A candidate is ruled out: all that meet its dependency at an index are ruled out.
+    Broken { id: u32, index: usize },
+    /// A candidate is ruled out: it and one that is sure exclude each other.
+    Excluded { id: u32, by: u32 },
+    /// A candidate is sure: all others that meet what a sure owner wants are ruled out.
+    Sure { id: u32, want: Want },
+}
+
+/// The candidate at a place.
+pub(crate) fn candidate(place: u32) -> CandId
+    ensures { result ≡ place }
+{
+    CandId { place }
+}
+
+/// Why no selection satisfies a world.
+#[derive(Drop)]
+pub struct Refutation {
+    /// The steps; each follows from those after it.
+    pub steps: Vec<Step>,
+    /// What is wanted for sure, and only candidates meet it that are ruled out.
+    pub end: Want,
+}
+
+/// The candidates that are ruled out, and those that are sure, by the steps that were checked.
+#[derive(Drop)]
+struct Checked {
+    /// The candidates that are ruled out.
+    out: CandidateSet,
+    /// The candidates that are sure.
+    sure: CandidateSet,
+}
+
+impl Checked {
+    // Nothing follows yet.
+    fn new(alloc: Global) -> Checked
+        ensures out { result.out ≡ [] }
+        ensures sure { result.sure ≡ [] }
+    {
+        Checked {
+            out: CandidateSet::new(alloc),
+            sure: CandidateSet::new(alloc),
+        }
+    }
+
+    // Whether an owner is sure.
+    fn is_sure(&self, owner: Owner) -> bool
+        ensures { result ≡ true → IsSure self.now.sure owner }
+    {
+        match owner {
+            Owner::World => true,
+            Owner::Package(id) => self.sure.has(candidate(id)),
+        }
+    }
+
+    // Whether a step follows.
+    fn follows(
+        &self,
+        alloc: Global,
+        pool: &Sealed<'_>,
+        world: &World,
+        step: Step,
+    ) -> Result<bool, AllocError>
+        requires { world.now ≡ pool.now.world }
+        ensures { IfOk result (λ follows. follows ≡ true →
+            Follows pool.now self.now.out self.now.sure step) }
+    {
+        match step {
+            Step::Broken { id, index } => {
+                let owner = Owner::Package(id);
+                is_met_only_by(alloc, pool, world, Want { owner, index }, &None, &self.out)
+            }
+            Step::Excluded { id, by } => {
+                if !self.sure.has(candidate(by)) {
+                    return Ok(false);
+                }
+                Ok(exclude_each_other(pool, candidate(by), candidate(id)))
+            }
+            Step::Sure { id, want } => {
+                if !self.is_sure(want.owner) {
+                    return Ok(false);
+                }
+                is_met_only_by(alloc, pool, world, want, &Some(candidate(id)), &self.out)
+            }
+        }
+    }
+
+    // Adds what a step rules out or makes sure.
+    fn add(&mut self, step: Step) -> Result<(), AllocError>
+        ensures out { OnOk result (AreMembers self.new.out (rules_out step ++ self.old.out)) }
+        ensures sure { OnOk result (AreMembers self.new.sure (makes_sure step ++ self.old.sure)) }
+    {
+        match step {
+            Step::Broken { id, index: _ } => self.out.add(candidate(id)),
+            Step::Excluded { id, by: _ } => self.out.add(candidate(id)),
+            Step::Sure { id, want: _ } => self.sure.add(candidate(id)),
+        }
+    }
+}
+
+/// Whether a refutation is one: each step follows from those after it, and its end from all.
+pub fn is_refutation(
+    alloc: Global,
+    pool: &Sealed<'_>,
+    world: &World,
+    refutation: &Refutation,
+) -> Result<bool, AllocError>
+    requires { world.now ≡ pool.now.world }
+    ensures { IfOk result (λ is. is ≡ true → IsRefutation pool.now refutation.now) }
+{
+    let mut checked = Checked::new(alloc);
+    let mut left = refutation.steps.len();
+    while left > 0 {
+        left -= 1;
+        let step = step_at(refutation, left);
+        if !checked.follows(alloc, pool, world, step)? {
+            return Ok(false);
+        }
+        checked.add(step)?;
+    }
+    let end = refutation.end;
+    if !checked.is_sure(end.owner) {
+        return Ok(false);
+    }
+    is_met_only_by(alloc, pool, world, end, &None, &checked.out)
+}
+
+// The step at an index.
+fn step_at(refutation: &Refutation, index: usize) -> Step
+    requires { index < length refutation.now.steps.items }
+    ensures { slice_get refutation.now.steps.items index ≡ Some result }
+{
+    refutation.steps[index]
+}
+
+// Whether each candidate that may be selected and meets what is wanted is ruled out, or is the one
+// that is kept.
+fn is_met_only_by(
+    alloc: Global,
+    pool: &Sealed<'_>,
+    world: &World,
+    want: Want,
+    kept: &Option<CandId>,
+    out: &CandidateSet,
+) -> Result<bool, AllocError>
+    requires { world.now ≡ pool.now.world }
+    ensures { IfOk result (λ is. is ≡ true →
+        IsMetOnlyBy pool.now want (option_to_list kept.now ++ out.now)) }
+{
+    match wanted(pool, world, want) {
+        None => Ok(false),
+        Some(dep) => {
+            let options = pool.options_for(alloc, &NeedRef::Entry(&dep))?;
+            Ok(are_left(&options, kept, out))
+        }
+    }
+}
+
+// Whether each option is ruled out, or is the one that is kept.
+fn are_left(options: &Options, kept: &Option<CandId>, out: &CandidateSet) -> bool
+    ensures { result ≡ true → AreMembers options.now (option_to_list kept.now ++ out.now) }
+{
+    for i in 0..options.len() {
+        if !is_path_left_over(options.get(i), kept, out) {
+            return false;
+        }
+    }
+    true
+}
+
+// Whether a candidate is ruled out, or is the one that is kept.
+fn is_path_left_over(id: CandId, kept: &Option<CandId>, out: &CandidateSet) -> bool
+    ensures { result ≡ true → IsIn id (option_to_list kept.now ++ out.now) }
+{
+    match kept {
+        None => out.has(id),
+        Some(kept) => is_one_of(id, *kept, out),
+    }
+}
+
+// Whether a candidate is ruled out, or is another one.
+fn is_one_of(id: CandId, kept: CandId, out: &CandidateSet) -> bool
+    ensures { result ≡ true → IsIn id (kept ∷ out.now) }
+{
+    if id == kept {
+        return true;
+    }
+    out.has(id)
+}
+
+/// The dependency that an owner wants to be met; None if there is none at the index, or a conflict.
+pub fn wanted<'a>(pool: &Sealed<'a>, world: &'a World, want: Want) -> Option<Dep<'a>>
+    ensures { world.now ≡ pool.now.world → option_map dependency result ≡ wanted pool.now want }
+{
+    match owned(pool, world, want) {
+        None => None,
+        Some(dep) => if_positive(dep),
+    }
+}
+
+// A dependency that is no conflict.
+fn if_positive(dep: Dep<'_>) -> Option<Dep<'_>>
+    ensures { option_map dependency result ≡ if_positive (Some (dependency dep.entry)) }
+{
+    if dep.conflict { None } else { Some(dep) }
+}
+
+// The dependency of an owner at an index, if there is one.
+fn owned<'a>(pool: &Sealed<'a>, world: &'a World, want: Want) -> Option<Dep<'a>>
+    ensures { world.now ≡ pool.now.world → option_map dependency result
+        ≡ slice_get (owned_by pool.now want.owner) want.index }
+{
+    match want.owner {
+        Owner::World => entry_of(world, want.index),
+        Owner::Package(id) => depended_on(pool, candidate(id), want.index),
+    }
+}
+
+// The entry of world at an index, if there is one.
+fn entry_of(world: &World, index: usize) -> Option<Dep<'_>>
+    ensures { option_map dependency result ≡ slice_get world.now index }
+{
+    if index >= world.len() {
+        return None;
+    }
+    Some(world.entry(index))
+}
+
+// The dependency of the candidate at a place that has an index, if there is one.
+fn depended_on<'a>(pool: &Sealed<'a>, id: CandId, index: usize) -> Option<Dep<'a>>
+    ensures { option_map dependency result ≡ slice_get (depends_at pool.now id) index }
+{
+    match pool.at(id) {
+        None => None,
+        Some(details) => dep_at(&details.depends(), index),
+    }
+}
+
+// The dependency at an index, if there is one.
+fn dep_at<'a>(deps: &Deps<'a>, index: usize) -> Option<Dep<'a>>
+    ensures { option_map dependency result ≡ slice_get deps.now index }
+{
+    if index >= deps.len() {
+        return None;
+    }
+    Some(deps.get(index))
+}

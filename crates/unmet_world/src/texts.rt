@@ -1,0 +1,355 @@
+//! The texts of packages, and of what there is of a name, in the lines that explain why nothing can
+//! be selected. They are listed in `specs/Lines.antt`.
+ghost use Rattle.std.specs.Prelude.{◌≡◌, ◌++◌, [], ◌&&◌, ◌+◌, false, Some, OnOk, IfOk, option_map, find, unwrap_or, bytes_eq, map, take};
+ghost use Rattle.std.specs.Option.{option_map_or};
+ghost use Rattle.std.specs.List.{list_any};
+ghost use Rattle.dep_core.specs.DependencyText.{dep_text};
+ghost use Rattle.dep_core.specs.Meets.{dependency};
+ghost use Rattle.candidate_core.specs.Candidates.{uses_tag, is_allowed};
+ghost use Rattle.unmet_world.specs.Exclusion.{is_conflict_met_by};
+ghost use Rattle.unmet_world.specs.Lines.{origin_text, package_text, candidate_text, text_at, owner_text, bar_text, refusal_text, offer_text, offer_text_at, with_text, with_texts, joined_texts, most_offers, dots_if, offered_text, offers_line};
+
+use crate::exclusion::is_conflict_met_by;
+use crate::refutation::{Owner, candidate};
+use base_core::Text;
+use dep_core::{Dep, Repos, World, dep_text};
+use pool_core::{CandId, Details, Sealed};
+use std::alloc::{AllocError, Global};
+
+/// How many candidates of a name are shown.
+const MOST_OFFERS: usize = 16;
+
+/// The candidates, and the repositories that they are from.
+#[derive(Clone, Copy)]
+pub(crate) struct Sources<'a> {
+    /// The candidates.
+    pub(crate) pool: &'a Sealed<'a>,
+    /// The world that the pool was sealed with.
+    pub(crate) world: &'a World,
+    /// The repositories, in the order of their numbers.
+    pub(crate) repositories: &'a Repos,
+}
+
+// ---- packages
+
+// Adds where a candidate is from.
+fn add_origin(
+    text: &mut Vec<u8>,
+    repositories: &Repos,
+    number: Option<u64>,
+) -> Result<(), AllocError>
+    ensures { OnOk result (text.new.items ≡ text.old.items
+        ++ origin_text repositories.now number) }
+{
+    match number {
+        None => text.extend_from_slice(b"installed"),
+        Some(number) => add_path(text, repositories, number),
+    }
+}
+
+// Adds the path of the repository with a number, counted from 1.
+fn add_path(text: &mut Vec<u8>, repositories: &Repos, number: u64) -> Result<(), AllocError>
+    ensures { OnOk result (text.new.items ≡ text.old.items
+        ++ origin_text repositories.now (Some number)) }
+{
+    let place = number.saturating_sub(1) as usize;
+    if place >= repositories.len() {
+        return Ok(());
+    }
+    text.extend_from_slice(repositories.path(place).as_bytes())
+}
+
+// Adds the name and the version of a package.
+fn add_package(text: &mut Vec<u8>, details: &Details<'_>) -> Result<(), AllocError>
+    ensures { OnOk result (text.new.items ≡ text.old.items ++ package_text details.now) }
+{
+    text.extend_from_slice(details.name())?;
+    text.extend_from_slice(b"-")?;
+    add_version(text, details)
+}
+
+// Adds the version of a package; nothing if its text is none.
+fn add_version(text: &mut Vec<u8>, details: &Details<'_>) -> Result<(), AllocError>
+    ensures { OnOk result (text.new.items ≡ text.old.items
+        ++ unwrap_or details.now.version []) }
+{
+    match details.version() {
+        None => Ok(()),
+        Some(version) => text.extend_from_slice(version.text()),
+    }
+}
+
+// Adds a package with where it is from.
+fn add_candidate(
+    text: &mut Vec<u8>,
+    repositories: &Repos,
+    details: &Details<'_>,
+) -> Result<(), AllocError>
+    ensures { OnOk result (text.new.items ≡ text.old.items
+        ++ candidate_text repositories.now details.now) }
+{
+    add_package(text, details)?;
+    text.extend_from_slice(b" (")?;
+    add_origin(text, repositories, details.repo())?;
+    text.extend_from_slice(b")")
+}
+
+/// Adds the candidate at a place, if there is one, with where it is from.
+pub(crate) fn add_candidate_at(
+    text: &mut Vec<u8>,
+    sources: &Sources<'_>,
+    id: CandId,
+) -> Result<(), AllocError>
+    ensures { OnOk result (text.new.items ≡ text.old.items
+        ++ text_at sources.now.pool.now sources.now.repositories.now id) }
+{
+    match sources.pool.at(id) {
+        None => Ok(()),
+        Some(details) => add_candidate(text, sources.repositories, &details),
+    }
+}
+
+/// Adds who has a dependency.
+pub(crate) fn add_owner(
+    text: &mut Vec<u8>,
+    sources: &Sources<'_>,
+    owner: Owner,
+) -> Result<(), AllocError>
+    ensures { OnOk result (text.new.items ≡ text.old.items
+        ++ owner_text sources.now.pool.now sources.now.repositories.now owner) }
+{
+    match owner {
+        Owner::World => text.extend_from_slice(b"world"),
+        Owner::Package(id) => add_candidate_at(text, sources, candidate(id)),
+    }
+}
+
+/// Adds a dependency.
+pub(crate) fn add_dep(text: &mut Vec<u8>, dep: &Dep<'_>) -> Result<(), AllocError>
+    ensures { OnOk result (text.new.items ≡ text.old.items ++ dep_text (dependency dep.now)) }
+{
+    let alloc = *text.allocator();
+    text.extend_from_slice(dep_text(alloc, dep)?.as_bytes())
+}
+
+// ---- what there is of a name
+
+// Whether an entry of world uses a tag.
+fn uses_tag(world: &World, tag: &[u8]) -> bool
+    ensures { result ≡ uses_tag world.now tag.now }
+{
+    for i in 0..world.len() {
+        if has_tag(&world.entry(i), tag) {
+            return true;
+        }
+    }
+    false
+}
+
+// Whether a dependency has a tag.
+fn has_tag(dep: &Dep<'_>, tag: &[u8]) -> bool
+    ensures { result ≡ option_map_or (bytes_eq tag.now) (dependency dep.now).tag false }
+{
+    match dep.tag {
+        None => false,
+        Some(own) => tag == own,
+    }
+}
+
+// Whether a candidate is allowed: installed, or of a repository without a tag or with one that
+// world uses.
+fn is_allowed(world: &World, details: &Details<'_>) -> bool
+    ensures { result ≡ is_allowed world.now details.now }
+{
+    if details.is_installed() || details.repo().is_none() {
+        return true;
+    }
+    match details.tag() {
+        None => true,
+        Some(tag) => uses_tag(world, tag),
+    }
+}
+
+// The first conflict of world that a candidate meets.
+fn bar<'a>(world: &'a World, details: &Details<'_>) -> Option<Dep<'a>>
+    ensures { option_map dependency result ≡ find (is_conflict_met_by details.now) world.now }
+{
+    for i in 0..world.len() {
+        let dep = world.entry(i);
+        if is_conflict_met_by(&dep, details) {
+            return Some(dep);
+        }
+    }
+    None
+}
+
+// Adds why a candidate may not be selected; nothing if it may.
+fn add_refusal(text: &mut Vec<u8>, world: &World, details: &Details<'_>) -> Result<(), AllocError>
+    ensures { OnOk result (text.new.items ≡ text.old.items ++ refusal_text world.now details.now) }
+{
+    if is_allowed(world, details) {
+        return add_bar(text, bar(world, details));
+    }
+    text.extend_from_slice(b" (tagged @")?;
+    text.extend_from_slice(details.tag().unwrap_or(b""))?;
+    text.extend_from_slice(b")")
+}
+
+// Adds the conflict of world that a candidate meets, if it meets one.
+fn add_bar(text: &mut Vec<u8>, bar: Option<Dep<'_>>) -> Result<(), AllocError>
+    ensures { OnOk result (text.new.items ≡ text.old.items
+        ++ bar_text (option_map dependency bar.entry)) }
+{
+    match bar {
+        None => Ok(()),
+        Some(dep) => {
+            text.extend_from_slice(b" (world has ")?;
+            add_dep(text, &dep)?;
+            text.extend_from_slice(b")")
+        }
+    }
+}
+
+// The text of a candidate that offers a name.
+fn offer(
+    alloc: Global,
+    world: &World,
+    name: &[u8],
+    details: &Details<'_>,
+) -> Result<Text, AllocError>
+    ensures { IfOk result (λ text. text ≡ offer_text world.now name.now details.now) }
+{
+    let mut text = Vec::new(alloc);
+    if name == details.name() {
+        add_version(&mut text, details)?;
+    } else {
+        add_package(&mut text, details)?;
+    }
+    add_refusal(&mut text, world, details)?;
+    Ok(Text::from_vec(text))
+}
+
+// The text of the candidate at a place, which offers a name; nothing if no candidate is there.
+fn offer_at(
+    alloc: Global,
+    sources: &Sources<'_>,
+    name: &[u8],
+    id: CandId,
+) -> Result<Text, AllocError>
+    requires { sources.now.world.now ≡ sources.now.pool.now.world }
+    ensures { IfOk result (λ text. text ≡ offer_text_at sources.now.pool.now name.now id) }
+{
+    match sources.pool.at(id) {
+        None => Text::of(alloc, b""),
+        Some(details) => offer(alloc, sources.world, name, &details),
+    }
+}
+
+/// Adds a text to others, unless they have it.
+pub(crate) fn add_once(texts: &mut Vec<Text>, text: Text) -> Result<(), AllocError>
+    ensures { OnOk result (texts.new.items ≡ with_text texts.old.items text) }
+{
+    if has_text(texts, text.as_bytes()) {
+        return Ok(());
+    }
+    texts.push(text)?;
+    Ok(())
+}
+
+// Whether a text is one of some texts.
+fn has_text(texts: &[Text], text: &[u8]) -> bool
+    ensures { result ≡ list_any (bytes_eq text.now) texts.now }
+{
+    for other in texts {
+        if text == other.as_bytes() {
+            return true;
+        }
+    }
+    false
+}
+
+// The texts of some candidates that offer a name, each once.
+fn offers(
+    alloc: Global,
+    sources: &Sources<'_>,
+    name: &[u8],
+    ids: &[CandId],
+) -> Result<Vec<Text>, AllocError>
+    requires { sources.now.world.now ≡ sources.now.pool.now.world }
+    ensures { IfOk result (λ texts. texts.items
+        ≡ with_texts [] (map (offer_text_at sources.now.pool.now name.now) ids.now)) }
+{
+    let mut texts = Vec::new(alloc);
+    for id in ids {
+        add_once(&mut texts, offer_at(alloc, sources, name, *id)?)?;
+    }
+    Ok(texts)
+}
+
+// Adds texts with commas between them.
+fn add_joined(line: &mut Vec<u8>, texts: &[Text]) -> Result<(), AllocError>
+    ensures { OnOk result (line.new.items ≡ line.old.items ++ joined_texts texts.now) }
+{
+    for (i, text) in texts.iter().enumerate() {
+        if i > 0 {
+            line.extend_from_slice(b", ")?;
+        }
+        line.extend_from_slice(text.as_bytes())?;
+    }
+    Ok(())
+}
+
+// Adds the candidates at some places, which offer a name.
+fn add_offers(
+    alloc: Global,
+    line: &mut Vec<u8>,
+    sources: &Sources<'_>,
+    name: &[u8],
+    ids: &[CandId],
+) -> Result<(), AllocError>
+    requires { sources.now.world.now ≡ sources.now.pool.now.world }
+    ensures { OnOk result (line.new.items ≡ line.old.items
+        ++ offered_text sources.now.pool.now name.now ids.now) }
+{
+    if ids.is_empty() {
+        return line.extend_from_slice(b"no package");
+    }
+    let texts = offers(alloc, sources, name, first_of(ids))?;
+    line.extend_from_slice(b"only ")?;
+    add_joined(line, &texts)?;
+    line.extend_from_slice(dots_if(ids.len() > MOST_OFFERS))
+}
+
+// The first of some candidates, as many as are shown.
+fn first_of(ids: &[CandId]) -> &[CandId]
+    ensures { result.now ≡ take most_offers ids.now }
+{
+    if ids.len() > MOST_OFFERS {
+        &ids[..MOST_OFFERS]
+    } else {
+        ids
+    }
+}
+
+// Two dots if there are more.
+fn dots_if(more: bool) -> &'static [u8]
+    ensures { result.now ≡ dots_if more }
+{
+    if more { b", .." } else { b"" }
+}
+
+/// What there is of a name, as a line.
+pub(crate) fn offers_line(
+    alloc: Global,
+    sources: &Sources<'_>,
+    name: &[u8],
+) -> Result<Text, AllocError>
+    requires { sources.now.world.now ≡ sources.now.pool.now.world }
+    ensures { IfOk result (λ line. line ≡ offers_line sources.now.pool.now name.now) }
+{
+    let mut line = Vec::new(alloc);
+    line.extend_from_slice(name)?;
+    line.extend_from_slice(b": ")?;
+    add_offers(alloc, &mut line, sources, name, sources.pool.offers(name))?;
+    Ok(Text::from_vec(line))
+}

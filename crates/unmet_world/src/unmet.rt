@@ -1,0 +1,112 @@
+//! Why a world cannot be met: a refutation. The rules are in `docs/selection.md`, "What satisfies
+//! world" and "`unable to select packages`".
+ghost use Rattle.std.specs.Prelude.{◌≡◌, ℕ, [], IfOk, IfSome, MatchBool, MatchOption};
+ghost use Rattle.unmet_world.specs.Lines.{ExplainsWorld};
+ghost use Rattle.unmet_world.specs.Refutation.{IsFirstUnmet, IsRefutation, IsUnmet, world_want};
+
+use crate::lines::explanation;
+use crate::propagation::propagate;
+use crate::refutation::{Owner, Refutation, Want, is_refutation, wanted};
+use crate::texts::Sources;
+use dep_core::{Repos, World};
+use pool_core::{NeedRef, Sealed};
+use std::alloc::{AllocError, Global};
+
+/// A refutation of the world that the pool was sealed with, if one is found. If no candidate that
+/// may be selected meets some entry of world, the refutation is the first such entry, without
+/// steps.
+///
+/// # Errors
+///
+/// Out of memory.
+pub fn why_unmet(
+    alloc: Global,
+    pool: &Sealed<'_>,
+    world: &World,
+) -> Result<Option<Refutation>, AllocError>
+    requires { world.now ≡ pool.now.world }
+    ensures proof { IfOk result (λ found. IfSome found (λ r. IsRefutation pool.now r)) }
+    ensures named { IfOk result (λ found. (index : ℕ) → IsFirstUnmet pool.now index →
+        MatchOption found ⊥ (λ r. (r.steps.items ≡ []) × (r.end ≡ world_want index))) }
+{
+    if let Some(index) = first_unmet(alloc, pool, world)? {
+        return Ok(Some(Refutation {
+            steps: Vec::new(alloc),
+            end: Want {
+                owner: Owner::World,
+                index,
+            },
+        }));
+    }
+    longer(alloc, pool, world)
+}
+
+/// The explanation of a world, as it is printed.
+///
+/// # Errors
+///
+/// Out of memory.
+pub fn explanation_of(
+    alloc: Global,
+    pool: &Sealed<'_>,
+    world: &World,
+    repositories: &Repos,
+) -> Result<Vec<u8>, AllocError>
+    requires { world.now ≡ pool.now.world }
+    ensures { IfOk result (λ text. ExplainsWorld pool.now repositories.now text.items) }
+{
+    let found = why_unmet(alloc, pool, world)?;
+    let sources = Sources {
+        pool,
+        world,
+        repositories,
+    };
+    explanation(alloc, &sources, &found)
+}
+
+// A refutation that the search finds, if it is one.
+fn longer(alloc: Global, pool: &Sealed<'_>, world: &World) -> Result<Option<Refutation>, AllocError>
+    requires { world.now ≡ pool.now.world }
+    ensures { IfOk result (λ found. IfSome found (λ r. IsRefutation pool.now r)) }
+{
+    let Some(refutation) = propagate(alloc, pool, world)? else {
+        return Ok(None);
+    };
+    if is_refutation(alloc, pool, world, &refutation)? {
+        return Ok(Some(refutation));
+    }
+    Ok(None)
+}
+
+// The index of the first entry of world that no candidate meets which may be selected.
+fn first_unmet(alloc: Global, pool: &Sealed<'_>, world: &World) -> Result<Option<usize>, AllocError>
+    requires { world.now ≡ pool.now.world }
+    ensures { IfOk result (λ found. MatchOption found ((index : ℕ) →
+        IsUnmet pool.now (world_want index) → ⊥) (IsFirstUnmet pool.now)) }
+{
+    for index in 0..world.len() {
+        let want = Want {
+            owner: Owner::World,
+            index,
+        };
+        if is_unmet(alloc, pool, world, want)? {
+            return Ok(Some(index));
+        }
+    }
+    Ok(None)
+}
+
+// Whether no candidate that may be selected meets what is wanted.
+fn is_unmet(alloc: Global, pool: &Sealed<'_>, world: &World, want: Want) -> Result<bool, AllocError>
+    requires { world.now ≡ pool.now.world }
+    ensures { IfOk result (λ is. MatchBool is (IsUnmet pool.now want)
+        (IsUnmet pool.now want → ⊥)) }
+{
+    match wanted(pool, world, want) {
+        None => Ok(false),
+        Some(dep) => {
+            let options = pool.options_for(alloc, &NeedRef::Entry(&dep))?;
+            Ok(options.is_empty())
+        }
+    }
+}

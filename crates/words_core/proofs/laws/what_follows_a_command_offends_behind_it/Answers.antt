@@ -1,7 +1,0 @@
-use Rattle.words_core.specs.Kinds.{can_get_kind}
-use Rattle.words_core.proofs.GoneOn.{is_not}
-use Rattle.words_core.proofs.AskedLaws.{offends_behind_words}
-use Rattle.words_core.proofs.laws.what_follows_a_command_offends_behind_it.Goals as goal
-
-pub returns : goal.returns
-returns c = λ words more command place cannot. offends_behind_words words more command place (is_not (can_get_kind words) cannot)
