@@ -1,6 +1,6 @@
 -- The fault of the framing that is told is the first.
-use Rattle.std.proofs.Common.{◌≡◌, ℕ, zero, suc, ◌+◌, ◌-◌, ◌<◌, ◌≤◌, Bool, true, false, ◌||◌, eqb, ltb, List, [], ◌∷◌, length, drop, Option, Some, None, Result, Ok, Err, refl, sym, ap, ◌∙◌, arith, inl, inr, ◌⊎◌}
-use Rattle.std.proofs.lemmas.Bool.{cases_lt, ltb-true, eqb-true}
+use Rattle.std.proofs.Common.{◌≡◌, ℕ, zero, suc, ◌+◌, ◌-◌, ◌<◌, ◌≤◌, ◌||◌, eqb, ltb, List, [], ◌∷◌, length, drop, Option, Some, None, Result, Ok, Err, refl, sym, ap, ◌∙◌, arith, inl, inr}
+use Rattle.std.proofs.lemmas.Bool.{cases_lt, ltb-true, eqb-true, or_cases}
 use Rattle.std.proofs.lemmas.List.{length-drop, drop_all, nil_from_length}
 use Rattle.base_core.specs.declared.Cause.{Cause}
 use Rattle.base_core.specs.declared.Cause.TheVariants.{Truncated, BlockOrder}
@@ -20,16 +20,12 @@ use Rattle.adb_block.proofs.WholeFiles.{header_sound, whole_from}
 
 -- ---- one block
 
-or_true : (a b : Bool) → (a || b) ≡ true → (a ≡ true) ⊎ (b ≡ true)
-or_true true b e = inl refl
-or_true false b e = inr e
-
 sized_failed : (at : ℕ) (bytes : List ℕ) (h : HeadFields) (k : BlockKind) (c : Cause) → step_by_size at bytes h k ≡ failed c → IsWrongSize h k bytes × (c ≡ Truncated at)
 sized_failed at bytes h k c e =
     elim (chosen (ltb h.raw h.len || ltb (length bytes) h.raw) _ _ _ e) [
       | inl x ↦
           let is : failed (Truncated at) ≡ failed c = x.1 in
-          elim (or_true (ltb h.raw h.len) (ltb (length bytes) h.raw) x.0) [
+          elim (or_cases (ltb h.raw h.len) (ltb (length bytes) h.raw) x.0) [
             | inl y ↦ (let less = ltb-true _ _ y in (inl (omega arith), cc))
             | inr y ↦ (inr (ltb-true _ _ y), cc)
           ]

@@ -39,7 +39,8 @@ IsFramed (Ok (Some frame)) bytes s =
     s ≡ block (framed_piece frame bytes) (raw_size frame + padding_of (raw_size frame))
 IsFramed (Err c) bytes s = s ≡ failed c
 
--- the same for a result that cannot be the end
+-- the result is that of the tests: the frame of the block at the front of these bytes, or the first
+-- failed test; it cannot be the end
 abbrev pub IsFramedBy : Result Frame Cause → List ℕ → Step → Type 0
 IsFramedBy (Ok frame) bytes s =
     s ≡ block (framed_piece frame bytes) (raw_size frame + padding_of (raw_size frame))

@@ -1,13 +1,15 @@
 -- The fields of a file, of its access list and of scripts, as they are written one by one.
-use Rattle.std.proofs.Common.{◌≡◌, ℕ, List, sym, ◌∙◌}
-use Rattle.adb_view.specs.Plain.{Plain, none, more, blob_value, obj_value}
+use Rattle.std.proofs.Common.{◌≡◌, ℕ, List, sym, ◌∙◌, refl, zero, suc, [], ◌∷◌, ap}
+use Rattle.adb_view.specs.Plain.{Plain, none, more, blob_value, obj_value, null, int, blob, arr, obj}
 use Rattle.adb_view.specs.Shaped.{HasShape}
 use Rattle.adb_view.specs.Schema.{shape_of, shapes_of, table}
-use Rattle.adb_view.specs.Values.{entry_in, int_in, text_in}
+use Rattle.adb_view.specs.Values.{entry_in, int_in, text_in, nth}
 use Rattle.adb_view.specs.declared.tables.Which.TheVariants as Tables
 use Rattle.adb_view.specs.declared.tables.Kind.TheVariants as Kinds
-use Rattle.adb_copy.specs.Zeros.{int_value, without_zeros}
+use Rattle.adb_view.proofs.ValueEntries.{entries_arr, nth_obj}
+use Rattle.adb_copy.specs.Zeros.{int_value, without_zeros, all_without_zeros}
 use Rattle.adb_copy.proofs.Fields.{object_written}
+use Rattle.adb_copy.proofs.Zeros.{nth_zeros}
 
 pub acl_written : (v : Plain) (mode : ℕ) (user group : List ℕ) (xattrs : Plain) → HasShape (shape_of (Kinds.Obj Tables.Acl)) v
     → mode ≡ int_in (entry_in v 0) → user ≡ text_in (entry_in v 1) → group ≡ text_in (entry_in v 2) → xattrs ≡ entry_in v 3
@@ -38,3 +40,13 @@ scripts_written v t0 t1 t2 t3 t4 t5 t6 h e0 e1 e2 e3 e4 e5 e6 =
     sym (object_written 6 (shapes_of (table Tables.Scripts)) v h)
     ∙ sym (λ j. obj_value (more (blob_value (e0 j)) (more (blob_value (e1 j)) (more (blob_value (e2 j)) (more (blob_value (e3 j))
     (more (blob_value (e4 j)) (more (blob_value (e5 j)) (more (blob_value (e6 j)) none))))))))
+
+pub entry_zeros : (v : Plain) (i : ℕ) → entry_in (without_zeros v) i ≡ without_zeros (entry_in v i)
+unfolding without_zeros
+entry_zeros null i = refl
+entry_zeros (int zero) i = refl
+entry_zeros (int (suc n)) i = refl
+entry_zeros (blob []) i = refl
+entry_zeros (blob (x ∷ xs)) i = refl
+entry_zeros (arr vs) i = ap (λ us. nth us i) (entries_arr (all_without_zeros vs)) ∙ nth_zeros vs i
+entry_zeros (obj vs) i = nth_obj (all_without_zeros vs) i ∙ nth_zeros vs i

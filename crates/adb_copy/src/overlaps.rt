@@ -351,7 +351,8 @@ fn first_in_period(bytes: &[u8], text: TextPlace, period: usize, reach: usize) -
     first_by_steps(bytes, from, least, period, 1)
 }
 
-/// The same before an offset, comparing this many bytes at a time.
+/// The offset of the first byte before `start`, and not before `least`, that continues the period.
+/// This many bytes are compared at a time (`step`).
 fn first_by_steps(bytes: &[u8], start: usize, least: usize, period: usize, step: usize) -> usize
     requires within { start + period ≤ length bytes.now }
     requires some { 0 < step }
@@ -380,7 +381,8 @@ fn end_of_period(bytes: &[u8], text: TextPlace, period: usize, reach: usize) -> 
     end_by_steps(bytes, end, most, period, 1)
 }
 
-/// The same after an offset, comparing this many bytes at a time.
+/// The end of the bytes from `start` on, up to `most`, that continue the period. This many bytes
+/// are compared at a time (`step`).
 fn end_by_steps(bytes: &[u8], start: usize, most: usize, period: usize, step: usize) -> usize
     requires period { period ≤ start }
     requires start { start ≤ length bytes.now }

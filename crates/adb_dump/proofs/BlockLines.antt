@@ -3,10 +3,11 @@ use Rattle.std.proofs.Common.{◌≡◌, ℕ, Bool, true, false, cond, eqb, List
 use Rattle.std.specs.Prelude.{◌&&◌, is_some, codes}
 use Rattle.std.specs.Fmt.{decimal}
 use Rattle.hex.specs.Hex.{encode_lower}
-use Rattle.adb_view.specs.Plain.{Plain, null, int, blob, arr, obj, Plains, none, more, Shape, number, text, hash, array, object, Fields, no_fields, field, keep, without_last_nulls, blob_value, arr_value, obj_value, unless_null, from_answer, then_more, each_plain, plain_of, plains_of}
+use Rattle.adb_view.specs.Plain.{Plain, null, int, blob, arr, obj, Plains, none, more, Shape, number, text, hash, array, object, Fields, no_fields, field, keep, without_last_nulls, blob_value, arr_value, obj_value, unless_null, from_answer, each_plain, plain_of, plains_of}
 use Rattle.adb_view.specs.Readers.{run_of, ARRAY, OBJECT}
 use Rattle.base_core.specs.declared.cause.Cause.{Cause}
 use Rattle.adb_fields.specs.Fields.{values_at}
+use Rattle.adb_fields.proofs.FieldReads.{then_more_is}
 use Rattle.adb_view.specs.Schema.{table, shape_of, shapes_of}
 use Rattle.adb_view.specs.Values.{entries_in, int_in, is_sound, text_in, value_at}
 use Rattle.adb_view.proofs.ValueEntries.{entries_arr, entries_obj}
@@ -117,11 +118,6 @@ first_or_later (int n) xs ys b e h k = append_line xs ys h
 first_or_later (blob x) xs ys b e h k = append_line xs ys h
 first_or_later (arr vs) xs ys b e h k = append_line xs ys h
 first_or_later (obj vs) xs ys b e h k = append_line xs ys h
-
-then_more_is : (v : Option Plain) (vs : Option Plains) (us : Plains) → then_more v vs ≡ Some us → (u : Plain) × (more_us : Plains) × (v ≡ Some u) × (vs ≡ Some more_us) × (us ≡ more u more_us)
-then_more_is (Some v) (Some vs) us e = (v, vs, refl, refl, cc)
-then_more_is (Some v) None us e = absurd cc
-then_more_is None vs us e = absurd cc
 
 fields_line : (p : List ℕ) (fs : Fields) (ws : List ℕ) (vs : Plains) → plains_of p fs ws ≡ Some vs → are_null vs ≡ false → HasLine (fields_lines fs vs)
 unfolding plains_of fields_lines

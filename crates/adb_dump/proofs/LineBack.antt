@@ -3,22 +3,22 @@ use Rattle.std.proofs.Common.{◌≡◌, ◌≢◌, ℕ, zero, suc, ◌+◌, ◌
 use Rattle.std.specs.Prelude.{not, codes, decimal, bytes_eq, slice_index}
 use Rattle.std.specs.List.{flat_map, list_all, AllByRecursion}
 use Rattle.std.specs.Str.Parse.{IsNumeral}
-use Rattle.std.proofs.lemmas.Bool.{cases_lt, eqb-true, lt-ltb}
+use Rattle.std.proofs.lemmas.Bool.{cases_lt, eqb-true, lt-ltb, not-true, and_parts, ne_eqb}
 use Rattle.std.proofs.lemmas.List.{length-append}
 use Rattle.std.proofs.lemmas.List.Concat.{flat_map-cons}
 use Rattle.std.proofs.lemmas.Fmt.{decimal_is_IsNumeral}
 use Rattle.std.proofs.lemmas.Str.Parse.{digit_at}
 use Rattle.hex.specs.Hex.{encode_with, encode_lower, lower_digits}
+use Rattle.base_core.proofs.AtName.{own_name}
 use Rattle.adb_view.specs.Plain.{Plain, int, blob}
 use Rattle.adb_dump.specs.Dump.{is_printable, begins_with_byte, is_bare, escape_of, text_form, int_line, text_line, hash_line}
 use Rattle.adb_dump.specs.ReadBack.{hex_value, quoted_read, unhex, blob_read, int_read, text_read, hash_read, if_form}
-use Rattle.adb_dump.proofs.Booleans.{and_true, not_true, neq-eqb, bytes_eq-same}
 
 abbrev pub AreBytes : List ℕ → Type 0
 AreBytes b = AllByRecursion (λ c. c < 256) b
 
 pub if_form-same : (form : Plain → List ℕ) (v : Plain) → if_form form (form v) (Some v) ≡ Ok v
-if_form-same form v = rw bytes_eq-same refl
+if_form-same form v = rw own_name refl
 
 -- ---- numbers
 
@@ -32,8 +32,8 @@ int_back n lt =
 -- a test of one digit after another
 tested : (test : ℕ → Bool) (xs : List ℕ) (n : ℕ) → test 0 ≡ true → list_all test xs ≡ true → test (slice_index xs n) ≡ true
 tested test [] n past all = past
-tested test (x ∷ xs) zero past all = (and_true (test x) (list_all test xs) all).0
-tested test (x ∷ xs) (suc n) past all = tested test xs n past (and_true (test x) (list_all test xs) all).1
+tested test (x ∷ xs) zero past all = (and_parts (test x) (list_all test xs) all).0
+tested test (x ∷ xs) (suc n) past all = tested test xs n past (and_parts (test x) (list_all test xs) all).1
 
 pub digit_not_end : (n : ℕ) → not (eqb (slice_index lower_digits n) 0x0a) ≡ true
 digit_not_end n = tested (λ c. not (eqb c 0x0a)) lower_digits n refl refl
@@ -49,7 +49,7 @@ all_back (suc n) = eqb (hex_value (slice_index lower_digits n)) n && all_back n
 back_at : (n k : ℕ) → all_back n ≡ true → k < n → hex_value (slice_index lower_digits k) ≡ k
 back_at zero k h lt = absurd (omega arith)
 back_at (suc n) k h lt =
-    let a = and_true (eqb (hex_value (slice_index lower_digits n)) n) (all_back n) h in
+    let a = and_parts (eqb (hex_value (slice_index lower_digits n)) n) (all_back n) h in
     elim (cases_lt k n) [
       | inl below ↦ back_at n k a.1 below
       | inr top ↦ let e : k ≡ n = omega arith in rw e (eqb-true (hex_value (slice_index lower_digits n)) n a.0)
@@ -127,9 +127,9 @@ text_back b fits ne = ap (if_form text_line (text_form b)) (go (is_bare b) refl)
   where
     go : (t : Bool) → is_bare b ≡ t → text_read (cond t b (34 ∷ (flat_map escape_of b ++ 34 ∷ []))) ≡ Some (blob b)
     go true e =
-        let four = and_true _ _ e in
-        let three = and_true _ _ four.0 in
-        let quote : begins_with_byte 34 b ≡ false = not_true _ three.1 in
+        let four = and_parts _ _ e in
+        let three = and_parts _ _ four.0 in
+        let quote : begins_with_byte 34 b ≡ false = not-true _ three.1 in
         rw quote (made_blob-is b ne)
     go false e =
         let q : List ℕ = flat_map escape_of b ++ 34 ∷ [] in
@@ -137,20 +137,20 @@ text_back b fits ne = ap (if_form text_line (text_form b)) (go (is_bare b) refl)
 
 -- no value has the form `null`
 begins_otherwise : (c : ℕ) (cs : List ℕ) → c ≢ 110 → bytes_eq (c ∷ cs) (codes "null") ≡ false
-begins_otherwise c cs ne = let t : eqb c 110 ≡ false = neq-eqb c 110 ne in rw t refl
+begins_otherwise c cs ne = let t : eqb c 110 ≡ false = ne_eqb c 110 ne in rw t refl
 
 pub text_not_null : (b : List ℕ) → bytes_eq (text_form b) (codes "null") ≡ false
 text_not_null b = go (is_bare b) refl
   where
     go : (t : Bool) → is_bare b ≡ t → bytes_eq (cond t b (34 ∷ (flat_map escape_of b ++ 34 ∷ []))) (codes "null") ≡ false
-    go true e = not_true _ (and_true _ _ e).1
+    go true e = not-true _ (and_parts _ _ e).1
     go false e = refl
 
 pub hash_not_null : (b : List ℕ) → b ≢ [] → bytes_eq (encode_lower b) (codes "null") ≡ false
 unfolding encode_with
 hash_not_null [] ne = absurd (ne refl)
 hash_not_null (c ∷ cs) ne =
-    begins_otherwise (slice_index lower_digits (c / 16)) (slice_index lower_digits (c % 16) ∷ encode_lower cs) (λ e. let t = eq-eqb _ _ e in let f = not_true _ (digit_not_n (c / 16)) in absurd cc)
+    begins_otherwise (slice_index lower_digits (c / 16)) (slice_index lower_digits (c % 16) ∷ encode_lower cs) (λ e. let t = eq-eqb _ _ e in let f = not-true _ (digit_not_n (c / 16)) in absurd cc)
 
 pub int_not_null : (n : ℕ) → n < 2 ^ 64 → bytes_eq (decimal n) (codes "null") ≡ false
 int_not_null n lt = first (decimal n) (decimal_is_IsNumeral n lt).0

@@ -1,6 +1,7 @@
 -- Which values are Null.
-use Rattle.std.proofs.Common.{◌≡◌, ◌≢◌, ℕ, Bool, true, false, cond, eqb, List, [], ◌∷◌, length, Option, Some, None, Result, Ok, Err, refl, sym, ap, arith, ◌∙◌}
+use Rattle.std.proofs.Common.{◌≡◌, ℕ, Bool, true, false, cond, eqb, List, [], ◌∷◌, length, Option, Some, None, Result, Ok, Err, refl, sym, ap, arith, ◌∙◌}
 use Rattle.std.specs.Prelude.{◌==◌, ◌&&◌, is_some, unwrap_or, IsTrue, ◌↔◌}
+use Rattle.std.proofs.lemmas.Bool.{ne_eqb}
 use Rattle.adb_view.specs.Plain.{Plain, null, int, blob, arr, obj, Plains, none, more, keep, without_last_nulls, blob_value, arr_value, obj_of, obj_value, from_answer, then_more, each_plain, plain_of}
 use Rattle.adb_fields.specs.Fields.{are_all_sound, values_at}
 use Rattle.adb_view.specs.Schema.{shape_of}
@@ -12,16 +13,13 @@ use Rattle.adb_view.specs.declared.tables.Kind.TheVariants.{Hash, Int, Text}
 use Rattle.adb_dump.specs.Words.{is_null, are_null}
 use Rattle.adb_dump.proofs.WordReads.{hash_plain, text_plain}
 
-neq-eqb : (m n : ℕ) → m ≢ n → eqb m n ≡ false
-neq-eqb m n ne = grind arith
-
 some_length : (x : ℕ) (xs : List ℕ) → (length (x ∷ xs) == 0) ≡ false
-some_length x xs = neq-eqb (length (x ∷ xs)) 0 (λ e. absurd (omega arith))
+some_length x xs = ne_eqb (length (x ∷ xs)) 0 (λ e. absurd (omega arith))
 
 -- a test of NULL
 pub null_test : (r : Bool) (w : ℕ) → IsTrue r ↔ (w ≡ 0) → r ≡ (w == 0)
 null_test true w h = let z : w ≡ 0 = h.0 refl in rw z refl
-null_test false w h = sym (neq-eqb w 0 (λ z. let no : false ≡ true = h.1 z in absurd cc))
+null_test false w h = sym (ne_eqb w 0 (λ z. let no : false ≡ true = h.1 z in absurd cc))
 
 -- an integer is Null only as NULL
 pub int_is_null : (p : List ℕ) (w : ℕ) → is_sound p Int w ≡ true → is_null (value_at p Int w) ≡ (w == 0)

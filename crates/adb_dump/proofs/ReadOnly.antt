@@ -9,8 +9,9 @@ use Rattle.adb_view.specs.Shaped.{Each, HasShape, HaveShapes}
 use Rattle.adb_view.proofs.FoundShapes.{shape_null}
 use Rattle.adb_dump.specs.Dump.{Line, begins_with_byte, int_line, text_line, hash_line, indent, with_dash, or_null, array_lines, named_line, named_block, unless_absent, block_lines, named_lines, fields_lines}
 use Rattle.base_core.specs.Lists.{and_then}
+use Rattle.base_core.proofs.AtName.{is_name}
 use Rattle.adb_dump.specs.ReadBack.{LinesRead, after_lines, strip_prefix, stop_or_add, split_block, quoted_read, unhex, blob_read, int_read, text_read, hash_read, if_form, only_line, entry_read, after_dash, entries_read, arr_read, obj_read, field_on_line, field_below, if_named, block_read, named_read, fields_read}
-use Rattle.adb_dump.proofs.Booleans.{chosen, bytes_eq-true}
+use Rattle.adb_dump.proofs.Booleans.{chosen}
 
 bind_ok : {A B : Type 0} (r : LinesRead A) (f : A → LinesRead B) (y : B) → and_then r f ≡ Ok y → (x : A) × (r ≡ Ok x) × (f x ≡ Ok y)
 bind_ok (Ok x) f y e = (x, refl, e)
@@ -20,11 +21,11 @@ behind_ok : {A B : Type 0} (n : ℕ) (f : A → B) (r : LinesRead A) (y : B) →
 behind_ok n f (Ok x) y e = (x, refl, cc)
 behind_ok n f (Err k) y e = absurd cc
 
-if_form_ok : (form : Plain → Line) (l : Line) (o : Option Plain) (v : Plain) → if_form form l o ≡ Ok v → (o ≡ Some v) × (form v ≡ l)
+pub if_form_ok : (form : Plain → Line) (l : Line) (o : Option Plain) (v : Plain) → if_form form l o ≡ Ok v → (o ≡ Some v) × (form v ≡ l)
 if_form_ok form l None v e = absurd cc
 if_form_ok form l (Some u) v e =
     elim (chosen (bytes_eq (form u) l) _ _ _ e) [
-      | inl x ↦ let f = x.1 in let same : u ≡ v = cc in (ap Some same, ap form (sym same) ∙ bytes_eq-true (form u) l x.0)
+      | inl x ↦ let f = x.1 in let same : u ≡ v = cc in (ap Some same, ap form (sym same) ∙ is_name (form u) l x.0)
       | inr x ↦ absurd (let f = x.1 in cc)
     ]
 
@@ -33,7 +34,7 @@ only_line_ok f [] v e = absurd cc
 only_line_ok f (l ∷ []) v e = (l, refl, e)
 only_line_ok f (l ∷ m ∷ ls) v e = absurd (let (x, a, b) = bind_ok (f l) (λ v. Err 1) v e in cc)
 
-strip_prefix_some : (p l r : List ℕ) → strip_prefix p l ≡ Some r → l ≡ p ++ r
+pub strip_prefix_some : (p l r : List ℕ) → strip_prefix p l ≡ Some r → l ≡ p ++ r
 strip_prefix_some [] l r e = cc
 strip_prefix_some (p ∷ ps) [] r e = absurd cc
 strip_prefix_some (p ∷ ps) (c ∷ cs) r e =
@@ -42,7 +43,7 @@ strip_prefix_some (p ∷ ps) (c ∷ cs) r e =
       | inr x ↦ absurd (let f = x.1 in cc)
     ]
 
-split_block_parts : (ls : List Line) → ls ≡ indent (split_block ls).0 ++ (split_block ls).1
+pub split_block_parts : (ls : List Line) → ls ≡ indent (split_block ls).0 ++ (split_block ls).1
 split_block_parts [] = refl
 split_block_parts (l ∷ ls) = go (strip_prefix (32 ∷ 32 ∷ []) l) refl (split_block_parts ls)
   where
@@ -55,7 +56,7 @@ split_block_parts (l ∷ ls) = go (strip_prefix (32 ∷ 32 ∷ []) l) refl (spli
 abbrev pub Fits1 : Shape → Plain → Type 0
 Fits1 s v = (v ≢ null) × IsNormal v × HasShape s v
 
-made_blob_some : (b : List ℕ) (v : Plain) → blob_read b ≡ Some v → (v ≡ blob b) × (b ≢ [])
+pub made_blob_some : (b : List ℕ) (v : Plain) → blob_read b ≡ Some v → (v ≡ blob b) × (b ≢ [])
 made_blob_some [] v e = absurd cc
 made_blob_some (c ∷ cs) v e = (cc, λ f. cc)
 
@@ -122,14 +123,14 @@ entries_only f r Q h (suc n) (l ∷ ls) vs le e =
 abbrev pub BlockOnly : Shape → Type 0
 BlockOnly s = (ls : List Line) (v : Plain) → block_read s ls ≡ Ok v → (block_lines s v ≡ ls) × Fits1 s v
 
-keeps : (v : Plain) (us : Plains) → v ≢ null → keep v us ≡ more v us
+pub keeps : (v : Plain) (us : Plains) → v ≢ null → keep v us ≡ more v us
 keeps null us ne = absurd (ne refl)
 keeps (int n) us ne = refl
 keeps (blob b) us ne = refl
 keeps (arr a) us ne = refl
 keeps (obj a) us ne = refl
 
-or_null-is : (v : Plain) (ls : List Line) → v ≢ null → or_null v ls ≡ ls
+pub or_null-is : (v : Plain) (ls : List Line) → v ≢ null → or_null v ls ≡ ls
 or_null-is null ls ne = absurd (ne refl)
 or_null-is (int n) ls ne = refl
 or_null-is (blob b) ls ne = refl
@@ -154,7 +155,7 @@ entry_only s h l ls v e =
       | inl x ↦
           let (m, is, ok) = only_line_ok (λ y. Ok null) (l ∷ ls) v x.1 in
           let nothing : v ≡ null = cc in
-          let word = bytes_eq-true l (codes "null") x.0 in
+          let word = is_name l (codes "null") x.0 in
           let lines : codes "null" ∷ [] ≡ l ∷ ls = cc in
           subst (λ (u : Plain). (or_null u (block_lines s u) ≡ l ∷ ls) × EntryFits s u) (sym nothing) (lines, (tt, shape_null s))
       | inr x ↦ let r = h (l ∷ ls) v x.1 in (or_null-is v (block_lines s v) r.1.0 ∙ r.0, (r.1.1, r.1.2))
@@ -257,7 +258,7 @@ named_only hash fs name h rest ls vs e = line_only hash fs name hash_line hash_r
 named_only (array s) fs name h rest ls vs e = below_only (array s) fs name h (λ v. refl) rest ls vs e
 named_only (object which gs) fs name h rest ls vs e = below_only (object which gs) fs name h (λ v. refl) rest ls vs e
 
-some_line : (fs : Fields) (l : Line) (ls : List Line) → fields_lines fs none ≢ l ∷ ls
+pub some_line : (fs : Fields) (l : Line) (ls : List Line) → fields_lines fs none ≢ l ∷ ls
 unfolding fields_lines
 some_line no_fields l ls e = cc
 some_line (field name s fs) l ls e = cc

@@ -3,7 +3,7 @@ use Rattle.std.proofs.Common.{◌≡◌, ◌≢◌, ℕ, suc, ◌/◌, ◌%◌, 
 use Rattle.std.specs.Prelude.{not, codes, decimal}
 use Rattle.std.specs.List.{flat_map, list_all}
 use Rattle.std.specs.Str.Parse.{AllDigits}
-use Rattle.std.proofs.lemmas.Bool.{leb-true, eqb-true}
+use Rattle.std.proofs.lemmas.Bool.{leb-true, eqb-true, not-true, and_from, and_parts, ne_eqb}
 use Rattle.std.proofs.lemmas.List.Concat.{flat_map-cons}
 use Rattle.std.proofs.lemmas.List.Folds.{list_all-append}
 use Rattle.std.proofs.lemmas.Fmt.{decimal_is_IsNumeral}
@@ -14,7 +14,7 @@ use Rattle.adb_view.specs.Values.{entries_in}
 use Rattle.adb_dump.specs.Dump.{Line, is_printable, is_bare, escape_of, text_form, int_line, text_line, hash_line, indent, with_dash, or_null, array_lines, named_line, named_block, unless_absent, block_lines, named_lines, fields_lines, text_of}
 use Rattle.adb_dump.specs.ReadBack.{split_lines, add_char}
 use Rattle.adb_dump.proofs.LineBack.{digit_not_end}
-use Rattle.adb_dump.proofs.Booleans.{and_true, not_true, neq-eqb, both, chosen}
+use Rattle.adb_dump.proofs.Booleans.{chosen}
 use Rattle.adb_dump.proofs.ValueBack.{no_end, no_colon, names_of, is_name, is_named, are_named}
 
 abbrev pub are_lines : List Line → Bool
@@ -24,39 +24,39 @@ are_lines ls = list_all no_end ls
 lines_of-line : (l : Line) (rest : List ℕ) (ls : List Line) → no_end l ≡ true → split_lines rest ≡ Some ls → split_lines (l ++ 10 ∷ rest) ≡ Some (l ∷ ls)
 lines_of-line [] rest ls h e = rw e refl
 lines_of-line (c ∷ cs) rest ls h e =
-    let a = and_true (not (eqb c 10)) (no_end cs) h in
-    let t : eqb c 10 ≡ false = not_true (eqb c 10) a.0 in
+    let a = and_parts (not (eqb c 10)) (no_end cs) h in
+    let t : eqb c 10 ≡ false = not-true (eqb c 10) a.0 in
     rw (t, lines_of-line cs rest ls a.1 e) refl
 
 pub lines_of-text : (ls : List Line) → are_lines ls ≡ true → split_lines (text_of ls) ≡ Some ls
 lines_of-text [] h = refl
 lines_of-text (l ∷ ls) h =
-    let a = and_true (no_end l) (are_lines ls) h in
+    let a = and_parts (no_end l) (are_lines ls) h in
     ap split_lines (flat_map-cons (λ (x : Line). x ++ 10 ∷ []) l ls ∙ append_assoc l (10 ∷ []) (text_of ls)) ∙ lines_of-line l (text_of ls) ls a.0 (lines_of-text ls a.1)
 
 -- ---- no line of a dump has a line end
 
 not_end : (c : ℕ) → c ≢ 10 → not (eqb c 10) ≡ true
-not_end c ne = let t : eqb c 10 ≡ false = neq-eqb c 10 ne in rw t refl
+not_end c ne = let t : eqb c 10 ≡ false = ne_eqb c 10 ne in rw t refl
 
 append_lines : (xs ys : List Line) → are_lines xs ≡ true → are_lines ys ≡ true → are_lines (xs ++ ys) ≡ true
-append_lines xs ys a b = list_all-append no_end xs ys ∙ both _ _ a b
+append_lines xs ys a b = list_all-append no_end xs ys ∙ and_from _ _ a b
 
 append_chars : (x y : List ℕ) → no_end x ≡ true → no_end y ≡ true → no_end (x ++ y) ≡ true
-append_chars x y a b = list_all-append (λ d. not (eqb d 10)) x y ∙ both _ _ a b
+append_chars x y a b = list_all-append (λ d. not (eqb d 10)) x y ∙ and_from _ _ a b
 
 indent_lines : (ls : List Line) → are_lines ls ≡ true → are_lines (indent ls) ≡ true
 indent_lines [] h = refl
-indent_lines (l ∷ ls) h = let a = and_true (no_end l) (are_lines ls) h in both _ _ a.0 (indent_lines ls a.1)
+indent_lines (l ∷ ls) h = let a = and_parts (no_end l) (are_lines ls) h in and_from _ _ a.0 (indent_lines ls a.1)
 
 dashed_lines : (ls : List Line) → are_lines ls ≡ true → are_lines (with_dash ls) ≡ true
 dashed_lines [] h = refl
-dashed_lines (l ∷ ls) h = let a = and_true (no_end l) (are_lines ls) h in both _ _ a.0 (indent_lines ls a.1)
+dashed_lines (l ∷ ls) h = let a = and_parts (no_end l) (are_lines ls) h in and_from _ _ a.0 (indent_lines ls a.1)
 
 pub hash_end : (b : List ℕ) → no_end (encode_lower b) ≡ true
 unfolding encode_with
 hash_end [] = refl
-hash_end (c ∷ cs) = both _ _ (digit_not_end (c / 16)) (both _ _ (digit_not_end (c % 16)) (hash_end cs))
+hash_end (c ∷ cs) = and_from _ _ (digit_not_end (c / 16)) (and_from _ _ (digit_not_end (c % 16)) (hash_end cs))
 
 escaped_end : (c : ℕ) → no_end (escape_of c) ≡ true
 escaped_end c = go (eqb c 10) (eqb c 92) (eqb c 34) (is_printable c) refl
@@ -75,20 +75,20 @@ escapes_end (c ∷ cs) = ap no_end (flat_map-cons escape_of c cs) ∙ append_cha
 printable_end : (b : List ℕ) → list_all is_printable b ≡ true → no_end b ≡ true
 printable_end [] h = refl
 printable_end (c ∷ cs) h =
-    let a = and_true (is_printable c) (list_all is_printable cs) h in
-    let le : 0x20 ≤ c = leb-true _ _ (and_true (leb 0x20 c) (leb c 0x7e) a.0).0 in
-    both _ _ (not_end c (λ e. absurd (omega arith))) (printable_end cs a.1)
+    let a = and_parts (is_printable c) (list_all is_printable cs) h in
+    let le : 0x20 ≤ c = leb-true _ _ (and_parts (leb 0x20 c) (leb c 0x7e) a.0).0 in
+    and_from _ _ (not_end c (λ e. absurd (omega arith))) (printable_end cs a.1)
 
 text_end : (b : List ℕ) → no_end (text_form b) ≡ true
 text_end b = go (is_bare b) refl
   where
     go : (t : Bool) → is_bare b ≡ t → no_end (cond t b (34 ∷ (flat_map escape_of b ++ 34 ∷ []))) ≡ true
-    go true e = printable_end b (and_true _ _ (and_true _ _ (and_true _ _ (and_true _ _ e).0).0).0).0
+    go true e = printable_end b (and_parts _ _ (and_parts _ _ (and_parts _ _ (and_parts _ _ e).0).0).0).0
     go false e = append_chars (flat_map escape_of b) (34 ∷ []) (escapes_end b) refl
 
 digits_end : (ds : List ℕ) → AllDigits 10 ds → no_end ds ≡ true
 digits_end [] h = refl
-digits_end (d ∷ ds) h = let r = digit_at (d ∷ ds) 0 h (first ds) in both _ _ (not_end d (λ e. absurd (omega arith))) (digits_end ds h.1)
+digits_end (d ∷ ds) h = let r = digit_at (d ∷ ds) 0 h (first ds) in and_from _ _ (not_end d (λ e. absurd (omega arith))) (digits_end ds h.1)
   where
     first : (ds : List ℕ) → 0 < suc (length ds)
     first ds = omega arith
@@ -143,17 +143,17 @@ items_normal (arr vs) n = n.1
 items_normal (obj vs) n = n.2
 
 one_line : (l : Line) → no_end l ≡ true → are_lines (l ∷ []) ≡ true
-one_line l h = both _ _ h refl
+one_line l h = and_from _ _ h refl
 
 name_end : (name : List ℕ) → is_name name ≡ true → no_end name ≡ true
 name_end [] h = absurd cc
-name_end (c ∷ cs) h = (and_true (no_colon (c ∷ cs)) (no_end (c ∷ cs)) (and_true (not (eqb c 32)) (no_colon (c ∷ cs) && no_end (c ∷ cs)) h).1).1
+name_end (c ∷ cs) h = (and_parts (no_colon (c ∷ cs)) (no_end (c ∷ cs)) (and_parts (not (eqb c 32)) (no_colon (c ∷ cs) && no_end (c ∷ cs)) h).1).1
 
 on_line_end : (name l : List ℕ) → is_name name ≡ true → no_end l ≡ true → are_lines (named_line name l) ≡ true
 on_line_end name l n h = one_line (name ++ (58 ∷ 32 ∷ l)) (append_chars name (58 ∷ 32 ∷ l) (name_end name n) h)
 
 below_end : (name : List ℕ) (ls : List Line) → is_name name ≡ true → are_lines ls ≡ true → are_lines (named_block name ls) ≡ true
-below_end name ls n h = both _ _ (append_chars name (58 ∷ []) (name_end name n) refl) (indent_lines ls h)
+below_end name ls n h = and_from _ _ (append_chars name (58 ∷ []) (name_end name n) refl) (indent_lines ls h)
 
 named_end : (name : List ℕ) (s : Shape) (v : Plain) → is_name name ≡ true → IsNormal v → are_lines (block_lines s v) ≡ true → are_lines (named_lines s name v) ≡ true
 unfolding named_lines
@@ -195,7 +195,7 @@ mapped_some : (o : Option (List Line)) (ls : List Line) → option_map (λ (xs :
 mapped_some None ls e = absurd cc
 mapped_some (Some rest) ls e = (rest, refl, cc)
 
-line_first : (l : Line) (ls : List Line) → text_of (l ∷ ls) ≡ l ++ 10 ∷ text_of ls
+pub line_first : (l : Line) (ls : List Line) → text_of (l ∷ ls) ≡ l ++ 10 ∷ text_of ls
 line_first l ls = flat_map-cons (λ (x : Line). x ++ codes "\n") l ls ∙ append_assoc l (10 ∷ []) (text_of ls)
 
 pub text_of-lines : (t : List ℕ) (ls : List Line) → split_lines t ≡ Some ls → text_of ls ≡ t

@@ -2,17 +2,17 @@
 use Rattle.std.proofs.Common.{◌≡◌, ◌≢◌, ℕ, zero, suc, ◌+◌, ◌^◌, ◌<◌, ◌≤◌, Bool, true, false, cond, eqb, ◌&&◌, List, [], ◌∷◌, ◌++◌, length, Some, None, Ok, refl, sym, ap, subst, ◌∙◌, append_assoc, arith, inl, inr, ◌⊎◌, eq-eqb}
 use Rattle.std.specs.Prelude.{not, ◌||◌, codes, decimal, bytes_eq}
 use Rattle.std.specs.List.{list_all}
-use Rattle.std.proofs.lemmas.Bool.{eqb-true}
+use Rattle.std.proofs.lemmas.Bool.{eqb-true, not-true, and_parts, ne_eqb}
 use Rattle.std.proofs.lemmas.List.{length-append}
 use Rattle.adb_view.specs.Plain.{Plain, null, int, blob, arr, obj, Plains, none, more, without_last_nulls, Shape, number, text, hash, array, object, Fields, no_fields, field, IsNormal, AreNormal}
 use Rattle.adb_view.specs.Shaped.{Each, HasShape, HaveShapes}
 use Rattle.adb_view.proofs.Normal.{trimmed-more}
 use Rattle.adb_dump.specs.Dump.{Line, int_line, text_line, hash_line, text_form, indent, with_dash, or_null, array_lines, block_lines, named_lines, fields_lines}
 use Rattle.base_core.specs.Lists.{and_then}
+use Rattle.base_core.proofs.AtName.{own_name, other_name as differs}
 use Rattle.adb_dump.specs.ReadBack.{LinesRead, after_lines, strip_prefix, split_block, entry_read, entries_read, arr_read, obj_read, field_below, block_read, named_read, fields_read}
 use Rattle.adb_dump.specs.Values.{IsOfBytes, AreOfBytes}
 use Rattle.adb_dump.proofs.LineBack.{AreBytes, int_back, text_back, hash_back, int_not_null, text_not_null, hash_not_null}
-use Rattle.adb_dump.proofs.Booleans.{and_true, not_true, neq-eqb, bytes_eq-same, differs}
 
 -- ---- names by which a reader tells fields apart: not empty, no space in front, no colon and no line end
 
@@ -39,7 +39,7 @@ unfoldable mutual
 
 -- ---- prefixes
 
-strip_prefix-append : (p l : List ℕ) → strip_prefix p (p ++ l) ≡ Some l
+pub strip_prefix-append : (p l : List ℕ) → strip_prefix p (p ++ l) ≡ Some l
 strip_prefix-append [] l = refl
 strip_prefix-append (c ∷ cs) l = let t : eqb c c ≡ true = eq-eqb c c refl in rw t (strip_prefix-append cs l)
 
@@ -116,10 +116,10 @@ no_end cs = list_all (λ d. not (eqb d 10)) cs
 other_name : (a b rest : List ℕ) → no_colon a ≡ true → no_colon b ≡ true → a ≢ b → strip_prefix (a ++ 58 ∷ []) (b ++ 58 ∷ rest) ≡ None
 other_name [] [] rest h k ne = absurd (ne refl)
 other_name [] (d ∷ ds) rest h k ne =
-    let t : eqb 58 d ≡ false = neq-eqb 58 d (λ e. let u : eqb d 58 ≡ true = eq-eqb d 58 (sym e) in let v : eqb d 58 ≡ false = not_true (eqb d 58) (and_true (not (eqb d 58)) (no_colon ds) k).0 in cc) in
+    let t : eqb 58 d ≡ false = ne_eqb 58 d (λ e. let u : eqb d 58 ≡ true = eq-eqb d 58 (sym e) in let v : eqb d 58 ≡ false = not-true (eqb d 58) (and_parts (not (eqb d 58)) (no_colon ds) k).0 in cc) in
     rw t refl
-other_name (c ∷ cs) [] rest h k ne = let t : eqb c 58 ≡ false = not_true (eqb c 58) (and_true (not (eqb c 58)) (no_colon cs) h).0 in rw t refl
-other_name (c ∷ cs) (d ∷ ds) rest h k ne = go (eqb c d) refl (λ f. other_name cs ds rest (and_true (not (eqb c 58)) (no_colon cs) h).1 (and_true (not (eqb d 58)) (no_colon ds) k).1 f)
+other_name (c ∷ cs) [] rest h k ne = let t : eqb c 58 ≡ false = not-true (eqb c 58) (and_parts (not (eqb c 58)) (no_colon cs) h).0 in rw t refl
+other_name (c ∷ cs) (d ∷ ds) rest h k ne = go (eqb c d) refl (λ f. other_name cs ds rest (and_parts (not (eqb c 58)) (no_colon cs) h).1 (and_parts (not (eqb d 58)) (no_colon ds) k).1 f)
   where
     go : (t : Bool) → eqb c d ≡ t → (cs ≢ ds → strip_prefix (cs ++ 58 ∷ []) (ds ++ 58 ∷ rest) ≡ None) → cond t (strip_prefix (cs ++ 58 ∷ []) (ds ++ 58 ∷ rest)) None ≡ None
     go true e more_differ = let same : c ≡ d = eqb-true _ _ e in more_differ (λ f. ne cc)
@@ -172,9 +172,9 @@ pub record Names (name : List ℕ) (s : Shape) (fs : Fields) : Type 0 where
 pub names_of : (name : List ℕ) (s : Shape) (fs : Fields) → are_named (field name s fs) ≡ true → Names name s fs
 unfolding are_named
 names_of name s fs h =
-    let a = and_true _ _ h in
-    let b = and_true _ _ a.1 in
-    let c = and_true _ _ b.1 in
+    let a = and_parts _ _ h in
+    let b = and_parts _ _ a.1 in
+    let c = and_parts _ _ b.1 in
     record { this = a.0; new = b.0; shape = c.0; others = c.1 }
 
 among_is_name : (name : List ℕ) (fs : Fields) → are_named fs ≡ true → IsAmong name fs → is_name name ≡ true
@@ -185,19 +185,19 @@ among_is_name name (field other s fs) h (inr i) = among_is_name name fs (names_o
 among_is_other : (name other : List ℕ) (fs : Fields) → is_new name fs ≡ true → IsAmong other fs → name ≢ other
 among_is_other name other no_fields h i e = i
 among_is_other name other (field x s fs) h (inl j) e =
-    let k : bytes_eq name x ≡ false = not_true (bytes_eq name x) (and_true (not (bytes_eq name x)) (is_new name fs) h).0 in
-    let same : bytes_eq name x ≡ true = subst (λ (y : List ℕ). bytes_eq name y ≡ true) (e ∙ j) (bytes_eq-same name) in
+    let k : bytes_eq name x ≡ false = not-true (bytes_eq name x) (and_parts (not (bytes_eq name x)) (is_new name fs) h).0 in
+    let same : bytes_eq name x ≡ true = subst (λ (y : List ℕ). bytes_eq name y ≡ true) (e ∙ j) (own_name name) in
     cc
-among_is_other name other (field x s fs) h (inr i) e = among_is_other name other fs (and_true (not (bytes_eq name x)) (is_new name fs) h).1 i e
+among_is_other name other (field x s fs) h (inr i) e = among_is_other name other fs (and_parts (not (bytes_eq name x)) (is_new name fs) h).1 i e
 
 name_no_colon : (name : List ℕ) → is_name name ≡ true → no_colon name ≡ true
 name_no_colon [] h = absurd cc
-name_no_colon (c ∷ cs) h = (and_true (no_colon (c ∷ cs)) (no_end (c ∷ cs)) (and_true (not (eqb c 32)) (no_colon (c ∷ cs) && no_end (c ∷ cs)) h).1).0
+name_no_colon (c ∷ cs) h = (and_parts (no_colon (c ∷ cs)) (no_end (c ∷ cs)) (and_parts (not (eqb c 32)) (no_colon (c ∷ cs) && no_end (c ∷ cs)) h).1).0
 
 name_not_indented : (name rest : List ℕ) → is_name name ≡ true → strip_prefix (32 ∷ 32 ∷ []) (name ++ 58 ∷ rest) ≡ None
 name_not_indented [] rest h = absurd cc
 name_not_indented (c ∷ cs) rest h =
-    let t : eqb 32 c ≡ false = neq-eqb 32 c (λ e. let u : eqb c 32 ≡ true = eq-eqb c 32 (sym e) in let v : eqb c 32 ≡ false = not_true (eqb c 32) (and_true (not (eqb c 32)) (no_colon (c ∷ cs) && no_end (c ∷ cs)) h).0 in cc) in
+    let t : eqb 32 c ≡ false = ne_eqb 32 c (λ e. let u : eqb c 32 ≡ true = eq-eqb c 32 (sym e) in let v : eqb c 32 ≡ false = not-true (eqb c 32) (and_parts (not (eqb c 32)) (no_colon (c ∷ cs) && no_end (c ∷ cs)) h).0 in cc) in
     rw t refl
 
 fields_fresh : (fs : Fields) (ls : List Line) → are_named fs ≡ true → FirstNamed fs ls → IsFresh ls

@@ -2,6 +2,7 @@
 use Rattle.std.proofs.Common.{◌≡◌, ◌≢◌, ℕ, true, List, [], ◌∷◌, Some, Ok, refl, sym, ap, subst, ◌∙◌}
 use Rattle.std.specs.Prelude.{option_map}
 use Rattle.hex.specs.Hex.{encode_with}
+use Rattle.std.proofs.lemmas.Bool.{and_from}
 use Rattle.adb_view.specs.Plain.{Plain, null, int, blob, arr, obj, Shape, IsNormal}
 use Rattle.adb_view.specs.Schema.{shape_of, shapes_of, table}
 use Rattle.adb_schema.specs.Soundness.{schema_word}
@@ -14,7 +15,6 @@ use Rattle.base_core.specs.Lists.{and_then}
 use Rattle.adb_dump.specs.ReadBack.{block_read, split_lines, value_read}
 use Rattle.adb_dump.specs.Values.{IsOfBytes, IsValueOf}
 use Rattle.adb_dump.proofs.BlockLines.{no_lines, object_block}
-use Rattle.adb_dump.proofs.Booleans.{both}
 use Rattle.adb_dump.proofs.ValueBack.{no_end, is_named, block_back}
 use Rattle.adb_dump.proofs.TextLines.{block_end, lines_of-text}
 use Rattle.adb_view.proofs.FoundShapes.{shape_null}
@@ -72,7 +72,7 @@ schema_end Idb = refl
 schema_end Intent = refl
 
 pub text_split : (which : Which) (v : Plain) → IsNormal v → split_lines (dump_text which v) ≡ Some (dump_lines which v)
-text_split which v a = lines_of-text (dump_lines which v) (both _ _ (schema_end which) (block_end (shape_of (Obj which)) (table_named which) v a))
+text_split which v a = lines_of-text (dump_lines which v) (and_from _ _ (schema_end which) (block_end (shape_of (Obj which)) (table_named which) v a))
 
 same_lines : (x y : Line) (xs ys : List Line) → option_map (λ (ls : List Line). ls) (Some (x ∷ xs)) ≡ option_map (λ (ls : List Line). ls) (Some (y ∷ ys)) → xs ≡ ys
 same_lines x y xs ys e = cc

@@ -1,7 +1,7 @@
 -- The plain values of words, in terms of what the readers of a word answer.
-use Rattle.std.proofs.Common.{◌≡◌, ℕ, Bool, true, false, cond, eqb, List, [], ◌∷◌, Option, Some, None, option_map, Result, Ok, Err, refl, sym, ap, ◌∙◌, inl, inr, ◌⊎◌}
+use Rattle.std.proofs.Common.{◌≡◌, ℕ, Bool, true, false, cond, eqb, List, [], ◌∷◌, Option, Some, None, option_map, Result, Ok, Err, refl, sym, ap, ◌∙◌, inl, inr}
 use Rattle.std.specs.Prelude.{is_some, unwrap_or}
-use Rattle.std.proofs.lemmas.Bool.{eqb-true}
+use Rattle.adb_fields.proofs.FieldReads.{null_or_not}
 use Rattle.adb_view.specs.Plain.{Plain, null, int, Plains, none, Fields, no_fields, field, blob_value, obj_value, unless_null, from_answer, plain_of, plains_of}
 use Rattle.adb_view.specs.Readers.{int_of, blob_of, run_of, OBJECT}
 use Rattle.adb_view.specs.Schema.{table, shape_of, shapes_of}
@@ -11,14 +11,6 @@ use Rattle.base_core.specs.declared.cause.Cause.{Cause}
 use Rattle.adb_view.specs.declared.tables.Which.{Which}
 use Rattle.adb_view.specs.declared.tables.Kind.TheVariants.{Int, Text, Hash, Obj}
 use Rattle.adb_dump.specs.Words.{fields_sound, fields_at, is_null}
-
--- NULL or not
-null_or_not : (w : ℕ) → (w ≡ 0) ⊎ (eqb w 0 ≡ false)
-null_or_not w = go (eqb w 0) refl
-  where
-    go : (b : Bool) → eqb w 0 ≡ b → (w ≡ 0) ⊎ (eqb w 0 ≡ false)
-    go true e = inl (eqb-true _ _ e)
-    go false e = inr e
 
 -- a reader that reads NULL as what means Null
 found_is : {A : Type 0} (w : ℕ) (f : A → Option Plain) (r : ℕ → Result A Cause) (x y : A) → r 0 ≡ Ok y → f y ≡ Some null → r w ≡ Ok x → unless_null w (from_answer f (r w)) ≡ f x

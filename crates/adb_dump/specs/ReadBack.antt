@@ -105,7 +105,7 @@ abbrev pub if_form : (Plain → Line) → Line → Option Plain → LinesRead Pl
 if_form form l None = Err 0
 if_form form l (Some v) = if bytes_eq (form v) l then Ok v else Err 0
 
--- a value on one line; a second line is bad, and is reported as line 1, since lines count from 0
+-- A value on one line. A second line is bad, and is reported as line 1 (lines count from 0).
 abbrev pub only_line : (Line → LinesRead Plain) → List Line → LinesRead Plain
 only_line f [] = Err 0
 only_line f (l ∷ []) = f l

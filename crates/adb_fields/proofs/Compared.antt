@@ -12,6 +12,7 @@ use Rattle.std.specs.Cmp.Lexicographic.{slice_cmp, texts_ties, bytes_decides}
 use Rattle.std.specs.Ordering.{nat_cmp, ordering_then, is_eq}
 use Rattle.std.specs.declared.cmp.Ordering.{Ordering}
 use Rattle.std.specs.declared.cmp.Ordering.TheVariants.{Less, Equal, Greater}
+use Rattle.base_core.proofs.Orderings.{tied_then}
 
 abbrev pub at_place : Option ℕ → Option ℕ → Ordering → Ordering
 at_place None None more = Equal
@@ -51,9 +52,6 @@ step_at (x ∷ a) (y ∷ b) (suc i) =
 pub decided : (a b : List ℕ) (i : ℕ) (p q : Option ℕ) (o : Ordering) → p ≡ slice_get a i → q ≡ slice_get b i → from_place a b i ≡ o → at_place p q (from_place a b (i + 1)) ≡ o
 decided a b i p q o h g e = (λ j. at_place (h j) (g j) (from_place a b (i + 1))) ∙ (sym (step_at a b i) ∙ e)
 
-then-equal : (a b : Ordering) → a ≡ Equal → ordering_then a b ≡ b
-then-equal a b e = ap (λ o. ordering_then o b) e
-
 then-apart : (a b : Ordering) → (a ≡ Equal → ⊥) → ordering_then a b ≡ a
 then-apart Less b h = refl
 then-apart Equal b h = absurd (h refl)
@@ -67,7 +65,7 @@ equal-by x y false false e f h = (cc)
 pub same_byte : (a b : List ℕ) (i : ℕ) (x y : ℕ) (o : Ordering) → Some x ≡ slice_get a i → Some y ≡ slice_get b i → x ≡ y → from_place a b i ≡ o → from_place a b (i + 1) ≡ o
 same_byte a b i x y o h g e f =
     let tied : nat_cmp x y ≡ Equal = (let P : ℕ → Type 0 = λ n. nat_cmp x n ≡ Equal in subst P e (tied_itself nat_cmp_total x)) in
-    sym (then-equal (nat_cmp x y) (from_place a b (i + 1)) tied) ∙ decided a b i (Some x) (Some y) o h g f
+    sym (tied_then (nat_cmp x y) (from_place a b (i + 1)) tied) ∙ decided a b i (Some x) (Some y) o h g f
 
 pub other_byte : (a b : List ℕ) (i : ℕ) (x y : ℕ) (o : Ordering) → Some x ≡ slice_get a i → Some y ≡ slice_get b i → (x ≡ y → ⊥) → from_place a b i ≡ o → nat_cmp x y ≡ o
 other_byte a b i x y o h g n f = sym (then-apart (nat_cmp x y) (from_place a b (i + 1)) (λ e. n (equal-by x y (nat_lt x y) (x == y) refl refl e))) ∙ decided a b i (Some x) (Some y) o h g f
@@ -104,7 +102,7 @@ front_of (c ∷ cs) name n h = take-append-le n (c ∷ cs) (codes "/" ++ name) h
 -- two paths of one folder
 same-front : (p a b : List ℕ) → slice_cmp nat_cmp (p ++ a) (p ++ b) ≡ slice_cmp nat_cmp a b
 same-front [] a b = refl
-same-front (x ∷ p) a b = then-equal (nat_cmp x x) (slice_cmp nat_cmp (p ++ a) (p ++ b)) (tied_itself nat_cmp_total x) ∙ same-front p a b
+same-front (x ∷ p) a b = tied_then (nat_cmp x x) (slice_cmp nat_cmp (p ++ a) (p ++ b)) (tied_itself nat_cmp_total x) ∙ same-front p a b
 
 in-folder : (folder a b : List ℕ) → slice_cmp nat_cmp (path_of folder a) (path_of folder b) ≡ slice_cmp nat_cmp a b
 in-folder [] a b = refl

@@ -1,8 +1,9 @@
 -- A payload of few visits has few texts: those of an intent are counted in 32 bits.
-use Rattle.std.proofs.Common.{◌≡◌, ℕ, suc, ◌+◌, ◌<◌, ◌≤◌, true, List, [], ◌∷◌, ◌++◌, length, get_or, Option, Some, None, Result, Ok, Err, refl, ap, sym, ◌∙◌, subst, arith, length-append, ◌^◌}
+use Rattle.std.proofs.Common.{◌≡◌, ℕ, suc, ◌+◌, ◌<◌, ◌≤◌, true, List, [], ◌∷◌, ◌++◌, length, get_or, None, Result, Ok, Err, refl, ap, sym, ◌∙◌, subst, arith, length-append, ◌^◌}
 use Rattle.std.specs.Prelude.{is_none, is_some, ◌↔◌}
 use Rattle.std.specs.Result.{result_ok}
 use Rattle.base_core.specs.declared.cause.Cause.{Cause}
+use Rattle.base_core.proofs.Causes.{none_of}
 use Rattle.adb_view.specs.Plain.{Plain, Shape, text, array, plain_of}
 use Rattle.adb_view.specs.Readers.{run_of, ARRAY, OBJECT}
 use Rattle.adb_view.specs.Visits.{visits, field_visits, each_visit, or_empty, MOST_VALUES}
@@ -54,10 +55,6 @@ intent-visits : (p : List ℕ) (w : ℕ) (ws : List ℕ) → run_of OBJECT p w �
 unfolding visits shape_of
 intent-visits p w ws e = ap (λ (r : Result (List ℕ) Cause). suc (length (field_visits p (shapes_of (table Intent)) (or_empty r)))) e
 
-none-is : (o : Option Cause) → is_none o ≡ true → o ≡ None
-none-is None h = refl
-none-is (Some c) h = (cc)
-
 field-count : (p : List ℕ) (w : ℕ) (v : Plain) (ws : List ℕ) → is_sound p TextArr w ≡ true → value_at p TextArr w ≡ v → run_of ARRAY p w ≡ Ok ws → count_of (entries_in v) ≡ length ws
 field-count p w v ws h e r =
     sym (entry_count p Text ws (texts_sound p w ws h r) ∙ ap (λ (u : Plain). count_of (entries_in u)) (texts_value p w ws h r ∙ e))
@@ -77,7 +74,7 @@ intent_few visited p w h few =
     let n = field-count p (get_or ws 1 0) _ b two.sound two.value run_b in
     let c = both-visited p ws a b run_a run_b in
     let d = intent-visits p w ws read.run in
-    let l = ((visited p (shape_of (Obj Intent)) w).0 (none-is (shape_fault p (shape_of (Obj Intent)) w) few)).1 in
+    let l = ((visited p (shape_of (Obj Intent)) w).0 (none_of (shape_fault p (shape_of (Obj Intent)) w) few)).1 in
     omega arith
 
 -- the same of a payload that was walked as an intent

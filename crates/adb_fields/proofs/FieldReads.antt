@@ -15,31 +15,19 @@ use Rattle.adb_view.specs.declared.tables.Which.{Which}
 use Rattle.adb_view.specs.declared.tables.Kind.{Kind}
 use Rattle.adb_view.specs.declared.tables.Kind.TheVariants.{Int, Text, Hash, Obj, TextArr, ObjArr}
 use Rattle.adb_view.specs.declared.tables.Field.{Field}
+use Rattle.adb_view.proofs.Found.{run_of-null, int_of-null, blob_of-null}
 
 -- what was read, whatever it is shown as
 pub read_ok : {A : Type 0} (r : Result A Cause) (x : A) → result_ok r ≡ Some x → r ≡ Ok x
 read_ok (Ok y) x e = cc
 read_ok (Err c) x e = absurd cc
 
--- NULL is read by each reader
-int_of-null : (p : List ℕ) → int_of p 0 ≡ Ok 0
-unfolding int_of
-int_of-null p = refl
-
-blob_of-null : (p : List ℕ) → blob_of p 0 ≡ Ok []
-unfolding blob_of
-blob_of-null p = refl
-
-run_of-null : (kind : ℕ) (p : List ℕ) → run_of kind p 0 ≡ Ok []
-unfolding run_of
-run_of-null kind p = refl
-
 some_is : {A : Type 0} (o : Option A) → is_some o ≡ true → (x : A) × (o ≡ Some x)
 some_is (Some x) e = (x, refl)
 some_is None e = absurd cc
 
 -- NULL or not
-null_or_not : (w : ℕ) → (w ≡ 0) ⊎ (eqb w 0 ≡ false)
+pub null_or_not : (w : ℕ) → (w ≡ 0) ⊎ (eqb w 0 ≡ false)
 null_or_not w = go (eqb w 0) refl
   where
     go : (b : Bool) → eqb w 0 ≡ b → (w ≡ 0) ⊎ (eqb w 0 ≡ false)
@@ -111,7 +99,7 @@ null_plain p hash = refl
 null_plain p (array s) = refl
 null_plain p (object which fs) = refl
 
-then_more_is : (v : Option Plain) (vs : Option Plains) (us : Plains) → then_more v vs ≡ Some us → (u : Plain) × (more_us : Plains) × (v ≡ Some u) × (vs ≡ Some more_us) × (us ≡ more u more_us)
+pub then_more_is : (v : Option Plain) (vs : Option Plains) (us : Plains) → then_more v vs ≡ Some us → (u : Plain) × (more_us : Plains) × (v ≡ Some u) × (vs ≡ Some more_us) × (us ≡ more u more_us)
 then_more_is (Some v) (Some vs) us e = (v, vs, refl, refl, cc)
 then_more_is (Some v) None us e = absurd cc
 then_more_is None vs us e = absurd cc

@@ -7,3 +7,5 @@ pub mod FirstKinds
 pub mod FewTexts
 pub mod RepeatedRows
 pub mod OnceLemmas
+pub mod Listed
+pub mod Distinct

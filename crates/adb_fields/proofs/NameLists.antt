@@ -16,7 +16,7 @@ nth-listed none i = refl
 nth-listed (more v vs) zero = refl
 nth-listed (more v vs) (suc i) = nth-listed vs i
 
-count-listed : (vs : Plains) → count_of vs ≡ length (list_of vs)
+pub count-listed : (vs : Plains) → count_of vs ≡ length (list_of vs)
 count-listed none = refl
 count-listed (more v vs) = ap suc (count-listed vs)
 

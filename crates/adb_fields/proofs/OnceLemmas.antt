@@ -1,8 +1,8 @@
 -- No pair is reported exactly if each name stands once.
 use Rattle.std.proofs.Common.{◌≡◌, ℕ, ◌+◌, ◌<◌, ◌≤◌, ◌⊎◌, inl, inr, Bool, true, false, cond, List, [], ◌∷◌, Option, Some, None, refl, ap, sym, subst, ◌∙◌, arith, ◌↔◌}
-use Rattle.base_core.specs.declared.cause.Cause.{Cause}
 use Rattle.adb_view.specs.Plain.{Plain}
 use Rattle.std.specs.Option.{option_or}
+use Rattle.base_core.proofs.Causes.{both_none, none_both}
 use Rattle.adb_view.specs.declared.tables.Which.{Which}
 use Rattle.adb_view.specs.declared.tables.Which.TheVariants.{Dep, Acl, PkgInfo, File, Dir, Scripts, Package, Index, Idb, Intent}
 use Rattle.adb_fields.specs.declared.pairs.Pair.{Pair}
@@ -220,14 +220,6 @@ at_none n (Some p) e = absurd (cc)
 none_at : (n : ℕ) (o : Option Pair) → o ≡ None → repeated_at n o ≡ None
 none_at n None e = refl
 none_at n (Some p) e = absurd (cc)
-
-both_none : (a b : Option Cause) → option_or a b ≡ None → (a ≡ None) × (b ≡ None)
-both_none None b e = (refl, e)
-both_none (Some c) b e = absurd (cc)
-
-none_both : (a b : Option Cause) → a ≡ None → b ≡ None → option_or a b ≡ None
-none_both None b e f = f
-none_both (Some c) b e f = absurd (cc)
 
 inside_once : (packages : List Plain) → inside_fault packages ≡ None → HaveNoRepeatInside packages
 inside_once packages e =

@@ -8,8 +8,8 @@ use Rattle.adb_view.specs.declared.tables.Which.{Which}
 use Rattle.adb_view.specs.declared.tables.Kind.{Kind}
 use Rattle.adb_view.specs.declared.tables.Kind.TheVariants.{Obj}
 
--- `word` is the field with index i of the object `w` of the table `which` in the payload `p`: for each
--- kind of the field, the word is sound, and its value is the field of the object's value
+-- `word` is field i of the object at `w`, which is of the table `which` in the payload `p`. If the table
+-- has a kind for the field, the word is sound as that kind, and its value is what the object has there.
 abbrev pub IsFieldOf : List ℕ → Which → ℕ → ℕ → ℕ → Type 0
 IsFieldOf p which w i word = (k : Kind) → kind_at which i ≡ Some k → (is_sound p k word ≡ true)
     × (value_at p k word ≡ entry_in (value_at p (Obj which) w) i)

@@ -9,8 +9,7 @@ pub record NameWithPosition : Type 0 where
   pub name : List ℕ
   pub position : ℕ
 
--- whether a pair is reported rather than another: its second position is smaller, or equal and its
--- first position is smaller
+-- whether a pair has priority over another: by the smaller second position, then the smaller first one
 abbrev pub is_before : Pair → Pair → Bool
 is_before p q = nat_lt p.second q.second || (p.second == q.second && nat_lt p.first q.first)
 

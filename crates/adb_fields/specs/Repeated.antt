@@ -39,7 +39,8 @@ abbrev pub by_list_from : ℕ → List (List (List ℕ)) → List NameWithPositi
 by_list_from n [] = []
 by_list_from n (names ∷ lists) = all_at n names ++ by_list_from (n + 1) lists
 
--- the pair of lists that is reported, since one name is in both
+-- the positions of two lists with a common name, of all such pairs the one that is reported; None if there
+-- is none
 abbrev pub in_two : List (List (List ℕ)) → Option Pair
 in_two lists = first_pair (by_list_from 1 lists)
 
@@ -108,8 +109,7 @@ name_twice intent = twice
 
 -- ---- the fault of a container
 
--- the number by which a field is reported: 100 times its table's, plus its own, which is its index plus
--- one, since fields count from 1
+-- the number of a field in causes: 100 times the table's number, plus the field's index, plus 1
 abbrev pub field_number : Which → ℕ → ℕ
 field_number which index = 100 * schema_number which + (index + 1)
 

@@ -14,7 +14,7 @@ goes_below [] (b ∷ rest) = b == 47
 goes_below (t ∷ top) [] = false
 goes_below (t ∷ top) (b ∷ rest) = (b == t) && goes_below top rest
 
-eqb-sym : (a b : ℕ) → eqb a b ≡ eqb b a
+pub eqb-sym : (a b : ℕ) → eqb a b ≡ eqb b a
 eqb-sym a b = elim (cases_Bool (eqb a b)) [
   | inl e ↦ e ∙ sym (eq-eqb b a (sym (eqb-true a b e)))
   | inr e ↦ e ∙ sym (false_from_ne_true (eqb b a) (λ f. let back : eqb a b ≡ true = eq-eqb a b (sym (eqb-true b a f)) in cc))

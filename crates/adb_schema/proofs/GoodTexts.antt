@@ -1,5 +1,5 @@
 -- The set of texts that are known to keep a rule.
-use Rattle.std.proofs.Common.{◌≡◌, ℕ, Bool, true, false, List, rules, refl, sym, ap, ◌∙◌, subst, cond, eqb, [], ◌∷◌, Some}
+use Rattle.std.proofs.Common.{◌≡◌, ℕ, Bool, true, false, List, rules, refl, sym, ap, ◌∙◌, subst, cond, eqb, [], Some}
 use Rattle.std.specs.Prelude.{All, Result, Ok, Err, OnOk, OnErr, unwrap_or}
 use Rattle.std.specs.Bool.{OnTrue}
 use Rattle.std.specs.List.{list_any}
@@ -21,6 +21,7 @@ use Rattle.adb_schema.specs.contracts.judged.TextRule.{enum, the_type}
 use Rattle.adb_schema.specs.contracts.judged.TextRuleOrd.TheImpl.{ghosts}
 use Rattle.adb_schema.specs.declared.judged.TextRule.{TextRule}
 use denote.Enum.Bare.{same_true}
+use Rattle.adb_view.proofs.ValueEntries.{text_blob}
 
 -- rules that are equal in their order are the same
 pub exact_rules : (x y : TextRule) → (ghosts).cmp x y ≡ Equal → x ≡ y
@@ -43,13 +44,9 @@ all-inserted cmp P old new k (Err e) ok err all here = let Q : List _ → Type 0
 
 -- ---- the text of a word, as it is read
 
-text_in-blob_value : (b : List ℕ) → text_in (blob_value b) ≡ b
-text_in-blob_value [] = refl
-text_in-blob_value (x ∷ b) = refl
-
 text_by : (is_null : Bool) (read other : Result (List ℕ) Cause) (b : List ℕ) → read ≡ cond is_null (Ok []) other → read ≡ Ok b → text_in (unwrap_or (cond is_null (Some null) (from_answer (λ x. Some (blob_value x)) read)) null) ≡ b
 text_by true read other b e h = let same : Ok [] ≡ Ok b = sym e ∙ h in cc
-text_by false read other b e h = ap (λ (r : Result (List ℕ) Cause). text_in (unwrap_or (from_answer (λ x. Some (blob_value x)) r) null)) h ∙ text_in-blob_value b
+text_by false read other b e h = ap (λ (r : Result (List ℕ) Cause). text_in (unwrap_or (from_answer (λ x. Some (blob_value x)) r) null)) h ∙ text_blob b
 
 pub text_at-blob : (p : List ℕ) (w : ℕ) (b : List ℕ) → blob_of p w ≡ Ok b → text_at p w ≡ b
 unfolding value_at plain_of shape_of blob_of

@@ -1,8 +1,8 @@
 -- A file without fault holds a sound value.
 use Rattle.std.proofs.Common.{◌≡◌, ℕ, Bool, true, false, List, drop, length, Option, Some, None, Result, Ok, Err, refl, ◌↔◌, ◌≤◌}
 use Rattle.std.specs.Prelude.{if◌then◌else◌, nat_lt, ◌||◌, ◌-◌, ◌==◌, is_some, is_none, unwrap_or, IfSome}
-use Rattle.std.specs.Option.{option_or}
 use Rattle.base_core.specs.declared.cause.Cause.{Cause}
+use Rattle.base_core.proofs.Causes.{first_none, second_none}
 use Rattle.adb_block.specs.declared.block.BlockKind.{BlockKind}
 use Rattle.adb_block.specs.Framing.{HeadFields, Step, ended, failed, block, step_by_size, step_by_order, step_by_head, next_step, head_of, kind_of_number}
 use Rattle.adb_block.specs.Piece.{Piece, comes_after, least_payload}
@@ -29,14 +29,6 @@ use Rattle.adb_schema.specs.SoundContainers.{IsSoundValue}
 
 some_none : (c : Cause) → Some c ≡ None → ⊥
 some_none c e = absurd (cc)
-
-or_first : (a b : Option Cause) → option_or a b ≡ None → a ≡ None
-or_first None b h = refl
-or_first (Some c) b h = h
-
-or_later : (a b : Option Cause) → option_or a b ≡ None → b ≡ None
-or_later None b h = h
-or_later (Some c) b h = absurd (some_none c h)
 
 -- ---- the first block of a file without fault
 
@@ -72,7 +64,7 @@ step_on at bytes = if_on (length bytes == 0) _ _ tt (headed_on None at bytes (he
 stepped_read : (which : Which) (rest : Plain → Reading → Option Cause) (at : ℕ) (f : Piece → ℕ → Reading) (s : Step) → CountsOnlyRise s → blocks_fault rest which (reading_by_step at f s) ≡ None → IsReadAt which (reading_by_step at f s)
 stepped_read which rest at f ended g h = absurd g
 stepped_read which rest at f (failed c) g h = some_none c h
-stepped_read which rest at f (block b size) g h = or_first (payload_fault which b.payload) _ h
+stepped_read which rest at f (block b size) g h = first_none (payload_fault which b.payload) _ h
 
 read_payload : (which : Which) (r : Reading) → IsReadAt which r → payload_fault which (first_payload r) ≡ None
 read_payload which done h = absurd h
@@ -83,7 +75,7 @@ file_payload : (rest : Plain → Reading → Option Cause) (which : Which) (file
 unfolding reading_of reading_from
 file_payload rest which file (Err c) h = absurd (some_none c h)
 file_payload rest which file (Ok schema) h =
-    read_payload which (reading_of (start_of schema file)) (stepped_read which rest _ _ (next_step None 8 (drop 8 file)) (step_on 8 (drop 8 file)) (or_later (schema_fault which schema) _ h))
+    read_payload which (reading_of (start_of schema file)) (stepped_read which rest _ _ (next_step None 8 (drop 8 file)) (step_on 8 (drop 8 file)) (second_none (schema_fault which schema) _ h))
 
 pub sound_payload : (which : Which) (file : List ℕ) → first_fault which file ≡ None → payload_fault which (payload_in file) ≡ None
 unfolding first_fault payload_in
@@ -109,15 +101,15 @@ value_has P p which e h = found P (plain_of p (shape_of (Kinds.Obj which)) (root
 pub is_found : Laws → (which : Which) (p : List ℕ) → payload_fault which p ≡ None → is_some (plain_of p (shape_of (Kinds.Obj which)) (root_of p)) ≡ true
 is_found laws which p h =
     ((laws.visited p (shape_of (Kinds.Obj which)) (root_of p)).0
-    (or_first (shape_fault p (shape_of (Kinds.Obj which)) (root_of p)) _ (or_later (head_fault p) _ h))).0
+    (first_none (shape_fault p (shape_of (Kinds.Obj which)) (root_of p)) _ (second_none (head_fault p) _ h))).0
 
 pub sound_value : Laws → (which : Which) (p : List ℕ) → payload_fault which p ≡ None → IsSoundValue which (root_value which p)
 sound_value laws which p h =
-    let texts = or_later (shape_fault p (shape_of (Kinds.Obj which)) (root_of p)) _ (or_later (head_fault p) _ h) in
+    let texts = second_none (shape_fault p (shape_of (Kinds.Obj which)) (root_of p)) _ (second_none (head_fault p) _ h) in
     record {
       shape = value_has (HasShape (shape_of (Kinds.Obj which))) p which (is_found laws which p h) (laws.shaped p (shape_of (Kinds.Obj which)) (root_of p));
-      rules = (laws.kept which (root_value which p)).0 (or_first (text_fault which (root_value which p)) (repeated_fault which (root_value which p)) texts);
-      once = (laws.once which (root_value which p)).0 (or_later (text_fault which (root_value which p)) (repeated_fault which (root_value which p)) texts);
+      rules = (laws.kept which (root_value which p)).0 (first_none (text_fault which (root_value which p)) (repeated_fault which (root_value which p)) texts);
+      once = (laws.once which (root_value which p)).0 (second_none (text_fault which (root_value which p)) (repeated_fault which (root_value which p)) texts);
     }
 
 pub normal_value : Laws → (which : Which) (p : List ℕ) → payload_fault which p ≡ None → IfSome (plain_of p (shape_of (Kinds.Obj which)) (root_of p)) IsNormal → IsNormal (root_value which p)

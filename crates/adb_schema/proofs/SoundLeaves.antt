@@ -1,9 +1,10 @@
 -- No text is bad exactly if each keeps the rule of its field.
-use Rattle.std.proofs.Common.{◌≡◌, ℕ, zero, suc, ◌+◌, Bool, true, false, ◌&&◌, List, ◌++◌, Option, Some, None, refl, sym, ap, ◌∙◌, ◌↔◌, ◌<◌, arith}
+use Rattle.std.proofs.Common.{◌≡◌, ℕ, zero, suc, ◌+◌, Bool, true, false, List, ◌++◌, Some, None, refl, sym, ap, ◌∙◌, ◌↔◌, ◌<◌, arith}
 use Rattle.std.specs.Prelude.{if◌then◌else◌}
-use Rattle.std.specs.Option.{option_or}
+use Rattle.std.proofs.lemmas.Bool.{and_from, and_parts}
 use Rattle.base_core.specs.declared.cause.Cause.{Cause}
 use Rattle.base_core.specs.declared.cause.Cause.TheVariants.{BadText}
+use Rattle.base_core.proofs.Causes.{both_none, none_both}
 use Rattle.adb_view.specs.Plain.{Plain, Plains, none, more, Shape, text, hash, Fields, no_fields, field}
 use Rattle.adb_view.specs.Shaped.{Each}
 use Rattle.adb_view.specs.Values.{nth, count_of, entries_in, entry_in, int_in, text_in}
@@ -30,14 +31,6 @@ kept false c e = absurd cc
 good_if : (b : Bool) (c : Cause) → b ≡ true → (if b then None else Some c) ≡ None
 good_if true c e = refl
 good_if false c e = absurd cc
-
-both_none : (a b : Option Cause) → option_or a b ≡ None → (a ≡ None) × (b ≡ None)
-both_none None b e = (refl, e)
-both_none (Some c) b e = absurd cc
-
-none_both : (a b : Option Cause) → a ≡ None → b ≡ None → option_or a b ≡ None
-none_both None b e f = f
-none_both (Some c) b e f = absurd cc
 
 good-parts : (xs ys : List Leaf) → Good (xs ++ ys) → Good xs × Good ys
 good-parts xs ys h = both_none (first_bad xs) (first_bad ys) (sym (first_bad-append xs ys) ∙ h)
@@ -113,14 +106,6 @@ hash_kept k a v g = kept (text_rule k a (text_in v)) (BadText k) g
 kept_hash : (k : ℕ) (a : Surroundings) (v : Plain) → text_rule k a (text_in v) ≡ true → Good (leaves hash k a v)
 unfolding leaves
 kept_hash k a v e = good_if (text_rule k a (text_in v)) (BadText k) e
-
-and_parts : (b c : Bool) → (b && c) ≡ true → (b ≡ true) × (c ≡ true)
-and_parts true c e = (refl, e)
-and_parts false c e = absurd cc
-
-parts_and : (b c : Bool) → b ≡ true → c ≡ true → (b && c) ≡ true
-parts_and true c e f = f
-parts_and false c e f = absurd cc
 
 -- ---- table by table, from the leaves and back to them
 
@@ -204,7 +189,7 @@ of_file : (k : ℕ) (a : Surroundings) (v : Plain) → IsFileOf a.root a.folder 
 unfolding leaves shape_of text_rule
 of_file k a v d =
     let b : Surroundings = inside_of 4 a v in
-    let named = parts_and (is_file_name a.folder (text_in (entry_in v 0))) (may_list a.root (path_of a.folder (text_in (entry_in v 0)))) d.name d.listed in
+    let named = and_from (is_file_name a.folder (text_in (entry_in v 0))) (may_list a.root (path_of a.folder (text_in (entry_in v 0)))) d.name d.listed in
     fields_good (shapes_of (table Tables.File)) 401 b (entries_in v)
     (kept_text 401 b (entry_in v 0) named, (rights_good 402 b (entry_in v 1), (refl, (refl, (kept_hash 405 b (entry_in v 4) d.hash, (kept_text 406 b (entry_in v 5) d.target, (refl, tt)))))))
 

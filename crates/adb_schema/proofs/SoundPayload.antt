@@ -1,8 +1,7 @@
 -- A payload that passes all tests, or that of a container without fault, can be opened.
 use Rattle.std.proofs.Common.{◌≡◌, ◌↔◌, ◌≤◌, ℕ, true, List, length, Option, Some, None, refl, ap}
 use Rattle.std.specs.Prelude.{is_none, is_some}
-use Rattle.std.specs.Option.{option_or}
-use Rattle.base_core.specs.declared.cause.Cause.{Cause}
+use Rattle.base_core.proofs.Causes.{first_none, second_none}
 use Rattle.adb_view.specs.Head.{head_fault, root_of}
 use Rattle.adb_view.specs.Plain.{Plain, Shape, plain_of}
 use Rattle.adb_view.specs.Visits.{visits, MOST_VALUES}
@@ -22,26 +21,18 @@ abbrev pub Visited : Type 0
 Visited = (payload : List ℕ) (shape : Shape) (word : ℕ)
     → (shape_fault payload shape word ≡ None) ↔ ((is_some (plain_of payload shape word) ≡ true) × (length (visits payload shape word) ≤ MOST_VALUES))
 
-first_passed : (a b : Option Cause) → option_or a b ≡ None → a ≡ None
-first_passed None b h = refl
-first_passed (Some c) b h = h
-
-later_passed : (a b : Option Cause) → option_or a b ≡ None → b ≡ None
-later_passed None b h = h
-later_passed (Some c) b h = absurd (cc)
-
 pub none_of : {A : Type 0} (o : Option A) → is_none o ≡ true → o ≡ None
 none_of None h = refl
 none_of (Some a) h = absurd (cc)
 
 pub payload_head : (which : Which) (p : List ℕ) → payload_fault which p ≡ None → is_none (head_fault p) ≡ true
-payload_head which p h = ap is_none (first_passed (head_fault p) _ h)
+payload_head which p h = ap is_none (first_none (head_fault p) _ h)
 
 pub payload_sound : Visited → (which : Which) (p : List ℕ) → payload_fault which p ≡ None → is_sound p (Kinds.Obj which) (root_of p) ≡ true
 unfolding is_sound
 payload_sound visited which p h =
     ((visited p (shape_of (Kinds.Obj which)) (root_of p)).0
-    (first_passed (shape_fault p (shape_of (Kinds.Obj which)) (root_of p)) _ (later_passed (head_fault p) _ h))).0
+    (first_none (shape_fault p (shape_of (Kinds.Obj which)) (root_of p)) _ (second_none (head_fault p) _ h))).0
 
 -- what a law of `adb_schema` says
 abbrev pub Kept : Type 0
@@ -49,8 +40,8 @@ Kept = (which : Which) (v : Plain) → (text_fault which v ≡ None) ↔ KeepsRu
 
 pub payload_texts : (which : Which) (p : List ℕ) → payload_fault which p ≡ None → text_fault which (root_value which p) ≡ None
 payload_texts which p h =
-    first_passed (text_fault which (root_value which p)) (repeated_fault which (root_value which p))
-    (later_passed (shape_fault p (shape_of (Kinds.Obj which)) (root_of p)) _ (later_passed (head_fault p) _ h))
+    first_none (text_fault which (root_value which p)) (repeated_fault which (root_value which p))
+    (second_none (shape_fault p (shape_of (Kinds.Obj which)) (root_of p)) _ (second_none (head_fault p) _ h))
 
 pub payload_rules : Kept → (which : Which) (p : List ℕ) → payload_fault which p ≡ None → KeepsRules which (root_value which p)
 payload_rules kept which p h =

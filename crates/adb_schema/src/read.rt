@@ -228,9 +228,8 @@ fn block_fault(block: &Block<'_>) -> Option<Cause>
     }
 }
 
-/// The cause for contents that are not allowed. Either they are too short for the two numbers at
-/// their front (8 bytes), or they are reported as those of a file although 0.0, which is no file,
-/// was expected.
+/// The cause for contents that are not allowed. Contents shorter than their two positions (8 bytes)
+/// are reported as too short; others as a file where none (0.0) was expected.
 fn undue_contents(payload: &[u8], at: u64) -> Cause
     ensures { result ≡ undue_contents payload.now at }
 {

@@ -1,7 +1,7 @@
 -- Blocks that hold the contents of the files that are expected fail no test.
-use Rattle.std.proofs.Common.{◌≡◌, ℕ, ◌^◌, ◌<◌, Bool, true, false, ◌&&◌, eqb, ltb, List, [], ◌∷◌, length, Option, Some, None, Result, Ok, Err, refl, ap, sym, subst, ◌∙◌, arith}
+use Rattle.std.proofs.Common.{◌≡◌, ℕ, ◌^◌, ◌<◌, true, false, eqb, ltb, List, [], ◌∷◌, length, Option, Some, None, Result, Ok, Err, refl, ap, sym, subst, ◌∙◌, arith}
 use Rattle.std.specs.Prelude.{map}
-use Rattle.std.proofs.lemmas.Bool.{le-ltb, eq-eqb}
+use Rattle.std.proofs.lemmas.Bool.{le-ltb, eq-eqb, and_from}
 use Rattle.std.proofs.lemmas.Nat.{from_le_bytes-to_le_bytes_4}
 use Rattle.base_core.specs.declared.cause.Cause.{Cause}
 use Rattle.adb_block.specs.Piece.{Piece}
@@ -52,16 +52,13 @@ pair_again c a b = (from_le_bytes-to_le_bytes_4 c.folder a, from_le_bytes-to_le_
 bytes_again : (c : Contents) → contents_bytes (contents_payload c) ≡ c.bytes
 bytes_again c = refl
 
-both_true : (a b : Bool) → a ≡ true → b ≡ true → (a && b) ≡ true
-both_true a b e f = rw (e, f) refl
-
 file_good : (c : Contents) (e : Expected) → e.folder < 2 ^ 32 → e.file < 2 ^ 32 → IsContentsOf e c → expected_fault (contents_payload c) e ≡ None
 file_good c e a b is =
     let folder = is.folder in
     let file = is.file in
     let size = is.size in
     let pair = pair_again c (omega arith) (omega arith) in
-    let one : has_positions_of (contents_payload c) e ≡ true = both_true _ _ (eq-eqb _ _ (pair.0 ∙ folder)) (eq-eqb _ _ (pair.1 ∙ file)) in
+    let one : has_positions_of (contents_payload c) e ≡ true = and_from _ _ (eq-eqb _ _ (pair.0 ∙ folder)) (eq-eqb _ _ (pair.1 ∙ file)) in
     let two : eqb (length (contents_bytes (contents_payload c))) e.size ≡ true = eq-eqb _ _ size in
     rw (one, two) is.hash
 

@@ -1,11 +1,10 @@
 -- No test of the payload of a good value fails.
-use Rattle.std.proofs.Common.{◌≡◌, ℕ, ◌≤◌, false, ltb, length, Option, Some, None, refl, ap, ◌∙◌, arith}
+use Rattle.std.proofs.Common.{◌≡◌, ℕ, ◌≤◌, false, ltb, length, Option, None, refl, ap, ◌∙◌, arith}
 use Rattle.std.specs.Prelude.{is_some, unwrap_or}
-use Rattle.std.specs.Option.{option_or}
 use Rattle.std.specs.Int.{w32, to_le_bytes}
 use Rattle.std.proofs.lemmas.Bool.{le-ltb}
 use Rattle.std.proofs.lemmas.List.{length-append}
-use Rattle.base_core.specs.declared.cause.Cause.{Cause}
+use Rattle.base_core.proofs.Causes.{none_both}
 use Rattle.adb_view.specs.Head.{head_fault, root_of}
 use Rattle.adb_view.specs.Plain.{Plain, null}
 use Rattle.adb_view.specs.Schema.{shape_of}
@@ -19,10 +18,6 @@ use Rattle.adb_view.specs.declared.tables.Kind.TheVariants.{Obj}
 use Rattle.adb_write.specs.Canonical.{canonical, payload_with_root, Layout, empty_layout, write}
 use Rattle.adb_sound.specs.Root.{IsRootOf}
 use Rattle.adb_sound.proofs.Lower.{Lower}
-
-pub none_of : (o u : Option Cause) → o ≡ None → u ≡ None → option_or o u ≡ None
-none_of None u h e = e
-none_of (Some c) u h e = cc
 
 pub payload_long : (root : ℕ) (out : Layout) → 8 ≤ length (payload_with_root root out)
 payload_long root out = omega (arith, length-append (to_le_bytes w32 root) out.body)
@@ -45,6 +40,6 @@ value_is laws which v g = ap (λ (o : Option Plain). unwrap_or o null) (laws.bac
 
 pub payload_good : Lower → (which : Which) (v : Plain) → IsRootOf which v → payload_fault which (canonical v) ≡ None
 payload_good laws which v g =
-    none_of _ _ (head_good (write v empty_layout).0 (write v empty_layout).1)
-    (none_of _ _ (shape_good laws which v g)
-    (none_of _ _ (ap (text_fault which) (value_is laws which v g) ∙ g.texts) (ap (repeated_fault which) (value_is laws which v g) ∙ g.once)))
+    none_both _ _ (head_good (write v empty_layout).0 (write v empty_layout).1)
+    (none_both _ _ (shape_good laws which v g)
+    (none_both _ _ (ap (text_fault which) (value_is laws which v g) ∙ g.texts) (ap (repeated_fault which) (value_is laws which v g) ∙ g.once)))

@@ -1,6 +1,7 @@
 -- Of a whole file no test fails.
 use Rattle.std.proofs.Common.{◌≡◌, ◌≢◌, ℕ, ◌^◌, ◌<◌, List, [], ◌∷◌, Some, None, Ok, refl, ap, sym, subst, ◌∙◌, arith, lit<, length}
 use Rattle.std.specs.Prelude.{map}
+use Rattle.base_core.proofs.Causes.{none_both}
 use Rattle.adb_block.specs.Piece.{Piece}
 use Rattle.adb_block.specs.Header.{header_of}
 use Rattle.adb_block.specs.ReaderPosition.{start_of}
@@ -21,7 +22,7 @@ use Rattle.adb_sound.specs.Container.{contents_piece, container_of}
 use Rattle.adb_sound.specs.Root.{IsRootOf}
 use Rattle.adb_sound.proofs.LaidSizes.{AreShort, laid_short}
 use Rattle.adb_sound.proofs.Lower.{Lower}
-use Rattle.adb_sound.proofs.Payloads.{none_of, payload_good, payload_long, value_is}
+use Rattle.adb_sound.proofs.Payloads.{payload_good, payload_long, value_is}
 use Rattle.adb_sound.proofs.Positions.{expected_below}
 use Rattle.adb_sound.proofs.ContentsBlocks.{blocks_good, contents_stand, first_of, none_of_blocks}
 
@@ -53,11 +54,11 @@ whole_good which schema file word h blocks =
     ap (fault_by_header file) h
     ∙ (ap (fault_by_schema file schema) word.root
     ∙ (ap (file_fault (fault_after_first which) which file) h
-    ∙ none_of (S.schema_fault which schema) (blocks_fault (fault_after_first which) which (reading_of (start_of schema file))) word.wanted blocks))
+    ∙ none_both (S.schema_fault which schema) (blocks_fault (fault_after_first which) which (reading_of (start_of schema file))) word.wanted blocks))
 
 blocks_by_first : (which : Which) (r : Reading) (b : Piece) (at : ℕ) (later : Reading) → r ≡ more b at later → payload_fault which b.payload ≡ None
     → fault_after_first which (root_value which b.payload) later ≡ None → blocks_fault (fault_after_first which) which r ≡ None
-blocks_by_first which r b at later is payload behind = ap (blocks_fault (fault_after_first which) which) is ∙ none_of _ _ payload behind
+blocks_by_first which r b at later is payload behind = ap (blocks_fault (fault_after_first which) which) is ∙ none_both _ _ payload behind
 
 -- the reader gives these blocks
 pub reading_is : (file : List ℕ) (schema : ℕ) (pieces : List Piece) → header_of file ≡ Ok schema → blocks_of file ≡ Ok pieces → pieces_of (reading_of (start_of schema file)) ≡ Ok pieces

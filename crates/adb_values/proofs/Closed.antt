@@ -1,21 +1,13 @@
 -- A list that is closed is one value more of the draft from before it was opened.
 use Rattle.std.proofs.Common.{◌≡◌, ℕ, ◌+◌, ◌-◌, List, [], ◌∷◌, ◌++◌, length, take, drop, Option, Some, slice_get, refl, ap, ◌∙◌, arith, length-append, length-drop, take_all}
 use Rattle.std.specs.Prelude.{min}
+use Rattle.std.proofs.Math.Seq.{take-append_seam, drop-append_seam}
 use Rattle.adb_view.specs.Plain.{Plain, Plains}
 use Rattle.adb_write.specs.DepthFirst.{WritesValue, WritesValues}
 use Rattle.adb_write.specs.Writing.{Writing, calls_all}
 use Rattle.adb_values.specs.Drafts.{DraftState, draft_by, draft_with, draft_with_all, draft_with_open_list}
 use Rattle.adb_values.specs.LastList.{last_of, last_start, start_within}
 use Rattle.adb_values.proofs.Taken.{takes, takes_all}
-
--- the first of two lists that stand together, and the second
-take_front : (xs ys : List ℕ) → take (length xs) (xs ++ ys) ≡ xs
-take_front [] ys = refl
-take_front (x ∷ xs) ys = ap (λ (l : List ℕ). x ∷ l) (take_front xs ys)
-
-drop_front : (xs ys : List ℕ) → drop (length xs) (xs ++ ys) ≡ ys
-drop_front [] ys = refl
-drop_front (x ∷ xs) ys = drop_front xs ys
 
 get_end : (xs : List ℕ) (x : ℕ) → slice_get (xs ++ x ∷ []) (length xs) ≡ Some x
 get_end [] x = refl
@@ -28,7 +20,7 @@ last-push : (xs : List ℕ) (x : ℕ) → last_of (xs ++ x ∷ []) ≡ Some x
 last-push xs x = ap (λ (k : ℕ). slice_get (xs ++ x ∷ []) k) (one_less xs x) ∙ get_end xs x
 
 but_last : (xs : List ℕ) (x : ℕ) → take (length (xs ++ x ∷ []) - 1) (xs ++ x ∷ []) ≡ xs
-but_last xs x = ap (λ (k : ℕ). take k (xs ++ x ∷ [])) (one_less xs x) ∙ take_front xs (x ∷ [])
+but_last xs x = ap (λ (k : ℕ). take k (xs ++ x ∷ [])) (one_less xs x) ∙ take-append_seam xs (x ∷ [])
 
 min_front : (a b n : ℕ) → n ≡ a + b → min a n ≡ a
 min_front a b n e = omega (arith, e)
@@ -72,8 +64,8 @@ closes v vs before old tail word start new words starts is at tail_at wrote word
     let later : Writing = (calls_all vs before.writing).1 in
     let o : IsOpen old before xs later = is_open vs old before is in
     let begin : start ≡ length before.words = at ∙ start_of old before xs later o in
-    let rest : tail ≡ xs = tail_at ∙ ap (λ (k : ℕ). drop k old.words) begin ∙ ap (λ (l : List ℕ). drop (length before.words) l) o.words ∙ drop_front before.words xs in
-    let front : take start old.words ≡ before.words = ap (λ (k : ℕ). take k old.words) begin ∙ ap (λ (l : List ℕ). take (length before.words) l) o.words ∙ take_front before.words xs in
+    let rest : tail ≡ xs = tail_at ∙ ap (λ (k : ℕ). drop k old.words) begin ∙ ap (λ (l : List ℕ). drop (length before.words) l) o.words ∙ drop-append_seam before.words xs in
+    let front : take start old.words ≡ before.words = ap (λ (k : ℕ). take k old.words) begin ∙ ap (λ (l : List ℕ). take (length before.words) l) o.words ∙ take-append_seam before.words xs in
     let lists : starts ≡ before.starts = starts_is ∙ ap (λ (l : List ℕ). take (length l - 1) l) o.starts ∙ but_last before.starts (length before.words) in
     let both : ◌≡◌ {A = List ℕ × Writing} (tail, old.writing) (xs, later) = ap (λ (l : List ℕ). (l, old.writing)) rest ∙ ap (λ (w : Writing). (xs, w)) o.writing in
     ap (λ (l : List ℕ). draft_by new words l) lists

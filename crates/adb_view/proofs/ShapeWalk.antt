@@ -1,6 +1,6 @@
 -- The walk that counts reports the first faulty visit.
-use Rattle.std.proofs.Common.{◌≡◌, ℕ, zero, suc, ◌+◌, ◌<◌, Bool, true, false, cond, ltb, List, [], ◌∷◌, ◌++◌, length, Option, Some, None, Result, Ok, Err, refl, sym, ap, subst, ◌∙◌, arith, inl, inr, ◌⊎◌, zero-add, ◌≤◌, ◌&&◌, lit≤, ◌↔◌}
-use Rattle.std.proofs.lemmas.Bool.{ltb-false, le-ltb}
+use Rattle.std.proofs.Common.{◌≡◌, ℕ, zero, suc, ◌+◌, ◌<◌, Bool, true, false, cond, ltb, List, [], ◌∷◌, ◌++◌, length, Option, Some, None, Result, Ok, Err, refl, sym, ap, subst, ◌∙◌, arith, inl, inr, ◌⊎◌, zero-add, ◌≤◌, lit≤, ◌↔◌}
+use Rattle.std.proofs.lemmas.Bool.{ltb-false, le-ltb, and_parts}
 use Rattle.std.specs.Prelude.{is_some, is_none, slice_get}
 use Rattle.std.specs.Option.{option_or}
 use Rattle.std.specs.Result.{result_err}
@@ -20,6 +20,7 @@ use Rattle.base_core.specs.Lists.{and_then}
 use Rattle.adb_view.specs.FirstFault.{IsFirstFault}
 use Rattle.std.specs.List.{list_all}
 use Rattle.base_core.specs.declared.cause.Cause.{Cause}
+use Rattle.base_core.proofs.Causes.{both_none, none_of}
 
 -- a plain value is found if each visit is sound: `value_is_found_where_visits_are_sound` says both
 abbrev pub WordsFound : Type 0
@@ -207,10 +208,6 @@ first_back p n (u ∷ us) c (suc i) v at fault before =
 pub reported : (p : List ℕ) (s : Shape) (w : ℕ) (c : Cause) → (shape_fault p s w ≡ Some c) ↔ IsFirstFault p (visits p s w) c
 reported p s w c = (shape_fault-first p s w c, λ first. first_back p 1 (visits p s w) c first.i first.v first.at first.fault first.before)
 
-option_or_none : (a b : Option Cause) → option_or a b ≡ None → (a ≡ None) × (b ≡ None)
-option_or_none None b e = (refl, e)
-option_or_none (Some c) b e = absurd cc
-
 visit_counted : (p : List ℕ) (n : ℕ) (v : Visit) → visit_fault p n v ≡ None → n ≤ MOST_VALUES
 visit_counted p n v e =
     elim (chosen (ltb MOST_VALUES n) _ _ _ e) [ inl x ↦ absurd (let y = x.1 in cc) | inr x ↦ ltb-false _ _ x.0 ]
@@ -218,7 +215,7 @@ visit_counted p n v e =
 none_few : (p : List ℕ) (n : ℕ) (vs : List Visit) → first_fault_from p n vs ≡ None → n ≤ MOST_VALUES + 1 → n + length vs ≤ MOST_VALUES + 1
 none_few p n [] e le = omega arith
 none_few p n (v ∷ vs) e le =
-    let (here, later) = option_or_none _ _ e in
+    let (here, later) = both_none _ _ e in
     let few = visit_counted p n v here in
     let more = none_few p (n + 1) vs later (omega arith) in
     omega arith
@@ -226,16 +223,8 @@ none_few p n (v ∷ vs) e le =
 none_sound : (p : List ℕ) (n : ℕ) (vs : List Visit) → first_fault_from p n vs ≡ None → list_all (is_sound_visit p) vs ≡ true
 none_sound p n [] e = refl
 none_sound p n (v ∷ vs) e =
-    let (here, later) = option_or_none _ _ e in
+    let (here, later) = both_none _ _ e in
     rw (fault_free p n v here, none_sound p (n + 1) vs later) refl
-
-and_parts : (a b : Bool) → (a && b) ≡ true → (a ≡ true) × (b ≡ true)
-and_parts true b e = (refl, e)
-and_parts false b e = absurd cc
-
-none_of : (o : Option Cause) → is_none o ≡ true → o ≡ None
-none_of None e = refl
-none_of (Some c) e = absurd cc
 
 few_none : (p : List ℕ) (n : ℕ) (vs : List Visit) → list_all (is_sound_visit p) vs ≡ true → n + length vs ≤ MOST_VALUES + 1 → first_fault_from p n vs ≡ None
 few_none p n [] e le = refl

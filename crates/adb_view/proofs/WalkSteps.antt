@@ -24,6 +24,7 @@ use Rattle.adb_view.specs.declared.tables.Which.TheVariants.{Dep, Acl, PkgInfo, 
 use Rattle.adb_view.specs.declared.tables.Kind.TheVariants.{Int, Text, Hash, Obj, TextArr, ObjArr}
 use Rattle.adb_view.specs.declared.tables.Field.{Field}
 use Rattle.adb_view.specs.declared.tables.Kind.{Kind}
+use Rattle.adb_view.proofs.Found.{run_of-null}
 
 -- ---- over a list
 
@@ -183,18 +184,14 @@ leaf_step : {A : Type 0} (r : Result A Cause) (n : ℕ) → is_some (result_ok r
 leaf_step (Ok x) n e = refl
 leaf_step (Err c) n e = absurd cc
 
-null_run : (kind : ℕ) (p : List ℕ) → run_of kind p 0 ≡ Ok []
-unfolding run_of
-null_run kind p = refl
-
 null_object : (p : List ℕ) (which : Which) (n : ℕ) → n < MOST_VALUES → walk p (shape_of (Obj which)) n 0 ≡ Ok (n + 1)
-null_object p which n lt = walk_object p which n 0 lt ∙ ap (λ r. and_then r (λ ws. fields_walk p (shapes_of (table which)) (n + 1) ws)) (null_run OBJECT p) ∙ no_words p (table which) (n + 1)
+null_object p which n lt = walk_object p which n 0 lt ∙ ap (λ r. and_then r (λ ws. fields_walk p (shapes_of (table which)) (n + 1) ws)) (run_of-null OBJECT p) ∙ no_words p (table which) (n + 1)
 
 null_texts : (p : List ℕ) (n : ℕ) → n < MOST_VALUES → walk p (shape_of TextArr) n 0 ≡ Ok (n + 1)
-null_texts p n lt = walk_texts p n 0 lt ∙ ap (λ r. and_then r (λ ws. each_walk (walk p (shape_of Text)) (n + 1) ws)) (null_run ARRAY p)
+null_texts p n lt = walk_texts p n 0 lt ∙ ap (λ r. and_then r (λ ws. each_walk (walk p (shape_of Text)) (n + 1) ws)) (run_of-null ARRAY p)
 
 null_objects : (p : List ℕ) (which : Which) (n : ℕ) → n < MOST_VALUES → walk p (shape_of (ObjArr which)) n 0 ≡ Ok (n + 1)
-null_objects p which n lt = walk_objects p which n 0 lt ∙ ap (λ r. and_then r (λ ws. each_walk (walk p (shape_of (Obj which))) (n + 1) ws)) (null_run ARRAY p)
+null_objects p which n lt = walk_objects p which n 0 lt ∙ ap (λ r. and_then r (λ ws. each_walk (walk p (shape_of (Obj which))) (n + 1) ws)) (run_of-null ARRAY p)
 
 pub leaf_walk : (p : List ℕ) (kind : Kind) (n w : ℕ) → n < MOST_VALUES → is_sound_leaf p kind w ≡ true → walk p (shape_of kind) n w ≡ Ok (n + 1)
 leaf_walk p Int n w lt e = walk_int p n w lt ∙ leaf_step (int_of p w) n e

@@ -3,14 +3,14 @@
 use Rattle.std.proofs.Common.{◌≡◌, ℕ, ◌^◌, ◌<◌, ◌≤◌, Bool, true, false, cond, eqb, ltb, List, [], ◌∷◌, refl, sym, ap, subst, ◌∙◌, lit<}
 use Rattle.std.specs.Prelude.{◌||◌, Some, Ok, Result, Err}
 use Rattle.std.specs.List.{AllByRecursion}
-use Rattle.std.proofs.lemmas.Bool.{ltb-false}
+use Rattle.std.proofs.lemmas.Bool.{ltb-false, ne_eqb}
 use Rattle.adb_view.specs.Plain.{Plain, null, int, blob, arr, obj, Plains, none, more, without_last_nulls, keep, blob_value, arr_value, obj_of, obj_value, Shape, IsNormal, plain_of, value_of}
 use Rattle.adb_view.specs.Readers.{ARRAY, OBJECT}
 use Rattle.adb_write.specs.Canonical.{Cell, in_place, apart, int_cell, blob_cell, run_cell, keep_word, trimmed_words, Layout, end_offset, put_item, put_cell, put_run, PayloadCounts, layout_counts, passes, payload_with_root, MOST_BYTES, MOST_VALUES}
 use Rattle.adb_view.specs.Shaped.{HasShape}
 use Rattle.adb_write.specs.Denotes.{Holds, HoldAll, IsWordOf, Denotes, AllDenote}
 use Rattle.adb_write.specs.Writing.{Writing, writing_counts, is_past_limit, layout_of, writing_of, unless_past_limit, call, finish_result, int_call, blob_call, arr_call, obj_call}
-use Rattle.adb_write.proofs.RoundTrip.{neq-eqb, Fits, Grows, Grows-Holds, Grows-HoldAll, MadeRun, stored-grows, put_run-grows, int_made, blob_made, run_made, not_null_word, root_again, plain_of-Holds}
+use Rattle.adb_write.proofs.RoundTrip.{Fits, Grows, Grows-Holds, Grows-HoldAll, MadeRun, stored-grows, put_run-grows, int_made, blob_made, run_made, not_null_word, root_again, plain_of-Holds}
 use Rattle.adb_write.proofs.WriterSteps.{call_null}
 
 -- a call that stays within the limits did the step
@@ -125,13 +125,13 @@ kept_pair w e null none x [] h a = let zero_is : x ≡ 0 = null_word (payload_wi
 kept_pair w e null (more u us) x (y ∷ ys) h a = (h, a)
 kept_pair w e v none x (y ∷ ys) h a = absurd a
 kept_pair w e v (more u us) x [] h a = absurd a
-kept_pair w e (int n) none x [] h a = let t : eqb x 0 ≡ false = neq-eqb x 0 (not_null_word (payload_with_root 0 (layout_of w)) (int n) x (λ n. absurd cc) ((h e).holds 0)) in rw t (h, tt)
+kept_pair w e (int n) none x [] h a = let t : eqb x 0 ≡ false = ne_eqb x 0 (not_null_word (payload_with_root 0 (layout_of w)) (int n) x (λ n. absurd cc) ((h e).holds 0)) in rw t (h, tt)
 kept_pair w e (int n) (more u us) x (y ∷ ys) h a = (h, a)
-kept_pair w e (blob b) none x [] h a = let t : eqb x 0 ≡ false = neq-eqb x 0 (not_null_word (payload_with_root 0 (layout_of w)) (blob b) x (λ n. absurd cc) ((h e).holds 0)) in rw t (h, tt)
+kept_pair w e (blob b) none x [] h a = let t : eqb x 0 ≡ false = ne_eqb x 0 (not_null_word (payload_with_root 0 (layout_of w)) (blob b) x (λ n. absurd cc) ((h e).holds 0)) in rw t (h, tt)
 kept_pair w e (blob b) (more u us) x (y ∷ ys) h a = (h, a)
-kept_pair w e (arr us) none x [] h a = let t : eqb x 0 ≡ false = neq-eqb x 0 (not_null_word (payload_with_root 0 (layout_of w)) (arr us) x (λ n. absurd cc) ((h e).holds 0)) in rw t (h, tt)
+kept_pair w e (arr us) none x [] h a = let t : eqb x 0 ≡ false = ne_eqb x 0 (not_null_word (payload_with_root 0 (layout_of w)) (arr us) x (λ n. absurd cc) ((h e).holds 0)) in rw t (h, tt)
 kept_pair w e (arr vs) (more u us) x (y ∷ ys) h a = (h, a)
-kept_pair w e (obj us) none x [] h a = let t : eqb x 0 ≡ false = neq-eqb x 0 (not_null_word (payload_with_root 0 (layout_of w)) (obj us) x (λ n. absurd cc) ((h e).holds 0)) in rw t (h, tt)
+kept_pair w e (obj us) none x [] h a = let t : eqb x 0 ≡ false = ne_eqb x 0 (not_null_word (payload_with_root 0 (layout_of w)) (obj us) x (λ n. absurd cc) ((h e).holds 0)) in rw t (h, tt)
 kept_pair w e (obj vs) (more u us) x (y ∷ ys) h a = (h, a)
 
 trimmed_stand : (w : Writing) → is_past_limit w ≡ false → (vs : Plains) (xs : List ℕ) → AllDenote w vs xs → AllDenote w (without_last_nulls vs) (trimmed_words xs)

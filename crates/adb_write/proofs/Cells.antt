@@ -2,10 +2,9 @@
 use Rattle.std.proofs.Common.{◌≡◌, ◌≢◌, ℕ, suc, ◌+◌, ◌-◌, ◌^◌, ◌<◌, ◌≤◌, Bool, true, false, cond, eqb, ltb, List, [], ◌∷◌, ◌++◌, length, take, get_or, refl, sym, ap, ◌∙◌, arith}
 use Rattle.std.specs.List.{flat_map}
 use Rattle.std.specs.Int.{w8, w16, w32, w64, to_le_bytes}
-use Rattle.std.proofs.lemmas.Bool.{le-ltb}
+use Rattle.std.proofs.lemmas.Bool.{le-ltb, ne_eqb}
 use Rattle.std.proofs.lemmas.List.{take_more}
 use Rattle.adb_write.specs.Canonical.{Item, apart, int_item, int_cell, blob_item, blob_cell, run_item, run_bytes, run_cell, keep_word, trimmed_words}
-use Rattle.adb_write.proofs.RoundTrip.{neq-eqb}
 
 -- ---- the number in an item's front, and what follows it
 
@@ -60,7 +59,7 @@ trimmed_null [] = refl
 trimmed_null (w ∷ ws) = ap (keep_word w) (trimmed_null ws)
 
 pub trimmed_some : (w : ℕ) (ws : List ℕ) → w ≢ 0 → trimmed_words (ws ++ w ∷ []) ≡ ws ++ w ∷ []
-trimmed_some w [] ne = let t : eqb w 0 ≡ false = neq-eqb w 0 ne in rw t refl
+trimmed_some w [] ne = let t : eqb w 0 ≡ false = ne_eqb w 0 ne in rw t refl
 trimmed_some w (x ∷ xs) ne = ap (keep_word x) (trimmed_some w xs ne) ∙ keep_last x w xs
 
 -- the first n words are one fewer and the last of them

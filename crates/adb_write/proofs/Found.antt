@@ -1,9 +1,9 @@
 -- What is found among the written items is in the payload.
 use Rattle.std.proofs.Common.{◌≡◌, ℕ, ◌+◌, ◌<◌, ◌≤◌, Bool, true, false, cond, eqb, List, [], ◌∷◌, ◌++◌, length, take, drop, Some, None, refl, sym, ap, ◌∙◌, arith, ◌⊎◌, take-append-drop}
-use Rattle.std.specs.Prelude.{find, ◌&&◌}
+use Rattle.std.specs.Prelude.{find}
 use Rattle.std.specs.List.{AllByRecursion}
 use Rattle.std.specs.Int.{w32, to_le_bytes}
-use Rattle.std.proofs.lemmas.Bool.{eqb-true}
+use Rattle.std.proofs.lemmas.Bool.{eqb-true, and_parts}
 use Rattle.std.proofs.lemmas.List.{length-take, length-drop, drop-drop, drop_at}
 use Rattle.std.proofs.lemmas.Slice.Eq.{bytes_eq-Decides}
 use Rattle.adb_write.specs.Canonical.{Item, WrittenItem, Layout, is_equal_item, payload_with_root}
@@ -28,15 +28,11 @@ abbrev pub Has : {A : Type 0} → A → List A → Type 0
 Has y [] = ⊥
 Has y (x ∷ xs) = (x ≡ y) ⊎ Has y xs
 
-both : (a b : Bool) → (a && b) ≡ true → (a ≡ true) × (b ≡ true)
-both true b e = (refl, e)
-both false b e = absurd cc
-
 pub equal_kind : (body : List ℕ) (i : Item) (there : WrittenItem) → is_equal_item body i there ≡ true → there.kind ≡ i.kind
-equal_kind body i there e = eqb-true _ _ (both (eqb there.kind i.kind) _ e).0
+equal_kind body i there e = eqb-true _ _ (and_parts (eqb there.kind i.kind) _ e).0
 
 pub equal_bytes : (body : List ℕ) (i : Item) (there : WrittenItem) → is_equal_item body i there ≡ true → take (length i.bytes) (drop there.offset body) ≡ i.bytes
-equal_bytes body i there e = (bytes_eq-Decides (take (length i.bytes) (drop there.offset body)) i.bytes).0 (both (eqb there.kind i.kind) _ e).1
+equal_bytes body i there e = (bytes_eq-Decides (take (length i.bytes) (drop there.offset body)) i.bytes).0 (and_parts (eqb there.kind i.kind) _ e).1
 
 -- where an item's bytes stand, it ends within the body
 pub equal_within : (body : List ℕ) (at : ℕ) (bytes : List ℕ) → 0 < length bytes → take (length bytes) (drop at body) ≡ bytes → at + length bytes ≤ length body

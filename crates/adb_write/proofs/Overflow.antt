@@ -1,8 +1,9 @@
 -- A value overflows exactly if its size or the number of its values passes a limit.
 use Rattle.std.proofs.Common.{◌≡◌, ℕ, suc, ◌+◌, ◌^◌, ◌≤◌, Bool, true, false, cond, ltb, List, [], ◌∷◌, ◌++◌, length, Option, Some, None, Ok, refl, sym, ap, ◌∙◌, arith, inl, inr, ◌⊎◌, ◌<◌, le_trans}
-use Rattle.std.specs.Prelude.{find, is_some, ◌||◌}
+use Rattle.std.specs.Prelude.{find, is_some}
 use Rattle.std.specs.Int.{w8, w16, w32, w64, to_le_bytes}
-use Rattle.std.proofs.lemmas.Bool.{cases_lt, lt-ltb, le-ltb, ltb-true}
+use Rattle.std.proofs.lemmas.Bool.{cases_lt, lt-ltb, le-ltb, ltb-true, or_cases}
+use Rattle.std.proofs.Math.Bool.{or-true}
 use Rattle.adb_view.specs.Plain.{Plain, null, int, blob, arr, obj, Plains, none, more, IsNormal, AreNormal, count_of}
 use Rattle.adb_view.specs.Readers.{ARRAY, OBJECT}
 use Rattle.adb_write.specs.Canonical.{Item, WrittenItem, Cell, in_place, apart, int_cell, blob_cell, run_cell, trimmed_words, Layout, empty_layout, end_offset, is_equal_item, put_unless, put_cell, write, write_all, payload_with_root, PayloadCounts, layout_counts, passes, trace, trace_all, overflow_of, canonical, or_overflow, written_of, MOST_BYTES, MOST_VALUES}
@@ -78,19 +79,11 @@ mutual
 
 -- ---- the counts only rise
 
-or_cases : (a b : Bool) → (a || b) ≡ true → (a ≡ true) ⊎ (b ≡ true)
-or_cases true b e = inl refl
-or_cases false b e = inr e
-
-or_right : (a : Bool) → (a || true) ≡ true
-or_right true = refl
-or_right false = refl
-
 passes_more : (c d : PayloadCounts) → c.0 ≤ d.0 → c.1 ≤ d.1 → passes c ≡ true → passes d ≡ true
 passes_more c d p q e =
     elim (or_cases (ltb MOST_BYTES c.0) (ltb MOST_VALUES c.1) e) [
       | inl a ↦ let lt = ltb-true _ _ a in let t : ltb MOST_BYTES d.0 ≡ true = lt-ltb _ _ (omega arith) in rw t refl
-      | inr a ↦ let lt = ltb-true _ _ a in let t : ltb MOST_VALUES d.1 ≡ true = lt-ltb _ _ (omega arith) in rw t (or_right (ltb MOST_BYTES d.0))
+      | inr a ↦ let lt = ltb-true _ _ a in let t : ltb MOST_VALUES d.1 ≡ true = lt-ltb _ _ (omega arith) in rw t (or-true (ltb MOST_BYTES d.0))
     ]
 
 stored_more : (c : Cell) (out : Layout) → passes (layout_counts out) ≡ true → passes (layout_counts (put_cell c out).1) ≡ true
@@ -196,4 +189,4 @@ fits_written v n size values = ap (or_overflow (canonical v)) (nothing (overflow
 
 pub larger_refused : (v : Plain) → IsNormal v → (2 ^ 28 ≤ size_of v) ⊎ (2 ^ 22 < value_count v) → is_some (overflow_of v) ≡ true
 larger_refused v n (inl size) = overflow_exact v n ∙ (let t : ltb MOST_BYTES (size_of v) ≡ true = lt-ltb _ _ (omega arith) in rw t refl)
-larger_refused v n (inr values) = overflow_exact v n ∙ (let t : ltb MOST_VALUES (value_count v) ≡ true = lt-ltb _ _ (omega arith) in rw t (or_right (ltb MOST_BYTES (size_of v))))
+larger_refused v n (inr values) = overflow_exact v n ∙ (let t : ltb MOST_VALUES (value_count v) ≡ true = lt-ltb _ _ (omega arith) in rw t (or-true (ltb MOST_BYTES (size_of v))))

@@ -4,12 +4,12 @@ use Rattle.std.specs.Prelude.{not}
 use Rattle.std.specs.Bool.{OnTrue}
 use Rattle.std.specs.List.{AllByRecursion, AllWithin, concat, insert}
 use Rattle.std.specs.List.Sorted.{IsPartitionPoint, IsPartitionedBy}
-use Rattle.std.proofs.lemmas.Bool.{cases_lt}
+use Rattle.std.proofs.lemmas.Bool.{cases_lt, not-true, not-false}
 use Rattle.std.specs.Ordering.{ordering_reverse, is_lt}
 use Rattle.std.specs.declared.cmp.Ordering.{Ordering}
 use Rattle.std.specs.declared.cmp.Ordering.TheVariants.{Less, Equal, Greater}
 use Rattle.std.proofs.lemmas.Cmp.{nat_list_cmp_total}
-use Rattle.std.proofs.lemmas.List.{drop_more, length-append, length-take, length-drop, drop-drop, get_or-map, length-map, map-set}
+use Rattle.std.proofs.lemmas.List.{drop_more, length-append, length-take, length-drop, drop-drop, get_or-map, length-map, map-set, take_all}
 use Rattle.std.proofs.lemmas.List.Edits.{get_or-insert_below}
 use Rattle.adb_write.specs.Keys.{key_at, HaveRisingKeys}
 use Rattle.adb_write.specs.WordPages.{page_at, words_before, words_from_slot, IsSlotIn, IsSameSlot, AreFilled, HALF, with_split, begins_above, AllCompare, IsPageAt, IsPageFor, IsFoundIn, IsBetween}
@@ -264,18 +264,12 @@ split_vectors f old new k u t r within is here lower upper =
     ∙ ap (λ (p : List ℕ). set (insert (map f old) (suc k) p) k (take HALF (page_at (map f old) k))) upper
     ∙ split_is (map f old) k (omega (arith, length-map old f))
 
-take_whole : (n : ℕ) (xs : List ℕ) → length xs ≤ n → take n xs ≡ xs
-take_whole zero [] long = refl
-take_whole zero (x ∷ xs) long = absurd (omega arith)
-take_whole (suc n) [] long = refl
-take_whole (suc n) (x ∷ xs) long = ap (λ (ys : List ℕ). x ∷ ys) (take_whole n xs (omega arith))
-
 -- what is copied into the upper page
 pub upper_copy : {V : Type 0} (f : V → List ℕ) (old : List V) (k : ℕ) (front xs : List ℕ) (r : V) → k < length old → front ≡ [] → xs ≡ f r → r ≡ get_or old k r
     → front ++ take (length xs - HALF) (drop HALF xs) ≡ drop HALF (page_at (map f old) k)
 upper_copy f old k front xs r within none is here =
     ap (λ (ys : List ℕ). ys ++ take (length xs - HALF) (drop HALF xs)) none
-    ∙ take_whole (length xs - HALF) (drop HALF xs) (omega (arith, length-drop HALF xs))
+    ∙ take_all (length xs - HALF) (drop HALF xs) (omega (arith, length-drop HALF xs))
     ∙ ap (drop HALF) (is ∙ ap f here ∙ sym (page_of_map f old k r within))
 
 -- one word more in a vector
@@ -338,14 +332,6 @@ pub next_begins : (p key : List ℕ) (pages : List (List ℕ)) (k : ℕ) (r : Bo
 next_begins p key pages k true inside here is = record { inside = inside; here = here; next = λ more. sym is }
 next_begins p key pages k false inside here is = tt
 
-not_true : (b : Bool) → not b ≡ true → b ≡ false
-not_true true e = absurd cc
-not_true false e = refl
-
-not_false : (b : Bool) → not b ≡ false → b ≡ true
-not_false true e = refl
-not_false false e = absurd cc
-
 -- the pages that do not begin above a key are in front
 pub parted : {V : Type 0} (f : V → List ℕ) (p key : List ℕ) (vs : List V) → AreFilled (map f vs) → HaveRisingKeys p (concat (map f vs)) → IsPartitionedBy (λ v. not (begins_above p key (f v))) vs
 parted f p key vs filled rising i j d upto within e =
@@ -369,13 +355,13 @@ page_for f p key vs zero k filled rising upto is point =
   where
     begin : (us : List _) → ((d : _) → 0 < length us → not (begins_above p key (f (get_or us 0 d))) ≡ false) → 0 < length us → begins_above p key (page_at (map f us) 0) ≡ true
     begin [] h some = absurd (omega arith)
-    begin (u ∷ us) h some = not_false _ (h u (omega arith))
+    begin (u ∷ us) h some = not-false _ (h u (omega arith))
 page_for f p key vs (suc r) k filled rising upto is point =
     let long = length-map vs f in
     subst (IsPageFor p (map f vs) key) {x = r} (omega arith)
     (page_for_next p key (map f vs) r filled rising (omega arith)
-    (at_page r (omega arith) (λ b. b ≡ false) (λ d. not_true _ (point.0 r d (omega arith) (omega arith))))
-    (λ more. at_page (suc r) (omega arith) (λ b. b ≡ true) (λ d. not_false _ (point.1 (suc r) d (omega arith) (omega arith)))))
+    (at_page r (omega arith) (λ b. b ≡ false) (λ d. not-true _ (point.0 r d (omega arith) (omega arith))))
+    (λ more. at_page (suc r) (omega arith) (λ b. b ≡ true) (λ d. not-false _ (point.1 (suc r) d (omega arith) (omega arith)))))
   where
     at_page : (i : ℕ) → i < length vs → (P : Bool → Type 0) → ((d : _) → P (begins_above p key (f (get_or vs i d)))) → P (begins_above p key (page_at (map f vs) i))
     at_page i within P h = go vs refl

@@ -3,7 +3,7 @@ use Rattle.std.proofs.Common.{◌≡◌, ◌≢◌, ◌⊎◌, ℕ, zero, suc, �
 use Rattle.std.specs.Prelude.{find}
 use Rattle.std.specs.List.{flat_map, AllByRecursion}
 use Rattle.std.specs.Int.{Width, w8, w16, w32, w64, byte_len, from_le_bytes, to_le_bytes}
-use Rattle.std.proofs.lemmas.Bool.{cases_lt, leb-true, le-leb, lt-ltb, le-ltb}
+use Rattle.std.proofs.lemmas.Bool.{cases_lt, leb-true, le-leb, lt-ltb, le-ltb, ne_eqb}
 use Rattle.std.proofs.lemmas.List.{append-nil, take_at, drop_at, length-append, length-drop, length-replicate, take-append-le, drop-append-le}
 use Rattle.adb_view.specs.Bytes.{range_at, number_at, words}
 use Rattle.adb_view.specs.Plain.{IsNormal, AreNormal, Plain, null, int, blob, arr, obj, Plains, none, more, without_last_nulls, blob_value, arr_value, obj_of, obj_value, Shape, number, text, hash, array, object, Fields, no_fields, field, unless_null, from_answer, each_plain, plain_of, plains_of, value_of}
@@ -19,9 +19,6 @@ use Rattle.adb_write.proofs.Placed.{Stands, Stands-append, wide8, wide16, wide32
 chosen : {A : Type 0} (b : Bool) (x y z : A) → cond b x y ≡ z → ((b ≡ true) × (x ≡ z)) ⊎ ((b ≡ false) × (y ≡ z))
 chosen true x y z e = inl (refl, e)
 chosen false x y z e = inr (refl, e)
-
-pub neq-eqb : (m n : ℕ) → m ≢ n → eqb m n ≡ false
-neq-eqb m n ne = grind arith
 
 -- ---- more bytes at the end change nothing that was read
 
@@ -117,9 +114,9 @@ mutual
 -- ---- a word that holds a normal value of the shape has it as its plain value
 
 unless_not_null : (w : ℕ) (v : Option Plain) → w ≢ 0 → unless_null w v ≡ v
-unless_not_null w v ne = let t : eqb w 0 ≡ false = neq-eqb w 0 ne in rw t refl
+unless_not_null w v ne = let t : eqb w 0 ≡ false = ne_eqb w 0 ne in rw t refl
 
-blob_value-is : (b : List ℕ) → b ≢ [] → blob_value b ≡ blob b
+pub blob_value-is : (b : List ℕ) → b ≢ [] → blob_value b ≡ blob b
 blob_value-is [] ne = absurd (ne refl)
 blob_value-is (x ∷ xs) ne = refl
 
@@ -284,39 +281,39 @@ Leads-append p q i w l =
 pub int_of-32 : (p : List ℕ) (w n : ℕ) → n < 2 ^ 32 → Leads p (record { kind = 2; align = 4; bytes = to_le_bytes w32 n; entries = 0 }) w → int_of p w ≡ Ok n
 unfolding int_of
 int_of-32 p w n lt l =
-    let t0 : eqb w 0 ≡ false = neq-eqb w 0 l.nonzero in
+    let t0 : eqb w 0 ≡ false = ne_eqb w 0 l.nonzero in
     rw (t0, l.kind_is, number_stands w32 (2 ^ 32) wide32 p (low_of w) n l.located.0 lt l.located.1) refl
 
 pub int_of-64 : (p : List ℕ) (w n : ℕ) → n < 2 ^ 64 → Leads p (record { kind = 3; align = 8; bytes = to_le_bytes w64 n; entries = 0 }) w → int_of p w ≡ Ok n
 unfolding int_of
 int_of-64 p w n lt l =
-    let t0 : eqb w 0 ≡ false = neq-eqb w 0 l.nonzero in
+    let t0 : eqb w 0 ≡ false = ne_eqb w 0 l.nonzero in
     rw (t0, l.kind_is, number_stands w64 (2 ^ 64) wide64 p (low_of w) n l.located.0 lt l.located.1) refl
 
 int_of-short : (p : List ℕ) (n : ℕ) → n < 2 ^ 28 → int_of p (2 ^ 28 + n) ≡ Ok n
 unfolding int_of
 int_of-short p n lt =
-    let t0 : eqb (2 ^ 28 + n) 0 ≡ false = neq-eqb (2 ^ 28 + n) 0 (λ e. absurd (omega arith)) in
+    let t0 : eqb (2 ^ 28 + n) 0 ≡ false = ne_eqb (2 ^ 28 + n) 0 (λ e. absurd (omega arith)) in
     let t1 : kind_of (2 ^ 28 + n) ≡ 1 = omega arith in
     let t2 : low_of (2 ^ 28 + n) ≡ n = omega arith in
     rw (t0, t1, t2) refl
 
 pub blob_of-8 : (p : List ℕ) (w : ℕ) (b : List ℕ) → length b < 2 ^ 8 → Leads p (record { kind = 8; align = 1; bytes = to_le_bytes w8 (length b) ++ b; entries = 0 }) w → blob_of p w ≡ Ok b
 unfolding blob_of
-blob_of-8 p w b lt l = let t0 : eqb w 0 ≡ false = neq-eqb w 0 l.nonzero in rw (t0, l.kind_is, counted_stands w8 (2 ^ 8) wide8 p (low_of w) b l.located.0 lt l.located.1) refl
+blob_of-8 p w b lt l = let t0 : eqb w 0 ≡ false = ne_eqb w 0 l.nonzero in rw (t0, l.kind_is, counted_stands w8 (2 ^ 8) wide8 p (low_of w) b l.located.0 lt l.located.1) refl
 
 pub blob_of-16 : (p : List ℕ) (w : ℕ) (b : List ℕ) → length b < 2 ^ 16 → Leads p (record { kind = 9; align = 2; bytes = to_le_bytes w16 (length b) ++ b; entries = 0 }) w → blob_of p w ≡ Ok b
 unfolding blob_of
-blob_of-16 p w b lt l = let t0 : eqb w 0 ≡ false = neq-eqb w 0 l.nonzero in rw (t0, l.kind_is, counted_stands w16 (2 ^ 16) wide16 p (low_of w) b l.located.0 lt l.located.1) refl
+blob_of-16 p w b lt l = let t0 : eqb w 0 ≡ false = ne_eqb w 0 l.nonzero in rw (t0, l.kind_is, counted_stands w16 (2 ^ 16) wide16 p (low_of w) b l.located.0 lt l.located.1) refl
 
 pub blob_of-32 : (p : List ℕ) (w : ℕ) (b : List ℕ) → length b < 2 ^ 32 → Leads p (record { kind = 10; align = 4; bytes = to_le_bytes w32 (length b) ++ b; entries = 0 }) w → blob_of p w ≡ Ok b
 unfolding blob_of
-blob_of-32 p w b lt l = let t0 : eqb w 0 ≡ false = neq-eqb w 0 l.nonzero in rw (t0, l.kind_is, counted_stands w32 (2 ^ 32) wide32 p (low_of w) b l.located.0 lt l.located.1) refl
+blob_of-32 p w b lt l = let t0 : eqb w 0 ≡ false = ne_eqb w 0 l.nonzero in rw (t0, l.kind_is, counted_stands w32 (2 ^ 32) wide32 p (low_of w) b l.located.0 lt l.located.1) refl
 
 pub run_of-placed : (kind : ℕ) (p : List ℕ) (w : ℕ) (ws : List ℕ) → AllByRecursion (λ w. w < 2 ^ 32) ws → suc (length ws) < 2 ^ 32 → Leads p (record { kind = kind; align = 4; bytes = run_bytes ws; entries = length ws }) w → run_of kind p w ≡ Ok ws
 unfolding run_of
 run_of-placed kind p w ws small few l =
-    let t0 : eqb w 0 ≡ false = neq-eqb w 0 l.nonzero in
+    let t0 : eqb w 0 ≡ false = ne_eqb w 0 l.nonzero in
     let t1 : eqb (kind_of w) kind ≡ true = eq-eqb _ _ l.kind_is in
     rw (t0, t1, run_stands p (low_of w) ws l.located.0 small few l.located.1) refl
 
@@ -435,7 +432,7 @@ not_null_word p (obj vs) w ne h = h.0
 
 keep_word-is : (w : ℕ) (ws : List ℕ) → (ws ≡ [] → w ≢ 0) → keep_word w ws ≡ w ∷ ws
 keep_word-is w (v ∷ vs) h = refl
-keep_word-is w [] h = let t : eqb w 0 ≡ false = neq-eqb w 0 (h refl) in rw t refl
+keep_word-is w [] h = let t : eqb w 0 ≡ false = ne_eqb w 0 (h refl) in rw t refl
 
 pub words_stay : (p : List ℕ) (vs : Plains) (ws : List ℕ) → without_last_nulls vs ≡ vs → HoldAll p vs ws → trimmed_words ws ≡ ws
 unfolding Holds

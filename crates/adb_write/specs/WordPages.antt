@@ -14,13 +14,13 @@ use Rattle.adb_write.specs.declared.word_pages.WordPages.{WordPages}
 abbrev pub pages_of : WordPages → List (List ℕ)
 pages_of words = map (λ page. page.items) words.pages.items
 
--- the locators of all pages that precede the index in the page at k
+-- all locators before a slot: those of the first k pages, and the first `index` of page k (counted from 0)
 abbrev pub words_before : List (List ℕ) → ℕ → ℕ → List ℕ
 words_before [] k index = []
 words_before (page ∷ pages) zero index = take index page
 words_before (page ∷ pages) (suc k) index = page ++ words_before pages k index
 
--- the locators of all pages that are at the index in the page at k, or after it
+-- all locators from a slot on: those of page k from `index` on, and those of all later pages
 abbrev pub words_from_slot : List (List ℕ) → ℕ → ℕ → List ℕ
 words_from_slot [] k index = []
 words_from_slot (page ∷ pages) zero index = drop index page ++ concat pages

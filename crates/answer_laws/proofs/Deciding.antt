@@ -8,6 +8,7 @@ use Rattle.std.specs.declared.cmp.Ordering.{Ordering}
 use Rattle.std.specs.declared.cmp.Ordering.TheVariants.{Less, Equal, Greater}
 use Rattle.std.proofs.lemmas.Cmp.{tied_itself}
 use Rattle.std.proofs.lemmas.Slice.Eq.{bytes_eq-Decides}
+use Rattle.installed_info.proofs.Listers.{listed, is_listed}
 use Rattle.version_core.proofs.OrderLaws.{version_cmp-total}
 use Rattle.version_core.specs.Order.{is_version, version_cmp}
 use Rattle.adb_view.specs.Plain.{Plain}
@@ -18,7 +19,6 @@ use Rattle.package_changes.specs.Changes.{Replacement, change_between, change_of
 use Rattle.report_core.specs.Reports.{Change, Downgrade, Reinstall, Replace, Upgrade}
 use Rattle.base_core.specs.Lists.{IsIn}
 use Rattle.answer_laws.specs.WhichChange.{HasBothVersions, IsVeryPackage}
-use Rattle.answer_laws.proofs.Members.{from_any, in_any}
 
 -- the change, by the test of the text, that of the id, whether the name is asked for again, and the order
 abbrev decided : List ℕ → List ℕ → List ℕ → Bool → Bool → Bool → Ordering → Option Change
@@ -155,10 +155,10 @@ pub reinstalls : Kind (λ r name pkg c. (change_of_name r name ≡ Some (Reinsta
 reinstalls r name pkg c both =
     let t = tests r name pkg c both in
     let is = is_reinstall name (version_text pkg) (selected_version c) (bytes_eq (version_text pkg) (selected_version c)) (is_same_id (installed_id pkg) c.id) (list_any (bytes_eq name) r.again) (version_cmp (version_text pkg) (selected_version c)) in
-    (λ e. let u = is.0 (sym t.change ∙ e) in (very pkg c u.0, from_any name r.again u.1), λ e. t.change ∙ is.1 (tested pkg c e.0, in_any name r.again e.1))
+    (λ e. let u = is.0 (sym t.change ∙ e) in (very pkg c u.0, listed name r.again u.1), λ e. t.change ∙ is.1 (tested pkg c e.0, is_listed name r.again e.1))
 
 pub keeps : Kind (λ r name pkg c. (change_of_name r name ≡ None) ↔ (IsVeryPackage pkg c × (IsIn name r.again → ⊥)))
 keeps r name pkg c both =
     let t = tests r name pkg c both in
     let is = is_kept name (version_text pkg) (selected_version c) (bytes_eq (version_text pkg) (selected_version c)) (is_same_id (installed_id pkg) c.id) (list_any (bytes_eq name) r.again) (version_cmp (version_text pkg) (selected_version c)) in
-    (λ e. let u = is.0 (sym t.change ∙ e) in (very pkg c u.0, λ b. u.1 (in_any name r.again b)), λ e. t.change ∙ is.1 (tested pkg c e.0, λ b. e.1 (from_any name r.again b)))
+    (λ e. let u = is.0 (sym t.change ∙ e) in (very pkg c u.0, λ b. u.1 (is_listed name r.again b)), λ e. t.change ∙ is.1 (tested pkg c e.0, λ b. e.1 (listed name r.again b)))

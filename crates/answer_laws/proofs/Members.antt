@@ -1,28 +1,10 @@
 -- Elements of lists.
-use Rattle.std.proofs.Common.{◌≡◌, inl, inr, ◌∙◌, ℕ, Bool, true, false, cond, List, [], ◌∷◌, ◌++◌, map, Option, Some, None, refl, ap, sym, subst, true≢false}
-use Rattle.std.specs.Prelude.{◌||◌}
-use Rattle.std.specs.List.{cons_option, filter_map, find, list_any}
+use Rattle.std.proofs.Common.{◌≡◌, inl, inr, ◌∙◌, ℕ, Bool, true, false, cond, List, [], ◌∷◌, map, Option, Some, None, refl, ap, sym, subst, true≢false}
+use Rattle.std.specs.List.{cons_option, filter_map, find}
 use Rattle.std.specs.Str.{bytes_eq}
 use Rattle.std.proofs.lemmas.Slice.Eq.{bytes_eq-Decides}
 use Rattle.base_core.specs.Lists.{IsIn}
 use Rattle.base_core.proofs.Rising as rising
-
-pub from_any : (q : List ℕ) (xs : List (List ℕ)) → list_any (bytes_eq q) xs ≡ true → IsIn q xs
-from_any q [] e = absurd cc
-from_any q (x ∷ xs) e = go (bytes_eq q x) refl e (from_any q xs)
-  where
-    go : (b : Bool) → bytes_eq q x ≡ b → (b || list_any (bytes_eq q) xs) ≡ true → (list_any (bytes_eq q) xs ≡ true → IsIn q xs) → IsIn q (x ∷ xs)
-    go true is e more = inl ((bytes_eq-Decides q x).0 is)
-    go false is e more = inr (more e)
-
-pub in_any : (q : List ℕ) (xs : List (List ℕ)) → IsIn q xs → list_any (bytes_eq q) xs ≡ true
-in_any q [] h = absurd h
-in_any q (x ∷ xs) (inl is) = ap (λ b. b || list_any (bytes_eq q) xs) ((bytes_eq-Decides q x).1 is)
-in_any q (x ∷ xs) (inr more) = go (bytes_eq q x) (in_any q xs more)
-  where
-    go : (b : Bool) → list_any (bytes_eq q) xs ≡ true → (b || list_any (bytes_eq q) xs) ≡ true
-    go true e = refl
-    go false e = e
 
 -- ---- what a function gives of elements
 
@@ -61,15 +43,6 @@ found_name {X} name_of name (y ∷ xs) x e = go (bytes_eq (name_of y) name) refl
         → cond b (Some y) (find (λ y. bytes_eq (name_of y) name) xs) ≡ Some x → rising.IsIn name (map name_of (y ∷ xs))
     go true is later e = inl (sym ((bytes_eq-Decides (name_of y) name).0 is))
     go false is later e = inr (later e)
-
-pub in_left : (q : List ℕ) (xs ys : List (List ℕ)) → rising.IsIn q xs → rising.IsIn q (xs ++ ys)
-in_left q [] ys at = absurd at
-in_left q (x ∷ xs) ys (inl is) = inl is
-in_left q (x ∷ xs) ys (inr more) = inr (in_left q xs ys more)
-
-pub in_right : (q : List ℕ) (xs ys : List (List ℕ)) → rising.IsIn q ys → rising.IsIn q (xs ++ ys)
-in_right q [] ys at = at
-in_right q (x ∷ xs) ys at = inr (in_right q xs ys at)
 
 pub listed : (q : List ℕ) (xs : List (List ℕ)) → rising.IsIn q xs → IsIn q xs
 listed q [] at = absurd at

@@ -6,11 +6,13 @@ use Rattle.std.specs.Option.{option_map_or}
 use Rattle.std.specs.Str.{bytes_eq}
 use Rattle.std.proofs.lemmas.List.{append-nil}
 use Rattle.std.proofs.lemmas.Slice.Eq.{bytes_eq-Decides}
+use Rattle.std.proofs.lemmas.Bool.{not-true, and_from, and_parts, or_cases, not_from_false}
 use Rattle.adb_fields.specs.Repeated.{package_name}
 use Rattle.adb_view.specs.Plain.{Plain}
 use Rattle.base_core.specs.Listed.{IsRising}
 use Rattle.base_core.specs.Lists.{IsIn}
 use Rattle.base_core.proofs.Rising as rising
+use Rattle.base_core.proofs.Booleans.{either_true}
 use Rattle.candidate_core.specs.Candidates.{Candidate, is_met_by_entry, meets_by_own_name, meets_dependency}
 use Rattle.change_files.proofs.InOrder.{filter_rises, from_filter, from_order, in_filter, in_order, order_rises}
 use Rattle.change_files.specs.PlanLists.{names_in_order}
@@ -22,25 +24,25 @@ use Rattle.package_changes.specs.Report.{is_in_need, names_in_need, needs_candid
 use Rattle.report_core.specs.Reports.{report_line, report_lines, stays_text}
 use Rattle.answer_laws.specs.KeptNames.{AreNamedOnce, HasKeptLines, IsNeededUnder, IsProvidedBy, NeedsOther, kept_text}
 use Rattle.answer_laws.proofs.Members.{found_name, listed, missing_name, risen}
-use Rattle.answer_laws.proofs.Tests.{as_one, any_passes, both, either, from_either, in_passing, not_false, not_true, passes_any, passing_in, text_in, text_of}
+use Rattle.answer_laws.proofs.Tests.{any_passes, in_passing, passes_any, passing_in, text_in, text_of}
 
 -- ---- one candidate needs another
 
 provided : (d : Dependency) (c : Candidate) → list_any (is_met_by_entry d) c.provides ≡ true → IsProvidedBy d c
 provided d c e =
     let h = any_passes (is_met_by_entry d) c.provides e in
-    let t = both (not h.element.conflict) (meets d h.element.name h.element.version) h.passes in
-    record { entry = h.element; listed = h.listed; positive = not_true h.element.conflict t.0; met = t.1 }
+    let t = and_parts (not h.element.conflict) (meets d h.element.name h.element.version) h.passes in
+    record { entry = h.element; listed = h.listed; positive = not-true h.element.conflict t.0; met = t.1 }
 
 provides : (d : Dependency) (c : Candidate) → IsProvidedBy d c → list_any (is_met_by_entry d) c.provides ≡ true
-provides d c p = passes_any (is_met_by_entry d) c.provides p.entry p.listed (as_one (not p.entry.conflict) _ (not_false p.entry.conflict p.positive) p.met)
+provides d c p = passes_any (is_met_by_entry d) c.provides p.entry p.listed (and_from (not p.entry.conflict) _ (not_from_false p.entry.conflict p.positive) p.met)
 
 is_met : (d : Dependency) (c : Candidate) → meets_dependency d c ≡ true → (meets d c.name c.version ≡ true) ⊎ IsProvidedBy d c
-is_met d c e = elim (either (meets_by_own_name d c) (list_any (is_met_by_entry d) c.provides) e) [ inl own ↦ inl own | inr more ↦ inr (provided d c more) ]
+is_met d c e = elim (or_cases (meets_by_own_name d c) (list_any (is_met_by_entry d) c.provides) e) [ inl own ↦ inl own | inr more ↦ inr (provided d c more) ]
 
 met_by : (d : Dependency) (c : Candidate) → (meets d c.name c.version ≡ true) ⊎ IsProvidedBy d c → meets_dependency d c ≡ true
-met_by d c (inl own) = from_either (meets_by_own_name d c) (list_any (is_met_by_entry d) c.provides) (inl own)
-met_by d c (inr p) = from_either (meets_by_own_name d c) (list_any (is_met_by_entry d) c.provides) (inr (provides d c p))
+met_by d c (inl own) = either_true (meets_by_own_name d c) (list_any (is_met_by_entry d) c.provides) (inl own)
+met_by d c (inr p) = either_true (meets_by_own_name d c) (list_any (is_met_by_entry d) c.provides) (inr (provides d c p))
 
 abbrev positive_need : Candidate → Dependency → Bool
 positive_need needed d = not d.conflict && meets_dependency d needed
@@ -48,13 +50,13 @@ positive_need needed d = not d.conflict && meets_dependency d needed
 needs_is : (c needed : Candidate) → needs_candidate c needed ≡ true → NeedsOther c needed
 needs_is c needed e =
     let h = any_passes (positive_need needed) c.depends e in
-    let t = both (not h.element.conflict) (meets_dependency h.element needed) h.passes in
-    record { dependency = h.element; listed = h.listed; positive = not_true h.element.conflict t.0; met = is_met h.element needed t.1 }
+    let t = and_parts (not h.element.conflict) (meets_dependency h.element needed) h.passes in
+    record { dependency = h.element; listed = h.listed; positive = not-true h.element.conflict t.0; met = is_met h.element needed t.1 }
 
 is_needs : (c needed : Candidate) → NeedsOther c needed → needs_candidate c needed ≡ true
 is_needs c needed n =
     passes_any (positive_need needed) c.depends n.dependency n.listed
-    (as_one (not n.dependency.conflict) (meets_dependency n.dependency needed) (not_false n.dependency.conflict n.positive) (met_by n.dependency needed n.met))
+    (and_from (not n.dependency.conflict) (meets_dependency n.dependency needed) (not_from_false n.dependency.conflict n.positive) (met_by n.dependency needed n.met))
 
 -- ---- the names of those that need it
 
@@ -76,20 +78,20 @@ needed_under selected needed name = (
   λ at.
       let t = text_of name_of (filter (is_in_need needed) selected) name (from_order name _ (risen name _ at)) in
       let f = in_passing (is_in_need needed) selected t.element t.listed in
-      let b = both (not (bytes_eq t.element.name needed.name)) (needs_candidate t.element needed) f.1 in
+      let b = and_parts (not (bytes_eq t.element.name needed.name)) (needs_candidate t.element needed) f.1 in
       record {
         user = t.element;
         listed = f.0;
         named = t.is;
-        another = λ same. other_name t.element needed (not_true _ b.0) (sym t.is ∙ same);
+        another = λ same. other_name t.element needed (not-true _ b.0) (sym t.is ∙ same);
         needs = needs_is t.element needed b.1;
       },
   λ n.
       listed name (names_in_need selected needed) (in_order name (map name_of (filter (is_in_need needed) selected))
       (text_in name_of (filter (is_in_need needed) selected) name n.user
       (passing_in (is_in_need needed) selected n.user n.listed
-      (as_one (not (bytes_eq n.user.name needed.name)) (needs_candidate n.user needed)
-      (not_false _ (name_other n.user needed (λ same. n.another (n.named ∙ same)))) (is_needs n.user needed n.needs)))
+      (and_from (not (bytes_eq n.user.name needed.name)) (needs_candidate n.user needed)
+      (not_from_false _ (name_other n.user needed (λ same. n.another (n.named ∙ same)))) (is_needs n.user needed n.needs)))
       n.named)),
 )
 

@@ -5,7 +5,7 @@ use Rattle.std.specs.List.{list_any}
 use Rattle.std.specs.Ordering.{is_lt}
 use Rattle.std.specs.Str.{bytes_eq}
 use Rattle.std.specs.declared.cmp.Ordering.TheVariants.{Less}
-use Rattle.std.proofs.lemmas.Bool.{eq-eqb, lt-ltb}
+use Rattle.std.proofs.lemmas.Bool.{eq-eqb, lt-ltb, not-true, and_from, and_parts, not_from_false}
 use Rattle.std.proofs.lemmas.Slice.Eq.{bytes_eq-Decides}
 use Rattle.adb_fields.specs.Repeated.{entries_at, package_name}
 use Rattle.adb_schema.specs.Dependencies.{dependency_in}
@@ -13,12 +13,13 @@ use Rattle.adb_view.specs.FieldIndexes.{INFO_REPLACES, PACKAGE_INFO}
 use Rattle.adb_view.specs.Plain.{Plain}
 use Rattle.adb_view.specs.Values.{entry_in}
 use Rattle.base_core.specs.ByteOrder.{bytes_cmp, precedes}
+use Rattle.base_core.proofs.Booleans.{either_true}
 use Rattle.dep_core.specs.Dependency.{Dependency}
 use Rattle.dep_core.specs.Meets.{is_wanted, meets}
 use Rattle.file_owners.specs.Replaces.{is_named_by, is_preferred_to, is_replaced_by, names_package, replacing_priority, takes_over, version_text}
 use Rattle.version_core.specs.Order.{is_version}
 use Rattle.answer_laws.specs.ReplacesEntries.{IsNamedInReplaces}
-use Rattle.answer_laws.proofs.Tests.{any_passes, as_one, both, from_either, not_false, not_true, passes_any}
+use Rattle.answer_laws.proofs.Tests.{any_passes, passes_any}
 
 -- ---- by name and version
 
@@ -36,23 +37,23 @@ accepting entry name version e = go (dependency_in entry) refl e
     go : (o : Option Dependency) → dependency_in entry ≡ o → is_replaced_by o name version ≡ true → IsAccepting entry name version
     go None is e = absurd (true≢false (sym e))
     go (Some d) is e =
-        let t = both (not d.conflict) (meets d name (Some version)) e in
-        let u = both (bytes_eq d.name name) (is_wanted d.version d.bits (Some version)) t.1 in
-        record { dependency = d; read = is; positive = not_true d.conflict t.0; named = (bytes_eq-Decides d.name name).0 u.0; wanted = u.1 }
+        let t = and_parts (not d.conflict) (meets d name (Some version)) e in
+        let u = and_parts (bytes_eq d.name name) (is_wanted d.version d.bits (Some version)) t.1 in
+        record { dependency = d; read = is; positive = not-true d.conflict t.0; named = (bytes_eq-Decides d.name name).0 u.0; wanted = u.1 }
 
 accepted : (entry : Plain) (name version : List ℕ) (d : Dependency) → dependency_in entry ≡ Some d → d.conflict ≡ false → d.name ≡ name → is_wanted d.version d.bits (Some version) ≡ true
     → is_replaced_by (dependency_in entry) name version ≡ true
 accepted entry name version d read positive named wanted =
     ap (λ (o : Option Dependency). is_replaced_by o name version) read
-    ∙ as_one (not d.conflict) (meets d name (Some version)) (not_false d.conflict positive)
-    (as_one (bytes_eq d.name name) (is_wanted d.version d.bits (Some version)) ((bytes_eq-Decides d.name name).1 named) wanted)
+    ∙ and_from (not d.conflict) (meets d name (Some version)) (not_from_false d.conflict positive)
+    (and_from (bytes_eq d.name name) (is_wanted d.version d.bits (Some version)) ((bytes_eq-Decides d.name name).1 named) wanted)
 
 pub named_in : (x y : Plain) → (names_package x y ≡ true) ↔ IsNamedInReplaces x y
 unfolding names_package
 named_in x y = (
   λ e.
       let h = any_passes (λ (entry : Plain). is_named_by entry y) (entries_at INFO_REPLACES (entry_in x PACKAGE_INFO)) e in
-      let t = both (is_version (version_text y)) (is_replaced_by (dependency_in h.element) (package_name y) (version_text y)) h.passes in
+      let t = and_parts (is_version (version_text y)) (is_replaced_by (dependency_in h.element) (package_name y) (version_text y)) h.passes in
       let a = accepting h.element (package_name y) (version_text y) t.1 in
       record {
         entry = h.element;
@@ -66,7 +67,7 @@ named_in x y = (
       },
   λ n.
       passes_any (λ (entry : Plain). is_named_by entry y) (entries_at INFO_REPLACES (entry_in x PACKAGE_INFO)) n.entry n.listed
-      (as_one (is_version (version_text y)) (is_replaced_by (dependency_in n.entry) (package_name y) (version_text y)) n.version
+      (and_from (is_version (version_text y)) (is_replaced_by (dependency_in n.entry) (package_name y) (version_text y)) n.version
       (accepted n.entry (package_name y) (version_text y) n.dependency n.read n.positive n.name n.wanted)),
 )
 
@@ -87,22 +88,22 @@ unnamed x y e = ap (λ (b : Bool). b && (not (names_package y x) || is_preferred
 
 pub alone : (x y : Plain) → names_package x y ≡ true → names_package y x ≡ false → takes_over x y ≡ true
 unfolding takes_over
-alone x y e f = as_one (names_package x y) (not (names_package y x) || is_preferred_to x y) e (from_either (not (names_package y x)) (is_preferred_to x y) (inl (not_false (names_package y x) f)))
+alone x y e f = and_from (names_package x y) (not (names_package y x) || is_preferred_to x y) e (either_true (not (names_package y x)) (is_preferred_to x y) (inl (not_from_false (names_package y x) f)))
 
 by_preference : (x y : Plain) → names_package x y ≡ true → is_preferred_to x y ≡ true → takes_over x y ≡ true
 unfolding takes_over
-by_preference x y e p = as_one (names_package x y) (not (names_package y x) || is_preferred_to x y) e (from_either (not (names_package y x)) (is_preferred_to x y) (inr p))
+by_preference x y e p = and_from (names_package x y) (not (names_package y x) || is_preferred_to x y) e (either_true (not (names_package y x)) (is_preferred_to x y) (inr p))
 
 pub priority : (x y : Plain) → names_package x y ≡ true → names_package y x ≡ true → replacing_priority y < replacing_priority x → takes_over x y ≡ true
 unfolding is_preferred_to
 priority x y e f less =
     by_preference x y e
-    (from_either (nat_lt (replacing_priority y) (replacing_priority x)) ((replacing_priority x == replacing_priority y) && precedes (package_name y) (package_name x))
+    (either_true (nat_lt (replacing_priority y) (replacing_priority x)) ((replacing_priority x == replacing_priority y) && precedes (package_name y) (package_name x))
     (inl (lt-ltb (replacing_priority y) (replacing_priority x) less)))
 
 pub later : (x y : Plain) → names_package x y ≡ true → names_package y x ≡ true → replacing_priority x ≡ replacing_priority y → bytes_cmp (package_name y) (package_name x) ≡ Less → takes_over x y ≡ true
 unfolding is_preferred_to
 later x y e f same order =
     by_preference x y e
-    (from_either (nat_lt (replacing_priority y) (replacing_priority x)) ((replacing_priority x == replacing_priority y) && precedes (package_name y) (package_name x))
-    (inr (as_one (replacing_priority x == replacing_priority y) (precedes (package_name y) (package_name x)) (eq-eqb (replacing_priority x) (replacing_priority y) same) (ap is_lt order))))
+    (either_true (nat_lt (replacing_priority y) (replacing_priority x)) ((replacing_priority x == replacing_priority y) && precedes (package_name y) (package_name x))
+    (inr (and_from (replacing_priority x == replacing_priority y) (precedes (package_name y) (package_name x)) (eq-eqb (replacing_priority x) (replacing_priority y) same) (ap is_lt order))))

@@ -11,13 +11,13 @@ use Rattle.base_core.specs.Listed.{IsRising}
 use Rattle.base_core.proofs.Rising as rising
 use Rattle.base_core.specs.Lists.{IsIn}
 use Rattle.candidate_core.specs.Candidates.{Candidate}
-use Rattle.change_files.proofs.InOrder.{in_order, order_rises}
+use Rattle.change_files.proofs.InOrder.{in_order, order_rises, in_left, in_right}
 use Rattle.db_core.specs.Packages.{is_package_named}
 use Rattle.file_owners.specs.Replaces.{version_text}
 use Rattle.package_changes.specs.Changes.{Replacement, change_between, change_of_name, changes_of, is_same_selected, is_selected_named, names_on_both_sides, selected_version, unless_same, version_change, version_text_cmp}
 use Rattle.report_core.specs.Reports.{Change, Install, Purge, Reinstall}
 use Rattle.answer_laws.specs.WhichChange.{IsInstalled, IsPurged, IsSelected, WasInstalled, changed_name}
-use Rattle.answer_laws.proofs.Members.{found_name, given_in, given_of, in_left, in_right, listed, missing_name}
+use Rattle.answer_laws.proofs.Members.{found_name, given_in, given_of, listed, missing_name}
 
 -- ---- a change has the name that it is of
 

@@ -11,9 +11,9 @@ use Rattle.dep_core.specs.LeadingSlash.{without_slash}
 use Rattle.file_owners.specs.Replaces.{version_text}
 use Rattle.installed_info.specs.Form.{form_of}
 use Rattle.installed_info.specs.Info.{package_info}
+use Rattle.installed_info.proofs.Listers.{listed, is_listed}
 use Rattle.report_core.specs.Reports.{owner_text, report_line, report_lines, section}
 use Rattle.answer_laws.specs.InfoAnswers.{depends_in_order, info_field, info_heading, paths_in_order, section_lines}
-use Rattle.answer_laws.proofs.Members.{from_any, in_any}
 use Rattle.base_core.specs.Lists.{IsIn}
 
 closed : (texts : List (List ℕ)) → report_lines (texts ++ ([] ∷ [])) ≡ report_lines texts ++ codes "\n"
@@ -45,7 +45,7 @@ contents flags name pkg e f g =
     (as_section (info_heading pkg (codes " contains:")) (paths_in_order pkg))
 
 pub listed_paths : (pkg : Plain) (path : List ℕ) → IsIn path (paths_in_order pkg) ↔ (lists_path path pkg ≡ true)
-listed_paths pkg path = (in_any path (paths_in pkg), from_any path (paths_in pkg))
+listed_paths pkg path = (is_listed path (paths_in pkg), listed path (paths_in pkg))
 
 pub depends : (flags : Flags) (name : List ℕ) (pkg : Plain) → flags.who_owns ≡ false → flags.installed ≡ false → flags.contents ≡ false → flags.depends ≡ true
     → package_info (form_of flags) name pkg ≡ section_lines (info_heading pkg (codes " depends on:")) (depends_in_order pkg)

@@ -1,34 +1,10 @@
 -- Elements that pass tests.
-use Rattle.std.proofs.Common.{◌≡◌, ◌⊎◌, inl, inr, ◌∙◌, ℕ, Bool, true, false, cond, List, [], ◌∷◌, map, refl, ap, sym, true≢false}
-use Rattle.std.specs.Prelude.{◌&&◌, ◌||◌, not}
+use Rattle.std.proofs.Common.{◌≡◌, inl, inr, ◌∙◌, ℕ, Bool, true, false, cond, List, [], ◌∷◌, map, refl, ap, sym, true≢false}
+use Rattle.std.specs.Prelude.{◌||◌}
 use Rattle.std.specs.List.{filter, list_any}
 use Rattle.base_core.specs.Lists.{IsIn}
 use Rattle.base_core.proofs.Rising as rising
-
-pub both : (a b : Bool) → (a && b) ≡ true → (a ≡ true) × (b ≡ true)
-both true b e = (refl, e)
-both false b e = absurd (true≢false (sym e))
-
-pub as_one : (a b : Bool) → a ≡ true → b ≡ true → (a && b) ≡ true
-as_one true b e f = f
-as_one false b e f = e
-
-pub either : (a b : Bool) → (a || b) ≡ true → (a ≡ true) ⊎ (b ≡ true)
-either true b e = inl refl
-either false b e = inr e
-
-pub from_either : (a b : Bool) → (a ≡ true) ⊎ (b ≡ true) → (a || b) ≡ true
-from_either true b e = refl
-from_either false b (inl e) = absurd (true≢false (sym e))
-from_either false b (inr e) = e
-
-pub not_true : (a : Bool) → not a ≡ true → a ≡ false
-not_true true e = absurd (true≢false (sym e))
-not_true false e = refl
-
-pub not_false : (a : Bool) → a ≡ false → not a ≡ true
-not_false true e = absurd (true≢false e)
-not_false false e = refl
+use Rattle.base_core.proofs.Booleans.{either_true}
 
 pub record HasPassing {X : Type 0} (p : X → Bool) (xs : List X) : Type 0 where
   pub element : X
@@ -45,8 +21,8 @@ any_passes {X} p (x ∷ xs) e = go (p x) refl e (any_passes p xs)
 
 pub passes_any : {X : Type 0} (p : X → Bool) (xs : List X) (x : X) → IsIn x xs → p x ≡ true → list_any p xs ≡ true
 passes_any p [] x at e = absurd at
-passes_any p (y ∷ xs) x (inl is) e = from_either (p y) (list_any p xs) (inl (sym (ap p is) ∙ e))
-passes_any p (y ∷ xs) x (inr more) e = from_either (p y) (list_any p xs) (inr (passes_any p xs x more e))
+passes_any p (y ∷ xs) x (inl is) e = either_true (p y) (list_any p xs) (inl (sym (ap p is) ∙ e))
+passes_any p (y ∷ xs) x (inr more) e = either_true (p y) (list_any p xs) (inr (passes_any p xs x more e))
 
 pub in_passing : {X : Type 0} (p : X → Bool) (xs : List X) (x : X) → IsIn x (filter p xs) → IsIn x xs × (p x ≡ true)
 in_passing p [] x at = absurd at

@@ -1,13 +1,15 @@
 -- The files whose folders count for triggers.
-use Rattle.std.proofs.Common.{◌≡◌, ◌⊎◌, inl, inr, ◌↔◌, ℕ, true, List, [], ◌∷◌, ◌++◌, map, Contains}
+use Rattle.std.proofs.Common.{◌≡◌, ◌⊎◌, inl, inr, ◌↔◌, ℕ, true, List, map, Contains}
 use Rattle.base_core.proofs.Rising as rising
 use Rattle.base_core.specs.Files.{Files}
 use Rattle.base_core.specs.Lists.{IsIn}
+use Rattle.base_core.proofs.Listed.{in_both}
 use Rattle.change_files.specs.FileChange.{FileChange}
 use Rattle.change_files.specs.FilesAfter.{is_removed, is_written}
 use Rattle.change_files.specs.PlanLists.{FileWrite, file_writes_of, removals_of}
+use Rattle.change_files.proofs.InOrder.{in_left, in_right}
 use Rattle.change_outcome.specs.ChangeOutcome.{touched_paths}
-use Rattle.answer_laws.proofs.Members.{in_left, in_right, listed, risen}
+use Rattle.answer_laws.proofs.Members.{listed, risen}
 
 abbrev written_paths : FileChange → Files → List (List ℕ)
 written_paths change files = map (λ (w : FileWrite). w.name) (file_writes_of change files)
@@ -18,15 +20,10 @@ Written = (change : FileChange) (files : Files) (name : List ℕ) → Contains (
 abbrev pub Removed : Type 0
 Removed = (change : FileChange) (files : Files) (path : List ℕ) → Contains (removals_of change files) path ↔ (is_removed change files path ≡ true)
 
-on_one_side : (q : List ℕ) (xs ys : List (List ℕ)) → rising.IsIn q (xs ++ ys) → rising.IsIn q xs ⊎ rising.IsIn q ys
-on_one_side q [] ys at = inr at
-on_one_side q (x ∷ xs) ys (inl is) = inl (inl is)
-on_one_side q (x ∷ xs) ys (inr more) = elim (on_one_side q xs ys more) [ inl here ↦ inl (inr here) | inr there ↦ inr there ]
-
 pub touched_are : Written → Removed → (change : FileChange) (files : Files) (path : List ℕ)
     → IsIn path (touched_paths change files) ↔ ((is_written change files path ≡ true) ⊎ (is_removed change files path ≡ true))
 touched_are written removed change files path = (
-  λ at. elim (on_one_side path (written_paths change files) (removals_of change files) (risen path (touched_paths change files) at)) [
+  λ at. elim (in_both path (written_paths change files) (removals_of change files) (risen path (touched_paths change files) at)) [
     | inl here ↦ inl ((written change files path).0 (rising.contains_from_in (written_paths change files) path here))
     | inr there ↦ inr ((removed change files path).0 (rising.contains_from_in (removals_of change files) path there))
   ],

@@ -3,6 +3,7 @@ use Rattle.std.proofs.Common.{◌≡◌, ◌↔◌, ◌∙◌, ℕ, Bool, true, 
 use Rattle.std.specs.Prelude.{if◌then◌else◌, not, ◌&&◌, ◌||◌, is_some}
 use Rattle.std.specs.List.{find, list_any}
 use Rattle.std.specs.Str.{bytes_eq}
+use Rattle.installed_info.proofs.Listers.{listed, is_listed}
 use Rattle.adb_view.specs.Plain.{Plain}
 use Rattle.base_core.specs.Lists.{IsIn}
 use Rattle.candidate_core.specs.Candidates.{Candidate, is_same_id}
@@ -11,7 +12,6 @@ use Rattle.file_owners.specs.Replaces.{version_text}
 use Rattle.package_changes.specs.Changes.{Replacement, change_between, change_of_name, is_selected_named, selected_version, unless_same}
 use Rattle.report_core.specs.Reports.{Change, Reinstall}
 use Rattle.answer_laws.specs.WhichChange.{IsSelectedItself}
-use Rattle.answer_laws.proofs.Members.{from_any, in_any}
 
 -- the change, by whether the name is asked for again
 abbrev unless_again : List ℕ → Candidate → Bool → Option Change
@@ -35,9 +35,9 @@ by_again name c false = ((λ e. absurd cc, λ e. absurd (true≢false (sym e))),
 pub again_itself : (r : Replacement) (name : List ℕ) (c : Candidate) → IsSelectedItself r name c → (change_of_name r name ≡ Some (Reinstall name (selected_version c))) ↔ IsIn name r.again
 again_itself r name c is =
     let law = (by_again name c (list_any (bytes_eq name) r.again)).0 in
-    (λ e. from_any name r.again (law.0 (sym (itself r name c is) ∙ e)), λ at. itself r name c is ∙ law.1 (in_any name r.again at))
+    (λ e. listed name r.again (law.0 (sym (itself r name c is) ∙ e)), λ at. itself r name c is ∙ law.1 (is_listed name r.again at))
 
 pub kept_itself : (r : Replacement) (name : List ℕ) (c : Candidate) → IsSelectedItself r name c → (change_of_name r name ≡ None) ↔ (IsIn name r.again → ⊥)
 kept_itself r name c is =
     let law = (by_again name c (list_any (bytes_eq name) r.again)).1 in
-    (λ e at. law.0 (sym (itself r name c is) ∙ e) (in_any name r.again at), λ f. itself r name c is ∙ law.1 (λ b. f (from_any name r.again b)))
+    (λ e at. law.0 (sym (itself r name c is) ∙ e) (is_listed name r.again at), λ f. itself r name c is ∙ law.1 (λ b. f (listed name r.again b)))

@@ -2,7 +2,7 @@
 use Rattle.std.proofs.Common.{◌≡◌, ◌↔◌, ◌∙◌, ℕ, suc, zero, ◌<◌, Bool, true, false, List, [], ◌∷◌, length, map, Some, refl, ap, sym, subst, true≢false, arith}
 use Rattle.std.specs.Prelude.{if◌then◌else◌, ◌==◌, codes, slice_get}
 use Rattle.std.specs.Str.{bytes_eq}
-use Rattle.std.proofs.lemmas.Bool.{eqb-true}
+use Rattle.std.proofs.lemmas.Bool.{eqb-true, and_from, and_parts}
 use Rattle.std.proofs.lemmas.Slice.Eq.{bytes_eq-Decides}
 use Rattle.adb_view.specs.Plain.{Plain}
 use Rattle.base_core.proofs.Rising as rising
@@ -19,7 +19,7 @@ use Rattle.star_patterns.specs.Fills.{IsFilledTo}
 use Rattle.star_patterns.specs.Patterns.{is_matched}
 use Rattle.answer_laws.specs.DueTriggers.{HasFileIn, IsFilledByParts, IsTriggered}
 use Rattle.answer_laws.proofs.Members.{listed, risen}
-use Rattle.answer_laws.proofs.Tests.{any_passes, as_one, both, passes_any, text_in, text_of}
+use Rattle.answer_laws.proofs.Tests.{any_passes, passes_any, text_in, text_of}
 
 -- what the crate of patterns says of one part
 abbrev pub Filled : Type 0
@@ -33,7 +33,7 @@ parts_filled law [] [] e = (refl, λ i p part is are. absurd cc)
 parts_filled law [] (part ∷ parts) e = absurd (true≢false (sym e))
 parts_filled law (p ∷ patterns) [] e = absurd (true≢false (sym e))
 parts_filled law (p ∷ patterns) (part ∷ parts) e =
-    let t = both (is_matched p part) (are_parts_matched patterns parts) e in
+    let t = and_parts (is_matched p part) (are_parts_matched patterns parts) e in
     let more = parts_filled law patterns parts t.1 in
     (ap suc more.0, at more.1 ((law p part).0 t.0))
   where
@@ -50,7 +50,7 @@ filled_parts law [] (part ∷ parts) e each = absurd cc
 filled_parts law (p ∷ patterns) [] e each = absurd cc
 filled_parts law (p ∷ patterns) (part ∷ parts) e each =
     let same : length patterns ≡ length parts = omega arith in
-    as_one (is_matched p part) (are_parts_matched patterns parts) ((law p part).1 (each zero p part refl refl))
+    and_from (is_matched p part) (are_parts_matched patterns parts) ((law p part).1 (each zero p part refl refl))
     (filled_parts law patterns parts same (λ i q other is are. each (suc i) q other is are))
 
 above_zero : (n : ℕ) → 0 < n → (n == 0) ≡ false
@@ -80,10 +80,10 @@ matched_root pattern = ((bytes_eq-Decides pattern (codes "/")).0, (bytes_eq-Deci
 pub due_is : (pkg : Plain) (folder : List ℕ) → (is_due pkg folder ≡ true) ↔ IsTriggered pkg folder
 due_is pkg folder = (
   λ e.
-      let t = both (has_script_of pkg TRIGGER_SCRIPT) (is_watched pkg folder) e in
+      let t = and_parts (has_script_of pkg TRIGGER_SCRIPT) (is_watched pkg folder) e in
       let h = any_passes (is_folder_matched folder) (patterns_of pkg) t.1 in
       record { script = t.0; pattern = h.element; watched = h.listed; matched = h.passes },
-  λ t. as_one (has_script_of pkg TRIGGER_SCRIPT) (is_watched pkg folder) t.script (passes_any (is_folder_matched folder) (patterns_of pkg) t.pattern t.watched t.matched),
+  λ t. and_from (has_script_of pkg TRIGGER_SCRIPT) (is_watched pkg folder) t.script (passes_any (is_folder_matched folder) (patterns_of pkg) t.pattern t.watched t.matched),
 )
 
 pub folders_are : (paths : List (List ℕ)) (folder : List ℕ) → IsIn folder (folders_of_paths paths) ↔ HasFileIn paths folder

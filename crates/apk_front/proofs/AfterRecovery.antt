@@ -18,6 +18,7 @@ use Rattle.journal_core.specs.Quiet.{EachCrashLeavesOld, StateIsUnchanged}
 use Rattle.journal_core.specs.Recovery.{EachCrashLeavesOldOrNew, EachCrashLeaves, StateDependsOn, intent_name, intent_of, state_of}
 use Rattle.journal_core.specs.Replacing.{IsMomentOfReplacing}
 use Rattle.journal_core.specs.Staged.{IsEmptyStage, IsOldUntilCommit, unstaged_files}
+use Rattle.journal_core.proofs.Lasting.{some_none}
 use Rattle.outcome.specs.Effect.{Effect, does_recover}
 use Rattle.outcome.specs.Outcome.{Outcome}
 use Rattle.outcome.specs.Work.{recovery_fault, work_files}
@@ -190,11 +191,8 @@ reads_after A B effect output v u old mid now recovers work into first (inr (o, 
 unread_last : (output : Option (List ℕ)) (w : TreeState) → NamesAreDurableWithoutIntent w → NamesAreDurableWithoutIntentExcept output w
 unread_last output w last none map among q off no_intent unstaged = last none map among q no_intent unstaged
 
-none_some : (o : Option ℕ) → o ≡ None → IsSome o → ⊥
-none_some o none some = false≢true (sym (ap (λ (p : Option ℕ). is_some p) none) ∙ some)
-
 newest_last : (v u : TreeState) (rest more added : History) → IsSome (v.names intent_name) → u ∷ more ≡ added ++ v ∷ rest → All NamesAreDurableWithoutIntent added → u.names intent_name ≡ None → ShownNamesAreDurable u
-newest_last v u rest more [] some is each none = absurd (none_some (v.names intent_name) (sym (ap (λ (h : History). (first_or v h).names intent_name) is) ∙ none) some)
+newest_last v u rest more [] some is each none = absurd (some_none (v.names intent_name) (sym (ap (λ (h : History). (first_or v h).names intent_name) is) ∙ none) some)
 newest_last v u rest more (m ∷ added) some is each none =
     let same : u ≡ m = ap (first_or v) is in
     subst ShownNamesAreDurable (sym same) (All-head NamesAreDurableWithoutIntent m added each (subst (λ (w : TreeState). w.names intent_name ≡ None) same none))

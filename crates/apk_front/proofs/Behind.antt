@@ -19,7 +19,8 @@ use Rattle.journal_core.specs.declared.fault.RecoverFault.TheVariants.{IntentBad
 use Rattle.outcome.specs.Commands.{IsPossibleOutcomeOf, IsPossibleOutcomeOn, IsOutcomeOf, IsOutcomeOn, IsOutcomeUnlessBadIntent}
 use Rattle.outcome.specs.Effect.{Effect, Computes, Reads, Tells, Makes, Changes, does_recover, effect_of}
 use Rattle.outcome.specs.Outcome.{Outcome, just_refusal}
-use Rattle.outcome.specs.Work.{fault_of_intent, recovery_fault, work_files}
+use Rattle.outcome.specs.Work.{fault_of_intent, recovery_fault}
+use Rattle.outcome.proofs.Recovering.{work_is}
 use Rattle.report_core.specs.declared.refusal.Refusal.TheVariants.{IntentBad}
 use Rattle.apk_front.specs.Moments.{ArePathsToWriteFree, AreOutcomePathsFree}
 use Rattle.apk_front.specs.Runs.{HasNothingStaged, IfNothingStaged, IsRun, IsWholeRun}
@@ -30,13 +31,6 @@ use Rattle.apk_front.proofs.AfterRecovery.{AreLaws, BytesAs, IsCalm, IsRecovery,
 use Rattle.apk_front.proofs.Runs.{History, Judged, Leaves, none_is_some}
 
 -- ---- a command that recovers
-
-work_is : (effect : Effect) (files : Files) → does_recover effect ≡ true → work_files effect files ≡ unstaged_files files
-work_is Computes files recovering = cc
-work_is Reads files recovering = cc
-work_is Tells files recovering = refl
-work_is Makes files recovering = refl
-work_is Changes files recovering = refl
 
 no_bad : (files : Files) → ((cause : Cause) → IsIntentFault files cause → ⊥) → fault_of_intent (files intent_name) ≡ None
 no_bad files good = by_found (files intent_name) refl

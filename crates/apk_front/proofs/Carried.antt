@@ -267,7 +267,7 @@ durable_by words judged (v ∷ rest) now run = run.is_durable
 
 -- ---- the outcome is carried out
 
-no_refusal : (refusal : Option Refusal) → Done ≡ answer_by refusal → refusal ≡ None
+pub no_refusal : (refusal : Option Refusal) → Done ≡ answer_by refusal → refusal ≡ None
 no_refusal None same = refl
 no_refusal (Some r) same = cc
 

@@ -1,5 +1,5 @@
 -- `demo`, and all other commands.
-use Rattle.std.proofs.Common.{◌≡◌, ℕ, suc, ◌+◌, true, false, List, [], ◌∷◌, Option, Some, None, IsSome, is_some, Result, Ok, Err, refl, sym, ap, subst, ◌∙◌, arith}
+use Rattle.std.proofs.Common.{◌≡◌, ℕ, suc, ◌+◌, true, false, List, [], ◌∷◌, Option, Some, None, IsSome, is_some, Result, Ok, Err, refl, sym, ap, subst, ◌∙◌}
 use Rattle.std.specs.Prelude.{IfOk, IsTrue, MatchResult}
 use Rattle.std.proofs.lemmas.Bool.{false≢true}
 use Rattle.base_core.specs.Calls.{IfObservable}
@@ -13,6 +13,7 @@ use Rattle.command_core.specs.declared.operands.Operand.{Operand}
 use Rattle.demo_lines.specs.Count.{demo_count}
 use Rattle.demo_lines.specs.Lines.{add_words, demo_repositories, mkndx_words, mkpkg_words}
 use Rattle.demo_lines.specs.Report.{demo_line}
+use Rattle.demo_lines.proofs.Lengths.{plus_one}
 use Rattle.outcome.specs.Commands.{IsPossibleOutcomeOf, IsOutcomeOf, reads_in}
 use Rattle.outcome.specs.Demo.{AreIndexed, AreInstalled, ArePackaged, IsDemoOutcome, IsRunAfter, IsRunUnlessRefused, demo_start, with_demo_file}
 use Rattle.outcome.specs.Effect.{does_recover, ignores_files, effect_of, output_if}
@@ -203,9 +204,6 @@ next_at : (i : ℕ) (last verdict : Verdict) (old new : MemoryTree) → IsRunTo 
 next_at i last verdict old new (before, is, reports, files) on =
     let (o, one, reported, after) = on before reports files in
     (o, (before, is, one), reported, after)
-
-plus_one : (i : ℕ) → i + 1 ≡ suc i
-plus_one i = omega arith
 
 pub next_to : (i : ℕ) (last verdict : Verdict) (old new : MemoryTree) → IsRunTo (ArePackaged i) last old → CountsOnlyRise (mkpkg_words (i + 1)) (with_demo_file (i + 1)) last old verdict new → IsRunTo (ArePackaged (i + 1)) verdict new
 next_to i last verdict old new one =

@@ -20,6 +20,7 @@ use Rattle.adb_view.specs.declared.tables.Which.{Which}
 use Rattle.adb_view.specs.declared.tables.Which.TheVariants.{Package, Index, Idb, Intent}
 use Rattle.adb_view.specs.Adb.{payload_of}
 use Rattle.std.specs.Option.{option_map, option_or}
+use Rattle.make_index.proofs.IndexReads.{operand_name}
 use Rattle.command_core.specs.Named.{operand_file}
 use Rattle.make_info.specs.Reads.{Reads}
 use Rattle.outcome.specs.Commands.{reads_in}
@@ -31,7 +32,6 @@ use Rattle.command_core.specs.declared.operands.Operand.{Operand}
 use Rattle.apk_front.specs.Containers.{IsDumpFault, IsShapedFirst, first_form_fault}
 use Rattle.apk_front.specs.Verdicts.{as_outcome}
 use Rattle.apk_front.specs.declared.answer.Verdict.{Verdict}
-use Rattle.apk_front.proofs.Operands.{file_named}
 
 -- ---- blocks
 
@@ -97,7 +97,7 @@ pub dump_found : (old : List TreeState) (os : List Operand) (o : Operand) (name 
 dump_found [] os o name verdict bytes n x named is found = tt
 dump_found (v ∷ old) os o name verdict bytes n x named is found =
     is (files_of v)
-    ∙ ap (dump_outcome (files_of v) o.place) (found ∙ ap (files_of v) (file_named os 0 o name x named))
+    ∙ ap (dump_outcome (files_of v) o.place) (found ∙ ap (files_of v) (operand_name os 0 o name x named))
     ∙ ap (adbdump (reads_in (files_of v)) (files_of v)) (sym (one_of os o n x))
 
 pub dump_read : (os : List Operand) (o : Operand) (verdict : Verdict) (bytes : Option (List ℕ)) → length os ≡ 1 → slice_get os 0 ≡ Some o

@@ -2,6 +2,7 @@
 use Rattle.std.proofs.Common.{◌≡◌, ℕ, List, [], ◌∷◌, Option, Some, None, Result, Ok, Err, sym, ap, subst, ◌∙◌, length}
 use Rattle.std.specs.List.{slice_get}
 use Rattle.std.specs.Option.{option_map}
+use Rattle.make_index.proofs.IndexReads.{operand_name}
 use Rattle.base_core.specs.Calls.{IfObservable}
 use Rattle.base_core.specs.Files.{Files, no_names}
 use Rattle.base_core.specs.Tree.{TreeState, files_of}
@@ -18,7 +19,6 @@ use Rattle.report_core.specs.declared.refusal.Refusal.TheVariants.{FileMissing, 
 use Rattle.apk_front.specs.Verdicts.{as_outcome}
 use Rattle.apk_front.specs.declared.answer.Verdict.{Verdict}
 use Rattle.apk_front.proofs.Dumping.{one_of}
-use Rattle.apk_front.proofs.Operands.{file_named}
 
 -- ---- the operand
 
@@ -28,7 +28,7 @@ pub gen_found : (old : List TreeState) (os : List Operand) (o : Operand) (name :
 gen_found [] os o name verdict bytes n x named is found = tt
 gen_found (v ∷ old) os o name verdict bytes n x named is found =
     is (files_of v)
-    ∙ ap (generate_outcome (files_of v) o.place) (found ∙ ap (files_of v) (file_named os 0 o name x named))
+    ∙ ap (generate_outcome (files_of v) o.place) (found ∙ ap (files_of v) (operand_name os 0 o name x named))
     ∙ ap (adbgen (reads_in (files_of v)) (files_of v)) (sym (one_of os o n x))
 
 pub gen_read : (os : List Operand) (o : Operand) (verdict : Verdict) (bytes : Option (List ℕ)) → length os ≡ 1 → slice_get os 0 ≡ Some o

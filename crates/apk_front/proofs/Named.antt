@@ -1,6 +1,6 @@
 -- Out of memory after words that name a command.
-use Rattle.std.proofs.Common.{◌≡◌, ◌||◌, ℕ, Bool, true, false, List, Result, Ok, Err, IsErrOf, IsTrue, refl, ap, subst}
-use Rattle.std.proofs.lemmas.Bool.{false≢true}
+use Rattle.std.proofs.Common.{◌≡◌, ℕ, List, Result, Ok, Err, IsErrOf, IsTrue, refl, ap, subst}
+use Rattle.std.proofs.lemmas.Bool.{or_right, or_left}
 use Rattle.base_core.specs.Files.{no_names}
 use Rattle.base_core.specs.Sink.{SinkChange}
 use Rattle.base_core.specs.declared.tree.TreeFault.{TreeFault}
@@ -17,21 +17,13 @@ use Rattle.apk_front.specs.declared.answer.Answer.{Answer}
 use Rattle.apk_front.specs.declared.answer.Answer.TheVariants.{Ok as Done, Refused, TreeFault as TreeFailed, OutFault, Memory}
 use Rattle.apk_front.specs.declared.answer.Verdict.{Verdict}
 
-or_last : (a b : Bool) → b ≡ true → (a || b) ≡ true
-or_last true b is = refl
-or_last false b is = is
-
 -- a command names one
 pub command_named : (words : List (List ℕ)) (command : CommandLine) → command_of words ≡ Ok command → IsTrue (name_a_command words)
-command_named words command h = or_last (is_ok (line_start words)) (is_ok (command_of words)) (ap is_ok h)
-
-or_first : (a b : Bool) → a ≡ true → (a || b) ≡ true
-or_first true b is = refl
-or_first false b is = absurd (false≢true is)
+command_named words command h = or_right (is_ok (line_start words)) (is_ok (command_of words)) (ap is_ok h)
 
 -- and so do words whose applet was found
 start_named : (words : List (List ℕ)) → IsTrue (is_ok (line_start words)) → IsTrue (name_a_command words)
-start_named words found = or_first (is_ok (line_start words)) (is_ok (command_of words)) found
+start_named words found = or_left (is_ok (line_start words)) (is_ok (command_of words)) found
 
 pub memory_named_so : (words : List (List ℕ)) (fault : WordsFault) → fault ≡ WantsMemory → IsAfterApplet fault (line_start words) → IsTrue (name_a_command words)
 memory_named_so words fault is behind = start_named words (subst (λ (f : WordsFault). IsAfterApplet f (line_start words)) is behind)

@@ -5,6 +5,7 @@ use Rattle.std.specs.Option.{option_map, option_or}
 use Rattle.std.specs.Prelude.{not, nat_le}
 use Rattle.std.proofs.lemmas.Bool.{and_parts, eq-eqb, leb-true, ne_eqb}
 use Rattle.std.proofs.lemmas.Option.{same_Some}
+use Rattle.make_index.proofs.IndexReads.{operand_name}
 use Rattle.base_core.specs.Calls.{IfObservable}
 use Rattle.base_core.specs.Faults.{Counts}
 use Rattle.base_core.specs.Files.{Files, no_names}
@@ -93,10 +94,6 @@ left_at [] i x e = cc
 left_at (y ∷ xs) zero x e = cc
 left_at (y ∷ xs) (suc i) x e =
     let next : suc (i + 1) ≡ suc i + 1 = omega arith in left_at xs i x e ∙ ap (λ n. x ∷ drop n (y ∷ xs)) next
-
--- the name that an operand lends
-pub file_named : (os : List Operand) (i : ℕ) (o : Operand) (name : List ℕ) → slice_get os i ≡ Some o → option_map operand_file (slice_get os i) ≡ Some name → name ≡ without_dot o.text
-file_named os i o name at is = same_Some name (without_dot o.text) (sym is ∙ ap (option_map operand_file) at)
 
 -- the operand that lends a name
 pub file_at : (os : List Operand) (i : ℕ) (name : List ℕ) → option_map operand_file (slice_get os i) ≡ Some name → (o : Operand) × (slice_get os i ≡ Some o) × (name ≡ without_dot o.text)
@@ -202,7 +199,7 @@ pub found_here : (old now : List TreeState) (os : List Operand) (i : ℕ) (o : O
 found_here [] now os i o name r same at is so_far found some = tt
 found_here (v ∷ old) now os i o name r same at is so_far found some =
     let k : IsTestOf o name r v = subst (λ (h : List TreeState). IfObservable h (IsTestOf o name r)) same found in
-    sym (so_far ∙ test_one v os i o name r at (file_named os i o name at is) k ∙ or_here r (verify_refusal (reads_in (files_of v)) (i + 1) (drop (i + 1) os)) some)
+    sym (so_far ∙ test_one v os i o name r at (operand_name os i o name at is) k ∙ or_here r (verify_refusal (reads_in (files_of v)) (i + 1) (drop (i + 1) os)) some)
 
 pub found_more : (old now : List TreeState) (os : List Operand) (i : ℕ) (o : Operand) (name : List ℕ) (r : Option Refusal) → now ≡ old → slice_get os i ≡ Some o → option_map operand_file (slice_get os i) ≡ Some name
     → IfObservable old (IsFine os i) → IfObservable now (IsTestOf o name r) → false ≡ is_some r
@@ -210,7 +207,7 @@ pub found_more : (old now : List TreeState) (os : List Operand) (i : ℕ) (o : O
 found_more [] now os i o name r same at is so_far found none = tt
 found_more (v ∷ old) now os i o name r same at is so_far found none =
     let k : IsTestOf o name r v = subst (λ (h : List TreeState). IfObservable h (IsTestOf o name r)) same found in
-    so_far ∙ test_one v os i o name r at (file_named os i o name at is) k ∙ or_next r (verify_refusal (reads_in (files_of v)) (i + 1) (drop (i + 1) os)) none
+    so_far ∙ test_one v os i o name r at (operand_name os i o name at is) k ∙ or_next r (verify_refusal (reads_in (files_of v)) (i + 1) (drop (i + 1) os)) none
 
 pub found_all : (old : List TreeState) (os : List Operand) (i : ℕ) → drop i os ≡ [] → IfObservable old (IsFine os i) → IfObservable old (λ v. None ≡ verify_refusal (reads_in (files_of v)) 0 os)
 found_all [] os i ended so_far = tt

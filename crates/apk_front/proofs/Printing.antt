@@ -1,8 +1,9 @@
 -- A report, and the line of a refusal behind it.
-use Rattle.std.proofs.Common.{◌≡◌, ◌≢◌, ◌⊎◌, inl, inr, ℕ, List, [], Option, Some, None, Ok, Err, refl, sym, ap, subst, ◌∙◌, append-nil}
+use Rattle.std.proofs.Common.{◌≡◌, ◌≢◌, ◌⊎◌, inl, inr, ℕ, List, [], Option, Some, None, Ok, Err, refl, sym, subst, ◌∙◌, append-nil}
 use Rattle.base_core.specs.Files.{Files}
 use Rattle.base_core.specs.Sink.{Adds, AddsSome, SinkChange, Gets, GetsSome, SinkFailed}
 use Rattle.base_core.specs.Write.{Writes}
+use Rattle.base_core.proofs.Added.{Adds-none}
 use Rattle.report_core.specs.Texts.{refusal_line}
 use Rattle.report_core.specs.declared.refusal.Refusal.{Refusal}
 use Rattle.outcome.specs.Outcome.{outcome_of, line_of}
@@ -15,13 +16,9 @@ use Rattle.apk_front.specs.declared.answer.Answer.TheVariants.{OutFault}
 pub all_some : (old new : Option (List ℕ)) (bytes : List ℕ) → Adds old new bytes → AddsSome old new bytes
 all_some old new bytes h = record { front = bytes; rest = []; whole = sym (append-nil bytes); added = h }
 
-adds_none : (old : Option (List ℕ)) → Adds old old []
-adds_none None = refl
-adds_none (Some x) = ap Some (sym (append-nil x))
-
 -- nothing of it
 pub none_some : (old : Option (List ℕ)) (bytes : List ℕ) → AddsSome old old bytes
-none_some old bytes = record { front = []; rest = bytes; whole = refl; added = adds_none old }
+none_some old bytes = record { front = []; rest = bytes; whole = refl; added = Adds-none old }
 
 line_some : (refusal : Refusal) → refusal_line refusal ≢ []
 line_some refusal e = cc
@@ -49,7 +46,7 @@ printed_whole {T} {E} refusal report bytes files answer out err x is w printed =
 -- the report was not written
 pub not_printed : (refusal : Option Refusal) (report : List ℕ) (files : Files) (out err : SinkChange) → report ≢ [] → GetsSome out report → SinkFailed out → err.bytes_after ≡ err.bytes_before → DidNotFail err → IsPrinted (outcome_of refusal report files) OutFault out err
 not_printed refusal report files out err some gets failed same kept = record {
-  which = inl (record { some = some; failed = failed }, subst (λ (t : Option (List ℕ)). Adds err.bytes_before t []) (sym same) (adds_none err.bytes_before), kept);
+  which = inl (record { some = some; failed = failed }, subst (λ (t : Option (List ℕ)). Adds err.bytes_before t []) (sym same) (Adds-none err.bytes_before), kept);
   out_gets = gets;
   err_gets = subst (λ (t : Option (List ℕ)). AddsSome err.bytes_before t (line_of refusal)) (sym same) (none_some err.bytes_before (line_of refusal));
 }

@@ -1,13 +1,17 @@
 -- No path stands twice in a sound database.
 use Rattle.std.proofs.Common.{◌≡◌, inl, inr, ℕ, Bool, true, false, List, [], ◌∷◌, ◌++◌, map, refl, ap, sym, ◌∙◌, subst, true≢false}
-use Rattle.std.specs.Prelude.{◌==◌, ◌&&◌, ◌||◌, not, nat_le, length}
+use Rattle.std.specs.Prelude.{◌==◌, ◌||◌, not, nat_le, length}
 use Rattle.std.specs.List.{flat_map, list_any}
 use Rattle.std.proofs.lemmas.List.{map-append}
+use Rattle.std.proofs.lemmas.Bool.{not-true}
+use Rattle.std.proofs.Math.Bool.{or-true}
+use Rattle.base_core.proofs.Booleans.{both_second, both_first}
 use Rattle.adb_fields.specs.FirstPair.{IsIn}
 use Rattle.adb_fields.specs.Once.{AllDistinct, AreApart, AreDistinctNames, IsInOneOf}
 use Rattle.adb_fields.specs.Paths.{path_of}
 use Rattle.adb_fields.specs.Repeated.{entries_at, files_in, folders_in, list_of, name_of, paths_in, paths_under}
 use Rattle.adb_fields.proofs.Members.{from-flat_map, from-map, in-map}
+use Rattle.adb_fields.proofs.Distinct.{distinct_front}
 use Rattle.adb_schema.specs.Rules.{is_file_name, is_one_part}
 use Rattle.adb_schema.specs.SoundContainers.{IsSoundValue}
 use Rattle.adb_schema.specs.SoundValues.{IsFileOf, IsFolder, IsPackage}
@@ -43,29 +47,13 @@ distinct_map f (name ∷ names) apart d = (
 abbrev is_slash : ℕ → Bool
 is_slash b = b == 47
 
-first_and : (a b : Bool) → (a && b) ≡ true → a ≡ true
-first_and true b h = refl
-first_and false b h = h
-
-second_and : (a b : Bool) → (a && b) ≡ true → b ≡ true
-second_and true b h = h
-second_and false b h = absurd (true≢false (sym h))
-
-not_is : (b : Bool) → not b ≡ true → b ≡ false
-not_is true h = absurd (true≢false (sym h))
-not_is false h = refl
-
 -- a file's name has no slash
 no_slash : (folder name : List ℕ) → is_file_name folder name ≡ true → list_any is_slash name ≡ false
-no_slash folder name h = not_is (list_any is_slash name) (second_and _ (not (list_any is_slash name)) (first_and (is_one_part name) (nat_le (length (path_of folder name)) 1024) h))
-
-or_true : (a : Bool) → (a || true) ≡ true
-or_true true = refl
-or_true false = refl
+no_slash folder name h = not-true (list_any is_slash name) (both_second _ (not (list_any is_slash name)) (both_first (is_one_part name) (nat_le (length (path_of folder name)) 1024) h))
 
 slash_after : (xs ys : List ℕ) → list_any is_slash (xs ++ 47 ∷ ys) ≡ true
 slash_after [] ys = refl
-slash_after (x ∷ xs) ys = ap (λ b. is_slash x || b) (slash_after xs ys) ∙ or_true (is_slash x)
+slash_after (x ∷ xs) ys = ap (λ b. is_slash x || b) (slash_after xs ys) ∙ or-true (is_slash x)
 
 abbrev tail_of : List ℕ → List ℕ
 tail_of [] = []
@@ -132,10 +120,6 @@ folders_once (folder ∷ folders) parts names files =
     names.0 (subst (λ (name : List ℕ). IsIn name (map name_of folders)) (sym same.0) (in-map name_of there.0 folders there.1))))
 
 -- ---- the packages of a database
-
-distinct_front : (xs ys : List (List (List ℕ))) → AllDistinct (xs ++ ys) → AllDistinct xs
-distinct_front [] ys h = tt
-distinct_front (x ∷ xs) ys h = (h.0, distinct_front xs ys h.1)
 
 distinct_after : (xs ys : List (List (List ℕ))) → AllDistinct (xs ++ ys) → AllDistinct ys
 distinct_after [] ys h = h

@@ -7,7 +7,8 @@ use Rattle.std.proofs.lemmas.List.{map-append, take_all}
 use Rattle.adb_view.specs.Plain.{Plains}
 use Rattle.adb_view.specs.Values.{count_of, nth}
 use Rattle.adb_fields.specs.Repeated.{list_of}
-use Rattle.db_core.proofs.Places.{count_listed, nth_listed}
+use Rattle.adb_fields.proofs.NameLists.{count-listed}
+use Rattle.db_core.proofs.Places.{nth_listed}
 
 pub at_place : {X : Type 0} (xs : List X) (i : ℕ) → i < length xs → (x : X) × (slice_get xs i ≡ Some x)
 at_place [] i h = absurd (omega arith)
@@ -58,5 +59,5 @@ value_at = nth_listed
 
 pub all_values_taken : (vs : Plains) (i : ℕ) → count_of vs ≤ i → take i (list_of vs) ≡ list_of vs
 all_values_taken vs i l =
-    let e : count_of vs ≡ length (list_of vs) = count_listed vs in
+    let e : count_of vs ≡ length (list_of vs) = count-listed vs in
     take_all i (list_of vs) (omega (arith, e, l))

@@ -1,11 +1,12 @@
 -- The records of the database after a change, and the listings that members own.
 use Rattle.std.proofs.Common.{◌≡◌, inl, inr, ◌∙◌, ◌↔◌, ℕ, Bool, true, false, List, [], ◌∷◌, map, Option, Some, None, refl, ap, sym, subst, true≢false}
-use Rattle.std.specs.Prelude.{◌==◌, option_and_then, not, bytes_eq, cond}
+use Rattle.std.specs.Prelude.{◌==◌, option_and_then, bytes_eq, cond}
 use Rattle.std.specs.List.{filter, find, flat_map}
-use Rattle.std.proofs.lemmas.Bool.{eq-eqb, eqb-true}
+use Rattle.std.proofs.lemmas.Bool.{eq-eqb, not-true}
 use Rattle.std.proofs.lemmas.Slice.Eq.{bytes_eq-Decides}
 use Rattle.adb_copy.proofs.WithoutZeros.{int_zeros, text_zeros}
 use Rattle.adb_copy.specs.Zeros.{without_zeros}
+use Rattle.adb_copy.proofs.Entries.{entry_zeros}
 use Rattle.adb_fields.specs.FirstPair.{IsIn}
 use Rattle.adb_fields.specs.Once.{AreDistinctNames}
 use Rattle.adb_fields.specs.Repeated.{entries_at, files_in, folders_in, list_of, name_of, paths_in}
@@ -29,10 +30,10 @@ use Rattle.change_files.proofs.Lists.{IsOneOf, passing_kept}
 use Rattle.change_files.proofs.Owned.{owner_is}
 use Rattle.db_core.specs.Members.{Listing, Member, claims_of, member_listings, members_of_kept}
 use Rattle.db_core.specs.OwnedListings.{owned_listings, owned_paths}
-use Rattle.db_write.proofs.OwnedPaths.{entry_zeros}
 use Rattle.db_write.specs.NewDatabase.{packages_after}
 use Rattle.file_guard.specs.AsListed.{file_hash, file_size, file_target, is_as_listed, is_as_listed_by}
 use Rattle.file_owners.specs.Owners.{owned_of, owner_of_path}
+use Rattle.file_owners.proofs.OneOwner.{owner_is as member_place}
 use Rattle.path_claims.specs.Claims.{is_member}
 
 -- what the laws of `db_write` say
@@ -133,23 +134,12 @@ some_found p (k ∷ ls) l here t = by_test (p k) refl (λ later. some_found p ls
     by_test false e rest (inl is) = absurd (true≢false (sym t ∙ (ap p is ∙ e)))
     by_test false e rest (inr later) = rest later
 
-member_place : (m : ℕ) (o : Option ℕ) → is_member m o ≡ true → o ≡ Some m
-member_place m None e = absurd (true≢false (sym e))
-member_place m (Some owner) e = ap Some (sym (eqb_is m owner e))
-  where
-    eqb_is : (a b : ℕ) → (a == b) ≡ true → a ≡ b
-    eqb_is a b e = eqb-true a b e
-
 -- ---- a path of a sound database is not reserved
 
 each_in : (P : Plain → Type 0) (v : Plain) (vs : Plains) → Each P vs → IsIn v (list_of vs) → P v
 each_in P v none h here = absurd here
 each_in P v (more w vs) h (inl is) = subst P (sym is) h.0
 each_in P v (more w vs) h (inr here) = each_in P v vs h.1 here
-
-not_true : (b : Bool) → not b ≡ true → b ≡ false
-not_true true e = absurd (true≢false (sym e))
-not_true false e = refl
 
 pub free_path : (database : Plain) → IsSoundValue Idb database → (r : FileRecord) → IsIn r (database_records (entries_at IDB_PACKAGES database)) → is_reserved r.path ≡ false
 free_path database sound r here =
@@ -159,7 +149,7 @@ free_path database sound r here =
     let is_package = each_in (IsPackage Idb) pkg.0 (entries_in (entry_in database IDB_PACKAGES)) sound.rules pkg.1 in
     let is_folder = each_in (IsFolder Idb) folder.0 (entries_in (entry_in pkg.0 PACKAGE_PATHS)) is_package.folders folder.1 in
     let is_file = each_in (IsFileOf Idb (name_of folder.0)) file.0 (entries_in (entry_in folder.0 DIR_FILES)) is_folder.files file.1 in
-    ap (λ (q : FileRecord). is_reserved q.path) file.2 ∙ not_true (is_reserved (file_record (name_of folder.0) file.0).path) is_file.listed
+    ap (λ (q : FileRecord). is_reserved q.path) file.2 ∙ not-true (is_reserved (file_record (name_of folder.0) file.0).path) is_file.listed
 
 -- ---- the database after a change
 

@@ -1,46 +1,22 @@
 -- In a package that passes its tests each file has the contents that its entry lists.
-use Rattle.std.proofs.Common.{◌≡◌, ℕ, List, [], Option, Some, None, Result, Ok, Err, refl, sym, subst}
-use Rattle.std.specs.Option.{option_or}
+use Rattle.std.proofs.Common.{◌≡◌, ℕ, List, [], None, Result, Ok, Err, sym, subst}
 use Rattle.base_core.specs.declared.cause.Cause.{Cause}
+use Rattle.base_core.proofs.Causes.{first_none, second_none}
 use Rattle.adb_block.specs.Header.{header_of}
 use Rattle.adb_block.specs.Reading.{Reading, done, fault, more, reading_of}
 use Rattle.adb_block.specs.ReaderPosition.{start_of}
 use Rattle.adb_schema.specs.Soundness.{blocks_fault, file_fault, first_payload, payload_after_header, payload_fault, payload_in, root_value, schema_fault}
-use Rattle.adb_schema.specs.Texts.{text_fault}
-use Rattle.adb_view.specs.Head.{head_fault, root_of}
-use Rattle.adb_view.specs.Plain.{Plain, plain_of}
-use Rattle.adb_view.specs.Schema.{shape_of}
-use Rattle.adb_view.specs.Values.{value_at}
-use Rattle.adb_view.specs.Walk.{shape_fault}
-use Rattle.adb_view.specs.declared.tables.Kind.TheVariants.{Obj}
+use Rattle.adb_view.specs.Plain.{Plain}
 use Rattle.adb_view.specs.declared.tables.Which.TheVariants.{Package}
 use Rattle.pkg_core.specs.Contents.{Contents, Expected, contents_in, expected_contents}
 use Rattle.pkg_core.specs.GoodContents.{AreContentsOf, HaveDigests}
 use Rattle.pkg_core.specs.Whole.{fault_after_first, files_after_first, files_by_header, files_in_file, package_fault, whole_fault}
 use Rattle.pkg_core.proofs.Digests.{HasFirstValue, texts_give_digests}
-use Rattle.pkg_core.proofs.Given.{files_right}
+use Rattle.pkg_core.proofs.Given.{files_right, nothing_expected, texts_good}
 
 -- the contents are those that the entries of a package list
 abbrev pub AreListedContents : Plain → List Contents → Type 0
 AreListedContents pkg contents = HaveDigests (expected_contents pkg) × AreContentsOf (expected_contents pkg) contents
-
-second_none : (o u : Option Cause) → option_or o u ≡ None → u ≡ None
-second_none None u h = h
-second_none (Some c) u h = absurd (cc)
-
-first_none : (o u : Option Cause) → option_or o u ≡ None → o ≡ None
-first_none None u h = refl
-first_none (Some c) u h = h
-
-nothing_expected : expected_contents (root_value Package []) ≡ []
-unfolding value_at plain_of shape_of
-nothing_expected = refl
-
-texts_good : (payload : List ℕ) → payload_fault Package payload ≡ None → text_fault Package (root_value Package payload) ≡ None
-texts_good payload h =
-    let shape = second_none (head_fault payload) _ h in
-    let texts = second_none (shape_fault payload (shape_of (Obj Package)) (root_of payload)) _ shape in
-    first_none (text_fault Package (root_value Package payload)) _ texts
 
 blocks_listed : HasFirstValue → (r : Reading) → blocks_fault (fault_after_first Package) Package r ≡ None → AreListedContents (root_value Package (first_payload r)) (contents_in (files_after_first r))
 blocks_listed told done h =

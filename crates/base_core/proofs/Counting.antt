@@ -38,7 +38,7 @@ cause_sooner a b c h k = record {
   ];
 }
 
-rose_later : (a b c : ℕ) → a ≤ b → Rose b c → Rose a c
+pub rose_later : (a b c : ℕ) → a ≤ b → Rose b c → Rose a c
 rose_later a b c h k = omega arith
 
 pub cause_later : (a b c : Counts) → CountsOnlyRise a b → HasCause b c → HasCause a c

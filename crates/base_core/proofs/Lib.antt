@@ -8,3 +8,13 @@ pub mod ReadAfter
 pub mod Smallest
 pub mod Sorting
 pub mod Undone
+pub mod Booleans
+pub mod Orderings
+pub mod Causes
+pub mod AtName
+pub mod Numbers
+pub mod Texts
+pub mod Listed
+pub mod Options
+pub mod Observed
+pub mod Folders

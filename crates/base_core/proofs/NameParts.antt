@@ -3,7 +3,7 @@ use Rattle.std.proofs.Common.{◌≡◌, ◌≤◌, ◌+◌, ℕ, Bool, true, fa
 use Rattle.std.specs.Prelude.{◌==◌}
 use Rattle.std.specs.List.{list_all, list_any, onto_first}
 use Rattle.std.specs.Str.{IsAscii, bytes_eq, is_utf8}
-use Rattle.std.proofs.lemmas.Bool.{and_parts, le-leb, lt-ltb, ltb-true, ne_eqb}
+use Rattle.std.proofs.lemmas.Bool.{and_parts, le-leb, lt-ltb, ltb-true, ne_eqb, not-true, and_from}
 use Rattle.std.proofs.lemmas.List.Folds.{list_any-append}
 use Rattle.std.proofs.lemmas.Slice.Eq.{bytes_eq-Decides}
 use Rattle.std.proofs.lemmas.Str.{IsUtf8-append, IsUtf8-from_ascii, IsUtf8-from_is_utf8, is_utf8-from_IsUtf8}
@@ -66,13 +66,13 @@ onto_none : (xs : List ℕ) → onto_front [] (parts_of xs) ≡ parts_of xs
 onto_none [] = refl
 onto_none (x ∷ xs) = onto_none_by (x == 47) x (parts_of xs)
 
-all_off : (a b c : Bool) → a ≡ false → b ≡ false → c ≡ false → (not a && not b && not c) ≡ true
+pub all_off : (a b c : Bool) → a ≡ false → b ≡ false → c ≡ false → (not a && not b && not c) ≡ true
 all_off true b c x y z = absurd (cc (x))
 all_off false true c x y z = absurd (cc (y))
 all_off false false true x y z = absurd (cc (z))
 all_off false false false x y z = refl
 
-other_bytes : (a b : List ℕ) → (a ≡ b → ⊥) → bytes_eq a b ≡ false
+pub other_bytes : (a b : List ℕ) → (a ≡ b → ⊥) → bytes_eq a b ≡ false
 other_bytes a b other = go (bytes_eq a b) refl
   where
     go : (t : Bool) → bytes_eq a b ≡ t → t ≡ false
@@ -85,10 +85,6 @@ long_part part long = all_off (length part == 0) (bytes_eq part (codes ".")) (by
     (other_bytes part (codes ".") (λ is. let e : length part ≡ 1 = ap length is in omega (arith, long, e)))
     (other_bytes part (codes "..") (λ is. let e : length part ≡ 2 = ap length is in omega (arith, long, e)))
 
-both : (a b : Bool) → a ≡ true → b ≡ true → (a && b) ≡ true
-both true b x y = y
-both false b x y = absurd (cc (x))
-
 abbrev HasParts : List ℕ → List (List ℕ) → Type 0
 HasParts front parts = list_all is_part (onto_front front parts) ≡ true
 
@@ -97,24 +93,20 @@ step : (b : Bool) (x : ℕ) (front xs ys : List ℕ) → ((f : List ℕ) → Has
 step true x front xs ys on has =
     let parts = and_parts (is_part (front ++ [])) (list_all is_part (parts_of xs)) has in
     let rest : HasParts [] (parts_of ys) = on [] (subst (λ p. list_all is_part p ≡ true) (sym (onto_none xs)) parts.1) in
-    both (is_part (front ++ [])) (list_all is_part (parts_of ys)) parts.0 (subst (λ p. list_all is_part p ≡ true) (onto_none ys) rest)
+    and_from (is_part (front ++ [])) (list_all is_part (parts_of ys)) parts.0 (subst (λ p. list_all is_part p ≡ true) (onto_none ys) rest)
 step false x front xs ys on has =
     subst (λ p. list_all is_part p ≡ true) (sym (onto_one front x (parts_of ys))) (on (front ++ x ∷ []) (subst (λ p. list_all is_part p ≡ true) (onto_one front x (parts_of xs)) has))
 
 longer : (ending xs front : List ℕ) → IsEnding ending → HasParts front (parts_of xs) → HasParts front (parts_of (xs ++ ending))
 longer ending [] front is has =
     let long : 3 ≤ length (front ++ ending) = let e = is.long in omega (arith, length-append front ending, e) in
-    subst (HasParts front) (sym is.one_part) (both (is_part (front ++ ending)) true (long_part (front ++ ending) long) refl)
+    subst (HasParts front) (sym is.one_part) (and_from (is_part (front ++ ending)) true (long_part (front ++ ending) long) refl)
 longer ending (x ∷ xs) front is has = step (x == 47) x front xs (xs ++ ending) (λ f. longer ending xs f is) has
 
 parts_longer : (ending xs : List ℕ) → IsEnding ending → list_all is_part (parts_of xs) ≡ true → list_all is_part (parts_of (xs ++ ending)) ≡ true
 parts_longer ending xs is all = subst (λ p. list_all is_part p ≡ true) (onto_none (xs ++ ending)) (longer ending xs [] is (subst (λ p. list_all is_part p ≡ true) (sym (onto_none xs)) all))
 
-not_true : (b : Bool) → not b ≡ true → b ≡ false
-not_true true x = absurd (cc (x))
-not_true false x = refl
-
-ascii_by : (bs : List ℕ) → list_all (λ b. ltb b 128) bs ≡ true → IsAscii bs
+pub ascii_by : (bs : List ℕ) → list_all (λ b. ltb b 128) bs ≡ true → IsAscii bs
 ascii_by [] all = IsAscii-nil
 ascii_by (b ∷ bs) all = let parts = and_parts (ltb b 128) (list_all (λ b. ltb b 128) bs) all in IsAscii-cons b bs (ltb-true b 128 parts.0) (ascii_by bs parts.1)
 
@@ -133,10 +125,10 @@ ending_makes_name ending name is named short =
     let c = and_parts _ (not (list_any (λ b. b == 0) name)) b.0 in
     let long : length (name ++ ending) ≡ length name + length ending = length-append name ending in
     let more = is.long in
-    both _ (list_all is_part (parts_of (name ++ ending)))
-    (both _ (is_utf8 (name ++ ending))
-    (both _ (not (list_any (λ b. b == 0) (name ++ ending)))
-    (both (nat_lt 0 (length (name ++ ending))) (nat_le (length (name ++ ending)) 1024) (lt-ltb _ _ (omega (arith, long, more))) (le-leb _ _ (omega (arith, long, short))))
-    (ap not (zero_longer ending name is (not_true _ c.1))))
+    and_from _ (list_all is_part (parts_of (name ++ ending)))
+    (and_from _ (is_utf8 (name ++ ending))
+    (and_from _ (not (list_any (λ b. b == 0) (name ++ ending)))
+    (and_from (nat_lt 0 (length (name ++ ending))) (nat_le (length (name ++ ending)) 1024) (lt-ltb _ _ (omega (arith, long, more))) (le-leb _ _ (omega (arith, long, short))))
+    (ap not (zero_longer ending name is (not-true _ c.1))))
     (utf8_longer ending name is b.1))
     (parts_longer ending name is a.1)

@@ -148,7 +148,7 @@ passing_kept test (x ∷ xs) q (inr old) passes = tail (test x) x (keep test xs)
 
 -- ---- two of them with the same names are equal
 
-not_itself : (x : List ℕ) → order x x ≡ Less → ⊥
+pub not_itself : (x : List ℕ) → order x x ≡ Less → ⊥
 not_itself x less = absurd (let tied = tied_itself nat_list_cmp_total x in cc)
 
 not_both : (x y : List ℕ) → order x y ≡ Less → order y x ≡ Less → ⊥

@@ -4,7 +4,8 @@ use Rattle.std.specs.Prelude.{◌≡◌, ◌⊎◌, ◌≤◌, ℕ, true, List, 
 use Rattle.base_core.specs.Crash.{IsCrashImageInOrder}
 use Rattle.base_core.specs.Tree.{TreeState, files_of}
 
--- `w` is a tree after a crash of `v`: an image, by one map of names, with each file synced
+-- `w` is a tree that is found after a crash of `v`: it reads as an image of `v`, and a further crash
+-- would take nothing from it
 pub record IsAfterCrashInOrder (v w : TreeState) : Type 0 where
   -- what is read then is what a crash may leave of `v`
   pub left : IsCrashImageInOrder v (files_of w)

@@ -98,13 +98,13 @@ after_remove name v = remove_at name v (v.names name)
 abbrev pub after_sync_names : TreeState → TreeState
 after_sync_names v = record v { older = [] }
 
--- after a call that failed and changed nothing
+-- the state after a call that failed and changed nothing: the state before it
 abbrev pub same_state : TreeState → TreeState
 same_state v = v
 
 -- ---- when a call is no misuse
 
--- for a call that is never a misuse
+-- for a call that is never a misuse: each state allows it
 abbrev pub IsAlwaysAllowed : TreeState → Type 0
 IsAlwaysAllowed v = Unit {0}
 

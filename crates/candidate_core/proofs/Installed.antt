@@ -1,15 +1,16 @@
 -- What an installed package does to the list of candidates.
 use Rattle.std.proofs.Common.{◌≡◌, inl, inr, ℕ, zero, suc, ◌+◌, Bool, true, false, List, [], ◌∷◌, ◌++◌, length, length-append, append_assoc, refl, sym, subst, ap, ◌∙◌, arith}
-use Rattle.std.specs.Prelude.{Option, Some, slice_get, if◌then◌else◌, ◌&&◌, is_some}
+use Rattle.std.specs.Prelude.{Option, Some, slice_get, if◌then◌else◌, is_some}
 use Rattle.std.specs.Option.{option_map_or}
 use Rattle.std.specs.Cmp.Lexicographic.{bytes_decides}
 use Rattle.std.specs.List.{list_any}
 use Rattle.std.specs.Str.{bytes_eq}
+use Rattle.std.proofs.lemmas.Bool.{cases_Bool}
+use Rattle.base_core.proofs.Booleans.{both_second, both_first}
 use Rattle.candidate_core.specs.Candidates.{Candidate, as_installed, as_installed_where_same, is_same_package, offers_name, with_installed}
 use Rattle.candidate_core.specs.CandidateList.{is_same_at, marked_at}
 use Rattle.candidate_core.specs.Options.{places_from}
 use Rattle.candidate_core.specs.Packages.{installed_at}
-use Rattle.candidate_core.proofs.OptionLists.{bool_cases}
 
 pub length-as_installed_where_same : (installed : Candidate) (cs : List Candidate) → length (as_installed_where_same installed cs) ≡ length cs
 length-as_installed_where_same installed [] = refl
@@ -22,14 +23,14 @@ pub stands_last : (cs : List Candidate) (installed : Candidate) → list_any (is
 stands_last cs installed h = rw h refl
 
 offers_still : (name : List ℕ) (installed c : Candidate) → offers_name name (if is_same_package installed c then as_installed c else c) ≡ offers_name name c
-offers_still name installed c = elim (bool_cases (is_same_package installed c)) [ inl e ↦ rw e refl | inr e ↦ rw e refl ]
+offers_still name installed c = elim (cases_Bool (is_same_package installed c)) [ inl e ↦ rw e refl | inr e ↦ rw e refl ]
 
 -- a candidate offers what it offered
 pub places_still : (name : List ℕ) (installed : Candidate) (n : ℕ) (cs : List Candidate) → places_from n (offers_name name) (as_installed_where_same installed cs) ≡ places_from n (offers_name name) cs
 places_still name installed n [] = refl
 places_still name installed n (c ∷ cs) =
     let rest = places_still name installed (suc n) cs in
-    elim (bool_cases (offers_name name c)) [
+    elim (cases_Bool (offers_name name c)) [
       | inl e ↦ rw (offers_still name installed c) (rw e (ap (λ (z : List ℕ). n ∷ z) rest))
       | inr e ↦ rw (offers_still name installed c) (rw e rest)
     ]
@@ -48,22 +49,14 @@ at_front : (installed c : Candidate) (front cs : List Candidate) → marked_at i
 at_front installed c [] cs = refl
 at_front installed c (d ∷ front) cs = ap (λ (z : List Candidate). d ∷ z) (at_front installed c front cs)
 
-pub and_first : (p q : Bool) → (p && q) ≡ true → p ≡ true
-and_first true q h = refl
-and_first false q h = h
-
-pub and_last : (p q : Bool) → (p && q) ≡ true → q ≡ true
-and_last true q h = h
-and_last false q h = absurd (cc)
-
 -- what is the installed package has its name
 same_is_named : (installed c : Candidate) → is_same_package installed c ≡ true → offers_name installed.name c ≡ true
 same_is_named installed c h =
-    let named : bytes_eq c.name installed.name ≡ true = and_first (bytes_eq c.name installed.name) _ (and_last (is_some c.repository) _ h) in
+    let named : bytes_eq c.name installed.name ≡ true = both_first (bytes_eq c.name installed.name) _ (both_second (is_some c.repository) _ h) in
     rw ((bytes_decides installed.name c.name).1 (sym ((bytes_decides c.name installed.name).0 named))) refl
 
 not_same : (installed c : Candidate) → offers_name installed.name c ≡ false → is_same_package installed c ≡ false
-not_same installed c h = elim (bool_cases (is_same_package installed c)) [
+not_same installed c h = elim (cases_Bool (is_same_package installed c)) [
   | inl e ↦ let bad : true ≡ false = sym (same_is_named installed c e) ∙ h in absurd (cc)
   | inr e ↦ e
 ]
@@ -78,7 +71,7 @@ marked_after installed front (c ∷ cs) =
     subst (λ (n : ℕ). marked_among installed (places_from n test cs) (front ++ new ∷ cs) ≡ front ++ new ∷ as_installed_where_same installed cs) len
     (subst (λ (z : List Candidate). marked_among installed (places_from (length (front ++ new ∷ [])) test cs) z ≡ front ++ new ∷ as_installed_where_same installed cs) (append_assoc front (new ∷ []) cs)
     (marked_after installed (front ++ new ∷ []) cs ∙ append_assoc front (new ∷ []) (as_installed_where_same installed cs))) in
-    elim (bool_cases (test c)) [
+    elim (cases_Bool (test c)) [
       | inl e ↦ rw e (ap (marked_among installed (places_from (suc (length front)) test cs)) (at_front installed c front cs) ∙ rest)
       | inr e ↦
           let same : c ≡ new = sym (rw (not_same installed c e) refl) in
@@ -89,7 +82,7 @@ pub marked_all : (installed : Candidate) (cs : List Candidate) → marked_among 
 marked_all installed cs = marked_after installed [] cs
 
 same_still : (installed c : Candidate) → is_same_package installed (if is_same_package installed c then as_installed c else c) ≡ is_same_package installed c
-same_still installed c = elim (bool_cases (is_same_package installed c)) [ inl e ↦ rw e e | inr e ↦ rw e e ]
+same_still installed c = elim (cases_Bool (is_same_package installed c)) [ inl e ↦ rw e e | inr e ↦ rw e e ]
 
 same_at_still : (installed : Candidate) (j : ℕ) (cs : List Candidate) (k : ℕ) → is_same_at installed (marked_at installed j cs) k ≡ is_same_at installed cs k
 same_at_still installed j [] k = refl
@@ -109,9 +102,9 @@ any_places weak strong all n (c ∷ cs) to there =
     let here : all n ≡ Some c = subst (λ (k : ℕ). all k ≡ Some c) z (there 0) in
     let at : option_map_or strong (all n) false ≡ strong c = ap (λ (o : Option Candidate). option_map_or strong o false) here in
     let rest = any_places weak strong all (suc n) cs to (λ k. let e : n + suc k ≡ suc n + k = omega arith in subst (λ (j : ℕ). all j ≡ slice_get cs k) e (there (suc k))) in
-    elim (bool_cases (strong c)) [
+    elim (cases_Bool (strong c)) [
       | inl s ↦ rw (s, to c s) (let is : option_map_or strong (all n) false ≡ true = at ∙ s in rw is refl)
-      | inr s ↦ elim (bool_cases (weak c)) [
+      | inr s ↦ elim (cases_Bool (weak c)) [
         | inl w ↦ rw (s, w) (let is : option_map_or strong (all n) false ≡ false = at ∙ s in rw is rest)
         | inr w ↦ rw (s, w) rest
       ]
@@ -148,7 +141,7 @@ length-marked_among installed (k ∷ ks) cs = length-marked_among installed ks (
 
 pub none_same : (installed : Candidate) (cs : List Candidate) → list_any (is_same_package installed) cs ≡ false → as_installed_where_same installed cs ≡ cs
 none_same installed [] h = refl
-none_same installed (c ∷ cs) h = elim (bool_cases (is_same_package installed c)) [
+none_same installed (c ∷ cs) h = elim (cases_Bool (is_same_package installed c)) [
   | inl e ↦ let bad : true ≡ false = rw e at h in absurd (cc)
   | inr e ↦ rw e (ap (λ (z : List Candidate). c ∷ z) (none_same installed cs (rw e at h)))
 ]

@@ -5,6 +5,7 @@ use Rattle.std.proofs.lemmas.Bool.Decides.{eqb_tells}
 use Rattle.std.specs.List.{cons_option}
 use Rattle.std.specs.Option.{option_map}
 use Rattle.std.specs.Prelude.{is_some, option_to_list, slice_get, ◌&&◌, if◌then◌else◌}
+use Rattle.base_core.proofs.Booleans.{both_second, both_first}
 use Rattle.adb_view.specs.Plain.{Plain, Plains, none, more}
 use Rattle.adb_schema.specs.SoundValues.{IsSoundDependency}
 use Rattle.adb_view.specs.Values.{count_of, entry_in, int_in, nth, text_in}
@@ -13,7 +14,6 @@ use Rattle.dep_core.specs.Value.{is_matching, is_version_or_empty}
 use Rattle.dep_core.specs.ValueReading.{dependency_of_value}
 use Rattle.candidate_core.specs.Candidates.{dependency_in, dependencies_of}
 use Rattle.candidate_core.proofs.DependencyLists.{dependencies_step, dependencies_to}
-use Rattle.candidate_core.proofs.Installed.{and_first, and_last}
 
 -- ---- judged entries
 
@@ -70,11 +70,11 @@ pub sound_if_some : (v : Plain) → is_some (dependency_in v) ≡ true → IsSou
 unfolding dependency_of_value
 sound_if_some v h =
     let all = chosen (is_dep_name (text_in (entry_in v 0)) && (is_version_or_empty (text_in (entry_in v 1)) && is_matching (int_in (entry_in v 2)))) _ h in
-    let rest = and_last (is_dep_name (text_in (entry_in v 0))) _ all in
+    let rest = both_second (is_dep_name (text_in (entry_in v 0))) _ all in
     record {
-      name = and_first (is_dep_name (text_in (entry_in v 0))) _ all;
-      version = and_first (is_version_or_empty (text_in (entry_in v 1))) _ rest;
-      matching = and_last (is_version_or_empty (text_in (entry_in v 1))) _ rest;
+      name = both_first (is_dep_name (text_in (entry_in v 0))) _ all;
+      version = both_first (is_version_or_empty (text_in (entry_in v 1))) _ rest;
+      matching = both_second (is_version_or_empty (text_in (entry_in v 1))) _ rest;
     }
 
 some_of : (v : Plain) → IsSoundDependency v → is_some (dependency_in v) ≡ true

@@ -15,3 +15,4 @@ pub mod PackageLists
 pub mod ProvidedVersions
 pub mod WantedVersions
 pub mod NamedVersions
+pub mod Places

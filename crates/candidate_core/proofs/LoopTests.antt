@@ -3,7 +3,7 @@ use Rattle.std.proofs.Common.{◌≡◌, inl, inr, ℕ, zero, suc, ◌+◌, ◌<
 use Rattle.std.specs.Prelude.{Some, None, slice_get, ◌||◌, ◌&&◌}
 use Rattle.std.specs.List.{find, list_all, list_any}
 use Rattle.std.proofs.lemmas.List.{map-append}
-use Rattle.candidate_core.proofs.OptionLists.{bool_cases}
+use Rattle.std.proofs.lemmas.Bool.{cases_Bool}
 use Rattle.candidate_core.proofs.Steps.{any_snoc, take_one_more}
 
 module _ {X : Type 0} (p : X → Bool) where
@@ -49,14 +49,14 @@ module _ {X : Type 0} (p : X → Bool) where
   found_first [] zero x n h e = absurd (cc)
   found_first [] (suc i) x n h e = absurd (cc)
   found_first (y ∷ xs) zero x n h e = let s : y ≡ x = cc in rw (ap p s ∙ e) (ap Some s)
-  found_first (y ∷ xs) (suc i) x n h e = elim (bool_cases (p y)) [
+  found_first (y ∷ xs) (suc i) x n h e = elim (cases_Bool (p y)) [
     | inl t ↦ let bad : Some y ≡ None = rw t at n in absurd (cc)
     | inr t ↦ rw t (found_first xs i x (rw t at n) h e)
   ]
 
   pub found_snoc : (xs : List X) (x : X) → find p xs ≡ None → p x ≡ false → find p (xs ++ x ∷ []) ≡ None
   found_snoc [] x n e = rw e refl
-  found_snoc (y ∷ xs) x n e = elim (bool_cases (p y)) [
+  found_snoc (y ∷ xs) x n e = elim (cases_Bool (p y)) [
     | inl t ↦ let bad : Some y ≡ None = rw t at n in absurd (cc)
     | inr t ↦ rw t (found_snoc xs x (rw t at n) e)
   ]

@@ -2,10 +2,11 @@
 use Rattle.std.proofs.Common.{◌≡◌, inl, inr, ℕ, zero, suc, ◌+◌, ◌<◌, Bool, true, false, List, [], ◌∷◌, ◌++◌, length, refl, subst, ap, arith}
 use Rattle.std.specs.Prelude.{slice_get, if◌then◌else◌}
 use Rattle.std.specs.Option.{option_map_or}
+use Rattle.std.proofs.lemmas.Bool.{cases_Bool}
 use Rattle.candidate_core.specs.Candidates.{Candidate, offers_name}
 use Rattle.candidate_core.specs.Rank.{SealedPool, is_at}
 use Rattle.candidate_core.specs.Options.{IsIn, AreRising, places_from, places_offering}
-use Rattle.candidate_core.proofs.OptionLists.{bool_cases, in_places, places_above, places_in}
+use Rattle.candidate_core.proofs.OptionLists.{in_places, places_above, places_in}
 
 below_length : (test : Candidate → Bool) (cs : List Candidate) (k : ℕ) → option_map_or test (slice_get cs k) false ≡ true → k < length cs
 below_length test [] zero h = absurd (cc)
@@ -27,16 +28,16 @@ offers_each pool name c h =
 
 pub places_rising : (n : ℕ) (test : Candidate → Bool) (cs : List Candidate) → AreRising (places_from n test cs)
 places_rising n test [] = tt
-places_rising n test (c ∷ cs) = elim (bool_cases (test c)) [
+places_rising n test (c ∷ cs) = elim (cases_Bool (test c)) [
   | inl e ↦ rw e ((λ d h. let r = places_above (suc n) test cs d h in omega arith), places_rising (suc n) test cs)
   | inr e ↦ rw e (places_rising (suc n) test cs)
 ]
 
 -- one more candidate at the end
-places_more : (n : ℕ) (test : Candidate → Bool) (cs : List Candidate) (d : Candidate) → places_from n test (cs ++ d ∷ []) ≡ places_from n test cs ++ (if test d then (n + length cs) ∷ [] else [])
+pub places_more : (n : ℕ) (test : Candidate → Bool) (cs : List Candidate) (d : Candidate) → places_from n test (cs ++ d ∷ []) ≡ places_from n test cs ++ (if test d then (n + length cs) ∷ [] else [])
 places_more n test [] d =
     let z : n ≡ n + 0 = omega arith in
-    elim (bool_cases (test d)) [
+    elim (cases_Bool (test d)) [
       | inl e ↦ rw e (ap (λ (k : ℕ). k ∷ []) z)
       | inr e ↦ rw e refl
     ]
@@ -44,7 +45,7 @@ places_more n test (c ∷ cs) d =
     let z : suc n + length cs ≡ n + suc (length cs) = omega arith in
     let rest : places_from (suc n) test (cs ++ d ∷ []) ≡ places_from (suc n) test cs ++ (if test d then (n + suc (length cs)) ∷ [] else []) =
     subst (λ (k : ℕ). places_from (suc n) test (cs ++ d ∷ []) ≡ places_from (suc n) test cs ++ (if test d then k ∷ [] else [])) z (places_more (suc n) test cs d) in
-    elim (bool_cases (test c)) [
+    elim (cases_Bool (test c)) [
       | inl e ↦ rw e (ap (λ (z : List ℕ). n ∷ z) rest)
       | inr e ↦ rw e rest
     ]

@@ -6,19 +6,17 @@ use Rattle.std.specs.Cmp.{IsTotalOrder, ranks}
 use Rattle.std.specs.Ordering.{is_lt, nat_cmp, ordering_reverse, ordering_then, MatchOrdering}
 use Rattle.std.specs.declared.cmp.Ordering.{Ordering}
 use Rattle.std.specs.declared.cmp.Ordering.TheVariants.{Less, Equal, Greater}
+use Rattle.std.proofs.lemmas.Bool.{cases_Bool}
+use Rattle.base_core.proofs.Orderings.{is_less}
 use Rattle.candidate_core.specs.Candidates.{Candidate, Need, is_eligible, meets_need}
 use Rattle.candidate_core.specs.Rank.{SealedPool, candidate_at, candidate_cmp, is_better, is_eligible_at, meets_at, rank_cmp}
 use Rattle.candidate_core.specs.Options.{AreDistinct, IsIn, IsBestFirst, may_meet, options_for, places_from, insert_by_rank, rank_order_of}
-
-pub bool_cases : (b : Bool) → (b ≡ true) ⊎ (b ≡ false)
-bool_cases true = inl refl
-bool_cases false = inr refl
 
 -- ---- what is put among ranked ones
 
 put_in : (better : ℕ → ℕ → Bool) (c o : ℕ) (ds : List ℕ) → IsIn o (insert_by_rank better c ds) → IsIn o (c ∷ ds)
 put_in better c o [] h = h
-put_in better c o (d ∷ ds) h = elim (bool_cases (better c d)) [
+put_in better c o (d ∷ ds) h = elim (cases_Bool (better c d)) [
   | inl e ↦ rw e at h
   | inr e ↦ elim (rw e at h) [
     | inl q ↦ inr (inl q)
@@ -28,7 +26,7 @@ put_in better c o (d ∷ ds) h = elim (bool_cases (better c d)) [
 
 in_put : (better : ℕ → ℕ → Bool) (c o : ℕ) (ds : List ℕ) → IsIn o (c ∷ ds) → IsIn o (insert_by_rank better c ds)
 in_put better c o [] h = h
-in_put better c o (d ∷ ds) h = elim (bool_cases (better c d)) [
+in_put better c o (d ∷ ds) h = elim (cases_Bool (better c d)) [
   | inl e ↦ rw e h
   | inr e ↦ rw e (elim h [
     | inl q ↦ inr (in_put better c o ds (inl q))
@@ -47,7 +45,7 @@ in_ranked better o (c ∷ cs) h = in_put better c o (rank_order_of better cs) (e
 module _ (better : ℕ → ℕ → Bool) (chain : (a b c : ℕ) → better a b ≡ true → better b c ≡ true → better a c ≡ true) (one_of : (a b : ℕ) → (a ≡ b → ⊥) → (better a b ≡ true) ⊎ (better b a ≡ true)) where
   put_keeps : (c : ℕ) (ds : List ℕ) → (IsIn c ds → ⊥) → IsBestFirst better ds → IsBestFirst better (insert_by_rank better c ds)
   put_keeps c [] out r = ((λ d h. absurd h), tt)
-  put_keeps c (d ∷ ds) out r = elim (bool_cases (better c d)) [
+  put_keeps c (d ∷ ds) out r = elim (cases_Bool (better c d)) [
     | inl e ↦ rw e ((λ o h. elim h [ inl q ↦ subst (λ (z : ℕ). better c z ≡ true) (sym q) e | inr k ↦ chain c d o e (r.0 o k) ]), r)
     | inr e ↦
         let back : better d c ≡ true = elim (one_of d c (λ q. out (inl (sym q)))) [ inl g ↦ g | inr g ↦ let bad : false ≡ true = sym e ∙ g in absurd (cc) ] in
@@ -62,14 +60,14 @@ module _ (better : ℕ → ℕ → Bool) (chain : (a b c : ℕ) → better a b �
 
 pub places_above : (n : ℕ) (test : Candidate → Bool) (cs : List Candidate) (o : ℕ) → IsIn o (places_from n test cs) → n ≤ o
 places_above n test [] o h = absurd h
-places_above n test (c ∷ cs) o h = elim (bool_cases (test c)) [
+places_above n test (c ∷ cs) o h = elim (cases_Bool (test c)) [
   | inl e ↦ elim (rw e at h) [ inl q ↦ omega arith | inr k ↦ let r = places_above (suc n) test cs o k in omega arith ]
   | inr e ↦ let r = places_above (suc n) test cs o (rw e at h) in omega arith
 ]
 
 pub places_apart : (n : ℕ) (test : Candidate → Bool) (cs : List Candidate) → AreDistinct (places_from n test cs)
 places_apart n test [] = tt
-places_apart n test (c ∷ cs) = elim (bool_cases (test c)) [
+places_apart n test (c ∷ cs) = elim (cases_Bool (test c)) [
   | inl e ↦ rw e ((λ h. let r = places_above (suc n) test cs n h in absurd (omega arith)), places_apart (suc n) test cs)
   | inr e ↦ rw e (places_apart (suc n) test cs)
 ]
@@ -82,14 +80,14 @@ in_places n test (c ∷ cs) zero h =
     subst (λ (o : ℕ). IsIn o (places_from n test (c ∷ cs))) (sym z) (rw h (inl refl))
 in_places n test (c ∷ cs) (suc k) h =
     let z : n + suc k ≡ suc n + k = omega arith in
-    subst (λ (o : ℕ). IsIn o (places_from n test (c ∷ cs))) (sym z) (elim (bool_cases (test c)) [
+    subst (λ (o : ℕ). IsIn o (places_from n test (c ∷ cs))) (sym z) (elim (cases_Bool (test c)) [
       | inl e ↦ rw e (inr (in_places (suc n) test cs k h))
       | inr e ↦ rw e (in_places (suc n) test cs k h)
     ])
 
 pub places_in : (n : ℕ) (test : Candidate → Bool) (cs : List Candidate) (o : ℕ) → IsIn o (places_from n test cs) → (k : ℕ) × (o ≡ n + k) × (option_map_or test (slice_get cs k) false ≡ true)
 places_in n test [] o h = absurd h
-places_in n test (c ∷ cs) o h = elim (bool_cases (test c)) [
+places_in n test (c ∷ cs) o h = elim (cases_Bool (test c)) [
   | inl e ↦ elim (rw e at h) [
     | inl q ↦ (0, omega arith, e)
     | inr k ↦ let r = places_in (suc n) test cs o k in (suc r.0, omega arith, r.2)
@@ -99,7 +97,7 @@ places_in n test (c ∷ cs) o h = elim (bool_cases (test c)) [
 
 both_at : (p q : Candidate → Bool) (o : Option Candidate) → option_map_or (λ c. p c && q c) o false ≡ true → (option_map_or p o false ≡ true) × (option_map_or q o false ≡ true)
 both_at p q None h = absurd (cc)
-both_at p q (Some c) h = elim (bool_cases (p c)) [
+both_at p q (Some c) h = elim (cases_Bool (p c)) [
   | inl e ↦ (e, rw e at h)
   | inr e ↦ let bad : false ≡ true = rw e at h in absurd (cc)
 ]
@@ -109,11 +107,6 @@ at_both p q None h g = h
 at_both p q (Some c) h g = rw h g
 
 -- ---- the rank
-
-less_of : (o : Ordering) → is_lt o ≡ true → o ≡ Less
-less_of Less h = refl
-less_of Equal h = absurd (cc)
-less_of Greater h = absurd (cc)
 
 last_decides : (a b : ℕ) (o : Ordering) → ordering_then o (nat_cmp a b) ≡ Equal → nat_cmp a b ≡ Equal
 last_decides a b Less h = absurd (cc)
@@ -129,7 +122,7 @@ same_place pool need a b h = equal_is a b (nat_cmp a b) refl (last_decides a b (
 
 module _ (pool : SealedPool) (need : Need) (total : IsTotalOrder (rank_cmp pool need)) where
   pub chain : (a b c : ℕ) → is_better pool need a b ≡ true → is_better pool need b c ≡ true → is_better pool need a c ≡ true
-  chain a b c h g = ap is_lt (total.trans a b c (less_of (rank_cmp pool need a b) h) (less_of (rank_cmp pool need b c) g))
+  chain a b c h g = ap is_lt (total.trans a b c (is_less (rank_cmp pool need a b) h) (is_less (rank_cmp pool need b c) g))
 
   pub one_of : (a b : ℕ) → (a ≡ b → ⊥) → (is_better pool need a b ≡ true) ⊎ (is_better pool need b a ≡ true)
   one_of a b out = by (rank_cmp pool need a b) refl

@@ -3,6 +3,7 @@
 use Rattle.std.proofs.Common.{◌≡◌, inl, inr, ℕ, zero, suc, ◌+◌, ◌-◌, ◌<◌, Bool, true, false, List, [], ◌∷◌, ◌++◌, append-nil, refl, sym, subst, ap, ◌∙◌, arith}
 use Rattle.std.specs.Prelude.{IfSome, Option, Some, None, is_some, option_to_list, if◌then◌else◌, ◌&&◌}
 use Rattle.std.specs.List.{cons_option, find}
+use Rattle.std.proofs.lemmas.Bool.{cases_Bool}
 use Rattle.adb_view.specs.Plain.{Plain, Plains, none, more}
 use Rattle.adb_view.specs.Values.{count_of, entry_in, int_in, nth, text_in}
 use Rattle.dep_core.specs.Dependency.{Dependency, is_dep_name}
@@ -12,7 +13,6 @@ use Rattle.dep_core.specs.ValueReading.{dependency_of_value, on_version}
 use Rattle.candidate_core.specs.Candidates.{dependencies_of, dependency_in}
 use Rattle.candidate_core.proofs.DependencyLists.{dependencies_step, dependencies_to}
 use Rattle.candidate_core.proofs.LoopTests.{found_snoc}
-use Rattle.candidate_core.proofs.OptionLists.{bool_cases}
 
 -- ---- texts
 
@@ -43,7 +43,7 @@ none_read (Some t) text h = absurd (cc)
 module _ (p : Dependency → Bool) where
   in_front : (o : Option Dependency) (xs ys : List Dependency) (d : Dependency) → (find p xs ≡ Some d → find p ys ≡ Some d) → find p (cons_option o xs) ≡ Some d → find p (cons_option o ys) ≡ Some d
   in_front None xs ys d to h = to h
-  in_front (Some x) xs ys d to h = elim (bool_cases (p x)) [
+  in_front (Some x) xs ys d to h = elim (cases_Bool (p x)) [
     | inl e ↦ rw e (rw e at h)
     | inr e ↦ rw e (to (rw e at h))
   ]
@@ -55,7 +55,7 @@ module _ (p : Dependency → Bool) where
 
   found_last : (xs : List Dependency) (d : Dependency) → find p xs ≡ None → p d ≡ true → find p (xs ++ d ∷ []) ≡ Some d
   found_last [] d n e = rw e refl
-  found_last (x ∷ xs) d n e = elim (bool_cases (p x)) [
+  found_last (x ∷ xs) d n e = elim (cases_Bool (p x)) [
     | inl t ↦ let bad : Some x ≡ None = rw t at n in absurd (cc)
     | inr t ↦ rw t (found_last xs d (rw t at n) e)
   ]

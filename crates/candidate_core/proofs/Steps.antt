@@ -3,6 +3,7 @@ use Rattle.std.proofs.Common.{◌≡◌, inl, inr, ℕ, zero, suc, ◌+◌, ◌�
 use Rattle.std.specs.Prelude.{Result, Ok, Err, OnOk, IfErr, IfOk, slice_get, Some, if◌then◌else◌, ◌&&◌, ◌||◌, ◌==◌, not}
 use Rattle.std.specs.List.{filter, list_all, list_any}
 use Rattle.std.proofs.lemmas.List.{length-map}
+use Rattle.std.proofs.lemmas.Bool.{cases_Bool}
 use Rattle.candidate_core.specs.Candidates.{Candidate}
 use Rattle.candidate_core.specs.Options.{IsIn}
 use Rattle.candidate_core.specs.Values.{IsPoolFault}
@@ -10,7 +11,6 @@ use Rattle.candidate_core.specs.declared.candidate_list.PoolFault.{PoolFault}
 use Rattle.candidate_core.specs.declared.candidate_list.PoolFault.TheVariants.{TooMany, Memory}
 use Rattle.candidate_core.specs.PositiveInstallIfs.{has_positive_install_if, places_marked}
 use Rattle.candidate_core.proofs.Anyone.{all_map}
-use Rattle.candidate_core.proofs.OptionLists.{bool_cases}
 
 take_next : {X : Type 0} (xs : List X) (i : ℕ) (x : X) → slice_get xs i ≡ Some x → take (suc i) xs ≡ take i xs ++ x ∷ []
 take_next [] zero x h = absurd (cc)
@@ -24,8 +24,8 @@ take_one_more {X} xs i x h =
     subst (λ (k : ℕ). take k xs ≡ take i xs ++ x ∷ []) (sym z) (take_next xs i x h)
 
 pub filter_snoc : {X : Type 0} (p : X → Bool) (xs : List X) (x : X) → filter p (xs ++ x ∷ []) ≡ filter p xs ++ (if p x then x ∷ [] else [])
-filter_snoc p [] x = elim (bool_cases (p x)) [ inl e ↦ rw e refl | inr e ↦ rw e refl ]
-filter_snoc {X} p (y ∷ xs) x = elim (bool_cases (p y)) [
+filter_snoc p [] x = elim (cases_Bool (p x)) [ inl e ↦ rw e refl | inr e ↦ rw e refl ]
+filter_snoc {X} p (y ∷ xs) x = elim (cases_Bool (p y)) [
   | inl e ↦ rw e (ap (λ (z : List X). y ∷ z) (filter_snoc p xs x))
   | inr e ↦ rw e (filter_snoc p xs x)
 ]
@@ -35,8 +35,8 @@ filter_step {X} p xs i x before after h was is =
     is ∙ (ap (λ (z : List X). z ++ (if p x then x ∷ [] else [])) was ∙ (sym (filter_snoc p (take i xs) x) ∙ ap (filter p) (sym (take_one_more xs i x h))))
 
 pub any_snoc : {X : Type 0} (p : X → Bool) (xs : List X) (x : X) → list_any p (xs ++ x ∷ []) ≡ (list_any p xs || p x)
-any_snoc p [] x = elim (bool_cases (p x)) [ inl e ↦ rw e refl | inr e ↦ rw e refl ]
-any_snoc p (y ∷ xs) x = elim (bool_cases (p y)) [ inl e ↦ rw e refl | inr e ↦ rw e (any_snoc p xs x) ]
+any_snoc p [] x = elim (cases_Bool (p x)) [ inl e ↦ rw e refl | inr e ↦ rw e refl ]
+any_snoc p (y ∷ xs) x = elim (cases_Bool (p y)) [ inl e ↦ rw e refl | inr e ↦ rw e (any_snoc p xs x) ]
 
 marked_next : (n i : ℕ) (ms : List Bool) (cs : List Candidate) (m : Bool) (c : Candidate) → slice_get ms i ≡ Some m → slice_get cs i ≡ Some c → places_marked n (take (suc i) ms) (take (suc i) cs) ≡ places_marked n (take i ms) (take i cs) ++ (if m && has_positive_install_if c then (n + i) ∷ [] else [])
 marked_next n zero [] cs m c h g = absurd (cc)
@@ -54,7 +54,7 @@ marked_next n (suc i) (l ∷ ms) (d ∷ cs) m c h g =
     let z : suc n + i ≡ n + suc i = omega arith in
     let rest : places_marked (suc n) (take (suc i) ms) (take (suc i) cs) ≡ places_marked (suc n) (take i ms) (take i cs) ++ (if m && has_positive_install_if c then (n + suc i) ∷ [] else []) =
     subst (λ (k : ℕ). places_marked (suc n) (take (suc i) ms) (take (suc i) cs) ≡ places_marked (suc n) (take i ms) (take i cs) ++ (if m && has_positive_install_if c then k ∷ [] else [])) z (marked_next (suc n) i ms cs m c h g) in
-    elim (bool_cases (l && has_positive_install_if d)) [
+    elim (cases_Bool (l && has_positive_install_if d)) [
       | inl e ↦ rw e (ap (λ (z : List ℕ). n ∷ z) rest)
       | inr e ↦ rw e rest
     ]

@@ -4,11 +4,12 @@ use Rattle.std.specs.Prelude.{Option, Some, None, slice_get, if◌then◌else◌
 use Rattle.std.specs.Option.{option_map_or}
 use Rattle.std.specs.List.{last_or, list_any}
 use Rattle.std.proofs.lemmas.Bool.Decides.{eqb_tells}
+use Rattle.std.proofs.lemmas.Bool.{cases_Bool}
+use Rattle.base_core.proofs.Numbers.{same_number}
 use Rattle.dep_core.specs.Dependency.{Dependency}
 use Rattle.candidate_core.specs.Candidates.{Candidate, offers_name}
 use Rattle.candidate_core.specs.Options.{IsIn, places_offering}
 use Rattle.candidate_core.specs.Table.{LeadsToOffers, Offered, ids_of, with_last, with_last_where}
-use Rattle.candidate_core.proofs.OptionLists.{bool_cases}
 use Rattle.candidate_core.proofs.OfferLists.{places_snoc, places_below}
 use Rattle.candidate_core.proofs.Steps.{any_snoc}
 
@@ -16,16 +17,13 @@ last_snoc : (o : Option ℕ) (xs : List ℕ) (x : ℕ) → last_or o (xs ++ x �
 last_snoc o [] x = refl
 last_snoc o (y ∷ xs) x = last_snoc (Some y) xs x
 
-self_eq : (x : ℕ) → (x == x) ≡ true
-self_eq x = elim (eqb_tells x x) [ inl e ↦ e.0 | inr n ↦ absurd (n.1 refl) ]
-
 abbrev is_at_end : ℕ → Option ℕ → Bool
 is_at_end id o = option_map_or (λ last. last == id) o false
 
 last_again : (ids : List ℕ) (id : ℕ) → is_at_end id (last_or None (with_last ids id)) ≡ true
-last_again ids id = elim (bool_cases (is_at_end id (last_or None ids))) [
+last_again ids id = elim (cases_Bool (is_at_end id (last_or None ids))) [
   | inl e ↦ rw e e
-  | inr e ↦ rw e (ap (is_at_end id) (last_snoc None ids id) ∙ self_eq id)
+  | inr e ↦ rw e (ap (is_at_end id) (last_snoc None ids id) ∙ same_number id)
 ]
 
 -- a candidate that is added twice is there once
@@ -63,7 +61,7 @@ pub leads_on : (table more : Offered) (cs : List Candidate) (d : Candidate) → 
 leads_on table more cs d leads added name =
     let places = places_offering name cs in
     let step : with_last_where (offers_name name d) places (length cs) ≡ places ++ (if offers_name name d then length cs ∷ [] else []) =
-    elim (bool_cases (offers_name name d)) [
+    elim (cases_Bool (offers_name name d)) [
       | inl e ↦ rw e (above_last places (length cs) (λ j h. let b = places_below 0 (offers_name name) cs j h in omega (arith, b)))
       | inr e ↦ rw e (sym (append_nil places))
     ] in

@@ -8,6 +8,8 @@ use Rattle.std.specs.Ordering.{is_eq, nat_cmp, ordering_then}
 use Rattle.std.specs.declared.cmp.Ordering.{Ordering}
 use Rattle.std.specs.declared.cmp.Ordering.TheVariants.{Less, Equal, Greater}
 use Rattle.std.proofs.lemmas.List.Folds.{list_any-append}
+use Rattle.std.proofs.Math.Bool.{or-false}
+use Rattle.std.proofs.lemmas.Bool.{cases_Bool}
 use Rattle.adb_view.specs.Adb.{payload_of}
 use Rattle.adb_view.specs.Plain.{Plain, Plains, none, more}
 use Rattle.adb_view.specs.Values.{count_of, nth, text_in, value_at}
@@ -21,16 +23,11 @@ use Rattle.candidate_core.specs.declared.matches.KnownMatches.{KnownMatches}
 use Rattle.candidate_core.specs.declared.packages.Source.{Source}
 use Rattle.candidate_core.specs.declared.versions.RankedVersion.{RankedVersion}
 use Rattle.candidate_core.proofs.DependencyLists.{dependencies_to}
-use Rattle.candidate_core.proofs.OptionLists.{bool_cases}
 use Rattle.candidate_core.proofs.ProvidedVersions.{next_of}
 
 pub if_ok_map : {X E : Type 0} (P Q : X → Type 0) → ((x : X) → P x → Q x) → (r : Result X E) → IfOk r P → IfOk r Q
 if_ok_map P Q f (Ok x) h = f x h
 if_ok_map P Q f (Err e) h = tt
-
-or_none : (a : Bool) → (a || false) ≡ a
-or_none true = refl
-or_none false = refl
 
 -- ---- one version
 
@@ -88,7 +85,7 @@ known_of_nothing text (named name) known h = tt
 -- ---- the entries of what a package provides
 
 pub one_entry : (p : Dependency → Bool) (d : Dependency) (o : Option Dependency) (t : Bool) → Some d ≡ o → t ≡ p d → t ≡ list_any p (option_to_list o)
-one_entry p d o t e is = is ∙ (sym (or_none (p d)) ∙ ap (λ (z : Option Dependency). list_any p (option_to_list z)) e)
+one_entry p d o t e is = is ∙ (sym (or-false (p d)) ∙ ap (λ (z : Option Dependency). list_any p (option_to_list z)) e)
 
 pub no_entry : (p : Dependency → Bool) (o : Option Dependency) → None ≡ o → false ≡ list_any p (option_to_list o)
 no_entry p o e = ap (λ (z : Option Dependency). list_any p (option_to_list z)) e
@@ -96,7 +93,7 @@ no_entry p o e = ap (λ (z : Option Dependency). list_any p (option_to_list z)) 
 module _ (p : Dependency → Bool) where
   any_in_front : (o : Option Dependency) (xs ys : List Dependency) → (list_any p xs ≡ true → list_any p ys ≡ true) → list_any p (cons_option o xs) ≡ true → list_any p (cons_option o ys) ≡ true
   any_in_front None xs ys to h = to h
-  any_in_front (Some x) xs ys to h = elim (bool_cases (p x)) [
+  any_in_front (Some x) xs ys to h = elim (cases_Bool (p x)) [
     | inl e ↦ rw e refl
     | inr e ↦ rw e (to (rw e at h))
   ]

@@ -21,7 +21,7 @@ is_wanted_by d version = is_wanted d.version d.bits version
 abbrev pub place_cmp : ℕ × ℕ → ℕ × ℕ → Ordering
 place_cmp one other = ordering_then (nat_cmp one.0 other.0) (nat_cmp one.1 other.1)
 
--- this result is remembered for the version with a word in a source
+-- this result is remembered for the version that `word` refers to in the source with the index `source`
 abbrev pub IsMatchOf : KnownMatches → ℕ → ℕ → Bool → Type 0
 IsMatchOf known source word answer = get place_cmp known.answers (source, word) ≡ Some answer
 
@@ -30,7 +30,8 @@ abbrev pub AreMatchesOf : (ℕ → ℕ → List ℕ) → Dependency → KnownMat
 AreMatchesOf text d known = (source word : ℕ) (answer : Bool)
     → IsMatchOf known source word answer → answer ≡ is_wanted_by d (Some (text source word))
 
--- the same for a need; the need for a name accepts each version
+-- The remembered results are right for a need. For a dependency, each is whether it accepts the version.
+-- A bare name accepts each version, so nothing is claimed for it.
 abbrev pub AreMatchesFor : (ℕ → ℕ → List ℕ) → Need → KnownMatches → Type 0
 AreMatchesFor text (entry d) known = AreMatchesOf text d known
 AreMatchesFor text (named name) known = Unit {0}
@@ -40,7 +41,8 @@ abbrev pub IsTextOf : Source → ℕ → (ℕ → ℕ → List ℕ) → Type 0
 IsTextOf source place text = (word : ℕ)
     → text place word ≡ text_in (value_at (payload_of source.adb) Text word)
 
--- the results for a need are right, by texts that include those of the source at this index
+-- the results for a need are right by some function of places, which at this index gives the texts of the
+-- source
 abbrev pub AreMatchesIn : Source → ℕ → Need → KnownMatches → Type 0
 AreMatchesIn source place need known = (text : ℕ → ℕ → List ℕ)
     × IsTextOf source place text × AreMatchesFor text need known

@@ -338,7 +338,7 @@ fn meets(
     any_entry_meets(source, kept, dep, known)
 }
 
-// Whether its own name and version meet it.
+// Whether the package meets the dependency by its own name and version.
 fn own_version_meets(
     source: &Source<'_>,
     kept: PackageWord,

@@ -4,9 +4,9 @@ use Rattle.std.specs.Prelude.{not, ◌&&◌, ◌||◌, if◌then◌else◌, opti
 use Rattle.std.specs.List.{list_any}
 use Rattle.std.specs.Str.{bytes_eq}
 use Rattle.std.proofs.lemmas.Bool.{and_from, false_from_ne_true, not_from_false, or_from, or_left, or_right}
-use Rattle.std.proofs.lemmas.Slice.Eq.{bytes_eq-Decides}
 use Rattle.base_core.specs.Files.{Files}
 use Rattle.base_core.proofs.Rising.{IsIn}
+use Rattle.base_core.proofs.AtName.{is_name}
 use Rattle.db_core.specs.Members.{Listing}
 use Rattle.path_clashes.specs.Clash.{is_name_after}
 use Rattle.change_files.specs.FileChange.{FileChange, is_claimed, old_entry, was_listed}
@@ -83,9 +83,6 @@ by_written change bytes_of files name there = by_listing (written_as change file
 
 -- ---- all of them
 
-equal_names : (name other : List ℕ) → bytes_eq name other ≡ true → name ≡ other
-equal_names name other e = (bytes_eq-Decides name other).0 e
-
 -- a text database that was taken over is absent
 text_gone : (change : FileChange) (bytes_of : Listing → List ℕ) (records : Records) (files : Files) (name : List ℕ) → bytes_eq name database_name ≡ false → bytes_eq name world_name ≡ false
     → (records.takes_text_over && bytes_eq name text_database_name) ≡ true → changed_files change bytes_of records files name ≡ None
@@ -109,11 +106,11 @@ names_after change bytes_of records files name there = by_database (bytes_eq nam
         by_written change bytes_of files name (sym (ap is_some (changed_so change bytes_of records files name other)) ∙ there)
 
     by_world : (b : Bool) → bytes_eq name world_name ≡ b → bytes_eq name database_name ≡ false → is_name_after (name_change change files) files name ≡ true
-    by_world true world database = counted change files name (counts_path change files name (inr (inl (equal_names name world_name world))))
+    by_world true world database = counted change files name (counts_path change files name (inr (inl (is_name name world_name world))))
     by_world false world database = by_text (records.takes_text_over && bytes_eq name text_database_name) refl database world
 
     by_database : (b : Bool) → bytes_eq name database_name ≡ b → is_name_after (name_change change files) files name ≡ true
-    by_database true database = counted change files name (counts_path change files name (inl (equal_names name database_name database)))
+    by_database true database = counted change files name (counts_path change files name (inl (is_name name database_name database)))
     by_database false database = by_world (bytes_eq name world_name) refl database
 
 -- ---- what stands, and what is gone

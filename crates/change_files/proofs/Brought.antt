@@ -1,9 +1,10 @@
 -- What a package brings is as it lists it.
 use Rattle.std.proofs.Common.{◌≡◌, ◌⊎◌, inl, inr, ◌∙◌, ℕ, ◌+◌, ◌<◌, ◌≤◌, ◌==◌, Bool, true, false, cond, List, [], ◌∷◌, ◌++◌, length, Contains, Option, Some, None, refl, ap, sym, subst, true≢false, arith}
-use Rattle.std.specs.Prelude.{not, ◌&&◌, if◌then◌else◌, is_none}
+use Rattle.std.specs.Prelude.{◌&&◌, if◌then◌else◌, is_none}
 use Rattle.std.specs.List.{find}
-use Rattle.std.proofs.lemmas.Bool.{and_from, and_left, and_right, eq-eqb, eqb-true, false_from_ne_true}
+use Rattle.std.proofs.lemmas.Bool.{and_from, and_left, and_right, eqb-true, false_from_ne_true, not-true, not-false}
 use Rattle.std.proofs.lemmas.Slice.Eq.{bytes_eq-Decides}
+use Rattle.base_core.proofs.Numbers.{same_number}
 use Rattle.adb_view.specs.Plain.{Plain}
 use Rattle.adb_view.specs.Values.{entry_in, int_in}
 use Rattle.adb_fields.specs.Repeated.{files_in, folders_in, name_of}
@@ -60,9 +61,6 @@ apart a b below = false_from_ne_true (b == a) (λ e. let same = eqb-true b a e i
 after_apart : (a b : ℕ) → a < b → (a == b) ≡ false
 after_apart a b below = false_from_ne_true (a == b) (λ e. let same = eqb-true a b e in omega (arith, same, below))
 
-same_position : (n : ℕ) → (n == n) ≡ true
-same_position n = eq-eqb n n refl
-
 none_in_files : (folder file other i : ℕ) (entries : List Plain) → ((j : ℕ) → i ≤ j → ((other == folder) && (j == file)) ≡ false) → find (is_at folder file) (expected_files other i entries) ≡ None
 none_in_files folder file other i [] far = refl
 none_in_files folder file other i (entry ∷ entries) far =
@@ -101,7 +99,7 @@ in_folder m place folder i above (entry ∷ entries) l (inl is) =
       of_member = refl;
       at_place = refl;
       expected = met (is_at folder i) (is_with_contents entry) (expected_of folder i entry) (expected_files folder (i + 1) entries)
-          (and_from (folder == folder) (i == i) (same_position folder) (same_position i))
+          (and_from (folder == folder) (i == i) (same_number folder) (same_number i))
           (none_in_files folder i folder (i + 1) entries (λ j le. and_right (folder == folder) (j == i) (apart i j (omega (arith, le)))));
     }
 in_folder m place folder i above (entry ∷ entries) l (inr more) =
@@ -209,21 +207,13 @@ has_digest n is = false_from_ne_true (n == 0) (λ e. true≢false (sym (sym (ap 
 
 -- ---- as the laws say it
 
-not_target : (b : Bool) → not b ≡ false → b ≡ true
-not_target true e = refl
-not_target false e = absurd (true≢false e)
-
-is_target : (b : Bool) → not b ≡ true → b ≡ false
-is_target true e = sym e
-is_target false e = refl
-
 as_link : (contents : ℕ → List Contents) (l : Listing) → has_target l.entry ≡ true → is_as_listed l.entry (listing_bytes contents l) ≡ true
 unfolding listing_bytes
 as_link contents l target =
     let bytes : listing_bytes contents l ≡ link_bytes l.entry =
     ap (λ (b : Bool). if b then link_bytes l.entry else bytes_or_none (find (is_of_file l.folder l.file) (contents l.place))) target in
     ap (is_as_listed l.entry) bytes
-    ∙ (told_link (file_size l.entry) (file_hash l.entry) (file_target l.entry) (link_bytes l.entry) (is_target (length (file_target l.entry) == 0) target)
+    ∙ (told_link (file_size l.entry) (file_hash l.entry) (file_target l.entry) (link_bytes l.entry) (not-true (length (file_target l.entry) == 0) target)
     ∙ (bytes_eq-Decides (link_bytes l.entry) (link_to (file_target l.entry))).1 refl)
 
 bytes_found : (contents : ℕ → List Contents) (l : Listing) (found : Option Contents) → has_target l.entry ≡ false → find (is_of_file l.folder l.file) (contents l.place) ≡ found → listing_bytes contents l ≡ bytes_or_none found
@@ -237,7 +227,7 @@ as_contents contents l expected have are target =
     let (c, at, is) = found_contents l.folder l.file (expected_contents l.member.pkg) (contents l.place) are (expected_of l.folder l.file l.entry) expected in
     let digest = digest_found (is_at l.folder l.file) (expected_contents l.member.pkg) (expected_of l.folder l.file l.entry) expected have in
     ap (is_as_listed l.entry) (bytes_found contents l (Some c) target at)
-    ∙ (told_hash (file_size l.entry) (file_hash l.entry) (file_target l.entry) c.bytes (not_target (length (file_target l.entry) == 0) target) (has_digest (length (file_hash l.entry)) digest)
+    ∙ (told_hash (file_size l.entry) (file_hash l.entry) (file_target l.entry) c.bytes (not-false (length (file_target l.entry) == 0) target) (has_digest (length (file_hash l.entry)) digest)
     ∙ ap is_none is.hash)
 
 pub brought_as_listed : (contents : ℕ → List Contents) (members : List Member) (l : Listing) → Contains (member_listings members) l → HaveDigests (expected_contents l.member.pkg)

@@ -3,7 +3,7 @@ use Rattle.std.proofs.Common.{◌≡◌, ◌∙◌, ℕ, Bool, true, false, List
 use Rattle.std.specs.Prelude.{not, ◌&&◌, ◌||◌, if◌then◌else◌, ◌==◌, nat_le, nat_lt, option_and_then}
 use Rattle.std.specs.List.{list_all, list_any}
 use Rattle.std.specs.Str.{is_utf8}
-use Rattle.std.proofs.lemmas.Bool.{and_from, and_parts, not_from_false, or_parts}
+use Rattle.std.proofs.lemmas.Bool.{and_from, and_parts, not_from_false, or_parts, not-false}
 use Rattle.adb_view.specs.Plain.{Plain}
 use Rattle.base_core.specs.Files.{Files}
 use Rattle.base_core.specs.Name.{IsName, is_name, is_part, parts_of}
@@ -19,10 +19,6 @@ use Rattle.change_files.proofs.Untouched.{users_fate}
 
 -- ---- it goes in
 
-guarded_so : (b : Bool) → not b ≡ false → b ≡ true
-guarded_so true e = refl
-guarded_so false e = absurd (true≢false e)
-
 -- a file of which the tests say so is the user's
 users_file : (change : FileChange) (files : Files) (path bytes : List ℕ) (l : Listing) → added_owner_listing change path ≡ Some l → files path ≡ Some bytes
     → (not (is_guarded path) || (is_as_listed l.entry bytes || is_as_old (old_entry change path) bytes)) ≡ false → IsUsersFile change files path bytes
@@ -30,7 +26,7 @@ users_file change files path bytes l comes present tests =
     let (unguarded, listed) = or_parts (not (is_guarded path)) (is_as_listed l.entry bytes || is_as_old (old_entry change path) bytes) tests in
     let (new, old) = or_parts (is_as_listed l.entry bytes) (is_as_old (old_entry change path) bytes) listed in
     record {
-      guarded = guarded_so (is_guarded path) unguarded;
+      guarded = not-false (is_guarded path) unguarded;
       present = present;
       unlike_new = λ m is. let same : m ≡ l = (cc) in ap (λ (m : Listing). is_as_listed m.entry bytes) same ∙ new;
       unlike_old = λ entry is. ap (λ (o : Option Plain). is_as_old o bytes) (sym is) ∙ old;
@@ -119,7 +115,7 @@ beside_users_file change files path l laid =
 
 -- ---- under the name beside it
 
-no_owner : (change : FileChange) (name : List ℕ) → is_claimed change name ≡ false → added_owner_listing change name ≡ None
+pub no_owner : (change : FileChange) (name : List ℕ) → is_claimed change name ≡ false → added_owner_listing change name ≡ None
 no_owner change name free = by_owner (added_owner_listing change name) refl
   where
     by_owner : (o : Option Listing) → added_owner_listing change name ≡ o → o ≡ None

@@ -18,7 +18,7 @@ use Rattle.change_files.specs.PlanLists.{names_in_order, unless_next, without_re
 
 -- ---- sorted
 
-in_with : (q x : List ℕ) (ys : List (List ℕ)) → (q ≡ x) ⊎ IsIn q ys → IsIn q (with_element bytes_cmp x ys)
+pub in_with : (q x : List ℕ) (ys : List (List ℕ)) → (q ≡ x) ⊎ IsIn q ys → IsIn q (with_element bytes_cmp x ys)
 in_with q x [] h = h
 in_with q x (y ∷ ys) h = by_test (is_gt (bytes_cmp x y)) (in_with q x ys) h
   where
@@ -28,7 +28,7 @@ in_with q x (y ∷ ys) h = by_test (is_gt (bytes_cmp x y)) (in_with q x ys) h
     by_test true f (inr (inr more)) = inr (f (inr more))
     by_test false f h = h
 
-from_with : (q x : List ℕ) (ys : List (List ℕ)) → IsIn q (with_element bytes_cmp x ys) → (q ≡ x) ⊎ IsIn q ys
+pub from_with : (q x : List ℕ) (ys : List (List ℕ)) → IsIn q (with_element bytes_cmp x ys) → (q ≡ x) ⊎ IsIn q ys
 from_with q x [] h = h
 from_with q x (y ∷ ys) h = by_test (is_gt (bytes_cmp x y)) (from_with q x ys) h
   where
@@ -37,18 +37,18 @@ from_with q x (y ∷ ys) h = by_test (is_gt (bytes_cmp x y)) (from_with q x ys) 
     by_test true f (inr more) = elim (f more) [ inl is ↦ inl is | inr old ↦ inr (inr old) ]
     by_test false f h = h
 
-in_sorted : (q : List ℕ) (xs : List (List ℕ)) → IsIn q xs → IsIn q (sorted_by bytes_cmp xs)
+pub in_sorted : (q : List ℕ) (xs : List (List ℕ)) → IsIn q xs → IsIn q (sorted_by bytes_cmp xs)
 in_sorted q [] h = h
 in_sorted q (x ∷ xs) (inl is) = in_with q x (sorted_by bytes_cmp xs) (inl is)
 in_sorted q (x ∷ xs) (inr more) = in_with q x (sorted_by bytes_cmp xs) (inr (in_sorted q xs more))
 
-from_sorted : (q : List ℕ) (xs : List (List ℕ)) → IsIn q (sorted_by bytes_cmp xs) → IsIn q xs
+pub from_sorted : (q : List ℕ) (xs : List (List ℕ)) → IsIn q (sorted_by bytes_cmp xs) → IsIn q xs
 from_sorted q [] h = h
 from_sorted q (x ∷ xs) h = elim (from_with q x (sorted_by bytes_cmp xs) h) [ inl is ↦ inl is | inr more ↦ inr (from_sorted q xs more) ]
 
 -- ---- each once
 
-in_unless : (q x : List ℕ) (ys : List (List ℕ)) → (q ≡ x) ⊎ IsIn q ys → IsIn q (unless_next x ys)
+pub in_unless : (q x : List ℕ) (ys : List (List ℕ)) → (q ≡ x) ⊎ IsIn q ys → IsIn q (unless_next x ys)
 in_unless q x [] h = h
 in_unless q x (y ∷ ys) h = by_test (bytes_eq x y) refl h
   where
@@ -57,7 +57,7 @@ in_unless q x (y ∷ ys) h = by_test (bytes_eq x y) refl h
     by_test true e (inr more) = more
     by_test false e h = h
 
-from_unless : (q x : List ℕ) (ys : List (List ℕ)) → IsIn q (unless_next x ys) → (q ≡ x) ⊎ IsIn q ys
+pub from_unless : (q x : List ℕ) (ys : List (List ℕ)) → IsIn q (unless_next x ys) → (q ≡ x) ⊎ IsIn q ys
 from_unless q x [] h = h
 from_unless q x (y ∷ ys) h = by_test (bytes_eq x y) h
   where
@@ -65,12 +65,12 @@ from_unless q x (y ∷ ys) h = by_test (bytes_eq x y) h
     by_test true h = inr h
     by_test false h = h
 
-in_once : (q : List ℕ) (xs : List (List ℕ)) → IsIn q xs → IsIn q (without_repeats xs)
+pub in_once : (q : List ℕ) (xs : List (List ℕ)) → IsIn q xs → IsIn q (without_repeats xs)
 in_once q [] h = h
 in_once q (x ∷ xs) (inl is) = in_unless q x (without_repeats xs) (inl is)
 in_once q (x ∷ xs) (inr more) = in_unless q x (without_repeats xs) (inr (in_once q xs more))
 
-from_once : (q : List ℕ) (xs : List (List ℕ)) → IsIn q (without_repeats xs) → IsIn q xs
+pub from_once : (q : List ℕ) (xs : List (List ℕ)) → IsIn q (without_repeats xs) → IsIn q xs
 from_once q [] h = h
 from_once q (x ∷ xs) h = elim (from_unless q x (without_repeats xs) h) [ inl is ↦ inl is | inr more ↦ inr (from_once q xs more) ]
 

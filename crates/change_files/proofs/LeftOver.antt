@@ -1,7 +1,7 @@
 -- What is left over goes, unless the user changed it.
 use Rattle.std.proofs.Common.{◌≡◌, ◌⊎◌, inl, inr, ◌∙◌, ℕ, suc, Bool, true, false, List, [], ◌∷◌, map, Option, Some, None, refl, ap, sym, true≢false, arith}
 use Rattle.std.specs.Prelude.{All, not, ◌&&◌}
-use Rattle.std.proofs.lemmas.Bool.{and_from, and_parts, not_from_false}
+use Rattle.std.proofs.lemmas.Bool.{and_from, and_parts, not_from_false, not-true}
 use Rattle.adb_schema.specs.Reserved.{is_reserved}
 use Rattle.adb_view.specs.Plain.{Plain}
 use Rattle.base_core.specs.Files.{Files}
@@ -14,10 +14,6 @@ use Rattle.change_files.specs.FilesAfter.{is_changed, is_kept, is_left_over, is_
 use Rattle.change_files.specs.Touched.{IsUsersFile}
 use Rattle.change_files.proofs.Owned.{claimed_by_owner, coming_is, in_old_paths}
 use Rattle.change_files.proofs.Untouched.{IsLeftOver, kept_is, left_over_is, removed_is}
-
-not_so : (b : Bool) → not b ≡ true → b ≡ false
-not_so true e = sym e
-not_so false e = refl
 
 -- what may stay is the user's file, and is not to be purged
 stays_is_users : (change : FileChange) (files : Files) (path : List ℕ) → IsLeftOver change files path → may_be_kept change path (files path) (old_entry change path) ≡ true
@@ -34,7 +30,7 @@ stays_is_users change files path left stays = by_entry (old_entry change path) r
         unlike_new = λ l comes. absurd (true≢false (sym (claimed_by_owner change path l ((coming_is change path l comes).0)) ∙ left.unclaimed));
         unlike_old = λ other is.
             let same : other ≡ entry = (cc) in
-            ap (λ (e : Plain). is_as_listed e bytes) same ∙ not_so (is_as_listed entry bytes) changed;
+            ap (λ (e : Plain). is_as_listed e bytes) same ∙ not-true (is_as_listed entry bytes) changed;
       },
     )
 
@@ -43,7 +39,7 @@ stays_is_users change files path left stays = by_entry (old_entry change path) r
     by_entry (Some entry) listed stays =
         let (guarded, behind) = and_parts (is_guarded path) (not change.purge && is_changed entry (files path)) stays in
         let (unpurged, changed) = and_parts (not change.purge) (is_changed entry (files path)) behind in
-        (by_file entry listed guarded (files path) refl changed, not_so change.purge unpurged)
+        (by_file entry listed guarded (files path) refl changed, not-true change.purge unpurged)
 
 pub left_over_goes : (change : FileChange) (files : Files) (path : List ℕ) → is_left_over change files path ≡ true → ((bytes : List ℕ) → IsUsersFile change files path bytes → ⊥) ⊎ (change.purge ≡ true)
     → is_removed change files path ≡ true

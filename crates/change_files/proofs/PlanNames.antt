@@ -66,7 +66,7 @@ among_written change files name l e =
           (subst (λ (q : List ℕ). IsIn q (map aside_name (added_paths change.members))) (sym beside.0) (in_map aside_name l.path (added_paths change.members) path))
     ])
 
-some_listing : (o : Option Listing) → is_some o ≡ true → (l : Listing) × (o ≡ Some l)
+pub some_listing : (o : Option Listing) → is_some o ≡ true → (l : Listing) × (o ≡ Some l)
 some_listing None e = absurd (true≢false (sym e))
 some_listing (Some l) e = (l, refl)
 

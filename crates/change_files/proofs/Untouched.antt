@@ -2,7 +2,7 @@
 use Rattle.std.proofs.Common.{◌≡◌, ◌⊎◌, inl, inr, ◌∙◌, ℕ, Bool, true, false, List, length, Option, Some, None, is_some, refl, ap, sym, true≢false}
 use Rattle.std.specs.Prelude.{not, ◌&&◌, ◌||◌, if◌then◌else◌, nat_le, option_and_then}
 use Rattle.std.specs.Str.{bytes_eq}
-use Rattle.std.proofs.lemmas.Bool.{and_from, and_left, and_parts, and_right, not_from_false, not_from_true, or_from, or_parts}
+use Rattle.std.proofs.lemmas.Bool.{and_from, and_left, and_parts, and_right, not_from_false, not_from_true, or_from, or_parts, not-true}
 use Rattle.adb_view.specs.Plain.{Plain}
 use Rattle.base_core.specs.Files.{Files}
 use Rattle.db_core.specs.Members.{Listing, is_added}
@@ -56,21 +56,17 @@ pub record IsLeftOver (change : FileChange) (files : Files) (path : List ℕ) : 
   pub unclaimed : is_claimed change path ≡ false
   pub unwritten : is_written change files path ≡ false
 
-not_true : (b : Bool) → not b ≡ true → b ≡ false
-not_true true e = sym e
-not_true false e = refl
-
 pub left_over_is : (change : FileChange) (files : Files) (path : List ℕ) → is_left_over change files path ≡ true → IsLeftOver change files path
 left_over_is change files path e =
     let (listed, behind) = and_parts (was_listed change path) (not (is_claimed change path) && not (is_written change files path)) e in
     let (unclaimed, unwritten) = and_parts (not (is_claimed change path)) (not (is_written change files path)) behind in
-    record { listed = listed; unclaimed = not_true (is_claimed change path) unclaimed; unwritten = not_true (is_written change files path) unwritten }
+    record { listed = listed; unclaimed = not-true (is_claimed change path) unclaimed; unwritten = not-true (is_written change files path) unwritten }
 
 pub removed_is : (change : FileChange) (files : Files) (path : List ℕ) → is_removed change files path ≡ true → IsLeftOver change files path × (may_be_kept change path (files path) (old_entry change path) ≡ false)
 unfolding is_removed
 removed_is change files path e =
     let (left, gone) = and_parts (is_left_over change files path) (not (may_be_kept change path (files path) (old_entry change path))) e in
-    (left_over_is change files path left, not_true (may_be_kept change path (files path) (old_entry change path)) gone)
+    (left_over_is change files path left, not-true (may_be_kept change path (files path) (old_entry change path)) gone)
 
 pub kept_is : (change : FileChange) (files : Files) (path : List ℕ) → is_kept change files path ≡ true → IsLeftOver change files path × (may_be_kept change path (files path) (old_entry change path) ≡ true)
 unfolding is_kept
@@ -78,7 +74,7 @@ kept_is change files path e =
     let (left, stays) = and_parts (is_left_over change files path) (may_be_kept change path (files path) (old_entry change path)) e in
     (left_over_is change files path left, stays)
 
-not_some : (o : Option Listing) → is_some o ≡ false → o ≡ None
+pub not_some : (o : Option Listing) → is_some o ≡ false → o ≡ None
 not_some None e = refl
 not_some (Some l) e = absurd (true≢false e)
 

@@ -1,5 +1,5 @@
 -- The indexes of repositories, one after the other.
-use Rattle.std.proofs.Common.{◌≡◌, ℕ, zero, suc, ◌+◌, ◌<◌, ◌≤◌, Bool, true, false, ◌&&◌, List, [], ◌∷◌, ◌++◌, map, length, drop, get_or, Option, Some, None, Result, Ok, Err, refl, sym, ap, ◌∙◌, subst, append_assoc, append-nil, arith}
+use Rattle.std.proofs.Common.{◌≡◌, ℕ, zero, suc, ◌+◌, ◌<◌, ◌≤◌, true, ◌&&◌, List, [], ◌∷◌, ◌++◌, map, length, drop, get_or, Option, Some, None, Result, Ok, Err, refl, sym, ap, ◌∙◌, subst, append_assoc, append-nil, arith}
 use Rattle.std.proofs.Math.ListN.{drop_of_length-le}
 use Rattle.std.proofs.lemmas.List.{length-append, length-map}
 use Rattle.std.proofs.lemmas.Option.{slice_get-map, slice_get_read}
@@ -8,6 +8,7 @@ use Rattle.std.specs.List.{slice_get}
 use Rattle.std.specs.Option.{option_map}
 use Rattle.std.specs.Result.{IsErrAnd}
 use Rattle.std.specs.declared.alloc.Global.{Global}
+use Rattle.std.proofs.lemmas.Bool.{and_parts}
 use Rattle.adb_schema.specs.Soundness.{first_fault}
 use Rattle.adb_view.specs.declared.tables.Which.TheVariants.{Index}
 use Rattle.adb_view.specs.Plain.{Plain}
@@ -159,16 +160,12 @@ in_list files i v bytes lt at is =
     slice_get-map (λ (file : Vec ℕ Global). file.items) files i
     ∙ (ap (option_map (λ (file : Vec ℕ Global). file.items)) (slice_get_read files (length files) i v refl lt at) ∙ ap Some (sym is))
 
-both_pass : (a b : Bool) → (a && b) ≡ true → (a ≡ true) × (b ≡ true)
-both_pass true b h = (refl, h)
-both_pass false b h = absurd (cc)
-
 pub passes_at : (bs : List (List ℕ)) (i : ℕ) (b : List ℕ) → are_indexes bs ≡ true → slice_get bs i ≡ Some b → first_fault Index b ≡ None
 passes_at [] i b all at = absurd (cc)
 passes_at (x ∷ bs) zero b all at =
     let same : x ≡ b = cc in
-    subst (λ y. first_fault Index y ≡ None) same (none_of (first_fault Index x) (both_pass (is_index x) (are_indexes bs) all).0)
-passes_at (x ∷ bs) (suc i) b all at = passes_at bs i b (both_pass (is_index x) (are_indexes bs) all).1 at
+    subst (λ y. first_fault Index y ≡ None) same (none_of (first_fault Index x) (and_parts (is_index x) (are_indexes bs) all).0)
+passes_at (x ∷ bs) (suc i) b all at = passes_at bs i b (and_parts (is_index x) (are_indexes bs) all).1 at
 
 pub seen_at : (bs : List (List ℕ)) (i : ℕ) (b : List ℕ) → slice_get bs i ≡ Some b → slice_get (map index_of_file bs) i ≡ Some (index_of_file b)
 seen_at bs i b at = slice_get-map index_of_file bs i ∙ ap (option_map index_of_file) at
@@ -220,6 +217,6 @@ all_pass bs i past so_far = so_far.passed ∙ ap are_indexes (drop_of_length-le 
 pub all_seen : (n : ℕ) (bs : List (List ℕ)) → are_indexes bs ≡ true → indexes_in_files n bs ≡ Ok (map index_of_file bs)
 all_seen n [] all = refl
 all_seen n (b ∷ bs) all =
-    let both = both_pass (is_index b) (are_indexes bs) all in
+    let both = and_parts (is_index b) (are_indexes bs) all in
     ap (λ fault. and_then (unless_cause (IndexBad n) fault (index_of_file b)) (λ index. and_then (indexes_in_files (n + 1) bs) (λ indexes. Ok (index ∷ indexes)))) (none_of (first_fault Index b) both.0)
     ∙ ap (λ (r : Result (List Plain) Refusals.Refusal). and_then r (λ indexes. Ok (index_of_file b ∷ indexes))) (all_seen (n + 1) bs both.1)

@@ -7,10 +7,11 @@ use Rattle.std.proofs.lemmas.Bool.{lt-ltb, le-ltb}
 use Rattle.std.specs.List.{list_any, slice_get}
 use Rattle.std.specs.Option.{option_map}
 use Rattle.adb_fields.specs.Repeated.{list_of}
+use Rattle.adb_fields.proofs.NameLists.{count-listed}
 use Rattle.adb_view.specs.Values.{count_of, entries_in, entry_in, nth}
 use Rattle.adb_view.specs.Plain.{Plain, Plains, none, more}
 use Rattle.command_core.proofs.Entries.{left_at}
-use Rattle.db_core.proofs.Places.{count_listed, nth_listed}
+use Rattle.db_core.proofs.Places.{nth_listed}
 use Rattle.dep_core.specs.Repositories.{Repository}
 use Rattle.candidate_core.proofs.Installed.{counted_once, stands_last}
 use Rattle.candidate_core.specs.Candidates.{Candidate, candidate_of, candidates_of_index, is_same_package, with_installed}
@@ -19,14 +20,10 @@ use Rattle.candidate_core.specs.Values.{IsPoolFault}
 use Rattle.candidate_core.specs.declared.candidate_list.PoolFault.{PoolFault}
 use Rattle.candidate_core.specs.declared.candidate_list.PoolFault.TheVariants as Pools
 use Rattle.candidate_core.specs.declared.candidate_list.TheConstants.{MOST_CANDIDATES}
+use Rattle.candidate_core.proofs.Steps.{fault_more}
 use Rattle.report_core.specs.declared.refusal.Refusal.TheVariants.{TooMany}
 use Rattle.change_inputs.specs.Candidates.{candidates_from, candidates_of, installed_candidate, root_pool, with_all_installed}
 use Rattle.change_inputs.specs.Inputs.{Inputs}
-
--- what passes the limit with fewer passes it with more
-pub passes_with_more : (fault : PoolFault) (fewer all : ℕ) → fewer ≤ all → IsPoolFault fault fewer → IsPoolFault fault all
-passes_with_more (Pools.TooMany count) fewer all le h = (omega (arith, h.0, le), h.1)
-passes_with_more Pools.Memory fewer all le h = tt
 
 pub fault_handed : {A : Type 0} (n : ℕ) (r : Result A PoolFault) (fault : PoolFault) → IsErrAnd r (λ e. e ≡ fault) → IsPoolFault fault n → IfErr r (λ e. IsPoolFault e n)
 fault_handed n (Ok a) fault is h = absurd is
@@ -67,11 +64,11 @@ installed_passes vs i pkg info start now fault lt is about h so_far =
     let whole : with_all_installed start (list_of vs) ≡ with_all_installed (with_installed now (candidate_of info None None true)) (drop (i + 1) (list_of vs)) =
     so_far ∙ (ap (with_all_installed now) (listed vs i pkg lt is) ∙ ap (λ (v : Plain). with_all_installed (with_installed now (candidate_of v None None true)) (drop (i + 1) (list_of vs))) (sym about)) in
     let longer = all_longer (with_installed now (candidate_of info None None true)) (drop (i + 1) (list_of vs)) in
-    subst (λ (cs : List Candidate). IsPoolFault fault (length cs)) (sym whole) (passes_with_more fault _ _ longer h)
+    subst (λ (cs : List Candidate). IsPoolFault fault (length cs)) (sym whole) (fault_more fault _ _ longer h)
 
 pub installed_all : (vs : Plains) (i : ℕ) (start now : List Candidate) → count_of vs ≤ i → IsInstalledTo vs i start now → now ≡ with_all_installed start (list_of vs)
 installed_all vs i start now past so_far =
-    let few : length (list_of vs) ≤ i = omega (arith, count_listed vs) in
+    let few : length (list_of vs) ≤ i = omega (arith, count-listed vs) in
     sym (so_far ∙ ap (with_all_installed now) (drop_of_length-le (list_of vs) few))
 
 -- ---- the indexes
@@ -113,7 +110,7 @@ module _ (rs : List Repository) (xs : List Plain) (i : ℕ) (tag : Option (List 
       let e1 : length (candidates_from 1 rs xs) ≡ length now + length (own ++ rest) = ap length here ∙ length-append now (own ++ rest) in
       let e2 : length (own ++ rest) ≡ length own + length rest = length-append own rest in
       let e3 : length own ≡ count_of (entries_in (entry_in x 1)) = length-candidates_of_index (i + 1) tag (entries_in (entry_in x 1)) in
-      passes_with_more fault _ _ (omega (arith, e1, e2, e3)) h
+      fault_more fault _ _ (omega (arith, e1, e2, e3)) h
 
 pub indexed_none : (rs : List Repository) (xs : List Plain) (now : List Candidate) → now ≡ [] → IsIndexedTo rs xs 0 now
 indexed_none rs xs now is = ap (λ (cs : List Candidate). cs ++ candidates_from 1 rs xs) (sym is)

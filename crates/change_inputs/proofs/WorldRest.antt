@@ -10,12 +10,14 @@ use Rattle.std.proofs.lemmas.Bool.{and_parts}
 use Rattle.std.proofs.lemmas.List.{drop_all}
 use Rattle.std.proofs.lemmas.List.Sorted.{list_any-IsPermutation}
 use Rattle.base_core.specs.ByteOrder.{bytes_cmp}
+use Rattle.base_core.proofs.Orderings.{is_less}
 use Rattle.command_core.specs.declared.operands.Operand.{Operand}
 use Rattle.command_core.proofs.Entries.{left_at}
 use Rattle.dep_core.specs.Dependency.{Dependency}
 use Rattle.dep_core.specs.DependencyText.{is_dependency}
 use Rattle.dep_core.specs.World.{IsWorld, is_in_order, with_entry, without_name}
-use Rattle.dep_core.proofs.Worlds.{IsWorld-without, cmp-back, is_behind, lt-less}
+use Rattle.dep_core.proofs.Worlds.{IsWorld-without, cmp-back, is_behind}
+use Rattle.dep_core.proofs.WorldText.{behind-at}
 use Rattle.change_inputs.specs.World.{operand_texts, world_without_operands}
 use Rattle.change_inputs.specs.WorldRest.{world_without_names}
 
@@ -57,17 +59,13 @@ rest_is_world (name ∷ names) w h =
 
 -- ---- entry by entry
 
-behind_at : (P : Dependency → Bool) (w : List Dependency) (d : Dependency) (rest : List Dependency) → list_all P (w ++ (d ∷ rest)) ≡ true → P d ≡ true
-behind_at P [] d rest h = (and_parts (P d) (list_all P rest) h).0
-behind_at P (e ∷ w) d rest h = behind_at P w d rest (and_parts (P e) (list_all P (w ++ (d ∷ rest))) h).1
-
 -- the entry that is after all others is inserted at the end
 last_entry : (w : List Dependency) (d : Dependency) (rest : List Dependency) → is_in_order (w ++ (d ∷ rest)) ≡ true → with_entry d w ≡ w ++ (d ∷ [])
 last_entry [] d rest h = refl
 last_entry (e ∷ w) d rest h =
     let parts : (list_all (is_behind e.name) (w ++ (d ∷ rest)) ≡ true) × (is_in_order (w ++ (d ∷ rest)) ≡ true) =
     and_parts (list_all (is_behind e.name) (w ++ (d ∷ rest))) (is_in_order (w ++ (d ∷ rest))) h in
-    let before : bytes_cmp e.name d.name ≡ Less = lt-less (bytes_cmp e.name d.name) (behind_at (is_behind e.name) w d rest parts.0) in
+    let before : bytes_cmp e.name d.name ≡ Less = is_less (bytes_cmp e.name d.name) (behind-at (is_behind e.name) w d rest parts.0) in
     ap (λ o. match_ordering o (d ∷ (e ∷ w)) (d ∷ w) (e ∷ with_entry d w)) (cmp-back e.name d.name Less before)
     ∙ ap (λ (ds : List Dependency). e ∷ ds) (last_entry w d rest parts.1)
 

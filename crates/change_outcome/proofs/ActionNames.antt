@@ -1,27 +1,27 @@
 -- The names that a change removes and writes.
-use Rattle.std.proofs.Common.{◌≡◌, ◌⊎◌, inl, inr, ◌∙◌, ℕ, Bool, true, false, List, ◌++◌, map, Option, Some, None, refl, sym, ap, true≢false}
-use Rattle.std.specs.Prelude.{not, is_some}
+use Rattle.std.proofs.Common.{◌≡◌, ◌⊎◌, inl, inr, ◌∙◌, ℕ, Bool, true, false, List, ◌++◌, map, refl, sym, ap, true≢false}
+use Rattle.std.specs.Prelude.{not}
 use Rattle.std.specs.Str.{bytes_eq}
 use Rattle.std.proofs.lemmas.Bool.{false_from_ne_true}
 use Rattle.std.proofs.lemmas.Slice.Eq.{bytes_eq-Decides}
 use Rattle.adb_schema.specs.Reserved.{is_intent_or_stage_name, is_reserved}
 use Rattle.base_core.specs.Files.{Files}
 use Rattle.base_core.proofs.Rising.{IsIn, contains_from_in, in_from_contains}
+use Rattle.base_core.proofs.Listed.{in_both}
 use Rattle.change_files.specs.FileChange.{FileChange}
 use Rattle.change_files.specs.FilesAfter.{Records, database_name, is_removed, is_written, text_database_name, world_name, written_as}
 use Rattle.change_files.specs.PlanLists.{removals_of, file_writes_of}
 use Rattle.change_files.proofs.InOrder.{from_order, in_left, in_order, in_right, order_rises}
 use Rattle.change_files.proofs.LeftOver.{removed_unreserved}
 use Rattle.change_files.proofs.Lists.{any_name}
-use Rattle.change_files.proofs.PlanNames.{removals_hold, written_or_removed, writes_hold}
+use Rattle.change_files.proofs.PlanNames.{removals_hold, written_or_removed, writes_hold, some_listing}
 use Rattle.change_files.proofs.Reserved.{written_unreserved}
 use Rattle.change_inputs.specs.Inputs.{Inputs}
 use Rattle.change_outcome.specs.ChangeOutcome.{Actions, actions_of, is_other_file, name_if_needed, written_records}
-use Rattle.db_core.specs.Members.{Listing}
 use Rattle.journal_intent.specs.FreeNames.{HasFreeNames, IsNoneOf, IsOneOf}
 use Rattle.journal_intent.specs.IntentValue.{intent_of_lists}
 use Rattle.change_outcome.specs.Premises.{HasNoReservedPath}
-use Rattle.change_outcome.proofs.FreeNames.{free_outside, frees, name_of_any, none_of, once_rising, outside_unreserved, split_in}
+use Rattle.change_outcome.proofs.FreeNames.{free_outside, frees, name_of_any, none_of, once_rising, outside_unreserved}
 
 pub needed : (b : Bool) (name q : List ℕ) → IsIn q (name_if_needed b name) → (q ≡ name) × (b ≡ true)
 needed true name q (inl is) = (is, refl)
@@ -34,10 +34,6 @@ if_needed false name q is t = absurd (true≢false (sym t))
 
 not_in : (q : List ℕ) (names : List (List ℕ)) → IsNoneOf q names → IsIn q names → ⊥
 not_in q names none here = true≢false (sym (any_name q names here) ∙ none)
-
-some_listing : (o : Option Listing) → is_some o ≡ true → (l : Listing) × (o ≡ Some l)
-some_listing None e = absurd (true≢false (sym e))
-some_listing (Some l) e = (l, refl)
 
 module _ (inputs : Inputs) (change : FileChange) (files : Files) (records : Records) where
   abbrev actions : Actions
@@ -62,7 +58,7 @@ module _ (inputs : Inputs) (change : FileChange) (files : Files) (records : Reco
 
   pub from_writes : (q : List ℕ) → IsOneOf q actions.writes → (is_written change files q ≡ true) ⊎ IsIn q own_writes
   from_writes q among =
-      elim (split_in q plan_writes own_writes (from_order q (plan_writes ++ own_writes) (name_of_any q actions.writes among))) [
+      elim (in_both q plan_writes own_writes (from_order q (plan_writes ++ own_writes) (name_of_any q actions.writes among))) [
         | inl here ↦ inl ((writes_hold change files q).0 (contains_from_in plan_writes q here))
         | inr here ↦ inr here
       ]
@@ -78,7 +74,7 @@ module _ (inputs : Inputs) (change : FileChange) (files : Files) (records : Reco
 
   pub from_removals : (q : List ℕ) → IsOneOf q actions.removals → (is_removed change files q ≡ true) ⊎ ((q ≡ text_database_name) × (records.takes_text_over ≡ true))
   from_removals q among =
-      elim (split_in q (removals_of change files) text_removal (from_order q (removals_of change files ++ text_removal) (name_of_any q actions.removals among))) [
+      elim (in_both q (removals_of change files) text_removal (from_order q (removals_of change files ++ text_removal) (name_of_any q actions.removals among))) [
         | inl here ↦ inl ((removals_hold change files q).0 (contains_from_in (removals_of change files) q here))
         | inr here ↦ inr (needed records.takes_text_over text_database_name q here)
       ]
@@ -94,7 +90,7 @@ module _ (inputs : Inputs) (change : FileChange) (files : Files) (records : Reco
 
   pub database_and_world_names : (q : List ℕ) → IsIn q own_writes → (q ≡ database_name) ⊎ (q ≡ world_name)
   database_and_world_names q here =
-      elim (split_in q database_write world_write here) [
+      elim (in_both q database_write world_write here) [
         | inl database ↦ inl (needed (is_other_file inputs.root.database.file records.database) database_name q database).0
         | inr world ↦ inr (needed (not (bytes_eq inputs.root.world_text records.world)) world_name q world).0
       ]

@@ -3,45 +3,37 @@ use Rattle.std.proofs.Common.{◌≡◌, ◌≢◌, ◌⊎◌, inl, inr, ◌∙�
 use Rattle.std.specs.Prelude.{IsSome, not, ◌&&◌, ◌||◌, ◌==◌, is_some}
 use Rattle.std.specs.Str.{bytes_eq}
 use Rattle.std.specs.List.{list_any}
-use Rattle.std.proofs.lemmas.Bool.{eqb-true, and_parts, or_from, or_parts, false_from_ne_true}
+use Rattle.std.proofs.lemmas.Bool.{eqb-true, and_parts, or_from, or_parts, false_from_ne_true, not-false}
 use Rattle.std.proofs.lemmas.Slice.Eq.{bytes_eq-Decides}
 use Rattle.adb_schema.specs.Reserved.{is_reserved}
 use Rattle.base_core.specs.Files.{Files}
 use Rattle.base_core.proofs.Rising.{IsIn}
+use Rattle.base_core.proofs.Listed.{in_both}
+use Rattle.base_core.proofs.AtName.{name_cases}
 use Rattle.change_files.specs.FileChange.{FileChange}
 use Rattle.change_files.specs.FilesAfter.{Records, bytes_after, changed_files, database_name, is_removed, is_written, text_database_name, world_bytes_after, world_name, written_as}
 use Rattle.change_files.specs.Touched.{is_record_name}
 use Rattle.change_files.proofs.InOrder.{in_left, in_right}
 use Rattle.change_files.proofs.RecordNames.{database_after, no_text_after, world_after}
 use Rattle.change_files.proofs.Reserved.{records_reserved}
-use Rattle.change_files.proofs.Untouched.{changed_so, is_gone, takes_its_path}
+use Rattle.change_files.proofs.Untouched.{changed_so, is_gone, takes_its_path, not_some}
 use Rattle.change_inputs.specs.Inputs.{Inputs}
 use Rattle.change_inputs.specs.World.{text_found}
 use Rattle.change_outcome.specs.ChangeOutcome.{Actions, actions_of, does_something, is_other_file, name_if_needed, new_records, written_records}
 use Rattle.db_core.specs.Members.{Listing}
 use Rattle.journal_core.specs.Staged.{IsEmptyStage}
-use Rattle.journal_intent.proofs.AtName.{name_cases}
 use Rattle.journal_intent.specs.FreeNames.{IsNoneOf, IsOneOf}
 use Rattle.change_outcome.specs.Leading.{LeadsTo}
 use Rattle.change_outcome.specs.Premises.{HasNoReservedPath, IsRootOfFiles}
 use Rattle.change_outcome.proofs.ActionNames.{free_names, from_removals, from_writes, if_needed, needed, none_removed, none_written, removed_free, written_free}
-use Rattle.change_outcome.proofs.FreeNames.{split_in}
 
 some_there : (o : Option (List ℕ)) (bytes : List ℕ) → o ≡ Some bytes → IsSome o
 some_there o bytes is = ap is_some is
 
-not_some : (o : Option Listing) → is_some o ≡ false → o ≡ None
-not_some None e = refl
-not_some (Some l) e = absurd (true≢false e)
-
-not_false : (b : Bool) → not b ≡ false → b ≡ true
-not_false true e = refl
-not_false false e = absurd (true≢false e)
-
 -- a file that is not written again has these bytes
 same_file : (o : Option (List ℕ)) (bytes : List ℕ) → is_other_file o bytes ≡ false → o ≡ Some bytes
 same_file None bytes e = absurd (true≢false e)
-same_file (Some old) bytes e = ap (λ (b : List ℕ). Some b) ((bytes_eq-Decides old bytes).0 (not_false (bytes_eq old bytes) e))
+same_file (Some old) bytes e = ap (λ (b : List ℕ). Some b) ((bytes_eq-Decides old bytes).0 (not-false (bytes_eq old bytes) e))
 
 -- so has world
 same_world : (o : Option (List ℕ)) (world : List ℕ) → text_found o ≡ world → world_bytes_after world o ≡ o
@@ -123,7 +115,7 @@ module _ (inputs : Inputs) (change : FileChange) (bytes_of : Listing → List �
 
   no_names : (names : List (List ℕ)) → not (length names == 0) ≡ false → names ≡ []
   no_names [] e = refl
-  no_names (x ∷ xs) e = absurd (let none : suc (length xs) ≡ 0 = eqb-true (suc (length xs)) 0 (not_false (suc (length xs) == 0) e) in omega (arith, none))
+  no_names (x ∷ xs) e = absurd (let none : suc (length xs) ≡ 0 = eqb-true (suc (length xs)) 0 (not-false (suc (length xs) == 0) e) in omega (arith, none))
 
   pub does_nothing : does_something actions ≡ false → after ≡ files
   does_nothing nothing i q =
@@ -146,7 +138,7 @@ module _ (inputs : Inputs) (change : FileChange) (bytes_of : Listing → List �
 
     record_there : (q : List ℕ) → IsIn q (written_records inputs records) → IsSome (after q)
     record_there q here =
-        elim (split_in q database_write world_write here) [
+        elim (in_both q database_write world_write here) [
           | inl own ↦ (let is = needed (is_other_file inputs.root.database.file records.database) database_name q own in some_there (after q) records.database (ap after is.0 ∙ database_after change bytes_of records files))
           | inr own ↦ (let is = needed (not (bytes_eq inputs.root.world_text records.world)) world_name q own in
               some_there (after q) records.world (ap after is.0 ∙ world_after change bytes_of records files (other_world (files world_name) records.world inputs.root.world_text root.world is.1)))

@@ -6,7 +6,9 @@ use Rattle.adb_schema.specs.Reserved.{is_intent_or_stage_name}
 use Rattle.adb_schema.specs.Rules.{is_change_name}
 use Rattle.base_core.specs.Files.{Files}
 use Rattle.base_core.specs.Name.{IsName, is_name}
-use Rattle.base_core.proofs.Rising.{IsIn, Rises, in_at, order}
+use Rattle.base_core.proofs.Rising.{IsIn, Rises, in_at, order, not_itself}
+use Rattle.base_core.proofs.AtName.{other_name}
+use Rattle.base_core.proofs.Listed.{in_both}
 use Rattle.change_files.specs.FileChange.{FileChange}
 use Rattle.change_files.specs.FilesAfter.{Records}
 use Rattle.change_files.proofs.InOrder.{order_rises}
@@ -14,10 +16,8 @@ use Rattle.change_files.proofs.Lists.{any_name}
 use Rattle.change_inputs.specs.Inputs.{Inputs}
 use Rattle.change_outcome.specs.ChangeOutcome.{Actions, actions_of}
 use Rattle.journal_intent.specs.Intent.{AreChangeNames}
-use Rattle.journal_intent.proofs.AtName.{other_name}
 use Rattle.change_outcome.specs.Premises.{HasNoReservedPath}
 use Rattle.change_outcome.proofs.ActionNames.{never_both, removal_outside, write_outside}
-use Rattle.change_outcome.proofs.FreeNames.{not_itself, split_in}
 
 -- ---- all of a list
 
@@ -42,7 +42,7 @@ apart_rising (x ∷ xs) rises = (λ q here. other_name x q (λ is. not_itself x 
 apart_both : (xs ys : List (List ℕ)) → AreApart xs → AreApart ys → ((q : List ℕ) → IsIn q xs → IsIn q ys → ⊥) → AreApart (xs ++ ys)
 apart_both [] ys ax ay never = ay
 apart_both (x ∷ xs) ys ax ay never = (
-  λ q here. elim (split_in q xs ys here) [
+  λ q here. elim (in_both q xs ys here) [
     | inl left ↦ ax.0 q left
     | inr right ↦ other_name x q (λ is. never x (inl refl) (subst (λ (y : List ℕ). IsIn y ys) (sym is) right))
   ],
@@ -73,7 +73,7 @@ module _ (inputs : Inputs) (change : FileChange) (files : Files) (records : Reco
   module _ (removals_named : All IsName actions.removals) (writes_named : All IsName actions.writes) where
     one_change_name : (q : List ℕ) → IsIn q (actions.removals ++ actions.writes) → is_change_name q ≡ true
     one_change_name q here =
-        elim (split_in q actions.removals actions.writes here) [
+        elim (in_both q actions.removals actions.writes here) [
           | inl gone ↦ both_true (is_name q) (is_intent_or_stage_name q) (in_all IsName actions.removals removals_named q gone) (removal_outside inputs change files records free q (any_name q actions.removals gone))
           | inr wrote ↦ both_true (is_name q) (is_intent_or_stage_name q) (in_all IsName actions.writes writes_named q wrote) (write_outside inputs change files records free q (any_name q actions.writes wrote))
         ]

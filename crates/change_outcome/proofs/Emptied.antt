@@ -3,9 +3,11 @@ use Rattle.std.proofs.Common.{◌≡◌, ◌≢◌, ◌⊎◌, inl, inr, ℕ, ze
 use Rattle.std.specs.Str.{bytes_eq}
 use Rattle.std.specs.List.{list_any}
 use Rattle.base_core.specs.Files.{Files, drop_name, put_name}
+use Rattle.base_core.proofs.AtName.{name_cases, off_name}
 use Rattle.journal_core.specs.Recovery.{after_actions, after_moves, is_staged, move_if, stage_name, without_names}
 use Rattle.journal_core.specs.Staged.{with_staged}
-use Rattle.journal_intent.proofs.AtName.{drop_name-at, name_cases, off_name, put_name-off}
+use Rattle.journal_core.proofs.Acts.{dropped_none}
+use Rattle.journal_intent.proofs.AtName.{drop_name-at, put_name-off}
 use Rattle.journal_intent.specs.FreeNames.{AreFreeNames, HasFreeNames, IsFreeName}
 use Rattle.journal_intent.specs.IntentValue.{intent_of_lists}
 
@@ -20,13 +22,6 @@ free_off : (q name : List ℕ) → is_staged q ≡ true → IsFreeName name → 
 free_off q name staged free is = true_false (sym staged ∙ (ap is_staged is ∙ free.unstaged))
 
 -- ---- staged
-
-dropped : (F : Files) (place q : List ℕ) → F q ≡ None → drop_name F place q ≡ None
-dropped F place q none = by_test (bytes_eq q place)
-  where
-    by_test : (b : Bool) → cond b None (F q) ≡ None
-    by_test true = refl
-    by_test false = none
 
 pub staged_where : (contents : List (List ℕ)) (k : ℕ) (base : Files) (q : List ℕ) → base q ≡ None → (with_staged k contents base q ≡ None) ⊎ WaitsAmong k (length contents) q
 staged_where [] k base q none = inl none
@@ -48,7 +43,7 @@ staged_where (bytes ∷ contents) k base q none =
 
 moved_none : (F : Files) (place name q : List ℕ) (o : Option (List ℕ)) → q ≢ name → F q ≡ None → move_if F place name o q ≡ None
 moved_none F place name q None off none = none
-moved_none F place name q (Some bytes) off none = put_name-off (drop_name F place) name bytes q off ∙ dropped F place q none
+moved_none F place name q (Some bytes) off none = put_name-off (drop_name F place) name bytes q off ∙ dropped_none F place q none
 
 moved_away : (F : Files) (place name q : List ℕ) (o : Option (List ℕ)) → q ≢ name → q ≡ place → F q ≡ o → move_if F place name o q ≡ None
 moved_away F place name q None off is at = at

@@ -1,31 +1,25 @@
 -- Names that a change may have, and lists of them in byte order.
-use Rattle.std.proofs.Common.{◌≡◌, ◌⊎◌, inl, inr, ◌∙◌, ◌||◌, ℕ, Bool, true, false, List, [], ◌∷◌, ◌++◌, refl, sym, ap, Less}
+use Rattle.std.proofs.Common.{◌≡◌, inl, inr, ◌∙◌, ◌||◌, ℕ, Bool, true, false, List, [], ◌∷◌, refl, sym, ap}
 use Rattle.std.specs.List.{list_any}
 use Rattle.std.specs.Str.{bytes_eq}
 use Rattle.std.proofs.lemmas.Bool.{or_cases}
 use Rattle.std.proofs.lemmas.Slice.Eq.{bytes_eq-Decides}
-use Rattle.std.proofs.lemmas.Cmp.{nat_list_cmp_total, tied_itself}
 use Rattle.adb_schema.specs.Reserved.{is_at_or_below, is_intent_or_stage_name, is_reserved}
-use Rattle.base_core.proofs.Rising.{IsIn, Rises, order}
+use Rattle.base_core.proofs.Rising.{IsIn, Rises, not_itself}
+use Rattle.base_core.proofs.AtName.{other_name}
 use Rattle.journal_intent.specs.FreeNames.{AreFreeNames, HaveNoRepeats, IsFreeName, IsNoneOf, IsOneOf}
 use Rattle.journal_intent.specs.Intent.{intent_name, is_staged, stage_folder, stage_name}
-use Rattle.journal_intent.proofs.AtName.{other_name}
+use Rattle.journal_intent.proofs.FreeNames.{or_false}
 
 true_false : true ≡ false → ⊥
 true_false e = cc
 
 -- ---- one name
 
-or_parts_of : (a b c : Bool) → (a || ((b || c) || false)) ≡ false → c ≡ false
-or_parts_of true b c h = absurd (true_false h)
-or_parts_of false true c h = absurd (true_false h)
-or_parts_of false false true h = absurd (true_false h)
-or_parts_of false false false h = refl
-
 pub free_outside : (name : List ℕ) → is_intent_or_stage_name name ≡ false → IsFreeName name
 free_outside name outside = record {
   no_intent = λ is. true_false (sym (ap is_intent_or_stage_name is) ∙ outside);
-  unstaged = or_parts_of (is_at_or_below intent_name name) (bytes_eq name stage_folder) (is_staged name) outside;
+  unstaged = or_false (is_at_or_below intent_name name) (bytes_eq name stage_folder) (is_staged name) outside;
   no_place = λ k is. true_false (sym (place_is_stage k) ∙ (sym (ap is_intent_or_stage_name is) ∙ outside));
 }
   where
@@ -43,11 +37,6 @@ outside_unreserved name h = fewer_tops (is_at_or_below _ name) (is_at_or_below _
 
 -- ---- lists
 
-pub split_in : (q : List ℕ) (xs ys : List (List ℕ)) → IsIn q (xs ++ ys) → IsIn q xs ⊎ IsIn q ys
-split_in q [] ys here = inr here
-split_in q (x ∷ xs) ys (inl is) = inl (inl is)
-split_in q (x ∷ xs) ys (inr more) = elim (split_in q xs ys more) [ inl a ↦ inl (inr a) | inr b ↦ inr b ]
-
 pub name_of_any : (q : List ℕ) (names : List (List ℕ)) → IsOneOf q names → IsIn q names
 name_of_any q [] h = absurd (true_false (sym h))
 name_of_any q (x ∷ xs) h = elim (or_cases (bytes_eq q x) (list_any (bytes_eq q) xs) h) [
@@ -63,9 +52,6 @@ none_of q (x ∷ xs) out =
 pub frees : (names : List (List ℕ)) → ((q : List ℕ) → IsIn q names → IsFreeName q) → AreFreeNames names
 frees [] each = tt
 frees (x ∷ xs) each = (each x (inl refl), frees xs (λ q at. each q (inr at)))
-
-pub not_itself : (x : List ℕ) → order x x ≡ Less → ⊥
-not_itself x less = absurd (let tied = tied_itself nat_list_cmp_total x in cc)
 
 pub once_rising : (names : List (List ℕ)) → Rises names → HaveNoRepeats names
 once_rising [] rises = tt

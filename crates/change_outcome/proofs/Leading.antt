@@ -1,5 +1,5 @@
 -- The actions of two lists, done on what is staged for them, lead to given files.
-use Rattle.std.proofs.Common.{◌≡◌, ◌≢◌, ◌⊎◌, inl, inr, ℕ, zero, suc, ◌+◌, Bool, true, false, ◌||◌, List, [], ◌∷◌, length, map, slice_get, Option, None, Some, refl, sym, ap, ◌∙◌}
+use Rattle.std.proofs.Common.{◌≡◌, ◌≢◌, ℕ, zero, suc, ◌+◌, Bool, true, false, List, [], ◌∷◌, length, map, slice_get, Option, None, Some, refl, sym, ap, ◌∙◌}
 use Rattle.std.specs.Prelude.{IsSome, unwrap_or}
 use Rattle.std.specs.Str.{bytes_eq}
 use Rattle.std.specs.List.{list_any}
@@ -7,7 +7,8 @@ use Rattle.base_core.specs.Files.{Files, put_name}
 use Rattle.journal_core.specs.Recovery.{after_actions, is_staged, stage_name}
 use Rattle.journal_core.specs.Staged.{with_staged}
 use Rattle.journal_core.proofs.Contents.{own_bytes, removed_absent, untouched_others}
-use Rattle.journal_intent.proofs.AtName.{name_cases, put_name-off}
+use Rattle.journal_core.proofs.Acts.{among_index}
+use Rattle.journal_intent.proofs.AtName.{put_name-off}
 use Rattle.journal_intent.proofs.StageNames.{stage_name_staged}
 use Rattle.journal_intent.specs.FreeNames.{IsNoneOf, IsOneOf}
 use Rattle.journal_intent.specs.IntentValue.{intent_of_lists}
@@ -21,15 +22,6 @@ true_false e = cc
 pub length_map : (f : List ℕ → List ℕ) (xs : List (List ℕ)) → length (map f xs) ≡ length xs
 length_map f [] = refl
 length_map f (x ∷ xs) = ap (λ n. suc n) (length_map f xs)
-
--- where a name stands in a list
-pub place_of : (names : List (List ℕ)) (q : List ℕ) → IsOneOf q names → (i : ℕ) × (slice_get names i ≡ Some q)
-place_of [] q among = absurd (true_false (sym among))
-place_of (name ∷ names) q among = by_name (name_cases q name) (place_of names q)
-  where
-    by_name : (q ≡ name) ⊎ (bytes_eq q name ≡ false) → (IsOneOf q names → (i : ℕ) × (slice_get names i ≡ Some q)) → (i : ℕ) × (slice_get (name ∷ names) i ≡ Some q)
-    by_name (inl is) f = (0, ap Some (sym is))
-    by_name (inr off) f = let found = f (sym (ap (λ b. b || list_any (bytes_eq q) names) off) ∙ among) in (suc found.0, found.1)
 
 pub map_at : (f : List ℕ → List ℕ) (xs : List (List ℕ)) (i : ℕ) (x : List ℕ) → slice_get xs i ≡ Some x → slice_get (map f xs) i ≡ Some (f x)
 map_at f [] i x at = absurd (cc (at))
@@ -56,7 +48,7 @@ module _ (removals writes : List (List ℕ)) (files after : Files) (leads : Lead
 
   written : (q : List ℕ) → IsOneOf q writes → acted q ≡ after q
   written q among =
-      let place = place_of writes q among in
+      let place = among_index writes q among in
       own_bytes removals writes contents files place.0 q (bytes_under after q) leads.free (length_map (bytes_under after) writes) leads.few place.1 (map_at (bytes_under after) writes place.0 q place.1)
       ∙ unwrapped (after q) (leads.gives q among)
 

@@ -3,9 +3,6 @@ use Rattle.std.proofs.Common.{◌≡◌, ℕ, suc, zero, ◌+◌, ◌<◌, ◌�
 use Rattle.std.specs.Prelude.{◌&&◌, ◌||◌, slice_get, if◌then◌else◌}
 use Rattle.std.specs.List.{filter, flat_map, list_any}
 use Rattle.std.proofs.lemmas.List.{drop_all, length-map, map-append}
-use Rattle.adb_view.specs.Plain.{Plains, none, more}
-use Rattle.adb_view.specs.Values.{count_of, nth}
-use Rattle.adb_fields.specs.Repeated.{list_of}
 
 pub left_at : {X : Type 0} (xs : List X) (i : ℕ) (x : X) → slice_get xs i ≡ Some x → drop i xs ≡ x ∷ drop (i + 1) xs
 left_at [] i x e = cc
@@ -103,19 +100,6 @@ lines_where f t q x xs e =
 -- nor any line, where it fails
 pub no_lines : {X : Type 0} (f : X → List ℕ) (t : Bool) (q : X → Bool) (xs : List X) (done : List ℕ) → t ≡ false → done ≡ done ++ flat_map f (filter (λ y. t && q y) xs)
 no_lines f t q xs done e = sym (ap (λ z. done ++ flat_map f z) (none_kept t q xs e) ∙ append_nothing done)
-
--- ---- entries of an array, as a list
-
-pub count_listed : (vs : Plains) → count_of vs ≡ length (list_of vs)
-count_listed none = refl
-count_listed (more v vs) = ap suc (count_listed vs)
-
-pub entry_here : (vs : Plains) (i : ℕ) → i < count_of vs → drop i (list_of vs) ≡ nth vs i ∷ drop (i + 1) (list_of vs)
-entry_here none i h = absurd (omega arith)
-entry_here (more v vs) zero h = refl
-entry_here (more v vs) (suc i) h =
-    let next : suc (i + 1) ≡ suc i + 1 = omega arith in
-    entry_here vs i (omega arith) ∙ ap (λ n. nth vs i ∷ drop n (v ∷ list_of vs)) next
 
 -- ---- the element at a place
 

@@ -7,13 +7,15 @@ use Rattle.std.proofs.lemmas.List.{drop_all}
 use Rattle.adb_view.specs.Plain.{Plain}
 use Rattle.adb_view.specs.Values.{count_of, entries_in, entry_in, text_in}
 use Rattle.adb_fields.specs.Repeated.{list_of}
+use Rattle.adb_fields.proofs.NameLists.{count-listed}
+use Rattle.adb_fields.proofs.Listed.{next_listed}
 use Rattle.db_core.specs.Members.{Member, member_name}
 use Rattle.report_core.specs.declared.refusal.Refusal.TheVariants.{TriggerNeeded}
 use Rattle.change_outcome.specs.Triggers.{folders_of_paths, has_due_trigger, is_due, is_folder_matched, is_watched, unless_trigger}
 use Rattle.change_outcome.specs.PackageFiles.{has_script_of}
 use Rattle.report_core.specs.Numbers.{TRIGGER_SCRIPT}
 use Rattle.change_report.specs.Due.{trigger_needed}
-use Rattle.change_report.proofs.Loops.{any_here, any_later, any_mapped, any_none, count_listed, entry_here, left_at, made_at}
+use Rattle.change_report.proofs.Loops.{any_here, any_later, any_mapped, any_none, left_at, made_at}
 
 -- ---- patterns
 
@@ -31,7 +33,7 @@ pub pattern_matches : (folder : List ℕ) (pkg patterns : Plain) (i : ℕ) (t : 
     → list_any (matches folder) (drop i (list_of (entries_in patterns))) ≡ list_any (matches folder) (list_of (entries_in patterns))
     → true ≡ is_watched pkg folder
 pattern_matches folder pkg patterns i t are within is e inv =
-    any_here (matches folder) (list_of (entries_in patterns)) i (entry_in patterns i) t (entry_here (entries_in patterns) i within) is e inv
+    any_here (matches folder) (list_of (entries_in patterns)) i (entry_in patterns i) t (next_listed (entries_in patterns) i within) is e inv
     ∙ watched_by folder pkg patterns are
 
 pub pattern_fails : (folder : List ℕ) (patterns : Plain) (i : ℕ) (t : Bool) → i < count_of (entries_in patterns)
@@ -39,13 +41,13 @@ pub pattern_fails : (folder : List ℕ) (patterns : Plain) (i : ℕ) (t : Bool) 
     → list_any (matches folder) (drop i (list_of (entries_in patterns))) ≡ list_any (matches folder) (list_of (entries_in patterns))
     → list_any (matches folder) (drop (i + 1) (list_of (entries_in patterns))) ≡ list_any (matches folder) (list_of (entries_in patterns))
 pattern_fails folder patterns i t within is e inv =
-    any_later (matches folder) (list_of (entries_in patterns)) i (entry_in patterns i) t (entry_here (entries_in patterns) i within) is e inv
+    any_later (matches folder) (list_of (entries_in patterns)) i (entry_in patterns i) t (next_listed (entries_in patterns) i within) is e inv
 
 pub no_pattern : (folder : List ℕ) (pkg patterns : Plain) (i : ℕ) → patterns ≡ entry_in pkg 3 → count_of (entries_in patterns) ≤ i
     → list_any (matches folder) (drop i (list_of (entries_in patterns))) ≡ list_any (matches folder) (list_of (entries_in patterns))
     → false ≡ is_watched pkg folder
 no_pattern folder pkg patterns i are past inv =
-    let long : count_of (entries_in patterns) ≡ length (list_of (entries_in patterns)) = count_listed (entries_in patterns) in
+    let long : count_of (entries_in patterns) ≡ length (list_of (entries_in patterns)) = count-listed (entries_in patterns) in
     any_none (matches folder) (list_of (entries_in patterns)) i (omega arith) inv ∙ watched_by folder pkg patterns are
 
 -- ---- folders

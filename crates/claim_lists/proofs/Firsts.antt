@@ -1,15 +1,17 @@
 -- The first claim of each path, one claim more.
-use Rattle.std.proofs.Common.{◌≡◌, ◌⊎◌, inl, inr, ℕ, suc, zero, ◌+◌, ◌<◌, ◌≤◌, Bool, true, false, cond, List, [], ◌∷◌, ◌++◌, length, map, drop, take, Option, Some, None, refl, ap, sym, ◌∙◌, subst, arith, true≢false, Ordering, Less, Equal, Greater}
-use Rattle.std.specs.Prelude.{not, ◌&&◌, slice_get, slice_index_or, bytes_eq}
+use Rattle.std.proofs.Common.{◌≡◌, ◌⊎◌, inl, inr, ℕ, suc, zero, ◌+◌, ◌<◌, ◌≤◌, Bool, true, false, cond, List, [], ◌∷◌, ◌++◌, length, map, drop, take, Option, Some, None, refl, ap, sym, ◌∙◌, subst, arith, true≢false, Less}
+use Rattle.std.specs.Prelude.{◌&&◌, slice_get, slice_index_or, bytes_eq}
 use Rattle.std.specs.Cmp.Lexicographic.{bytes_decides}
 use Rattle.std.specs.List.{find}
 use Rattle.std.specs.List.Sorted.{IsSorted, ties}
 use Rattle.std.specs.Ordering.{is_lt}
 use Rattle.std.proofs.lemmas.Cmp.{nat_list_cmp_total}
+use Rattle.std.proofs.lemmas.Bool.{not-true, not-false}
 use Rattle.base_core.specs.Listed.{IsRising}
 use Rattle.base_core.proofs.Rising as Names
 use Rattle.base_core.specs.ByteOrder.{bytes_cmp, precedes}
 use Rattle.base_core.proofs.Sorting.{Each, Rises, ranks, rises_sorted}
+use Rattle.base_core.proofs.Orderings.{is_less}
 use Rattle.path_claims.specs.Claims.{PathClaim, claim_cmp, is_of_path}
 use Rattle.path_claims.specs.Runs.{differ_in_path, is_first_of_path}
 use Rattle.path_claims.proofs.ClaimOrder.{claims_total}
@@ -23,19 +25,6 @@ use Rattle.claim_lists.proofs.Lists.{found_both, found_is, found_some, or_found,
 
 abbrev pub paths : List PathClaim → List (List ℕ)
 paths cs = map (λ c. c.path) cs
-
-by_not : (b : Bool) → not b ≡ true → b ≡ false
-by_not true e = absurd (true≢false (sym e))
-by_not false e = refl
-
-by_not_false : (b : Bool) → not b ≡ false → b ≡ true
-by_not_false true e = refl
-by_not_false false e = absurd (true≢false e)
-
-is_less : (o : Ordering) → is_lt o ≡ true → o ≡ Less
-is_less Less h = refl
-is_less Equal h = absurd (true≢false (sym h))
-is_less Greater h = absurd (true≢false (sym h))
 
 -- a name more behind all
 pub rises_more : (xs : List (List ℕ)) (x : List ℕ) → Names.Rises xs → ((q : List ℕ) → Names.IsIn q xs → Names.order q x ≡ Less) → Names.Rises (xs ++ x ∷ [])
@@ -86,7 +75,7 @@ first_is_apart cs zero c g s j y e h = absurd (omega arith)
 first_is_apart cs (suc i) c g s j y e h =
     let is : j ≡ i = omega arith in
     let k : slice_get cs i ≡ Some y = ap (slice_get cs) (sym is) ∙ h in
-    ties_path c y ∙ by_not (bytes_eq y.path c.path) (sym (λ n. differ_in_path (k n) (g n)) ∙ s)
+    ties_path c y ∙ not-true (bytes_eq y.path c.path) (sym (λ n. differ_in_path (k n) (g n)) ∙ s)
 
 pub first_more : (cs fs : List PathClaim) (i : ℕ) (c : PathClaim) → IsSorted claim_cmp cs → slice_get cs i ≡ Some c → is_first_of_path cs i ≡ true → HasFirsts (take i cs) fs → HasFirsts (take (i + 1) cs) (fs ++ c ∷ [])
 unfolding claim_cmp
@@ -118,7 +107,7 @@ not_more cs fs (suc i) l s h = go (slice_get cs i) (slice_get cs (suc i)) refl r
     go None b ea eb = absurd (true≢false (sym (λ n. differ_in_path (ea n) (eb n)) ∙ s))
     go (Some d) None ea eb = absurd (true≢false (sym (λ n. differ_in_path (ea n) (eb n)) ∙ s))
     go (Some d) (Some c) ea eb =
-        let same : bytes_eq d.path c.path ≡ true = by_not_false (bytes_eq d.path c.path) (sym (λ n. differ_in_path (ea n) (eb n)) ∙ s) in
+        let same : bytes_eq d.path c.path ≡ true = not-false (bytes_eq d.path c.path) (sym (λ n. differ_in_path (ea n) (eb n)) ∙ s) in
         let n : suc i + 1 ≡ suc (suc i) = omega arith in
         subst (λ k. HasFirsts (take k cs) fs) (sym n)
         (subst (λ xs. HasFirsts xs fs) (sym (take_at cs (suc i) c eb)) (record { rising = h.rising; each = λ q. h.each q ∙ still d c ea same q }))

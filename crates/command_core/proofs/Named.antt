@@ -3,7 +3,7 @@ use Rattle.std.proofs.Common.{◌≡◌, ℕ, zero, suc, ◌+◌, ◌<◌, Bool,
 use Rattle.std.specs.Prelude.{◌==◌, not, IsTrue}
 use Rattle.std.specs.List.{find, list_all, slice_get}
 use Rattle.std.specs.Option.{option_map}
-use Rattle.std.proofs.lemmas.Bool.{and_parts, eqb-true}
+use Rattle.std.proofs.lemmas.Bool.{and_parts, eqb-true, not-true}
 use Rattle.std.proofs.lemmas.List.{length-map}
 use Rattle.std.proofs.lemmas.Option.{slice_get-map}
 use Rattle.command_core.specs.declared.operands.Operand.{Operand}
@@ -77,14 +77,10 @@ first_agrees see letter entries None a f = tt
 first_agrees see letter entries (Some x) a f =
     agree_found (λ (y : ValueEntry). y.file) (λ (y : ValueEntry). file_in y.value) (λ (y : ValueEntry). y.value.letter == letter) entries (see x) a (sym f)
 
-not_is : (b : Bool) → not b ≡ true → b ≡ false
-not_is true h = sym h
-not_is false h = refl
-
 pub first_named : (letter : ℕ) (values : List OptionValue) (v : OptionValue) (file : Option (List ℕ)) → Some v ≡ first_value letter values → file ≡ file_in v → not (letter == SCRIPT) ≡ true → IfSome (first_value letter values) (λ w. IsTrue (is_file w.text)) → file ≡ option_map (λ (w : OptionValue). without_dot w.text) (first_value letter values)
 first_named letter values v file f e n h =
     let same : v.letter ≡ letter = eqb-true v.letter letter (found_passes (λ (w : OptionValue). w.letter == letter) values v (sym f)) in
-    let other : (v.letter == SCRIPT) ≡ false = ap (λ k. k == SCRIPT) same ∙ not_is (letter == SCRIPT) n in
+    let other : (v.letter == SCRIPT) ≡ false = ap (λ k. k == SCRIPT) same ∙ not-true (letter == SCRIPT) n in
     let good : is_file v.text ≡ true = subst (λ o. IfSome o (λ (w : OptionValue). IsTrue (is_file w.text))) (sym f) h in
     e ∙ (ap (λ b. file_name (if b then script_file v.text else v.text)) other ∙ (file_named v.text good ∙ ap (option_map (λ (w : OptionValue). without_dot w.text)) f))
 

@@ -21,6 +21,7 @@ use Rattle.adb_view.specs.declared.tables.Which.{Which}
 use Rattle.adb_view.specs.declared.tables.Which.TheVariants.{Package, Index, Idb, Intent}
 use Rattle.base_core.specs.declared.cause.Cause.{Cause}
 use Rattle.base_core.specs.declared.cause.Cause.TheVariants.{WrongSchema}
+use Rattle.base_core.proofs.Causes.{both_none}
 use Rattle.container_laws.specs.TestsInOrder.{PassesEveryTest, tests_of_values}
 use Rattle.container_laws.proofs.FirstTests.{chain, five}
 use Rattle.pkg_core.specs.Whole.{fault_after_first, container_fault, fault_by_header, fault_by_schema, root_of_schema, whole_fault}
@@ -67,10 +68,6 @@ not_done schema file e = by_step 8 _ (next_step None 8 (drop 8 file)) (first_goe
 
 abbrev EachPasses : List (Option Cause) → Type 0
 EachPasses tests = (i : ℕ) (test : Option Cause) → slice_get tests i ≡ Some test → test ≡ None
-
-both_none : (a b : Option Cause) → option_or a b ≡ None → (a ≡ None) × (b ≡ None)
-both_none None b e = (refl, e)
-both_none (Some c) b e = absurd cc
 
 none_fails : (tests : List (Option Cause)) → chain tests ≡ None → EachPasses tests
 unfolding chain

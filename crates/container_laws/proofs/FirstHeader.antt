@@ -1,6 +1,6 @@
 -- Which test of a header fails.
 use Rattle.std.proofs.Common.{◌≡◌, inl, inr, ℕ, Bool, true, false, not, ◌||◌, nat_lt, if◌then◌else◌, List, ◌++◌, length, take, drop, codes, bytes_eq, Ok, Err, refl, ap, sym, ◌∙◌}
-use Rattle.std.proofs.lemmas.Bool.{ltb-false, ltb-true}
+use Rattle.std.proofs.lemmas.Bool.{ltb-false, ltb-true, not-true, or_right, not-false, or_left}
 use Rattle.std.proofs.lemmas.List.{take-append-drop, take_at}
 use Rattle.std.proofs.lemmas.Slice.Eq.{bytes_eq-Decides}
 use Rattle.adb_block.specs.Header.{header_of, is_compressed, word_at}
@@ -23,29 +23,13 @@ either_is true b file ea eb e = inl (front_is (codes "ADBd") file ea)
 either_is false true file ea eb e = inr (front_is (codes "ADBc") file eb)
 either_is false false file ea eb e = absurd (cc (e))
 
-true_left : (a b : Bool) → a ≡ true → (a || b) ≡ true
-true_left true b e = refl
-true_left false b e = absurd (cc (e))
-
-true_right : (a b : Bool) → b ≡ true → (a || b) ≡ true
-true_right true b e = refl
-true_right false b e = e
-
 none_compressed : (file : List ℕ) → is_compressed (take 4 file) ≡ false → IsCompressedFile file → ⊥
 none_compressed file e (inl h) =
-    let yes = true_left (bytes_eq (take 4 file) (codes "ADBd")) (bytes_eq (take 4 file) (codes "ADBc")) (front_of (codes "ADBd") file refl h) in
+    let yes = or_left (bytes_eq (take 4 file) (codes "ADBd")) (bytes_eq (take 4 file) (codes "ADBc")) (front_of (codes "ADBd") file refl h) in
     cc (e, yes)
 none_compressed file e (inr h) =
-    let yes = true_right (bytes_eq (take 4 file) (codes "ADBd")) (bytes_eq (take 4 file) (codes "ADBc")) (front_of (codes "ADBc") file refl h) in
+    let yes = or_right (bytes_eq (take 4 file) (codes "ADBd")) (bytes_eq (take 4 file) (codes "ADBc")) (front_of (codes "ADBc") file refl h) in
     cc (e, yes)
-
-not_false : (b : Bool) → not b ≡ false → b ≡ true
-not_false true e = refl
-not_false false e = absurd (cc (e))
-
-not_true : (b : Bool) → not b ≡ true → b ≡ false
-not_true true e = absurd (cc (e))
-not_true false e = refl
 
 by_tests : (file : List ℕ) (c : Cause) (short compressed other cut : Bool) → nat_lt (length file) 4 ≡ short → is_compressed (take 4 file) ≡ compressed → not (bytes_eq (take 4 file) (codes "ADB.")) ≡ other → nat_lt (length file) 8 ≡ cut
     → (if short then Err (Truncated 0) else (if compressed then Err Compressed else (if other then Err NotAdb else (if cut then Err (Truncated 0) else Ok (word_at 4 file))))) ≡ Err c → IsHeaderFault file c
@@ -57,12 +41,12 @@ by_tests file c false true other cut es ec eo et e =
     inr (inl (either_is (bytes_eq (take 4 file) (codes "ADBd")) (bytes_eq (take 4 file) (codes "ADBc")) file refl refl ec, sym same))
 by_tests file c false false true cut es ec eo et e =
     let same : NotAdb ≡ c = cc (e) in
-    let no : bytes_eq (take 4 file) (codes "ADB.") ≡ false = not_true (bytes_eq (take 4 file) (codes "ADB.")) eo in
+    let no : bytes_eq (take 4 file) (codes "ADB.") ≡ false = not-true (bytes_eq (take 4 file) (codes "ADB.")) eo in
     let unknown : IsNoContainer file = (none_compressed file ec, λ h. let yes = front_of (codes "ADB.") file refl h in cc (no, yes)) in
     inr (inr (inl (ltb-false (length file) 4 es, unknown, sym same)))
 by_tests file c false false false true es ec eo et e =
     let same : Truncated 0 ≡ c = cc (e) in
-    inr (inr (inr (front_is (codes "ADB.") file (not_false (bytes_eq (take 4 file) (codes "ADB.")) eo), ltb-true (length file) 8 et, sym same)))
+    inr (inr (inr (front_is (codes "ADB.") file (not-false (bytes_eq (take 4 file) (codes "ADB.")) eo), ltb-true (length file) 8 et, sym same)))
 by_tests file c false false false false es ec eo et e = absurd (cc (e))
 
 pub header_told : (file : List ℕ) (c : Cause) → header_of file ≡ Err c → IsHeaderFault file c

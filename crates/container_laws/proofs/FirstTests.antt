@@ -12,6 +12,7 @@ use Rattle.base_core.specs.declared.cause.Cause.TheVariants.{WrongSchema}
 use Rattle.container_laws.specs.TestsInOrder.{IsBlocksFault, IsContainerFault, IsFaultOfTable, IsFirstFailing, tests_of_values}
 use Rattle.container_laws.proofs.FirstHeader.{header_told}
 use Rattle.pkg_core.specs.Whole.{fault_after_first, container_fault, fault_by_header, fault_by_schema, root_of_schema, whole_fault}
+use Rattle.pkg_core.proofs.WholeTests.{or_none}
 
 -- ---- tests in sequence
 
@@ -33,10 +34,6 @@ first_of (None ∷ ts) c e = further (first_of ts c e)
 
     further : IsFirstFailing ts c → IsFirstFailing (None ∷ ts) c
     further f = record { place = suc f.place; fails = f.fails; before = before_one f }
-
-or_none : (o : Option Cause) → option_or o None ≡ o
-or_none None = refl
-or_none (Some c) = refl
 
 pub five : (a b d e f : Option Cause) → option_or (option_or a (option_or b (option_or d e))) f ≡ chain (a ∷ (b ∷ (d ∷ (e ∷ (f ∷ [])))))
 unfolding chain

@@ -6,7 +6,7 @@ use Rattle.adb_view.specs.Plain.{Plain, Plains, none, more}
 use Rattle.adb_view.specs.Values.{nth, count_of}
 use Rattle.adb_fields.specs.Repeated.{list_of}
 
-nothing : (n : ℕ) → drop {A = Plain} n [] ≡ []
+pub nothing : (n : ℕ) → drop {A = Plain} n [] ≡ []
 nothing zero = refl
 nothing (suc n) = refl
 

@@ -3,7 +3,7 @@ use Rattle.std.proofs.Common.{◌≡◌, ℕ, suc, zero, ◌+◌, ◌<◌, Bool,
 use Rattle.std.specs.Prelude.{◌&&◌, ◌||◌, ◌==◌, not, nat_le, nat_lt, if◌then◌else◌, is_ok, slice_get, All}
 use Rattle.std.specs.Str.{IsUtf8, is_utf8}
 use Rattle.std.specs.List.{flat_map, list_all, list_any}
-use Rattle.std.proofs.lemmas.Bool.{and_parts, lt-ltb}
+use Rattle.std.proofs.lemmas.Bool.{and_parts, lt-ltb, not-true, and_from}
 use Rattle.std.proofs.lemmas.List.{length-append}
 use Rattle.std.proofs.lemmas.List.Folds.{list_all-append, list_all-map, list_any-append}
 use Rattle.std.proofs.lemmas.Str.{IsUtf8-append, IsUtf8-from_ascii, IsUtf8-from_is_utf8, is_utf8-from_IsUtf8}
@@ -26,9 +26,6 @@ use Rattle.db_core.specs.Packages.{is_added_or_lists_no_reserved, lists_names, l
 
 -- ---- a name behind another one and a slash
 
-both_true : (a b : Bool) → a ≡ true → b ≡ true → (a && b) ≡ true
-both_true a b e f = rw (e, f) refl
-
 none_true : (x y z : Bool) → not x ≡ true → y ≡ false → not z ≡ true → not (x || (y || z)) ≡ true
 none_true true y z e s f = e
 none_true false true z e s f = absurd (true≢false s)
@@ -48,13 +45,13 @@ joined_name a b first second short =
     let b1 = and_parts _ (list_all is_part (parts_of b)) second in
     let b2 = and_parts _ (is_utf8 b) b1.0 in
     let b3 = and_parts _ (not (list_any (λ x. x == 0) b)) b2.0 in
-    both_true _ (list_all is_part (parts_of (a ++ 47 ∷ b)))
-    (both_true _ (is_utf8 (a ++ 47 ∷ b))
-    (both_true _ (not (list_any (λ x. x == 0) (a ++ 47 ∷ b)))
-    (both_true (nat_lt 0 (length (a ++ 47 ∷ b))) (nat_le (length (a ++ 47 ∷ b)) 1024) (lt-ltb 0 (length (a ++ 47 ∷ b)) (omega (arith, length-append a (47 ∷ b)))) short)
+    and_from _ (list_all is_part (parts_of (a ++ 47 ∷ b)))
+    (and_from _ (is_utf8 (a ++ 47 ∷ b))
+    (and_from _ (not (list_any (λ x. x == 0) (a ++ 47 ∷ b)))
+    (and_from (nat_lt 0 (length (a ++ 47 ∷ b))) (nat_le (length (a ++ 47 ∷ b)) 1024) (lt-ltb 0 (length (a ++ 47 ∷ b)) (omega (arith, length-append a (47 ∷ b)))) short)
     (ap not (list_any-append (λ x. x == 0) a (47 ∷ b)) ∙ none_true (list_any (λ x. x == 0) a) (47 == 0) (list_any (λ x. x == 0) b) a3.1 refl b3.1))
     (utf8_joined a b a2.1 b2.1))
-    (ap (list_all is_part) (split_slash a b) ∙ (list_all-append is_part (parts_of a) (parts_of b) ∙ both_true (list_all is_part (parts_of a)) (list_all is_part (parts_of b)) a1.1 b1.1))
+    (ap (list_all is_part) (split_slash a b) ∙ (list_all-append is_part (parts_of a) (parts_of b) ∙ and_from (list_all is_part (parts_of a)) (list_all is_part (parts_of b)) a1.1 b1.1))
 
 path_named : (folder name : List ℕ) → is_folder_name folder ≡ true → is_file_name folder name ≡ true → is_name (path_of folder name) ≡ true
 path_named [] name h file = (and_parts (is_name name) (not (list_any (λ b. b == 47) name)) (and_parts (is_one_part name) (nat_le (length (path_of [] name)) 1024) file).0).0
@@ -68,13 +65,13 @@ module _ (p : List ℕ → Bool) (root : Which)
     (file_passes : (folder : List ℕ) (v : Plain) → is_folder_name folder ≡ true → IsFileOf root folder v → p (path_of folder (name_of v)) ≡ true) where
   files_pass : (folder : List ℕ) → is_folder_name folder ≡ true → (vs : Plains) → Each (IsFileOf root folder) vs → list_all p (map (λ file. path_of folder (name_of file)) (list_of vs)) ≡ true
   files_pass folder h none each = refl
-  files_pass folder h (more v vs) each = both_true (p (path_of folder (name_of v))) _ (file_passes folder v h each.0) (files_pass folder h vs each.1)
+  files_pass folder h (more v vs) each = and_from (p (path_of folder (name_of v))) _ (file_passes folder v h each.0) (files_pass folder h vs each.1)
 
   folders_pass : (vs : Plains) → Each (IsFolder root) vs → list_all p (flat_map paths_under (list_of vs)) ≡ true
   folders_pass none each = refl
   folders_pass (more v vs) each =
       list_all-append p (paths_under v) (flat_map paths_under (list_of vs))
-      ∙ both_true (list_all p (paths_under v)) (list_all p (flat_map paths_under (list_of vs)))
+      ∙ and_from (list_all p (paths_under v)) (list_all p (flat_map paths_under (list_of vs)))
       (files_pass (name_of v) each.0.name (entries_in (entry_in v 2)) each.0.files)
       (folders_pass vs each.1)
 
@@ -83,7 +80,7 @@ module _ (p : List ℕ → Bool) (root : Which)
 
   packages_pass : (vs : Plains) → Each (IsPackage root) vs → list_all (λ v. list_all p (paths_in v)) (list_of vs) ≡ true
   packages_pass none each = refl
-  packages_pass (more v vs) each = both_true (list_all p (paths_in v)) (list_all (λ v. list_all p (paths_in v)) (list_of vs)) (package_passes v each.0) (packages_pass vs each.1)
+  packages_pass (more v vs) each = and_from (list_all p (paths_in v)) (list_all (λ v. list_all p (paths_in v)) (list_of vs)) (package_passes v each.0) (packages_pass vs each.1)
 
 file_named : (root : Which) (folder : List ℕ) (v : Plain) → is_folder_name folder ≡ true → IsFileOf root folder v → is_name (path_of folder (name_of v)) ≡ true
 file_named root folder v h file = path_named folder (name_of v) h file.name
@@ -147,12 +144,8 @@ packages_all_pass p pkgs h = all_pass (λ m. p) (map member_of_kept pkgs) (list_
 pub packages_named : (pkgs : List Plain) → list_all lists_names pkgs ≡ true → All (λ l. IsName l.path) (member_listings (map member_of_kept pkgs))
 packages_named pkgs h = packages_all_pass is_name pkgs h
 
-absent : (b : Bool) → not b ≡ true → b ≡ false
-absent true e = absurd (true≢false (sym e))
-absent false e = refl
-
 pub packages_unreserved : (pkgs : List Plain) → list_all lists_no_reserved pkgs ≡ true → All (λ l. is_reserved l.path ≡ false) (member_listings (map member_of_kept pkgs))
-packages_unreserved pkgs h k d l = absent (is_reserved (get_or (member_listings (map member_of_kept pkgs)) k d).path) (packages_all_pass (λ path. not (is_reserved path)) pkgs h k d l)
+packages_unreserved pkgs h k d l = not-true (is_reserved (get_or (member_listings (map member_of_kept pkgs)) k d).path) (packages_all_pass (λ path. not (is_reserved path)) pkgs h k d l)
 
 abbrev pub Kept : Type 0
 Kept = List ℕ × ℕ × Option (List ℕ)
@@ -162,7 +155,7 @@ members_named es h = all_pass (λ m. is_name) (map member_by es) (list_all-map (
 
 pub passed_more : (p : Kept → Bool) {A B : Type 0} (r : Result A B) (es new : List Kept) (e : Kept) → new ≡ (if is_ok r then es ++ e ∷ [] else es) → list_all p es ≡ true → p e ≡ true → list_all p new ≡ true
 passed_more p (Ok x) es new e is all one =
-    ap (list_all p) is ∙ (list_all-append p es (e ∷ []) ∙ both_true (list_all p es) (p e && true) all (both_true (p e) true one refl))
+    ap (list_all p) is ∙ (list_all-append p es (e ∷ []) ∙ and_from (list_all p es) (p e && true) all (and_from (p e) true one refl))
 passed_more p (Err x) es new e is all one = ap (list_all p) is ∙ all
 
 -- ---- what stays lists no reserved path
@@ -184,9 +177,9 @@ unfolding comes_or_free
 members_free [] h = refl
 members_free (m ∷ ms) h =
     let parts = and_parts (is_added_or_lists_no_reserved m) (list_all is_added_or_lists_no_reserved ms) h in
-    both_true _ _ (paths_free (is_added m) (paths_in m.pkg) parts.0) (members_free ms parts.1)
+    and_from _ _ (paths_free (is_added m) (paths_in m.pkg) parts.0) (members_free ms parts.1)
 
 pub stays_unreserved : (es : List Kept) → list_all (λ e. is_added_or_lists_no_reserved (member_by e)) es ≡ true → All (λ l. is_added l.member ≡ false → is_reserved l.path ≡ false) (member_listings (map member_by es))
 unfolding comes_or_free
 stays_unreserved es h k d l stays =
-    absent _ (either _ _ (all_pass comes_or_free (map member_by es) (members_free (map member_by es) (list_all-map is_added_or_lists_no_reserved member_by es ∙ h)) k d l) stays)
+    not-true _ (either _ _ (all_pass comes_or_free (map member_by es) (members_free (map member_by es) (list_all-map is_added_or_lists_no_reserved member_by es ∙ h)) k d l) stays)

@@ -21,6 +21,7 @@ use Rattle.db_core.specs.NamePlaces.{NameWithPlace, placed_name_cmp, placed_name
 use Rattle.db_core.specs.NameSeen.{name_seen}
 use Rattle.db_core.specs.Packages.{is_package_named}
 use Rattle.db_core.specs.declared.name_places.NamePlace.{NamePlace}
+use Rattle.db_core.proofs.AnyOf.{nothing}
 
 pub names_total : IsTotalOrder placed_name_cmp
 unfolding placed_name_cmp
@@ -200,10 +201,6 @@ not_false t false h e = absurd (true≢false (sym h ∙ e))
 -- those of the packages that are left are still to come
 abbrev pub NamesLeft : List NameWithPlace → Plains → ℕ → Type 0
 NamesLeft names vs i = names ++ placed_names_from i (drop i (list_of vs)) ≡ placed_names_from 0 (list_of vs)
-
-nothing : (n : ℕ) → drop {A = Plain} n [] ≡ []
-nothing zero = refl
-nothing (suc n) = refl
 
 left_step : (vs : Plains) (n i : ℕ) → i < count_of vs
     → placed_names_from n (drop i (list_of vs)) ≡ record { name = package_name (nth vs i); place = n } ∷ placed_names_from (n + 1) (drop (suc i) (list_of vs))

@@ -1,12 +1,12 @@
 -- One member more, behind the others.
-use Rattle.std.proofs.Common.{◌≡◌, ◌⊎◌, inl, inr, ℕ, suc, zero, ◌<◌, ◌≤◌, true, List, [], ◌∷◌, ◌++◌, map, length, length-append, Option, Result, Ok, Err, refl, ap, sym, ◌∙◌, subst, arith, true≢false, Ordering, Less, Equal, Greater}
+use Rattle.std.proofs.Common.{◌≡◌, ◌⊎◌, inl, inr, ℕ, suc, zero, ◌<◌, ◌≤◌, true, List, [], ◌∷◌, ◌++◌, map, length, length-append, Option, Result, Ok, Err, refl, ap, sym, ◌∙◌, subst, arith, Less}
 use Rattle.std.specs.Prelude.{get_or, if◌then◌else◌, is_ok}
-use Rattle.std.specs.Ordering.{is_lt}
 use Rattle.std.proofs.lemmas.Cmp.{nat_list_cmp_total}
 use Rattle.std.proofs.lemmas.List.{length-map}
 use Rattle.base_core.specs.Listed.{IsRising}
 use Rattle.base_core.proofs.Rising.{IsIn, Rises, pairs_from_rises, rises_from_pairs}
 use Rattle.base_core.specs.ByteOrder.{bytes_cmp, precedes}
+use Rattle.base_core.proofs.Orderings.{is_less}
 use Rattle.db_core.specs.EntrySeen.{member_by}
 use Rattle.db_core.specs.Members.{AreInOrder, Member, is_after_members, member_name}
 
@@ -45,14 +45,9 @@ names_more : (members : List Member) (m : Member) → map member_name (members +
 names_more [] m = refl
 names_more (x ∷ members) m = ap (λ names. member_name x ∷ names) (names_more members m)
 
-less : (o : Ordering) → is_lt o ≡ true → o ≡ Less
-less Less h = refl
-less Equal h = absurd (true≢false (sym h))
-less Greater h = absurd (true≢false (sym h))
-
 after_names : (name : List ℕ) (members : List Member) → is_after_members name members ≡ true → IsBehind name (map member_name members)
 after_names name [] h = tt
-after_names name (m ∷ []) h = less (bytes_cmp (member_name m) name) h
+after_names name (m ∷ []) h = is_less (bytes_cmp (member_name m) name) h
 after_names name (m ∷ n ∷ members) h = after_names name (n ∷ members) h
 
 pub in_order_more : (members : List Member) (m : Member) → AreInOrder members → is_after_members (member_name m) members ≡ true → AreInOrder (members ++ m ∷ [])

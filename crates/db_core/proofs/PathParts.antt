@@ -2,19 +2,12 @@
 use Rattle.std.proofs.Common.{◌≡◌, inl, inr, ℕ, Bool, true, false, List, [], ◌∷◌, ◌++◌, take, drop, length, refl, ap, sym, ◌∙◌, arith, true≢false}
 use Rattle.std.specs.Prelude.{◌==◌, ◌&&◌, nat_eq, bytes_eq}
 use Rattle.std.proofs.lemmas.Bool.Decides.{eqb_tells}
+use Rattle.base_core.proofs.Booleans.{both_second, both_first}
 use Rattle.adb_fields.specs.Paths.{path_of}
 
 both_false : (a b c : Bool) → (a && b) ≡ false → (b ≡ false → c ≡ false) → (a && c) ≡ false
 both_false true b c h f = f h
 both_false false b c h f = refl
-
-first_true : (a b : Bool) → (a && b) ≡ true → a ≡ true
-first_true true b h = refl
-first_true false b h = h
-
-second_true : (a b : Bool) → (a && b) ≡ true → b ≡ true
-second_true true b h = h
-second_true false b h = absurd (true≢false (sym h))
 
 -- another front
 pub front_differs : (path front rest : List ℕ) → bytes_eq (take (length front) path) front ≡ false → bytes_eq path (front ++ rest) ≡ false
@@ -32,7 +25,7 @@ front_same [] [] rest h = refl
 front_same (b ∷ path) [] rest h = refl
 front_same [] (c ∷ front) rest h = absurd (true≢false (sym h))
 front_same (b ∷ path) (c ∷ front) rest h =
-    ap (λ t. t && bytes_eq path (front ++ rest)) (first_true (nat_eq b c) _ h) ∙ front_same path front rest (second_true (nat_eq b c) _ h)
+    ap (λ t. t && bytes_eq path (front ++ rest)) (both_first (nat_eq b c) _ h) ∙ front_same path front rest (both_second (nat_eq b c) _ h)
 
 pub path_at_root : (folder name : List ℕ) → (length folder == 0) ≡ true → path_of folder name ≡ name
 path_at_root [] name h = refl

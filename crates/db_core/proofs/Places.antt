@@ -1,14 +1,12 @@
 -- Entries of an array, as a list: how many there are, and the place of the first that passes.
-use Rattle.std.proofs.Common.{◌≡◌, ℕ, suc, zero, ◌+◌, ◌<◌, ◌≤◌, Bool, true, false, cond, List, [], drop, length, Option, Some, None, refl, ap, sym, ◌∙◌, subst, arith}
+use Rattle.std.proofs.Common.{◌≡◌, ℕ, suc, zero, ◌+◌, ◌<◌, ◌≤◌, Bool, true, false, cond, List, drop, length, Option, Some, None, refl, ap, sym, ◌∙◌, subst, arith}
 use Rattle.std.specs.Prelude.{slice_get, IfSome}
 use Rattle.std.specs.List.{position_from}
+use Rattle.db_core.proofs.AnyOf.{nothing}
 use Rattle.adb_view.specs.Plain.{Plain, Plains, none, more}
 use Rattle.adb_view.specs.Values.{nth, count_of}
 use Rattle.adb_fields.specs.Repeated.{list_of}
-
-pub count_listed : (vs : Plains) → count_of vs ≡ length (list_of vs)
-count_listed none = refl
-count_listed (more v vs) = ap suc (count_listed vs)
+use Rattle.adb_fields.proofs.NameLists.{count-listed}
 
 pub nth_listed : (vs : Plains) (i : ℕ) → i < count_of vs → slice_get (list_of vs) i ≡ Some (nth vs i)
 nth_listed none i h = absurd (omega arith)
@@ -17,13 +15,9 @@ nth_listed (more v vs) (suc i) h = nth_listed vs i (omega arith)
 
 pub within_seen : (vs : Plains) (ps : List Plain) (r : Option ℕ) → ps ≡ list_of vs → IfSome r (λ i. i < count_of vs) → IfSome r (λ i. i < length ps)
 within_seen vs ps None e w = tt
-within_seen vs ps (Some i) e w = subst (λ n. i < n) (count_listed vs ∙ ap length (sym e)) w
+within_seen vs ps (Some i) e w = subst (λ n. i < n) (count-listed vs ∙ ap length (sym e)) w
 
 -- ---- the first that passes
-
-nothing : (n : ℕ) → drop {A = Plain} n [] ≡ []
-nothing zero = refl
-nothing (suc n) = refl
 
 place_step : (p : Plain → Bool) (vs : Plains) (n i : ℕ) → i < count_of vs
     → position_from p n (drop i (list_of vs)) ≡ cond (p (nth vs i)) (Some n) (position_from p (n + 1) (drop (suc i) (list_of vs)))

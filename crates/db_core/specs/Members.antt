@@ -1,5 +1,5 @@
 -- The packages after a change, and the files that they list.
--- The rules are in `docs/formats.md`, "The database after a change"; the terms *member*, *lists* and
+-- The rules are in `docs/formats.md`, "The database after a change"; the terms *member* and
 -- *listing* in `docs/names.md`, "The installed database and a change of it".
 use Rattle.std.specs.Prelude.{ℕ, ◌+◌, ◌==◌, Bool, true, false, List, [], ◌∷◌, ◌++◌, Option, Some, None, is_some, bytes_eq, map}
 use Rattle.std.specs.List.{filter}

@@ -1,31 +1,21 @@
 -- The database lists the files that are owned, and no others.
-use Rattle.std.proofs.Common.{◌≡◌, ℕ, suc, zero, ◌+◌, Bool, true, false, List, [], ◌∷◌, ◌++◌, map, drop, length, refl, ap, sym, ◌∙◌}
+use Rattle.std.proofs.Common.{◌≡◌, ℕ, ◌+◌, Bool, true, false, List, [], ◌∷◌, ◌++◌, map, drop, length, refl, ap, sym, ◌∙◌}
 use Rattle.std.proofs.lemmas.List.{map-append}
 use Rattle.std.specs.List.{flat_map}
-use Rattle.adb_view.specs.Plain.{Plain, null, int, blob, arr, obj, Plains, none, more, arr_value, blob_value}
-use Rattle.adb_view.specs.Values.{entries_in, entry_in, int_in, nth, text_in}
+use Rattle.adb_view.specs.Plain.{Plain, Plains, none, more, arr_value, blob_value}
+use Rattle.adb_view.specs.Values.{entries_in, entry_in, int_in, text_in}
 use Rattle.adb_fields.specs.Paths.{path_of}
 use Rattle.adb_fields.specs.Repeated.{files_in, folders_in, list_of, name_of, paths_in, paths_under}
-use Rattle.adb_copy.specs.Zeros.{all_without_zeros, int_value, without_zeros}
+use Rattle.adb_copy.specs.Zeros.{int_value, without_zeros}
 use Rattle.adb_view.proofs.ValueEntries.{entries_arr, nth_obj, text_blob}
 use Rattle.adb_copy.proofs.WithoutZeros.{text_zeros}
-use Rattle.adb_copy.proofs.Zeros.{nth_zeros}
+use Rattle.adb_copy.proofs.Entries.{entry_zeros}
 use Rattle.db_core.specs.Members.{Listing, Member, listings_by, listings_from, listings_in_folder, listings_in_folders, member_listings}
 use Rattle.db_write.specs.NewDatabase.{file_count, folder_after, folders_after, info_after, member_file_count, owned_entries, package_after, packages_after}
 use Rattle.db_core.specs.OwnedListings.{owned_listings, owned_paths}
 use Rattle.db_write.proofs.Listed.{in_folder, in_folders}
 
 -- ---- a name without zeros
-
-pub entry_zeros : (v : Plain) (i : ℕ) → entry_in (without_zeros v) i ≡ without_zeros (entry_in v i)
-unfolding without_zeros
-entry_zeros null i = refl
-entry_zeros (int zero) i = refl
-entry_zeros (int (suc n)) i = refl
-entry_zeros (blob []) i = refl
-entry_zeros (blob (x ∷ xs)) i = refl
-entry_zeros (arr vs) i = ap (λ us. nth us i) (entries_arr (all_without_zeros vs)) ∙ nth_zeros vs i
-entry_zeros (obj vs) i = nth_obj (all_without_zeros vs) i ∙ nth_zeros vs i
 
 pub name_zeros : (v : Plain) → name_of (without_zeros v) ≡ name_of v
 name_zeros v = ap text_in (entry_zeros v 0) ∙ text_zeros (entry_in v 0)

@@ -1,7 +1,7 @@
 -- The value of a new database may stand at the root of a container.
-use Rattle.std.proofs.Common.{◌≡◌, ℕ, ◌↔◌, ◌||◌, Bool, true, false, List, Option, Some, None, Ok, refl, sym, ◌∙◌}
+use Rattle.std.proofs.Common.{◌≡◌, ℕ, ◌↔◌, Bool, false, List, Option, Some, None, Ok, refl, sym, ◌∙◌}
 use Rattle.std.specs.Prelude.{is_some}
-use Rattle.std.proofs.lemmas.Bool.{ltb-false}
+use Rattle.std.proofs.lemmas.Bool.{ltb-false, or_parts}
 use Rattle.adb_view.specs.Plain.{IsNormal, Plain}
 use Rattle.adb_view.specs.declared.tables.Which.{Which}
 use Rattle.adb_view.specs.declared.tables.Which.TheVariants.{Idb}
@@ -31,10 +31,6 @@ within : (members : List Member) (flags : List Bool) (bytes : List ℕ) → data
 unfolding database_of written_of
 within members flags bytes h = within_by (database_value members flags) (overflow_of (database_value members flags)) bytes h
 
-both_false : (a b : Bool) → (a || b) ≡ false → (a ≡ false) × (b ≡ false)
-both_false false b e = (refl, e)
-both_false true b e = (cc)
-
 -- ---- what the layers below say
 
 abbrev pub Exact : Type 0
@@ -52,7 +48,7 @@ database_root exact kept once members flags bytes sound order listed written =
     let v : Plain = database_value members flags in
     let enter : EachIn (λ (m : Member). MayEnter m.pkg) members = members_enter members sound in
     let normal : IsNormal v = database_normal members flags enter in
-    let limits = both_false _ _ (sym (exact v normal) ∙ within members flags bytes written) in
+    let limits = or_parts _ _ (sym (exact v normal) ∙ within members flags bytes written) in
     record {
       normal = normal;
       shaped = database_shape members flags enter;

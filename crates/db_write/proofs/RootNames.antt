@@ -1,5 +1,5 @@
 -- No name stands twice in a new database.
-use Rattle.std.proofs.Common.{◌≡◌, inl, inr, ℕ, suc, ◌<◌, Bool, true, false, List, [], ◌∷◌, ◌++◌, map, drop, length, get_or, AllPairs, Option, refl, ap, sym, subst, ◌∙◌, arith}
+use Rattle.std.proofs.Common.{◌≡◌, inl, inr, ℕ, suc, Bool, true, false, List, [], ◌∷◌, ◌++◌, map, drop, AllPairs, Option, refl, ap, sym, subst, ◌∙◌, arith}
 use Rattle.std.specs.Prelude.{unwrap_or}
 use Rattle.std.specs.List.{flat_map}
 use Rattle.std.specs.Ordering.{nat_cmp, ordering_reverse}
@@ -7,6 +7,8 @@ use Rattle.std.specs.Cmp.Lexicographic.{slice_cmp}
 use Rattle.std.specs.declared.cmp.Ordering.{Ordering}
 use Rattle.std.specs.declared.cmp.Ordering.TheVariants.{Less}
 use Rattle.std.proofs.lemmas.Cmp.{nat_list_cmp_total}
+use Rattle.base_core.proofs.Numbers.{not_first}
+use Rattle.base_core.proofs.Listed.{at_index}
 use Rattle.adb_view.specs.Plain.{Plain, Plains, int, blob}
 use Rattle.adb_view.specs.Values.{entries_in, entry_in, int_in, text_in}
 use Rattle.adb_view.specs.declared.tables.Which.TheVariants.{Idb}
@@ -51,9 +53,6 @@ info_entry id info i a b =
     let size : Plain = int (int_in (entry_in info 12)) in
     let vs : Plains = with_at 12 size (with_at 2 hash (entries_in info)) in
     nth_obj _ i ∙ (nth_zeros vs i ∙ ap without_zeros (at_other 12 i size (with_at 2 hash (entries_in info)) b ∙ at_other 2 i hash (entries_in info) a))
-
-not_first : (n : ℕ) → suc n ≡ 0 → ⊥
-not_first n e = omega (arith, e)
 
 pub package_named : (m : Member) (flags : List Bool) → package_name (package_after m flags) ≡ member_name m
 package_named m flags =
@@ -124,11 +123,6 @@ order = slice_cmp nat_cmp
 
 never_less : (x : List ℕ) → order x x ≡ Less → ⊥
 never_less x e = let back : order x x ≡ ordering_reverse Less = nat_list_cmp_total.antisymm x x ∙ ap ordering_reverse e in (cc (e, back))
-
-at_index : (q : List ℕ) (xs : List (List ℕ)) → IsIn q xs → (i : ℕ) × (i < length xs) × (get_or xs i q ≡ q)
-at_index q [] h = absurd h
-at_index q (x ∷ xs) (inl is) = (0, omega arith, sym is)
-at_index q (x ∷ xs) (inr h) = let (i, lt, is) = at_index q xs h in (suc i, omega arith, is)
 
 rising_distinct : (xs : List (List ℕ)) → AllPairs (λ a b. order a b ≡ Less) xs → AreDistinctNames xs
 rising_distinct [] pairs = tt

@@ -21,11 +21,12 @@ use Rattle.adb_copy.proofs.Shapes.{entries_shape, nth_shape}
 use Rattle.adb_view.proofs.ValueEntries.{entries_arr, nth_obj}
 use Rattle.adb_copy.proofs.WithoutZeros.{int_zeros, text_zeros}
 use Rattle.adb_copy.proofs.Zeros.{at_other, at_same, nth_zeros, zeros_array}
+use Rattle.adb_copy.proofs.Entries.{entry_zeros}
 use Rattle.db_core.specs.Members.{Member}
 use Rattle.db_write.specs.NewDatabase.{database_value, file_count, folder_after, folders_after, info_after, member_file_count, owned_entries, package_after, packages_after}
 use Rattle.db_core.specs.OwnedListings.{owned_paths}
 use Rattle.db_core.specs.SoundMembers.{AreOfSoundContainers, IsOfSoundContainer, NoneReserved}
-use Rattle.db_write.proofs.OwnedPaths.{all_owned_listed, entry_zeros, name_zeros}
+use Rattle.db_write.proofs.OwnedPaths.{all_owned_listed, name_zeros}
 use Rattle.db_write.proofs.RootNames.{folder_files, folder_name, info_entry, package_folders, package_info}
 use Rattle.db_write.proofs.SoundPackages.{IsFileUnder, IsFolderAnywhere, MayEnter, digest_or_none, member_enters}
 

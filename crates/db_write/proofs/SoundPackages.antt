@@ -1,7 +1,8 @@
 -- What is known of a package of a sound container, be it a package or a database.
-use Rattle.std.proofs.Common.{◌≡◌, ℕ, Bool, true, false, ◌||◌, if◌then◌else◌, List, [], ◌∷◌, ◌++◌, map, length, Option, Some, None, refl, sym, subst, inl, inr}
+use Rattle.std.proofs.Common.{◌≡◌, ℕ, Bool, true, false, if◌then◌else◌, List, [], ◌∷◌, ◌++◌, map, length, Option, Some, None, refl, sym, subst, inl, inr}
 use Rattle.std.specs.Prelude.{◌<◌, All}
 use Rattle.std.specs.List.{flat_map}
+use Rattle.std.proofs.lemmas.Bool.{or_right}
 use Rattle.adb_view.specs.Plain.{Plain, Plains, none, more, IsNormal}
 use Rattle.adb_view.specs.Shaped.{Each, HasShape, IsArrayOf}
 use Rattle.adb_view.specs.Schema.{shape_of, shapes_of, table}
@@ -12,6 +13,7 @@ use Rattle.adb_view.specs.declared.tables.Which.TheVariants as Tables
 use Rattle.adb_fields.specs.FirstPair.{IsIn}
 use Rattle.adb_fields.specs.Once.{AllDistinct, AreDistinctNames, HaveNoRepeatInside}
 use Rattle.adb_fields.specs.Repeated.{entries_at, files_in, folders_in, list_of, name_of}
+use Rattle.adb_fields.proofs.Distinct.{distinct_front}
 use Rattle.adb_schema.specs.Rules.{is_digest_length, is_digest_length_or_none, is_file_name, is_folder_name, is_target}
 use Rattle.adb_schema.specs.SoundValues.{IsFileOf, IsFolder, IsInformation, IsPackage}
 use Rattle.adb_schema.specs.Texts.{is_with_contents, needs_hash}
@@ -51,10 +53,6 @@ each_in P v none h here = absurd here
 each_in P v (more u us) h (inl is) = subst P (sym is) h.0
 each_in P v (more u us) h (inr here) = each_in P v us h.1 here
 
-distinct_front : (xs ys : List (List (List ℕ))) → AllDistinct (xs ++ ys) → AllDistinct xs
-distinct_front [] ys h = tt
-distinct_front (x ∷ xs) ys h = (h.0, distinct_front xs ys h.1)
-
 distinct_back : (xs ys : List (List (List ℕ))) → AllDistinct (xs ++ ys) → AllDistinct ys
 distinct_back [] ys h = h
 distinct_back (x ∷ xs) ys h = distinct_back xs ys h.1
@@ -71,16 +69,12 @@ those_distinct f v (u ∷ us) h (inr here) = those_distinct f v us (distinct_bac
 
 -- ---- the rules, whichever table is at the root
 
-none_or : (a b : Bool) → b ≡ true → (a || b) ≡ true
-none_or true b e = refl
-none_or false b e = e
-
 hash_or_none : (needed : Bool) (n : ℕ) → (if needed then is_digest_length n else is_digest_length_or_none n) ≡ true → is_digest_length_or_none n ≡ true
-hash_or_none true n e = none_or _ (is_digest_length n) e
+hash_or_none true n e = or_right _ (is_digest_length n) e
 hash_or_none false n e = e
 
 pub digest_or_none : (n : ℕ) → is_digest_length n ≡ true → is_digest_length_or_none n ≡ true
-digest_or_none n e = none_or _ (is_digest_length n) e
+digest_or_none n e = or_right _ (is_digest_length n) e
 
 file_under : (root : Which) (folder : List ℕ) (v : Plain) → IsFileOf root folder v → IsFileUnder folder v
 file_under root folder v h = record {

@@ -7,6 +7,7 @@ use Rattle.adb_view.specs.Values.{count_of, entries_in, entry_in, int_in, text_i
 use Rattle.adb_view.specs.declared.tables.Kind.TheVariants as Kinds
 use Rattle.adb_view.specs.declared.tables.Which.TheVariants as Tables
 use Rattle.adb_fields.specs.Repeated.{entries_at, files_in, folders_in, list_of, name_of}
+use Rattle.adb_fields.proofs.NameLists.{count-listed}
 use Rattle.adb_schema.specs.declared.read.TheConstants.{IDB_WORD}
 use Rattle.adb_write.specs.Canonical.{written_of}
 use Rattle.adb_write.specs.File.{file_of}
@@ -15,7 +16,6 @@ use Rattle.adb_copy.proofs.Fields.{INFO, info_written, object_written}
 use Rattle.adb_copy.proofs.Shapes.{entries_shape, nth_shape}
 use Rattle.adb_copy.proofs.Zeros.{zeros_array}
 use Rattle.db_core.specs.Members.{Member, member_of_kept, members_of_kept}
-use Rattle.db_core.proofs.Places.{count_listed}
 use Rattle.db_write.specs.NewDatabase.{database_container, database_of, database_value, each_by_flags, file_count, folder_after, folders_after, info_after, member_file_count, owned_entries, package_after, packages_after, total_of}
 use Rattle.db_write.specs.Unchanged.{all_owned}
 
@@ -64,7 +64,7 @@ unfolding shape_of HasShape
 folder_same v m h enough =
     let files : IsArrayOf (HasShape (shape_of (Kinds.Obj Tables.File))) (entry_in v 2) = nth_shape (shapes_of (table Tables.Dir)) (entries_in v) 2 (entries_shape 5 (shapes_of (table Tables.Dir)) v h) in
     let owned : owned_entries (files_in v) (replicate m true) ≡ all_without_zeros (entries_in (entry_in v 2)) =
-    owned_all (entries_in (entry_in v 2)) m (omega (arith, enough, count_listed (entries_in (entry_in v 2)))) in
+    owned_all (entries_in (entry_in v 2)) m (omega (arith, enough, count-listed (entries_in (entry_in v 2)))) in
     ap (λ fs. obj_value (more (blob_value (name_of v)) (more (without_zeros (entry_in v 1)) (more fs none))))
     (ap arr_value owned ∙ sym (zeros_array (HasShape (shape_of (Kinds.Obj Tables.File))) (entry_in v 2) files))
     ∙ object_written 5 (shapes_of (table Tables.Dir)) v h

@@ -6,8 +6,9 @@ use Rattle.adb_view.specs.declared.tables.Kind.{Kind}
 use Rattle.adb_fields.specs.Fields.{are_all_sound, array_at}
 use Rattle.adb_fields.specs.Repeated.{list_of}
 use Rattle.adb_fields.proofs.FieldReads.{entry_count}
+use Rattle.adb_fields.proofs.NameLists.{count-listed}
 use Rattle.adb_copy.proofs.ReadWords.{word_value, word_within}
-use Rattle.db_core.proofs.Places.{count_listed, nth_listed}
+use Rattle.db_core.proofs.Places.{nth_listed}
 
 module _ (p : List ℕ) (k : Kind) (ws : List ℕ) (sound : are_all_sound p k ws ≡ true) where
   pub word_listed : (i word : ℕ) → i < length ws → word ≡ slice_index ws i → slice_get (list_of (entries_in (array_at p k ws))) i ≡ Some (value_at p k word)
@@ -15,4 +16,4 @@ module _ (p : List ℕ) (k : Kind) (ws : List ℕ) (sound : are_all_sound p k ws
       nth_listed (entries_in (array_at p k ws)) i (word_within p k ws i word sound within is) ∙ ap Some (sym (word_value p k ws i word sound within is))
 
   pub words_listed : length ws ≡ length (list_of (entries_in (array_at p k ws)))
-  words_listed = entry_count p k ws sound ∙ count_listed (entries_in (array_at p k ws))
+  words_listed = entry_count p k ws sound ∙ count-listed (entries_in (array_at p k ws))

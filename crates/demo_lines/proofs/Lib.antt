@@ -1,3 +1,3 @@
-mod Lengths
+pub mod Lengths
 mod Numbers
-mod Worked
+pub mod Worked

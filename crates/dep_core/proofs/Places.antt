@@ -15,7 +15,8 @@ use Rattle.dep_core.specs.Dependency.{Dependency}
 use Rattle.dep_core.specs.DependencyText.{is_dependency}
 use Rattle.dep_core.specs.World.{IsWorld, has_name, is_in_order, with_entry, without_name}
 use Rattle.base_core.specs.ByteOrder.{bytes_cmp}
-use Rattle.dep_core.proofs.Worlds.{names_total, is_behind, lt-less, cmp-equal, cmp-back, filter-same}
+use Rattle.base_core.proofs.Orderings.{is_less, names_total}
+use Rattle.dep_core.proofs.Worlds.{is_behind, cmp-equal, cmp-back, filter-same}
 
 -- two entries are in order
 pub in_order_at : (w : List Dependency) (i j : ℕ) (d : Dependency) → is_in_order w ≡ true → i < j → j < length w → is_lt (bytes_cmp (get_or w i d).name (get_or w j d).name) ≡ true
@@ -26,7 +27,7 @@ in_order_at (e ∷ rest) zero (suc j) d h l m =
 in_order_at (e ∷ rest) (suc i) (suc j) d h l m =
     in_order_at rest i j d (and_parts (list_all (is_behind e.name) rest) (is_in_order rest) h).1 (omega arith) (omega arith)
 
-not_before : (o : Ordering) → is_lt o ≡ true → is_lt (ordering_reverse o) ≡ false
+pub not_before : (o : Ordering) → is_lt o ≡ true → is_lt (ordering_reverse o) ≡ false
 not_before Less h = refl
 not_before Equal h = (cc)
 not_before Greater h = (cc)
@@ -42,7 +43,7 @@ searchable w name h =
 before_at : (e : Dependency) (rest : List Dependency) (name : List ℕ) (i : ℕ) (d : Dependency) → is_in_order (e ∷ rest) ≡ true → i < length rest → bytes_cmp (get_or rest i d).name name ≡ Equal → bytes_cmp e.name name ≡ Less
 before_at e rest name i d h l t =
     let P : List ℕ → Type 0 = λ n. bytes_cmp e.name n ≡ Less in
-    subst P (cmp-equal (get_or rest i d).name name t) (lt-less (bytes_cmp e.name (get_or rest i d).name) (AllPass-from_list_all (is_behind e.name) rest (and_parts (list_all (is_behind e.name) rest) (is_in_order rest) h).0 i d l))
+    subst P (cmp-equal (get_or rest i d).name name t) (is_less (bytes_cmp e.name (get_or rest i d).name) (AllPass-from_list_all (is_behind e.name) rest (and_parts (list_all (is_behind e.name) rest) (is_in_order rest) h).0 i d l))
 
 pub with_entry-set : (d : Dependency) (w : List Dependency) (i : ℕ) → is_in_order w ≡ true → i < length w → HoldsAt (λ (e : Dependency). bytes_cmp e.name d.name ≡ Equal) w i → with_entry d w ≡ set w i d
 with_entry-set d [] i h l t = absurd (omega arith)
@@ -66,7 +67,7 @@ without-remove name (e ∷ rest) zero h l t =
     let behind : list_all (is_behind name) rest ≡ true =
     subst P (cmp-equal e.name name (t e)) (and_parts (list_all (is_behind e.name) rest) (is_in_order rest) h).0 in
     ap (λ b. cond b (e ∷ without_name name rest) (without_name name rest)) (other-by e name Equal (t e))
-    ∙ filter-same (other name) rest (list_all-from_AllPass (other name) rest (λ k f m. other-by (get_or rest k f) name Greater (cmp-back name (get_or rest k f).name Less (lt-less (bytes_cmp name (get_or rest k f).name) (AllPass-from_list_all (is_behind name) rest behind k f m)))))
+    ∙ filter-same (other name) rest (list_all-from_AllPass (other name) rest (λ k f m. other-by (get_or rest k f) name Greater (cmp-back name (get_or rest k f).name Less (is_less (bytes_cmp name (get_or rest k f).name) (AllPass-from_list_all (is_behind name) rest behind k f m)))))
 without-remove name (e ∷ rest) (suc i) h l t =
     ap (λ b. cond b (e ∷ without_name name rest) (without_name name rest)) (other-by e name Less (before_at e rest name i e h (omega arith) (t e)))
     ∙ ap (λ more. e ∷ more) (without-remove name rest i (and_parts (list_all (is_behind e.name) rest) (is_in_order rest) h).1 (omega arith) t)
@@ -110,7 +111,7 @@ has_name-none name w i p = none_by name w (others name w i p)
 
 -- ---- what a search of the entries says, where v is the slice of them
 
-in_order : (w : List Dependency) → IsWorld w → is_in_order w ≡ true
+pub in_order : (w : List Dependency) → IsWorld w → is_in_order w ≡ true
 in_order w h = (and_parts (list_all is_dependency w) (is_in_order w) h).1
 
 abbrev IsPlace : List ℕ → List Dependency → ℕ → Type 0

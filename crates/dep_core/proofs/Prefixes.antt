@@ -1,17 +1,10 @@
 -- How many elements a list begins with.
-use Rattle.std.proofs.Common.{◌≡◌, ℕ, ◌+◌, Bool, true, false, cond, ltb, List, [], ◌∷◌, length, Option, Some, None, refl, sym, ◌∙◌, arith}
+use Rattle.std.proofs.Common.{◌≡◌, ℕ, Bool, true, false, cond, ltb, List, length, Option, Some, None, refl, sym, ◌∙◌, arith}
 use Rattle.std.specs.Prelude.{not, unwrap_or}
 use Rattle.std.specs.List.{prefix_len, position}
 use Rattle.std.proofs.lemmas.Bool.Decides.{nat_tests}
 use Rattle.std.proofs.lemmas.List.Sums.{prefix_len-le-length}
-
-twice_not : (b : Bool) → not (not b) ≡ b
-twice_not true = refl
-twice_not false = refl
-
-prefix_len-twice_not : (q : ℕ → Bool) (xs : List ℕ) → prefix_len (λ x. not (not (q x))) xs ≡ prefix_len q xs
-prefix_len-twice_not q [] = refl
-prefix_len-twice_not q (x ∷ xs) = λ i. cond (twice_not (q x) i) (1 + prefix_len-twice_not q xs i) 0
+use Rattle.version_core.proofs.Runs.{prefix_len-twice_not}
 
 unwrap_cond : (b : Bool) (n m : ℕ) → (b ≡ false → n ≡ m) → unwrap_or (cond b (Some n) None) m ≡ n
 unwrap_cond true n m same = refl

@@ -10,6 +10,7 @@ use Rattle.std.proofs.lemmas.List.{length-reverse, reverse-append, take_all}
 use Rattle.std.proofs.lemmas.List.Folds.{prefix_len-append}
 use Rattle.std.proofs.lemmas.List.Sums.{AllPass-from_list_all}
 use Rattle.std.proofs.lemmas.List.Splits.{slice_split_at}
+use Rattle.version_core.proofs.VersionBytes.{all-imp, all-append}
 use Rattle.base_core.specs.Name.{is_name, is_part, parts_of}
 use Rattle.dep_core.specs.Dependency.{is_tag, is_tag_byte}
 use Rattle.dep_core.specs.DependencyText.{is_tag_or_none}
@@ -18,7 +19,6 @@ use Rattle.dep_core.specs.Repositories.{Repository, at_path, with_repositories, 
 use Rattle.dep_core.specs.RepositoryText.{is_line_path, is_line_repository, repositories_text, tag_front}
 use Rattle.dep_core.specs.World.{is_blank, is_line_end, lines_of}
 use Rattle.dep_core.proofs.Spelled.{run, past_run}
-use Rattle.dep_core.proofs.Versions.{all-append, all-imp}
 
 -- ---- no line end in a line
 

@@ -12,8 +12,9 @@ use Rattle.dep_core.specs.DependencyText.{IsDependency, is_constraint, is_tag_or
 use Rattle.dep_core.specs.Reading.{any_version, at_tag, rest_after, dependency_of, at_version_end, is_not_at, is_operator_byte, at_constraint, at_operator_end, at_name, operator_bits, at_name_end, at_version, with_constraint, with_tag}
 use Rattle.dep_core.specs.Spelling.{SpellsDependency, SpellsConstraint}
 use Rattle.dep_core.proofs.Operators.{IsOperator, begins_as_operator, operator-is, text-read}
-use Rattle.dep_core.proofs.Versions.{Versions, all-imp}
+use Rattle.dep_core.proofs.Versions.{Versions}
 use Rattle.version_core.specs.Grammar.{begins_with_digit, is_version_byte}
+use Rattle.version_core.proofs.VersionBytes.{all-imp}
 
 -- ---- a run of bytes ends where the next text begins with another byte
 

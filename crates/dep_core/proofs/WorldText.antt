@@ -15,12 +15,14 @@ use Rattle.dep_core.specs.Dependency.{Dependency, is_dep_name, is_name_byte, is_
 use Rattle.dep_core.specs.DependencyText.{IsDependency, dep_text, is_dependency, is_constraint, is_tag_or_none, constraint_text, mark_text, operator_text, tag_text}
 use Rattle.dep_core.specs.World.{IsWorld, has_name, is_blank, is_in_order, is_line_end, lines_of, or_bad_line, with_entry, with_lines, with_new_entry, with_words, words_of, world_of, world_text}
 use Rattle.base_core.specs.ByteOrder.{bytes_cmp}
+use Rattle.base_core.proofs.Orderings.{is_less}
 use Rattle.dep_core.proofs.Lines.{is_word}
 use Rattle.dep_core.proofs.Operators.{text-visible}
 use Rattle.dep_core.proofs.Spelled.{read-written}
-use Rattle.dep_core.proofs.Versions.{Versions, all-append, all-imp}
+use Rattle.dep_core.proofs.Versions.{Versions}
 use Rattle.version_core.specs.Grammar.{is_version_byte}
-use Rattle.dep_core.proofs.Worlds.{is_behind, cmp-back, lt-less}
+use Rattle.version_core.proofs.VersionBytes.{all-imp, all-append}
+use Rattle.dep_core.proofs.Worlds.{is_behind, cmp-back}
 
 -- ---- the bytes of a dependency's text are neither blanks nor line ends
 
@@ -89,7 +91,7 @@ one-word text v w =
 
 -- ---- the last entry in order
 
-behind-at : (P : Dependency → Bool) (w : List Dependency) (d : Dependency) (rest : List Dependency) → list_all P (w ++ (d ∷ rest)) ≡ true → P d ≡ true
+pub behind-at : (P : Dependency → Bool) (w : List Dependency) (d : Dependency) (rest : List Dependency) → list_all P (w ++ (d ∷ rest)) ≡ true → P d ≡ true
 behind-at P [] d rest h = (and_parts (P d) (list_all P rest) h).0
 behind-at P (e ∷ w) d rest h = behind-at P w d rest (and_parts (P e) (list_all P (w ++ (d ∷ rest))) h).1
 
@@ -99,7 +101,7 @@ last-new (e ∷ w) d rest h =
     let parts : (list_all (is_behind e.name) (w ++ (d ∷ rest)) ≡ true) × (is_in_order (w ++ (d ∷ rest)) ≡ true) =
     and_parts (list_all (is_behind e.name) (w ++ (d ∷ rest))) (is_in_order (w ++ (d ∷ rest))) h in
     let more : (has_name d.name w ≡ false) × (with_entry d w ≡ w ++ (d ∷ [])) = last-new w d rest parts.1 in
-    let before : bytes_cmp e.name d.name ≡ Less = lt-less (bytes_cmp e.name d.name) (behind-at (is_behind e.name) w d rest parts.0) in (
+    let before : bytes_cmp e.name d.name ≡ Less = is_less (bytes_cmp e.name d.name) (behind-at (is_behind e.name) w d rest parts.0) in (
       (ap (λ b. b || has_name d.name w) (texts_ties e.name d.name ∙ ap is_eq before) ∙ more.0),
       (ap (λ o. match_ordering o (d ∷ (e ∷ w)) (d ∷ w) (e ∷ with_entry d w)) (cmp-back e.name d.name Less before) ∙ ap (λ ds. e ∷ ds) more.1),
     )

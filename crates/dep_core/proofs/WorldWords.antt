@@ -15,6 +15,7 @@ use Rattle.dep_core.specs.Dependency.{Dependency}
 use Rattle.dep_core.specs.Reading.{dependency_of}
 use Rattle.dep_core.specs.World.{IsWorld, has_name, lines_of, or_bad_line, with_entry, with_lines, with_new_entry, with_words, words_of, world_of}
 use Rattle.base_core.specs.ByteOrder.{bytes_cmp}
+use Rattle.base_core.proofs.Booleans.{or_swap}
 use Rattle.dep_core.specs.Entries.{IsFirstBadLine, IsWorldOf, have_different_names, words_in}
 use Rattle.dep_core.proofs.Operators.{some-inj}
 use Rattle.dep_core.proofs.ReadOut.{read-out}
@@ -47,19 +48,13 @@ lines-words (line ∷ lines) k w =
 not-tied : (d e : Dependency) → bytes_eq e.name d.name ≡ false → bytes_cmp d.name e.name ≡ Equal → false ≡ true
 not-tied d e h t = sym h ∙ (texts_ties e.name d.name ∙ ap is_eq (cmp-back d.name e.name Equal t))
 
-or-swap : (a b c : Bool) → (a || (b || c)) ≡ (b || (a || c))
-or-swap true true c = refl
-or-swap true false c = refl
-or-swap false true c = refl
-or-swap false false c = refl
-
 no_truth : {A : Type 0} → false ≡ true → A
 no_truth h = (cc)
 
 name-by : (d e : Dependency) (rest more : List Dependency) (n : List ℕ) (o : Ordering) → bytes_cmp d.name e.name ≡ o → bytes_eq e.name d.name ≡ false → has_name n more ≡ (bytes_eq d.name n || has_name n rest) → has_name n (match_ordering o (d ∷ (e ∷ rest)) (d ∷ rest) (e ∷ more)) ≡ (bytes_eq d.name n || has_name n (e ∷ rest))
 name-by d e rest more n Less t h m = refl
 name-by d e rest more n Equal t h m = no_truth (not-tied d e h t)
-name-by d e rest more n Greater t h m = ap (λ b. bytes_eq e.name n || b) m ∙ or-swap (bytes_eq e.name n) (bytes_eq d.name n) (has_name n rest)
+name-by d e rest more n Greater t h m = ap (λ b. bytes_eq e.name n || b) m ∙ or_swap (bytes_eq e.name n) (bytes_eq d.name n) (has_name n rest)
 
 has_name-with_entry : (d : Dependency) (w : List Dependency) (n : List ℕ) → has_name d.name w ≡ false → has_name n (with_entry d w) ≡ (bytes_eq d.name n || has_name n w)
 has_name-with_entry d [] n h = refl

@@ -3,24 +3,16 @@ use Rattle.std.proofs.Common.{◌≡◌, ℕ, Bool, true, false, not, List, [], 
 use Rattle.std.specs.List.{list_all, filter}
 use Rattle.std.specs.Ordering.{is_lt, is_eq, match_ordering, ordering_reverse}
 use Rattle.std.specs.Str.{bytes_eq}
-use Rattle.std.specs.Cmp.{IsTotalOrder}
-use Rattle.std.specs.Cmp.Lexicographic.{nat_list_cmp_total, texts_ties, bytes_decides}
+use Rattle.std.specs.Cmp.Lexicographic.{texts_ties, bytes_decides}
 use Rattle.std.specs.declared.cmp.Ordering.TheVariants.{Less, Equal, Greater}
 use Rattle.std.proofs.lemmas.Bool.{and_parts, and_from}
 use Rattle.dep_core.specs.Dependency.{Dependency}
 use Rattle.dep_core.specs.DependencyText.{is_dependency}
 use Rattle.dep_core.specs.World.{IsWorld, is_in_order, with_entry, without_name}
 use Rattle.base_core.specs.ByteOrder.{bytes_cmp}
+use Rattle.base_core.proofs.Orderings.{is_less, names_total}
 
 -- ---- names
-
-pub names_total : IsTotalOrder bytes_cmp
-names_total = nat_list_cmp_total
-
-pub lt-less : (o : Ordering) → is_lt o ≡ true → o ≡ Less
-lt-less Less h = refl
-lt-less Equal h = (cc)
-lt-less Greater h = (cc)
 
 pub cmp-equal : (a b : List ℕ) → bytes_cmp a b ≡ Equal → a ≡ b
 cmp-equal a b h = (bytes_decides a b).0 (texts_ties a b ∙ ap is_eq h)
@@ -65,7 +57,7 @@ behind-trans : (a b : List ℕ) (w : List Dependency) → bytes_cmp a b ≡ Less
 behind-trans a b [] h p = refl
 behind-trans a b (e ∷ rest) h p =
     let parts : (is_behind b e ≡ true) × (list_all (is_behind b) rest ≡ true) = and_parts (is_behind b e) (list_all (is_behind b) rest) p in
-    and_from (is_behind a e) (list_all (is_behind a) rest) (ap is_lt (names_total.trans a b e.name h (lt-less (bytes_cmp b e.name) parts.0))) (behind-trans a b rest h parts.1)
+    and_from (is_behind a e) (list_all (is_behind a) rest) (ap is_lt (names_total.trans a b e.name h (is_less (bytes_cmp b e.name) parts.0))) (behind-trans a b rest h parts.1)
 
 order-by : (d e : Dependency) (rest more : List Dependency) (o : Ordering) → bytes_cmp d.name e.name ≡ o → is_in_order (e ∷ rest) ≡ true → is_in_order more ≡ true → (o ≡ Greater → list_all (is_behind e.name) more ≡ true) → is_in_order (match_ordering o (d ∷ (e ∷ rest)) (d ∷ rest) (e ∷ more)) ≡ true
 order-by d e rest more Less h w m b =

@@ -4,6 +4,7 @@ use Rattle.std.specs.Prelude.{is_some, ◌||◌, IsSome, unwrap_or}
 use Rattle.std.specs.Option.{option_or}
 use Rattle.std.proofs.lemmas.Bool.{le-ltb, ltb-false}
 use Rattle.base_core.specs.declared.cause.Cause.{Cause}
+use Rattle.base_core.proofs.Causes.{none_both}
 use Rattle.adb_block.specs.Piece.{Piece}
 use Rattle.adb_block.specs.Header.{header_of}
 use Rattle.adb_block.specs.ReaderPosition.{start_of}
@@ -24,7 +25,7 @@ use Rattle.adb_write.specs.File.{adb_piece, file_of}
 use Rattle.pkg_core.specs.Whole.{root_of_schema}
 use Rattle.adb_sound.proofs.ContentsBlocks.{contents_stand, first_of, none_of_blocks}
 use Rattle.adb_sound.proofs.Lower.{Lower}
-use Rattle.adb_sound.proofs.Payloads.{none_of, payload_long}
+use Rattle.adb_sound.proofs.Payloads.{payload_long}
 use Rattle.adb_sound.proofs.SoundFiles.{IsWord, reading_is, word_is}
 use Rattle.adb_dump.specs.Dump.{dump_text}
 use Rattle.outcome.specs.Dump.{dump_fault, dump_of, dump_of_blocks, dump_with_root, dump_with_schema, form_fault, framing_fault, or_text}
@@ -79,7 +80,7 @@ shape_good laws which v g =
     (ap is_some (laws.back (shape_of (Obj which)) v g.normal g.shaped g.fits), omega arith)
 
 form_good : Lower → (which : Which) (v : Plain) → HasNamesAmong which v → form_fault which (canonical v) ≡ None
-form_good laws which v g = none_of _ _ (head_good (write v empty_layout).0 (write v empty_layout).1) (shape_good laws which v g)
+form_good laws which v g = none_both _ _ (head_good (write v empty_layout).0 (write v empty_layout).1) (shape_good laws which v g)
 
 value_is : Lower → (which : Which) (v : Plain) → HasNamesAmong which v → root_value which (canonical v) ≡ v
 unfolding value_at
@@ -90,7 +91,7 @@ value_is laws which v g = ap (λ (o : Option Plain). unwrap_or o null) (laws.bac
 blocks_printed : Lower → (which : Which) (v : Plain) → HasNamesAmong which v → (r : Reading) (at : ℕ) → r ≡ more (adb_piece (canonical v)) at done → dump_of_blocks which r ≡ Ok (dump_text which v)
 blocks_printed laws which v g r at is =
     ap (dump_of_blocks which) is
-    ∙ ap (λ (o : Option Cause). or_text o (dump_text which (root_value which (canonical v)))) (none_of _ _ (form_good laws which v g) refl)
+    ∙ ap (λ (o : Option Cause). or_text o (dump_text which (root_value which (canonical v)))) (none_both _ _ (form_good laws which v g) refl)
     ∙ ap (λ (u : Plain). let text : Result (List ℕ) Cause = Ok (dump_text which u) in text) (value_is laws which v g)
 
 pub printed : Lower → (which : Which) (schema : ℕ) (v : Plain) → schema_word which ≡ Some schema → HasNamesAmong which v → dump_of (file_of schema (canonical v)) ≡ Ok (dump_text which v)

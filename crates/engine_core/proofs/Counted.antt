@@ -1,40 +1,30 @@
 -- The counts of a run behind calls that only read.
-use Rattle.std.proofs.Common.{◌≡◌, ◌∙◌, List, Result, Ok, Err, refl, ap, arith}
+use Rattle.std.proofs.Common.{◌≡◌, List, Result, Ok, Err, refl, ap}
 use Rattle.std.specs.Prelude.{IfErr, OnOk}
 use Rattle.base_core.specs.Faults.{Counts, CountsOnlyRise, HasCause, IsNoFault}
 use Rattle.base_core.specs.Read.{OnlyReads}
 use Rattle.base_core.specs.Tree.{TreeState}
+use Rattle.base_core.proofs.Counting.{goes_on_twice, no_fault_twice}
 use Rattle.change_inputs.specs.declared.root.Refused.{Refused}
 use Rattle.change_inputs.specs.declared.root.Refused.TheVariants.{Disk, Memory}
 use Rattle.engine_core.specs.Runs.{IsRunCounted}
 
-goes_on_both : (a b c : Counts) → CountsOnlyRise a b → CountsOnlyRise b c → CountsOnlyRise a c
-goes_on_both a b c one two = record {
-  faults = omega (arith, one.faults, two.faults);
-  misuses = omega (arith, one.misuses, two.misuses);
-  memory_faults = omega (arith, one.memory_faults, two.memory_faults);
-  fallible = λ is. one.fallible (two.fallible is);
-}
-
-no_fault_both : (a b c : Counts) → IsNoFault a b → IsNoFault b c → IsNoFault a c
-no_fault_both a b c one two = record { faults = two.faults ∙ one.faults; memory_faults = two.memory_faults ∙ one.memory_faults }
-
 -- behind calls that count no fault
 pub counted_after : {A : Type 0} (a b c : Counts) (result : Result A Refused) → CountsOnlyRise a b → IsNoFault a b → ((x y z : Counts) → CountsOnlyRise x y → HasCause y z → HasCause x z) → IsRunCounted b c result → IsRunCounted a c result
 counted_after {A} a b c result on none cause counted = record {
-  goes_on = goes_on_both a b c on counted.goes_on;
+  goes_on = goes_on_twice a b c on counted.goes_on;
   disk = λ is. cause a b c on (counted.disk is);
   kept = kept result counted.kept;
   others = others result counted.others;
 }
   where
     kept : (r : Result A Refused) → OnOk r (IsNoFault b c) → OnOk r (IsNoFault a c)
-    kept (Ok x) is = no_fault_both a b c none is
+    kept (Ok x) is = no_fault_twice a b c none is
     kept (Err e) is = tt
 
     others : (r : Result A Refused) → IfErr r (λ refused. (refused ≡ Disk → ⊥) → IsNoFault b c) → IfErr r (λ refused. (refused ≡ Disk → ⊥) → IsNoFault a c)
     others (Ok x) is = tt
-    others (Err e) is = λ not. no_fault_both a b c none (is not)
+    others (Err e) is = λ not. no_fault_twice a b c none (is not)
 
 same_error : {A : Type 0} (r : Result A Refused) (e f : Refused) → r ≡ Err e → r ≡ Err f → e ≡ f
 same_error r e f one other = cc

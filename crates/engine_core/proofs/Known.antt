@@ -7,12 +7,13 @@ use Rattle.std.specs.Prelude.{if◌then◌else◌, ◌||◌, is_some, slice_get}
 use Rattle.std.specs.List.{list_all, list_any, position_from}
 use Rattle.std.specs.declared.cmp.Ordering.TheVariants.{Less, Equal, Greater}
 use Rattle.base_core.specs.ByteOrder.{bytes_cmp}
+use Rattle.base_core.proofs.Orderings.{is_less, names_total}
 use Rattle.command_core.specs.declared.operands.Operand.{Operand}
 use Rattle.dep_core.specs.Dependency.{Dependency}
 use Rattle.dep_core.specs.DependencyText.{is_dependency}
 use Rattle.dep_core.specs.World.{IsWorld, has_name, is_in_order}
 use Rattle.dep_core.proofs.Places.{has_name-at, has_name-none, in_order_at}
-use Rattle.dep_core.proofs.Worlds.{cmp-back, lt-less, names_total}
+use Rattle.dep_core.proofs.Worlds.{cmp-back}
 use Rattle.make_info.proofs.Left.{left_at}
 use Rattle.engine_core.specs.Wishes.{first_unknown}
 
@@ -60,7 +61,7 @@ module _ (name : List ℕ) (world : List Dependency) (is_world : IsWorld world) 
       early k f inside before =
           ⊎_elim
           (λ (lower : k < i). names_total.trans (get_or world k f).name d.name name
-          (subst (λ (e : Dependency). bytes_cmp (get_or world k f).name e.name ≡ Less) (here f) (lt-less (bytes_cmp (get_or world k f).name (get_or world i f).name) (in_order_at world k i f in_order lower within))) less)
+          (subst (λ (e : Dependency). bytes_cmp (get_or world k f).name e.name ≡ Less) (here f) (is_less (bytes_cmp (get_or world k f).name (get_or world i f).name) (in_order_at world k i f in_order lower within))) less)
           (λ (not_lower : i ≤ k). subst (λ (n : ℕ). bytes_cmp (get_or world n f).name name ≡ Less) (omega (arith, not_lower, before)) (subst (λ (e : Dependency). bytes_cmp e.name name ≡ Less) (sym (here f)) less))
           (cases_lt k i)
 
@@ -74,7 +75,7 @@ module _ (name : List ℕ) (world : List Dependency) (is_world : IsWorld world) 
       late k f from inside =
           ⊎_elim
           (λ (higher : i < k). cmp-back name (get_or world k f).name Less (names_total.trans name d.name (get_or world k f).name back
-          (subst (λ (e : Dependency). bytes_cmp e.name (get_or world k f).name ≡ Less) (here f) (lt-less (bytes_cmp (get_or world i f).name (get_or world k f).name) (in_order_at world i k f in_order higher inside)))))
+          (subst (λ (e : Dependency). bytes_cmp e.name (get_or world k f).name ≡ Less) (here f) (is_less (bytes_cmp (get_or world i f).name (get_or world k f).name) (in_order_at world i k f in_order higher inside)))))
           (λ (not_higher : k ≤ i). subst (λ (n : ℕ). bytes_cmp (get_or world n f).name name ≡ Greater) (omega (arith, not_higher, from)) (subst (λ (e : Dependency). bytes_cmp e.name name ≡ Greater) (sym (here f)) greater))
           (cases_lt i k)
 

@@ -6,29 +6,14 @@ use Rattle.std.specs.Ordering.{is_gt, on}
 use Rattle.std.specs.declared.cmp.Ordering.{Ordering}
 use Rattle.std.specs.Str.{bytes_eq}
 use Rattle.std.proofs.lemmas.Slice.Eq.{bytes_eq-Decides}
+use Rattle.std.proofs.lemmas.Bool.{or_from}
+use Rattle.file_owners.proofs.NamedPlaces.{turned}
 use Rattle.change_files.specs.PlanLists.{names_in_order, unless_next, without_repeats}
 use Rattle.journal_intent.specs.FreeNames.{HaveNoRepeats, IsNoneOf, IsOneOf}
 use Rattle.base_core.specs.ByteOrder.{bytes_cmp}
 use Rattle.base_core.specs.Sorted.{sorted_by, with_element}
 use Rattle.base_core.proofs.Sorting.{Each}
-
-none_left : (a b : Bool) → (a || b) ≡ false → a ≡ false
-none_left true b h = h
-none_left false b h = refl
-
-none_right : (a b : Bool) → (a || b) ≡ false → b ≡ false
-none_right true b h = cc
-none_right false b h = h
-
-none_both : (a b : Bool) → a ≡ false → b ≡ false → (a || b) ≡ false
-none_both true b h g = h
-none_both false b h g = g
-
-or_swap : (a b c : Bool) → (a || (b || c)) ≡ (b || (a || c))
-or_swap true true c = refl
-or_swap true false c = refl
-or_swap false true c = refl
-or_swap false false c = refl
+use Rattle.base_core.proofs.Booleans.{neither_first, or_swap, neither_second}
 
 any_with : (p : List ℕ → Bool) (x : List ℕ) (ys : List (List ℕ)) → list_any p (with_element bytes_cmp x ys) ≡ (p x || list_any p ys)
 any_with p x [] = refl
@@ -42,19 +27,12 @@ any_in_order : (p : List ℕ → Bool) (xs : List (List ℕ)) → list_any p (so
 any_in_order p [] = refl
 any_in_order p (x ∷ xs) = any_with p x (sorted_by bytes_cmp xs) ∙ ap (λ t. p x || t) (any_in_order p xs)
 
-same_swapped : (x y : List ℕ) → bytes_eq x y ≡ false → bytes_eq y x ≡ false
-same_swapped x y h = by (bytes_eq y x) refl
-  where
-    by : (b : Bool) → bytes_eq y x ≡ b → b ≡ false
-    by true e = let is : y ≡ x = (bytes_eq-Decides y x).0 e in let back : bytes_eq x y ≡ true = (bytes_eq-Decides x y).1 (sym is) in (cc)
-    by false e = refl
-
 once_with : (x : List ℕ) (ys : List (List ℕ)) → IsNoneOf x ys → HaveNoRepeats ys → HaveNoRepeats (with_element bytes_cmp x ys)
 once_with x [] out once = (refl, tt)
-once_with x (y ∷ ys) out once = by (is_gt (bytes_cmp x y)) (once_with x ys (none_right (bytes_eq x y) _ out) once.1)
+once_with x (y ∷ ys) out once = by (is_gt (bytes_cmp x y)) (once_with x ys (neither_second (bytes_eq x y) _ out) once.1)
   where
     by : (b : Bool) → HaveNoRepeats (with_element bytes_cmp x ys) → HaveNoRepeats (if b then y ∷ with_element bytes_cmp x ys else x ∷ y ∷ ys)
-    by true more = (any_with (bytes_eq y) x ys ∙ none_both (bytes_eq y x) _ (same_swapped x y (none_left (bytes_eq x y) _ out)) once.0, more)
+    by true more = (any_with (bytes_eq y) x ys ∙ or_from (bytes_eq y x) _ (turned x y (neither_first (bytes_eq x y) _ out)) once.0, more)
     by false more = (out, once)
 
 once_sorted : (xs : List (List ℕ)) → HaveNoRepeats xs → HaveNoRepeats (sorted_by bytes_cmp xs)
@@ -66,7 +44,7 @@ without_same [] once = refl
 without_same (x ∷ []) once = refl
 without_same (x ∷ y ∷ ys) once =
     ap (unless_next x) (without_same (y ∷ ys) once.1)
-    ∙ ap (λ b. cond b (y ∷ ys) (x ∷ y ∷ ys)) (none_left (bytes_eq x y) _ once.0)
+    ∙ ap (λ b. cond b (y ∷ ys) (x ∷ y ∷ ys)) (neither_first (bytes_eq x y) _ once.0)
 
 -- names that stand once are only sorted
 pub once_ordered : (xs : List (List ℕ)) → HaveNoRepeats xs → sorted_by bytes_cmp xs ≡ names_in_order xs
@@ -80,7 +58,7 @@ once_both (x ∷ xs) ys one two apart =
   where
     any_both : (p : List ℕ → Bool) (xs ys : List (List ℕ)) → list_any p xs ≡ false → list_any p ys ≡ false → list_any p (xs ++ ys) ≡ false
     any_both p [] ys h g = g
-    any_both p (z ∷ zs) ys h g = none_both (p z) _ (none_left (p z) _ h) (any_both p zs ys (none_right (p z) _ h) g)
+    any_both p (z ∷ zs) ys h g = or_from (p z) _ (neither_first (p z) _ h) (any_both p zs ys (neither_second (p z) _ h) g)
 
     later : (a b : Bool) → b ≡ true → (a || b) ≡ true
     later true b h = refl

@@ -2,16 +2,12 @@
 use Rattle.std.proofs.Common.{◌≡◌, ◌∙◌, ℕ, List, [], ◌∷◌, map, Option, Some, None, refl, ap}
 use Rattle.std.specs.Prelude.{option_map}
 use Rattle.std.specs.List.{cons_option, filter_map}
-use Rattle.report_core.specs.Reports.{Change}
 use Rattle.package_changes.specs.Changes.{change_of_name, changes_of, names_on_both_sides}
 use Rattle.package_changes.specs.Placed.{PlacedChange, PlacedName, PlacedReplacement, change_in, placed_name_of, placed_names_of, replacement_of}
+use Rattle.package_changes.proofs.PlacedLaws.{change_alone}
 
 abbrev pub HaveOwnChange : Type 0
 HaveOwnChange = (p : PlacedReplacement) (name : List ℕ) → (placed_name_of p name).change ≡ change_of_name (replacement_of p) name
-
-one_alone : (o : Option Change) (old new : Option ℕ) → option_map (λ (c : PlacedChange). c.change) (option_map (λ change. record { change = change; old = old; new = new }) o) ≡ o
-one_alone None old new = refl
-one_alone (Some c) old new = refl
 
 mapped_option : {X Y : Type 0} (f : X → Y) (o : Option X) (xs : List X) → map f (cons_option o xs) ≡ cons_option (option_map f o) (map f xs)
 mapped_option f None xs = refl
@@ -23,7 +19,7 @@ changes_by own p (name ∷ names) =
     let n : PlacedName = placed_name_of p name in
     let others : List PlacedChange = filter_map change_in (map (placed_name_of p) names) in
     mapped_option (λ (c : PlacedChange). c.change) (change_in n) others
-    ∙ (ap (λ o. cons_option o (map (λ (c : PlacedChange). c.change) others)) (one_alone n.change n.old n.new ∙ own p name)
+    ∙ (ap (λ o. cons_option o (map (λ (c : PlacedChange). c.change) others)) (change_alone n.change n.old n.new ∙ own p name)
     ∙ ap (cons_option (change_of_name (replacement_of p) name)) (changes_by own p names))
 
 pub changes_named : HaveOwnChange → (p : PlacedReplacement) → map (λ (c : PlacedChange). c.change) (filter_map change_in (placed_names_of p)) ≡ changes_of (replacement_of p)

@@ -5,15 +5,10 @@ use Rattle.std.proofs.Math.Seq.{take-append_seam}
 use Rattle.std.proofs.lemmas.Bool.Decides.{Decides-like, nat_tests, same_from_decides}
 use Rattle.std.proofs.lemmas.List.{append-nil, append_cancel_left, length-drop, length-take, length-take-le, take-append-drop, take-append-le}
 use Rattle.std.proofs.lemmas.Slice.Eq.{bytes_eq-Decides}
+use Rattle.base_core.proofs.NameParts.{other_bytes}
+use Rattle.base_core.proofs.Booleans.{not_both}
 
 -- ---- comparisons
-
-unlike : (xs ys : List ℕ) → (xs ≡ ys → ⊥) → bytes_eq xs ys ≡ false
-unlike xs ys apart = by_test (bytes_eq xs ys) refl
-  where
-    by_test : (b : Bool) → bytes_eq xs ys ≡ b → b ≡ false
-    by_test true e = absurd (apart ((bytes_eq-Decides xs ys).0 e))
-    by_test false e = refl
 
 alike : (xs ys zs ws : List ℕ) → (xs ≡ ys → zs ≡ ws) → (zs ≡ ws → xs ≡ ys) → bytes_eq xs ys ≡ bytes_eq zs ws
 alike xs ys zs ws f g =
@@ -65,10 +60,7 @@ due_left bytes first second first_left second_left n is same_first left_first sa
 
 pub due_missed : (test : List ℕ → Bool) (so_far bytes due : List ℕ) → ((further : List ℕ) → bytes ++ further ≡ due → ⊥) → ((further : List ℕ) → test (so_far ++ further) ≡ bytes_eq further due) → (further : List ℕ) → test ((so_far ++ bytes) ++ further) ≡ false
 due_missed test so_far bytes due apart h further =
-    ap test (append_assoc so_far bytes further) ∙ (h (bytes ++ further) ∙ unlike (bytes ++ further) due (apart further))
-
-both : (b : Bool) → b ≡ true → b ≡ false → ⊥
-both b holds fails = (cc)
+    ap test (append_assoc so_far bytes further) ∙ (h (bytes ++ further) ∙ other_bytes (bytes ++ further) due (apart further))
 
 pub first_differs : (bytes first second : List ℕ) (n : ℕ) → n ≡ min (length bytes) (length first) → bytes_eq (take (length (take n bytes)) first) (take n bytes) ≡ false → (further : List ℕ) → bytes ++ further ≡ first ++ second → ⊥
 first_differs bytes first second n is differs further same =
@@ -79,7 +71,7 @@ first_differs bytes first second n is differs further same =
     ap (λ (k : ℕ). take k first) long
     ∙ (sym (take-append-le n first second short)
     ∙ (ap (take n) (sym same) ∙ take-append-le n bytes further within)) in
-    both _ ((bytes_eq-Decides (take (length (take n bytes)) first) (take n bytes)).1 fronts) differs
+    not_both _ ((bytes_eq-Decides (take (length (take n bytes)) first) (take n bytes)).1 fronts) differs
 
 rest_differs : (bytes first second : List ℕ) (n : ℕ) → n ≡ min (length bytes) (length first)
     → bytes_eq (take (length (take n bytes)) first) (take n bytes) ≡ true
@@ -90,7 +82,7 @@ rest_differs bytes first second n is same differs none =
     let found : bytes_eq (take (length (drop n bytes)) second) (drop n bytes) ≡ true =
     (bytes_eq-Decides (take (length (drop n bytes)) second) (drop n bytes)).1
     (ap (λ (xs : List ℕ). take (length xs) second) rest_is ∙ (take_nothing second ∙ sym rest_is)) in
-    both _ found differs
+    not_both _ found differs
   where
     no_bytes : (xs : List ℕ) → length xs ≡ 0 → xs ≡ []
     no_bytes [] e = refl
@@ -107,7 +99,7 @@ pub second_differs : (bytes first second : List ℕ) (n : ℕ) → n ≡ min (le
 second_differs bytes first second n is same_first differs further same =
     elim ends [
       | inl none ↦ rest_differs bytes first second n is same_first differs none
-      | inr none ↦ both _ (behind_first none) differs
+      | inr none ↦ not_both _ (behind_first none) differs
     ]
   where
     ends : (length (drop n bytes) ≡ 0) ⊎ (length (drop (length (take n bytes)) first) ≡ 0)
@@ -149,10 +141,10 @@ not_zero n = grind (arith, nat_tests)
 empty_second : (first second : List ℕ) → (length first == 0) ≡ true → (length second == 0) ≡ bytes_eq [] (first ++ second)
 empty_second [] [] e = refl
 empty_second [] (x ∷ second) e = not_zero (length second)
-empty_second (x ∷ first) second e = absurd (both _ e (not_zero (length first)))
+empty_second (x ∷ first) second e = absurd (not_both _ e (not_zero (length first)))
 
 some_first : (first second : List ℕ) → (length first == 0) ≡ false → false ≡ bytes_eq [] (first ++ second)
-some_first [] second e = absurd (both true refl e)
+some_first [] second e = absurd (not_both true refl e)
 some_first (x ∷ first) second e = refl
 
 pub second_due : (test : List ℕ → Bool) (bytes first second : List ℕ) → ((further : List ℕ) → test (bytes ++ further) ≡ bytes_eq further (first ++ second)) → (length first == 0) ≡ true → (length second == 0) ≡ test bytes

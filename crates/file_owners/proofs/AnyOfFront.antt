@@ -2,18 +2,7 @@
 use Rattle.std.proofs.Common.{◌≡◌, ℕ, suc, zero, ◌+◌, ◌<◌, Bool, true, false, List, [], ◌∷◌, All, length, get_or, take, Some, refl, ap, sym, ◌∙◌, subst, arith, true≢false}
 use Rattle.std.specs.Prelude.{◌||◌, slice_get}
 use Rattle.std.specs.List.{list_any}
-
-pub or_none : (a : Bool) → (a || false) ≡ a
-or_none true = refl
-or_none false = refl
-
-or_true : (a : Bool) → (a || true) ≡ true
-or_true true = refl
-or_true false = refl
-
-pub grouped : (a b c : Bool) → ((a || b) || c) ≡ (a || (b || c))
-grouped true b c = refl
-grouped false b c = refl
+use Rattle.std.proofs.Math.Bool.{or-true, or-false, or_assoc}
 
 -- ---- members by their places
 
@@ -38,8 +27,8 @@ all_at P (y ∷ xs) (suc i) x all h = all_at P xs i x (λ k d low. all (suc k) d
 more_than : {X : Type 0} (p : X → Bool) (xs : List X) (i : ℕ) (x : X) → slice_get xs i ≡ Some x → list_any p (take (suc i) xs) ≡ (list_any p (take i xs) || p x)
 more_than p [] zero x h = absurd (cc)
 more_than p [] (suc i) x h = absurd (cc)
-more_than {X} p (y ∷ xs) zero x h = let s : y ≡ x = cc in or_none (p y) ∙ ap p s
-more_than p (y ∷ xs) (suc i) x h = ap (λ b. p y || b) (more_than p xs i x h) ∙ sym (grouped (p y) (list_any p (take i xs)) (p x))
+more_than {X} p (y ∷ xs) zero x h = let s : y ≡ x = cc in or-false (p y) ∙ ap p s
+more_than p (y ∷ xs) (suc i) x h = ap (λ b. p y || b) (more_than p xs i x h) ∙ sym (or_assoc (p y) (list_any p (take i xs)) (p x))
 
 pub one_more : {X : Type 0} (p : X → Bool) (xs : List X) (i : ℕ) (x : X) → slice_get xs i ≡ Some x → list_any p (take (i + 1) xs) ≡ (list_any p (take i xs) || p x)
 one_more p xs i x h =
@@ -51,7 +40,7 @@ passed_in_front p xs zero j x l h e = absurd (omega (arith, l))
 passed_in_front p [] (suc i) zero x l h e = absurd (cc)
 passed_in_front p [] (suc i) (suc j) x l h e = absurd (cc)
 passed_in_front {X} p (y ∷ xs) (suc i) zero x l h e = let s : y ≡ x = cc in ap (λ b. b || list_any p (take i xs)) (ap p s ∙ e)
-passed_in_front p (y ∷ xs) (suc i) (suc j) x l h e = ap (λ b. p y || b) (passed_in_front p xs i j x (omega (arith, l)) h e) ∙ or_true (p y)
+passed_in_front p (y ∷ xs) (suc i) (suc j) x l h e = ap (λ b. p y || b) (passed_in_front p xs i j x (omega (arith, l)) h e) ∙ or-true (p y)
 
 -- an answer that comes once more changes nothing
 pub settled : (front answer : Bool) → (answer ≡ true → front ≡ true) → (front || false) ≡ (front || answer)

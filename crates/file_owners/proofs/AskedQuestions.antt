@@ -6,6 +6,7 @@ use Rattle.std.specs.List.{list_any}
 use Rattle.std.proofs.lemmas.Bool.Decides.{eqb_tells}
 use Rattle.std.proofs.lemmas.List.Elements.{All-push}
 use Rattle.std.proofs.lemmas.List.Folds.{list_any-append}
+use Rattle.std.proofs.Math.Bool.{or-false, or_assoc}
 use Rattle.dep_core.specs.ValueReading.{dependency_of_value}
 use Rattle.version_core.specs.Order.{is_version}
 use Rattle.adb_view.specs.Plain.{Plain, Plains}
@@ -18,7 +19,7 @@ use Rattle.db_core.proofs.AnyOf.{any_step, past_end}
 use Rattle.file_owners.specs.Questions.{AreSameQuestion, IsQuestionIn, entry_of_question, question_names, question_names_if_any, with_question}
 use Rattle.file_owners.specs.Replaces.{is_named_by, is_replaced_by, version_text}
 use Rattle.file_owners.specs.declared.questions.Question.{Question}
-use Rattle.file_owners.proofs.AnyOfFront.{all_at, grouped, one_more, or_none, passed_in_front, settled, some_at}
+use Rattle.file_owners.proofs.AnyOfFront.{all_at, one_more, passed_in_front, settled, some_at}
 use Rattle.file_owners.proofs.NamedPlaces.{other_name}
 
 -- ---- the question of one entry
@@ -50,9 +51,9 @@ AreAskedSoFar payload members questions vs i =
     ≡ list_any (λ entry. is_named_by entry m.pkg) (list_of vs)
 
 any_with : (payload : List ℕ) (y : ℕ) (pkg : Plain) (old : List Question) (q : Option Question) → list_any (question_names payload y pkg) (with_question old q) ≡ (list_any (question_names payload y pkg) old || question_names_if_any payload y pkg q)
-any_with payload y pkg old None = sym (or_none (list_any (question_names payload y pkg) old))
+any_with payload y pkg old None = sym (or-false (list_any (question_names payload y pkg) old))
 any_with payload y pkg old (Some q) =
-    list_any-append (question_names payload y pkg) old (q ∷ []) ∙ ap (λ b. list_any (question_names payload y pkg) old || b) (or_none (question_names payload y pkg q))
+    list_any-append (question_names payload y pkg) old (q ∷ []) ∙ ap (λ b. list_any (question_names payload y pkg) old || b) (or-false (question_names payload y pkg q))
 
 pub entry_asked : (payload : List ℕ) (members : List Member) (old new : List Question) (question : Option Question) (vs : Plains) (i : ℕ) (entry : Plain) → i < count_of vs → entry ≡ nth vs i
     → new ≡ with_question old question
@@ -64,7 +65,7 @@ entry_asked payload members old new question vs i entry l is grown asked inv y m
     let a : Question → Bool = question_names payload y m.pkg in
     let added : list_any a new ≡ (list_any a old || question_names_if_any payload y m.pkg question) = ap (list_any a) grown ∙ any_with payload y m.pkg old question in
     (λ j. added j || list_any p (drop (s j) (list_of vs)))
-    ∙ (grouped (list_any a old) (question_names_if_any payload y m.pkg question) (list_any p (drop (suc i) (list_of vs)))
+    ∙ (or_assoc (list_any a old) (question_names_if_any payload y m.pkg question) (list_any p (drop (suc i) (list_of vs)))
     ∙ (ap (λ b. list_any a old || (b || list_any p (drop (suc i) (list_of vs)))) (asked y m g ∙ ap p is)
     ∙ (ap (λ b. list_any a old || b) (sym (any_step p vs i l)) ∙ inv y m g)))
 
@@ -73,7 +74,7 @@ pub all_asked : (payload : List ℕ) (members : List Member) (questions : List Q
 all_asked payload members questions vs i l inv y m g =
     let p : Plain → Bool = λ entry. is_named_by entry m.pkg in
     let a : Question → Bool = question_names payload y m.pkg in
-    sym (or_none (list_any a questions)) ∙ (ap (λ b. list_any a questions || b) (sym (past_end p vs i l)) ∙ inv y m g)
+    sym (or-false (list_any a questions)) ∙ (ap (λ b. list_any a questions || b) (sym (past_end p vs i l)) ∙ inv y m g)
 
 pub all_with : (P : Question → Type 0) (old : List Question) (q : Option Question) → All P old → IfSome q P → All P (with_question old q)
 all_with P old None all h = all

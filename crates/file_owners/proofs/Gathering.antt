@@ -1,10 +1,11 @@
 -- Claims to which the files of folders and members are added one by one.
 use Rattle.std.proofs.Common.{◌≡◌, ℕ, suc, zero, ◌+◌, ◌<◌, ◌≤◌, List, [], ◌∷◌, ◌++◌, length, drop, Some, refl, ap, sym, ◌∙◌, arith}
 use Rattle.std.specs.Prelude.{slice_get}
-use Rattle.adb_view.specs.Plain.{Plain, Plains, none, more}
+use Rattle.adb_view.specs.Plain.{Plains, none, more}
 use Rattle.adb_view.specs.Values.{count_of, nth}
 use Rattle.adb_fields.specs.Paths.{path_of}
 use Rattle.adb_fields.specs.Repeated.{files_in, list_of, name_of}
+use Rattle.adb_fields.proofs.Listed.{none_listed}
 use Rattle.db_core.specs.Members.{Listing, Member, member_listing, listings_by, listings_from, listings_in_folder, listings_in_folders, member_listings}
 use Rattle.path_claims.specs.Claims.{PathClaim}
 use Rattle.file_owners.specs.Gathered.{with_listings}
@@ -14,19 +15,10 @@ pub with_more : (cs : List PathClaim) (xs ys : List Listing) → with_listings (
 with_more cs [] ys = refl
 with_more cs (x ∷ xs) ys = with_more (cs ++ (claim_by (length cs) x ∷ [])) xs ys
 
-nothing : (n : ℕ) → drop {A = Plain} n [] ≡ []
-nothing zero = refl
-nothing (suc n) = refl
-
 front : (vs : Plains) (i : ℕ) → i < count_of vs → drop i (list_of vs) ≡ nth vs i ∷ drop (suc i) (list_of vs)
 front none i h = absurd (omega arith)
 front (more v vs) zero h = refl
 front (more v vs) (suc i) h = front vs i (omega arith)
-
-past : (vs : Plains) (i : ℕ) → count_of vs ≤ i → drop i (list_of vs) ≡ []
-past none i h = nothing i
-past (more v vs) zero h = absurd (omega arith)
-past (more v vs) (suc i) h = past vs i (omega arith)
 
 -- ---- the files of a folder
 
@@ -49,7 +41,7 @@ file_added old now new m member folder name vs i file h e add inv =
 pub files_added : (old now : List PathClaim) (m : Member) (member folder : ℕ) (name : List ℕ) (vs : Plains) (i : ℕ) → count_of vs ≤ i
     → FilesLeft old now m member folder name vs i → now ≡ with_listings old (listings_in_folder m member folder 1 name (list_of vs))
 files_added old now m member folder name vs i h inv =
-    ap (λ ps. with_listings now (listings_in_folder m member folder (i + 1) name ps)) (sym (past vs i h)) ∙ inv
+    ap (λ ps. with_listings now (listings_in_folder m member folder (i + 1) name ps)) (sym (none_listed vs i h)) ∙ inv
 
 -- ---- folders
 
@@ -70,7 +62,7 @@ folder_added old now new m member vs i h one inv =
 pub folders_added : (old now : List PathClaim) (m : Member) (member : ℕ) (vs : Plains) (i : ℕ) → count_of vs ≤ i
     → FoldersLeft old now m member vs i → now ≡ with_listings old (listings_in_folders m member 1 (list_of vs))
 folders_added old now m member vs i h inv =
-    ap (λ ps. with_listings now (listings_in_folders m member (i + 1) ps)) (sym (past vs i h)) ∙ inv
+    ap (λ ps. with_listings now (listings_in_folders m member (i + 1) ps)) (sym (none_listed vs i h)) ∙ inv
 
 -- ---- members
 

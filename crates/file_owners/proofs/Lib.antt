@@ -1,8 +1,8 @@
 pub mod OneWay
-mod OneOwner
+pub mod OneOwner
 pub mod Gathering
 pub mod Claiming
-mod NamedPlaces
+pub mod NamedPlaces
 mod ReadWords
 mod AnyOfFront
 mod AskedQuestions

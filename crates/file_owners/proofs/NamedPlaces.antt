@@ -60,7 +60,7 @@ value_named name version matching d e =
     go true made n s = sym (ap (λ o. (value_or d o).name) s) ∙ n
     go false made n s = absurd (true≢false (sym (ap is_one s)))
 
-turned : (a b : List ℕ) → bytes_eq a b ≡ false → bytes_eq b a ≡ false
+pub turned : (a b : List ℕ) → bytes_eq a b ≡ false → bytes_eq b a ≡ false
 turned a b h = go (bytes_eq b a) refl
   where
     go : (t : Bool) → bytes_eq b a ≡ t → t ≡ false

@@ -17,7 +17,7 @@ passes f (x ∷ ls) l h = go (passes f ls l) (f x) refl h
     go rest true e (inr h) = rest h
     go rest false e h = rest h
 
-owner_is : (m : ℕ) (o : Option ℕ) → is_member m o ≡ true → o ≡ Some m
+pub owner_is : (m : ℕ) (o : Option ℕ) → is_member m o ≡ true → o ≡ Some m
 owner_is m None h = absurd (true≢false (sym h))
 owner_is m (Some owner) h = ap Some (sym (eqb-true m owner h))
 

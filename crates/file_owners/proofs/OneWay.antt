@@ -1,25 +1,15 @@
 -- No two members beat each other.
 use Rattle.std.proofs.Common.{◌≡◌, ℕ, suc, zero, ◌≤◌, Bool, true, false, List, [], ◌∷◌, length, Option, Some, None, refl, ap, sym, ◌∙◌, arith, true≢false}
 use Rattle.std.specs.Prelude.{◌||◌, ◌&&◌, not, nat_lt, ◌==◌, slice_get}
-use Rattle.std.specs.Ordering.{is_lt, ordering_reverse}
-use Rattle.std.specs.declared.cmp.Ordering.{Ordering}
-use Rattle.std.specs.declared.cmp.Ordering.TheVariants.{Less, Equal, Greater}
-use Rattle.std.proofs.lemmas.Cmp.{nat_list_cmp_total}
+use Rattle.dep_core.proofs.Places.{not_before}
 use Rattle.adb_view.specs.Plain.{Plain}
 use Rattle.adb_fields.specs.Repeated.{package_name}
-use Rattle.base_core.specs.ByteOrder.{bytes_cmp, precedes}
+use Rattle.base_core.specs.ByteOrder.{precedes}
+use Rattle.base_core.proofs.Orderings.{precedes_one_way}
 use Rattle.db_core.specs.Members.{Member}
 use Rattle.path_claims.specs.Contest.{IsOneWay}
 use Rattle.file_owners.specs.Owners.{member_beats, takes_over_if_any}
 use Rattle.file_owners.specs.Replaces.{is_preferred_to, names_package, replacing_priority, takes_over}
-
-turned : (r : Ordering) → is_lt r ≡ true → is_lt (ordering_reverse r) ≡ false
-turned Less h = refl
-turned Equal h = absurd (true≢false (sym h))
-turned Greater h = absurd (true≢false (sym h))
-
-precedes_one_way : (a b : List ℕ) → precedes a b ≡ true → precedes b a ≡ false
-precedes_one_way a b h = ap is_lt (nat_list_cmp_total.antisymm b a) ∙ turned (bytes_cmp a b) h
 
 by_number : (m n : ℕ) (s t : Bool) → (s ≡ true → t ≡ false) → (nat_lt n m || ((m == n) && s)) ≡ true → (nat_lt m n || ((n == m) && t)) ≡ false
 by_number m n true t f h = let e : t ≡ false = f refl in grind (arith, e)

@@ -1,14 +1,16 @@
 -- A replacement makes no misuse where there is room.
 use Rattle.std.proofs.Common.{◌≡◌, ◌≢◌, ℕ, Bool, true, false, cond, List, [], ◌∷◌, Option, None, Some, IsSome, refl, sym, subst, ◌∙◌}
 use Rattle.std.specs.Str.{bytes_eq}
-use Rattle.journal_intent.proofs.AtName.{drop_name-at, drop_name-off, off_name}
+use Rattle.journal_intent.proofs.AtName.{drop_name-at, drop_name-off}
 use Rattle.journal_core.proofs.History.{History, observable_at}
 use Rattle.file_replacement.proofs.Suffix.{scratch_apart}
 use Rattle.base_core.specs.Files.{put_name, drop_name, HasNoFileAsFolder}
-use Rattle.base_core.specs.Tree.{File, TreeState, bytes_at, files_of, remove_at, after_remove, CanCreate, CanRename}
+use Rattle.base_core.specs.Tree.{TreeState, files_of, remove_at, after_remove, CanCreate, CanRename}
 use Rattle.base_core.specs.Calls.{IfObservable, HoldsNow}
+use Rattle.base_core.proofs.AtName.{off_name}
 use Rattle.journal_core.specs.Replacing.{scratch_of, IsOutputPathFree}
 use Rattle.journal_core.specs.Filling.{HasOneMoreName, CanAddName, CanAddBothNames}
+use Rattle.journal_core.proofs.Beside.{as_read}
 
 fewer : {A B : Type 0} (m : List ℕ → Option A) (n : List ℕ → Option B) → ((q : List ℕ) → IsSome (n q) → IsSome (m q)) → HasNoFileAsFolder m → HasNoFileAsFolder n
 fewer m n less folders p q folder has_p has_q = folders p q folder (less p has_p) (less q has_q)
@@ -77,10 +79,6 @@ put_both : {A B : Type 0} (a b : Bool) (x y : A) (z : B) (o : Option A) (p : Opt
 put_both true b x y z o p same some = refl
 put_both false true x y z o p same some = refl
 put_both false false x y z o p same some = same some
-
-as_read : (files : ℕ → File) (n : Option ℕ) → IsSome n → IsSome (bytes_at files n)
-as_read files None some = absurd (cc (some))
-as_read files (Some n) some = refl
 
 pub both_places : (scratch name : List ℕ) → scratch ≡ scratch_of name → (v : TreeState) → IsOutputPathFree name (files_of v) → CanAddBothNames scratch name v
 both_places scratch name scratch_is v room = record {

@@ -5,7 +5,7 @@ use Rattle.adb_dump.specs.Dump.{Line}
 use Rattle.adb_dump.specs.Margin.{margin}
 use Rattle.adb_dump.specs.ReadBack.{strip_prefix, stop_or_add, split_block, with_line}
 use Rattle.gen_core.specs.Cursors.{CursorState, after_block, after_line, at_entry, block_at, cursor_by, line_of_block, levels_after}
-use Rattle.gen_core.proofs.TextLines.{levels_read, margin-sum, two_some, two_none, strip_prefix-append}
+use Rattle.gen_core.proofs.TextLines.{levels_read, margin-sum, two_some, two_none}
 
 -- a block and the lines after it
 abbrev pub Split : Type 0

@@ -2,17 +2,19 @@
 use Rattle.std.proofs.Common.{◌≡◌, ◌≢◌, ℕ, zero, suc, ◌+◌, ◌≤◌, ◌<◌, ◌^◌, Bool, true, false, cond, ◌&&◌, List, [], ◌∷◌, ◌++◌, length, take, Option, Some, None, Ok, Err, refl, sym, ap, subst, ◌∙◌, append_assoc, arith, inl, inr, lit<}
 use Rattle.std.specs.Prelude.{codes, bytes_eq, map}
 use Rattle.std.proofs.lemmas.List.{append-nil, length-append, take-append-le}
+use Rattle.std.proofs.lemmas.Bool.{and_parts}
 use Rattle.adb_view.specs.Plain.{Plain, Plains, null, int, blob, arr, obj, none, more, keep, without_last_nulls, Shape, number, text, hash, array, object, Fields, no_fields, field, IsNormal, AreNormal}
 use Rattle.adb_view.specs.Shaped.{Each, HasShape, HaveShapes}
 use Rattle.adb_view.proofs.FoundShapes.{shape_null}
 use Rattle.base_core.specs.Lists.{and_then}
+use Rattle.base_core.proofs.AtName.{is_name}
 use Rattle.adb_dump.specs.Dump.{Line, int_line, text_line, hash_line, indent, with_dash, or_null, array_lines, block_lines, named_line, named_block, named_lines, fields_lines, unless_absent}
 use Rattle.adb_dump.specs.Values.{IsOfBytes, AreOfBytes}
 use Rattle.adb_dump.specs.ReadBack.{LinesRead, after_lines, strip_prefix, stop_or_add, split_block, only_line, entry_read, after_dash, entries_read, arr_read, obj_read, field_on_line, field_below, if_form, if_named, block_read, named_read, fields_read, int_read, text_read, hash_read}
-use Rattle.adb_dump.proofs.Booleans.{and_true, chosen, bytes_eq-true}
-use Rattle.adb_dump.proofs.ReadOnly.{block_only, Fits1}
+use Rattle.adb_dump.proofs.Booleans.{chosen}
+use Rattle.adb_dump.proofs.ReadOnly.{block_only, Fits1, strip_prefix_some, keeps, or_null-is}
+use Rattle.adb_dump.proofs.BlockLines.{no_lines}
 use Rattle.gen_core.specs.Reads.{line_read}
-use Rattle.gen_core.proofs.TextLines.{strip_prefix_some}
 use Rattle.gen_core.proofs.Reading.{HasOneLine}
 use Rattle.gen_core.proofs.Entries.{split_count}
 use Rattle.gen_core.proofs.ReadBytes.{block_bytes}
@@ -94,13 +96,6 @@ unfolding IsNormal HasShape IsOfBytes
 no_more_fit no_fields = record { trim = refl; normal = tt; shapes = tt; bytes = tt }
 no_more_fit (field name s fs) = record { trim = refl; normal = tt; shapes = tt; bytes = tt }
 
-keeps : (v : Plain) (us : Plains) → v ≢ null → keep v us ≡ more v us
-keeps null us ne = absurd (ne refl)
-keeps (int n) us ne = refl
-keeps (blob b) us ne = refl
-keeps (arr a) us ne = refl
-keeps (obj a) us ne = refl
-
 more_fit : (name : List ℕ) (s : Shape) (fs : Fields) (v : Plain) (vs : Plains) → Fit s v → FieldsFit fs vs → FieldsFit (field name s fs) (more v vs)
 unfolding IsNormal HasShape IsOfBytes
 more_fit name s fs v vs f g = record { trim = ap (keep v) g.trim ∙ keeps v vs f.some; normal = (f.normal, g.normal); shapes = (f.shape, g.shapes); bytes = (f.bytes, g.bytes) }
@@ -178,7 +173,7 @@ sample text h = text_sample
 sample hash h = hash_sample
 sample (array s) h = array_sample s
 sample (object which no_fields) h = absurd cc
-sample (object which (field name s fs)) h = object_sample which name s fs (sample s (and_true (has_samples s) (have_samples fs) h).0)
+sample (object which (field name s fs)) h = object_sample which name s fs (sample s (and_parts (has_samples s) (have_samples fs) h).0)
 
 -- ---- completed lines
 
@@ -233,13 +228,6 @@ record EntryCompleted (s : Shape) (ls : List Line) (k : ℕ) : Type 0 where
   rest : List Line
   lines : or_null value (block_lines s value) ≡ take k ls ++ rest
 
-or_null-is : (v : Plain) (ls : List Line) → v ≢ null → or_null v ls ≡ ls
-or_null-is null ls ne = absurd (ne refl)
-or_null-is (int n) ls ne = refl
-or_null-is (blob b) ls ne = refl
-or_null-is (arr a) ls ne = refl
-or_null-is (obj a) ls ne = refl
-
 -- lines before the bad one can be completed
 abbrev pub Completes : Shape → Type 0
 Completes s = (ls : List Line) (k : ℕ) → block_read s ls ≡ Err k → Completed s ls k
@@ -247,7 +235,7 @@ Completes s = (ls : List Line) (k : ℕ) → block_read s ls ≡ Err k → Compl
 entry_completed : (s : Shape) → Completes s → (l : Line) (ls : List Line) (k : ℕ) → entry_read (block_read s) l ls ≡ Err k → EntryCompleted s (l ∷ ls) k
 entry_completed s h l ls k e =
     elim (chosen (bytes_eq l (codes "null")) _ _ _ e) [
-      | inl x ↦ at_null ls (bytes_eq-true l (codes "null") x.0) x.1
+      | inl x ↦ at_null ls (is_name l (codes "null") x.0) x.1
       | inr x ↦
           let c = h (l ∷ ls) k x.1 in
           record { value = c.value; fit = as_entry s c.value c.fit; count = c.count; rest = c.rest; lines = or_null-is c.value (block_lines s c.value) c.fit.some ∙ c.lines }
@@ -263,7 +251,7 @@ entry_completed s h l ls k e =
 entry_there : (s : Shape) (l : Line) (ls : List Line) (v : Plain) → entry_read (block_read s) l ls ≡ Ok v → (or_null v (block_lines s v) ≡ l ∷ ls) × EntryFit s v
 entry_there s l ls v e =
     elim (chosen (bytes_eq l (codes "null")) _ _ _ e) [
-      | inl x ↦ at_null ls (bytes_eq-true l (codes "null") x.0) x.1
+      | inl x ↦ at_null ls (is_name l (codes "null") x.0) x.1
       | inr x ↦
           let f = read_fit s (l ∷ ls) v x.1 in
           (or_null-is v (block_lines s v) f.some ∙ (block_only s (l ∷ ls) v x.1).0, as_entry s v f)
@@ -374,11 +362,6 @@ pub record FieldsCompleted (fs : Fields) (ls : List Line) (k : ℕ) : Type 0 whe
   pub rest : List Line
   pub lines : fields_lines fs values ≡ take k ls ++ rest
 
-no_lines : (fs : Fields) → fields_lines fs none ≡ []
-unfolding fields_lines
-no_lines no_fields = refl
-no_lines (field name s fs) = refl
-
 no_field : (fs : Fields) (ls : List Line) (k : ℕ) → k ≡ 0 → FieldsCompleted fs ls k
 no_field fs ls k e = subst (λ (n : ℕ). FieldsCompleted fs ls n) (sym e) (record { values = none; fit = no_more_fit fs; count = omega arith; rest = []; lines = no_lines fs })
 
@@ -482,7 +465,7 @@ on_line_completed name s fs form read h fits next l rest ls k here e = go (strip
         by_value None e = absurd cc
         by_value (Some u) e =
             elim (chosen (bytes_eq (form u) word) _ _ _ e) [
-              | inl x ↦ let f = x.1 in let same : u ≡ v = cc in ap form (sym same) ∙ bytes_eq-true (form u) word x.0
+              | inl x ↦ let f = x.1 in let same : u ≡ v = cc in ap form (sym same) ∙ is_name (form u) word x.0
               | inr x ↦ absurd (let f = x.1 in cc)
             ]
 
@@ -583,7 +566,7 @@ hash_one ls = refl
 
 fields_have : (name : List ℕ) (s : Shape) (fs : Fields) → have_samples (field name s fs) ≡ true → (has_samples s ≡ true) × (have_samples fs ≡ true)
 unfolding has_samples
-fields_have name s fs h = and_true (has_samples s) (have_samples fs) h
+fields_have name s fs h = and_parts (has_samples s) (have_samples fs) h
 
 object_has : (which : ℕ) (fs : Fields) → has_samples (object which fs) ≡ true → have_samples fs ≡ true
 unfolding has_samples

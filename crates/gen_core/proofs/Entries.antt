@@ -2,18 +2,18 @@
 use Rattle.std.proofs.Common.{◌≡◌, ◌≢◌, ℕ, zero, suc, ◌+◌, ◌<◌, ◌≤◌, Bool, true, false, cond, List, [], ◌∷◌, ◌++◌, length, drop, Option, Some, None, Result, Ok, Err, refl, sym, ap, subst, ◌∙◌, append_assoc, arith, inl, inr}
 use Rattle.std.specs.Prelude.{codes, bytes_eq, OnOk, IfErr}
 use Rattle.std.proofs.lemmas.List.{length-append}
-use Rattle.adb_view.specs.Plain.{Plain, Plains, null, none, more, arr, obj, arr_value, obj_value, obj_of, without_last_nulls, Shape, number, text, hash, array, object, Fields, no_fields, field}
+use Rattle.adb_view.specs.Plain.{Plain, Plains, null, none, more, arr, obj, arr_value, obj_value, obj_of, without_last_nulls, Shape, number, text, hash, array, object, Fields}
 use Rattle.adb_values.specs.Drafts.{DraftState, draft_with, draft_with_all, draft_with_open_list}
 use Rattle.base_core.specs.Lists.{and_then}
-use Rattle.adb_dump.specs.Dump.{Line, fields_lines}
+use Rattle.adb_dump.specs.Dump.{Line}
 use Rattle.adb_dump.specs.Margin.{margin}
 use Rattle.adb_dump.specs.ReadBack.{LinesRead, after_lines, strip_prefix, stop_or_add, split_block, with_line, only_line, entry_read, after_dash, entries_read, arr_read, obj_read, field_on_line, field_below, if_named, block_read, named_read, fields_read}
 use Rattle.adb_dump.proofs.Booleans.{chosen}
-use Rattle.adb_dump.proofs.ReadOnly.{FieldsOnly, fields_only}
+use Rattle.adb_dump.proofs.ReadOnly.{FieldsOnly, fields_only, some_line as no_line}
+use Rattle.adb_dump.proofs.ValueBack.{strip_prefix-append}
 use Rattle.gen_core.specs.Cursors.{CursorState, after_block, after_line, at_entry, block_at, cursor_by, line_of_block, levels_after}
 use Rattle.gen_core.specs.Reads.{Read, block_taken, end_read, entry_block_read, is_null_line, line_read, line_taken, values_taken, IsTextFault}
 use Rattle.gen_core.specs.declared.generate.GenFault.{GenFault}
-use Rattle.gen_core.proofs.TextLines.{strip_prefix-append}
 use Rattle.gen_core.proofs.Blocks.{FirstLine, Inner, Split, first_line, inner_block, no_block}
 use Rattle.gen_core.proofs.Reading.{Answers, CountsOnlyRise, Reading, bad_at, later_values, place_ends, taken}
 
@@ -251,11 +251,6 @@ some_entries f (l ∷ ls) line e = go (strip_prefix (codes "- ") l)
 pub array_made : (f : List Line → LinesRead Plain) (ls : List Line) (line : Line) → Some line ≡ line_of_block ls → (vs : Plains) → entries_read f (length ls) ls ≡ Ok vs → arr_read vs ≡ Ok (arr_value vs)
 array_made f ls line e none is = absurd (some_entries f ls line e is)
 array_made f ls line e (more v vs) is = refl
-
-pub no_line : (fs : Fields) (l : Line) (ls : List Line) → fields_lines fs none ≢ l ∷ ls
-unfolding fields_lines
-no_line no_fields l ls e = absurd cc
-no_line (field name s fs) l ls e = absurd cc
 
 pub object_made : (fs : Fields) (ls : List Line) (line : Line) → Some line ≡ line_of_block ls → (vs : Plains) → fields_read fs ls ≡ Ok vs → obj_read vs ≡ Ok (obj_value vs)
 object_made fs [] line e vs is = absurd cc

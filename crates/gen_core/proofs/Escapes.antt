@@ -2,12 +2,12 @@
 use Rattle.std.proofs.Common.{◌≡◌, ◌≢◌, ℕ, zero, suc, ◌+◌, ◌-◌, ◌*◌, ◌/◌, ◌%◌, ◌<◌, ◌≤◌, Bool, true, false, cond, eqb, leb, ◌&&◌, List, [], ◌∷◌, ◌++◌, length, get_or, Option, Some, None, lit<, refl, sym, ap, subst, ◌∙◌, append_assoc, arith, inl, inr, ◌⊎◌}
 use Rattle.std.specs.Prelude.{codes, not, ◌||◌, slice_index, option_map}
 use Rattle.std.specs.List.{flat_map, AllByRecursion}
-use Rattle.std.proofs.lemmas.Bool.{cases_lt, eqb-true, leb-true}
+use Rattle.std.proofs.lemmas.Bool.{cases_lt, eqb-true, leb-true, not-true, and_parts}
 use Rattle.std.proofs.lemmas.List.{append-nil}
 use Rattle.std.proofs.lemmas.List.Concat.{flat_map-cons}
 use Rattle.hex.specs.Hex.{encode_with, encode_lower, lower_digits}
 use Rattle.adb_dump.specs.Dump.{is_printable, escape_of, begins_with_byte, is_bare, text_form}
-use Rattle.adb_dump.proofs.Booleans.{and_true, not_true, chosen}
+use Rattle.adb_dump.proofs.Booleans.{chosen}
 use Rattle.adb_dump.proofs.LineBack.{AreBytes}
 use Rattle.gen_core.specs.Reads.{IsFormOf}
 use Rattle.gen_core.specs.Quoted.{FirstByte, hex_digit_value, byte_of_digits, hex_byte_at, if_only_hex, escaped_at, unescaped_at}
@@ -21,7 +21,7 @@ all_below test (suc n) = test n && all_below test n
 below : (test : ℕ → Bool) (n k : ℕ) → all_below test n ≡ true → k < n → test k ≡ true
 below test zero k h lt = absurd (omega arith)
 below test (suc n) k h lt =
-    let a = and_true (test n) (all_below test n) h in
+    let a = and_parts (test n) (all_below test n) h in
     elim (cases_lt k n) [
       | inl less ↦ below test n k a.1 less
       | inr top ↦ let e : k ≡ n = omega arith in subst (λ (x : ℕ). test x ≡ true) (sym e) a.0
@@ -50,7 +50,7 @@ pub digit_some : (c n : ℕ) → hex_digit_value c ≡ Some n → (n < 16) × (s
 digit_some c n e =
     elim (chosen (leb 0x30 c && leb c 0x39) _ _ _ e) [
       | inl x ↦
-          let t = and_true (leb 0x30 c) (leb c 0x39) x.0 in
+          let t = and_parts (leb 0x30 c) (leb c 0x39) x.0 in
           let low : 0x30 ≤ c = leb-true _ _ t.0 in
           let high : c ≤ 0x39 = leb-true _ _ t.1 in
           let is : c - 0x30 ≡ n = (let f = x.1 in cc) in
@@ -60,7 +60,7 @@ digit_some c n e =
       | inr x ↦
           elim (chosen (leb 0x61 c && leb c 0x66) _ _ _ x.1) [
             | inl y ↦
-                let t = and_true (leb 0x61 c) (leb c 0x66) y.0 in
+                let t = and_parts (leb 0x61 c) (leb c 0x66) y.0 in
                 let low : 0x61 ≤ c = leb-true _ _ t.0 in
                 let high : c ≤ 0x66 = leb-true _ _ t.1 in
                 let is : c - 0x57 ≡ n = (let f = y.1 in cc) in
@@ -201,7 +201,7 @@ first_some (c ∷ cs) b e =
     ]
   where
     small : (c : ℕ) → is_printable c ≡ true → c < 256
-    small c p = let le : c ≤ 0x7e = leb-true _ _ (and_true (leb 0x20 c) (leb c 0x7e) p).1 in omega (arith, le)
+    small c p = let le : c ≤ 0x7e = leb-true _ _ (and_parts (leb 0x20 c) (leb c 0x7e) p).1 in omega (arith, le)
 
     as_it_is : (c : ℕ) (cs : List ℕ) → eqb c 92 ≡ false → eqb c 34 ≡ false → is_printable c ≡ true → escape_of c ++ cs ≡ c ∷ cs
     as_it_is c cs e f p = let end : eqb c 10 ≡ false = no_end (eqb c 10) refl in rw (end, e, f, p) refl
@@ -364,9 +364,9 @@ hash_form bytes rest line false r some stop e = λ other b ne f.
 -- a text that stands as it is does not begin with a quote
 bare_unquoted : (b quoted : List ℕ) → is_bare b ≡ true → b ≢ 34 ∷ quoted
 bare_unquoted b quoted bare is =
-    let four = and_true _ _ bare in
-    let three = and_true _ _ four.0 in
-    let quote : begins_with_byte 34 b ≡ false = not_true _ three.1 in
+    let four = and_parts _ _ bare in
+    let three = and_parts _ _ four.0 in
+    let quote : begins_with_byte 34 b ≡ false = not-true _ three.1 in
     let begins : begins_with_byte 34 (34 ∷ quoted) ≡ true = refl in
     let same = ap (begins_with_byte 34) is in
     absurd cc

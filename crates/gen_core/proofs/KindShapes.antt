@@ -1,6 +1,7 @@
 -- Values by their kind.
 use Rattle.std.proofs.Common.{◌≡◌, ◌≢◌, ℕ, Bool, true, false, List, [], ◌∷◌, length, Some, Ok, Err, refl, sym, ap, ◌∙◌}
 use Rattle.std.specs.Prelude.{codes}
+use Rattle.adb_write.proofs.RoundTrip.{blob_value-is}
 use Rattle.adb_view.specs.Plain.{Plain, blob, blob_value, Fields, Shape, number, text, hash, array, object}
 use Rattle.adb_view.specs.Schema.{schema_number, shape_of, shapes_of, table}
 use Rattle.adb_view.specs.Shapes.{object_shape}
@@ -99,13 +100,9 @@ kind_line k kind s l e f = ap (λ (x : Kind). line_read (shape_of x) l) e ∙ ap
 pub object_line : (w : Which) (l : Line) → line_read (shape_of (Obj w)) l ≡ Err 0
 object_line w l = ap (λ (x : Shape). line_read x l) (object_shape w)
 
-pub blob_is : (b : List ℕ) → b ≢ [] → blob_value b ≡ blob b
-blob_is [] ne = absurd (ne refl)
-blob_is (x ∷ xs) ne = refl
-
 -- a text or a hash that was read is written
 pub blob_read_as : (s : Shape) (b c : List ℕ) (l : Line) (old new : DraftState) → line_read s l ≡ Ok (blob b) → b ≢ [] → c ≡ b → new ≡ draft_with (blob_value c) old → (v : Plain) × (line_read s l ≡ Ok v) × (new ≡ draft_with v old)
-blob_read_as s b c l old new read ne same is = (blob b, read, is ∙ ap (λ (x : Plain). draft_with x old) (ap blob_value same ∙ blob_is b ne))
+blob_read_as s b c l old new read ne same is = (blob b, read, is ∙ ap (λ (x : Plain). draft_with x old) (ap blob_value same ∙ blob_value-is b ne))
 
 -- ---- the root
 

@@ -3,14 +3,16 @@ use Rattle.std.proofs.Common.{◌≡◌, ◌≢◌, ℕ, zero, suc, ◌+◌, ◌
 use Rattle.std.specs.Prelude.{codes, decimal, bytes_eq, not, slice_index}
 use Rattle.std.specs.List.{flat_map, list_all}
 use Rattle.std.specs.Str.Parse.{digits_value}
-use Rattle.std.proofs.lemmas.Bool.{cases_lt, eqb-true, leb-true, ltb-true}
+use Rattle.std.proofs.lemmas.Bool.{cases_lt, eqb-true, leb-true, ltb-true, and_parts, ne_eqb}
 use Rattle.std.proofs.lemmas.List.Concat.{flat_map-cons}
 use Rattle.hex.specs.Hex.{encode_with, encode_lower, lower_digits}
+use Rattle.base_core.proofs.AtName.{other_name}
 use Rattle.adb_view.specs.Plain.{Plain, int, blob, number, text, hash}
 use Rattle.adb_dump.specs.Dump.{Line, is_printable, begins_with_byte, is_bare, escape_of, text_form, int_line, text_line, hash_line}
 use Rattle.adb_dump.specs.ReadBack.{LinesRead, hex_value, quoted_read, unhex, blob_read, int_read, text_read, hash_read, if_form}
-use Rattle.adb_dump.proofs.Booleans.{and_true, not_true, chosen, differs, neq-eqb}
+use Rattle.adb_dump.proofs.Booleans.{chosen}
 use Rattle.adb_dump.proofs.LineBack.{AreBytes, int_back, text_back, hash_back, hex_value-digit, unquoted-escaped}
+use Rattle.adb_dump.proofs.ReadOnly.{made_blob_some}
 use Rattle.gen_core.specs.Reads.{IsFormOf, line_read}
 use Rattle.gen_core.proofs.Escapes.{quoted_rest}
 
@@ -27,7 +29,7 @@ number_not_read l other = go (ltb (digits_value 10 l) (2 ^ 64)) refl
 
     go : (b : Bool) → ltb n (2 ^ 64) ≡ b → if_form int_line l (cond b (Some (int n)) None) ≡ Err 0
     go false e = refl
-    go true e = let f : bytes_eq (decimal n) l ≡ false = differs (decimal n) l (other n (ltb-true n (2 ^ 64) e)) in rw f refl
+    go true e = let f : bytes_eq (decimal n) l ≡ false = other_name (decimal n) l (other n (ltb-true n (2 ^ 64) e)) in rw f refl
 
 -- ---- what has a form is of bytes
 
@@ -66,15 +68,15 @@ hash_bytes (c ∷ cs) e =
 -- a number that is no byte, between quotes
 over_escape : (c : ℕ) → 256 ≤ c → escape_of c ≡ codes "\\x" ++ encode_lower (c ∷ [])
 over_escape c le =
-    let a : eqb c 0x0a ≡ false = neq-eqb c 0x0a (λ e. omega (arith, e, le)) in
-    let b : eqb c 0x5c ≡ false = neq-eqb c 0x5c (λ e. omega (arith, e, le)) in
-    let d : eqb c 0x22 ≡ false = neq-eqb c 0x22 (λ e. omega (arith, e, le)) in
+    let a : eqb c 0x0a ≡ false = ne_eqb c 0x0a (λ e. omega (arith, e, le)) in
+    let b : eqb c 0x5c ≡ false = ne_eqb c 0x5c (λ e. omega (arith, e, le)) in
+    let d : eqb c 0x22 ≡ false = ne_eqb c 0x22 (λ e. omega (arith, e, le)) in
     let p : is_printable c ≡ false = unprintable (is_printable c) refl in
     rw (a, b, d, p) refl
   where
     unprintable : (t : Bool) → is_printable c ≡ t → t ≡ false
     unprintable false e = refl
-    unprintable true e = let h : c ≤ 0x7e = leb-true _ _ (and_true (leb 0x20 c) (leb c 0x7e) e).1 in absurd (omega (arith, h, le))
+    unprintable true e = let h : c ≤ 0x7e = leb-true _ _ (and_parts (leb 0x20 c) (leb c 0x7e) e).1 in absurd (omega (arith, h, le))
 
 mapped : (c : ℕ) (o : Option (List ℕ)) (d : ℕ) (ds : List ℕ) → option_map (λ (b : List ℕ). c ∷ b) o ≡ Some (d ∷ ds) → (c ≡ d) × (o ≡ Some ds)
 mapped c None d ds e = absurd cc
@@ -103,8 +105,8 @@ quoted_bytes (c ∷ cs) (suc n) e =
 bare_bytes : (b : List ℕ) → list_all is_printable b ≡ true → AreBytes b
 bare_bytes [] e = tt
 bare_bytes (c ∷ cs) e =
-    let a = and_true (is_printable c) (list_all is_printable cs) e in
-    let le : c ≤ 0x7e = leb-true _ _ (and_true (leb 0x20 c) (leb c 0x7e) a.0).1 in
+    let a = and_parts (is_printable c) (list_all is_printable cs) e in
+    let le : c ≤ 0x7e = leb-true _ _ (and_parts (leb 0x20 c) (leb c 0x7e) a.0).1 in
     (omega (arith, le), bare_bytes cs a.1)
 
 blob_some : (b c : List ℕ) → blob_read b ≡ Some (blob c) → b ≡ c
@@ -119,7 +121,7 @@ pub text_bytes : (b l : List ℕ) → text_read l ≡ Some (blob b) → text_for
 text_bytes b l r e = go (is_bare b) refl
   where
     go : (t : Bool) → is_bare b ≡ t → AreBytes b
-    go true bare = bare_bytes b (and_true _ _ (and_true _ _ (and_true _ _ (and_true _ _ bare).0).0).0).0
+    go true bare = bare_bytes b (and_parts _ _ (and_parts _ _ (and_parts _ _ (and_parts _ _ bare).0).0).0).0
     go false bare =
         let is : text_form b ≡ 34 ∷ quoted_rest b = rw bare refl in
         let read : text_read (34 ∷ quoted_rest b) ≡ Some (blob b) = ap text_read (sym is ∙ e) ∙ r in
@@ -133,23 +135,19 @@ no_blob form l None line k h other = refl
 no_blob form l (Some v) line k h other =
     let (b, is, ne, fits) = h v refl in
     let differ : line v ≢ l = λ e. let f = sym (k b) ∙ ap line (sym is) ∙ e in other b (fits f) ne f in
-    let f : bytes_eq (line v) l ≡ false = differs (line v) l differ in
+    let f : bytes_eq (line v) l ≡ false = other_name (line v) l differ in
     rw f refl
-
-pub made_blob : (b : List ℕ) (v : Plain) → blob_read b ≡ Some v → (v ≡ blob b) × (b ≢ [])
-made_blob [] v e = absurd cc
-made_blob (c ∷ cs) v e = (cc, λ f. cc)
 
 pub some_text : (l : Line) (v : Plain) → text_read l ≡ Some v → (b : List ℕ) × (v ≡ blob b) × (b ≢ [])
 some_text l v e =
     elim (chosen (begins_with_byte 0x22 l) _ _ _ e) [
       | inl x ↦ quoted (quoted_read (length l) (drop 1 l)) x.1
-      | inr x ↦ let m = made_blob l v x.1 in (l, m.0, m.1)
+      | inr x ↦ let m = made_blob_some l v x.1 in (l, m.0, m.1)
     ]
   where
     quoted : (o : Option (List ℕ)) → option_and_then blob_read o ≡ Some v → (b : List ℕ) × (v ≡ blob b) × (b ≢ [])
     quoted None e = absurd cc
-    quoted (Some b) e = let m = made_blob b v e in (b, m.0, m.1)
+    quoted (Some b) e = let m = made_blob_some b v e in (b, m.0, m.1)
 
 pub text_taken : (b : List ℕ) (l : Line) → AreBytes b → IsFormOf text_form true b l → line_read text l ≡ Ok (blob b)
 text_taken b l fits is = subst (λ (x : Line). line_read text x ≡ Ok (blob b)) is.1 (text_back b fits is.0)
@@ -165,4 +163,4 @@ hash_taken b l fits is = subst (λ (x : Line). line_read hash x ≡ Ok (blob b))
 pub hash_not_taken : (b : List ℕ) (l : Line) → IsFormOf encode_lower false b l → line_read hash l ≡ Err 0
 hash_not_taken b l other =
     no_blob encode_lower l (hash_read l) hash_line (λ b. refl)
-    (λ v e. let m = made_blob (unhex l) v e in (unhex l, m.0, m.1, λ f. hash_bytes (unhex l) (ap unhex f))) other
+    (λ v e. let m = made_blob_some (unhex l) v e in (unhex l, m.0, m.1, λ f. hash_bytes (unhex l) (ap unhex f))) other

@@ -4,11 +4,13 @@ use Rattle.std.specs.Prelude.{codes, bytes_eq}
 use Rattle.std.specs.Str.Parse.{digits_value}
 use Rattle.adb_view.specs.Plain.{Plain, Plains, null, int, blob, arr, obj, none, more, Shape, number, text, hash, array, object, Fields, no_fields, field}
 use Rattle.base_core.specs.Lists.{and_then}
+use Rattle.base_core.proofs.AtName.{is_name}
 use Rattle.adb_dump.specs.Dump.{Line, int_line, text_line, hash_line}
 use Rattle.adb_dump.specs.Values.{IsOfBytes, AreOfBytes}
 use Rattle.adb_dump.specs.ReadBack.{LinesRead, after_lines, strip_prefix, split_block, unhex, only_line, entry_read, after_dash, entries_read, arr_read, obj_read, field_on_line, field_below, if_form, if_named, block_read, named_read, fields_read, int_read, text_read, hash_read}
-use Rattle.adb_dump.proofs.Booleans.{chosen, bytes_eq-true}
-use Rattle.gen_core.proofs.LineReads.{hash_bytes, made_blob, some_text, text_bytes}
+use Rattle.adb_dump.proofs.Booleans.{chosen}
+use Rattle.adb_dump.proofs.ReadOnly.{if_form_ok, made_blob_some}
+use Rattle.gen_core.proofs.LineReads.{hash_bytes, some_text, text_bytes}
 
 -- ---- results that are Ok
 
@@ -20,14 +22,6 @@ pub read_after : {A B : Type 0} (n : ℕ) (f : A → B) (r : LinesRead A) (y : B
 read_after n f (Ok x) y e = (x, refl, cc)
 read_after n f (Err k) y e = absurd cc
 
-form_ok : (form : Plain → Line) (l : Line) (o : Option Plain) (v : Plain) → if_form form l o ≡ Ok v → (o ≡ Some v) × (form v ≡ l)
-form_ok form l None v e = absurd cc
-form_ok form l (Some u) v e =
-    elim (chosen (bytes_eq (form u) l) _ _ _ e) [
-      | inl x ↦ let f = x.1 in let same : u ≡ v = cc in (ap Some same, ap form (sym same) ∙ bytes_eq-true (form u) l x.0)
-      | inr x ↦ absurd (let f = x.1 in cc)
-    ]
-
 only_ok : (f : Line → LinesRead Plain) (ls : List Line) (v : Plain) → only_line f ls ≡ Ok v → (l : Line) × (f l ≡ Ok v)
 only_ok f [] v e = absurd cc
 only_ok f (l ∷ []) v e = (l, e)
@@ -38,7 +32,7 @@ only_ok f (l ∷ m ∷ ls) v e = absurd (let (x, a, b) = bound (f l) (λ v. Err 
 pub int_of_bytes : (l : Line) (v : Plain) → if_form int_line l (int_read l) ≡ Ok v → IsOfBytes v
 unfolding IsOfBytes
 int_of_bytes l v e =
-    elim (chosen (ltb (digits_value 10 l) (2 ^ 64)) _ _ _ (form_ok int_line l (int_read l) v e).0) [
+    elim (chosen (ltb (digits_value 10 l) (2 ^ 64)) _ _ _ (if_form_ok int_line l (int_read l) v e).0) [
       | inl x ↦ let is : int (digits_value 10 l) ≡ v = (let f = x.1 in cc) in subst IsOfBytes is tt
       | inr x ↦ absurd (let f = x.1 in cc)
     ]
@@ -46,15 +40,15 @@ int_of_bytes l v e =
 pub text_of_bytes : (l : Line) (v : Plain) → if_form text_line l (text_read l) ≡ Ok v → IsOfBytes v
 unfolding IsOfBytes
 text_of_bytes l v e =
-    let (read, form) = form_ok text_line l (text_read l) v e in
+    let (read, form) = if_form_ok text_line l (text_read l) v e in
     let (b, is, ne) = some_text l v read in
     subst IsOfBytes (sym is) (text_bytes b l (read ∙ ap Some is) (ap text_line (sym is) ∙ form))
 
 pub hash_of_bytes : (l : Line) (v : Plain) → if_form hash_line l (hash_read l) ≡ Ok v → IsOfBytes v
 unfolding IsOfBytes
 hash_of_bytes l v e =
-    let (read, form) = form_ok hash_line l (hash_read l) v e in
-    let m = made_blob (unhex l) v read in
+    let (read, form) = if_form_ok hash_line l (hash_read l) v e in
+    let m = made_blob_some (unhex l) v read in
     subst IsOfBytes (sym m.0) (hash_bytes (unhex l) (ap unhex (ap hash_line (sym m.0) ∙ form)))
 
 -- ---- lists

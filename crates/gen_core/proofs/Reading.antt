@@ -11,7 +11,6 @@ use Rattle.gen_core.specs.Cursors.{CursorState, after_block, after_line, at_entr
 use Rattle.gen_core.specs.Reads.{Read, block_taken, end_read, entry_block_read, is_null_line, line_read, line_taken, values_taken, IsTextFault}
 use Rattle.gen_core.specs.declared.generate.GenFault.{GenFault}
 use Rattle.gen_core.specs.declared.generate.GenFault.TheVariants.{Bad, TooLarge, Memory}
-use Rattle.gen_core.proofs.TextLines.{strip_prefix-append}
 use Rattle.gen_core.proofs.Blocks.{FirstLine, Inner, Split, first_line, inner_block, no_block}
 
 -- a draft and a place

@@ -6,10 +6,10 @@ use Rattle.base_core.specs.Lists.{and_then}
 use Rattle.adb_dump.specs.Dump.{Line, fields_lines, int_line, text_line, hash_line}
 use Rattle.adb_dump.specs.ReadBack.{LinesRead, after_lines, strip_prefix, stop_or_add, split_block, only_line, entry_read, after_dash, entries_read, arr_read, obj_read, field_on_line, field_below, if_form, if_named, block_read, named_read, fields_read, int_read, text_read, hash_read}
 use Rattle.adb_dump.proofs.Booleans.{chosen}
-use Rattle.adb_dump.proofs.ReadOnly.{FieldsOnly, fields_only}
+use Rattle.adb_dump.proofs.ReadOnly.{FieldsOnly, fields_only, some_line}
 use Rattle.gen_core.specs.Reads.{entry_block_read}
 use Rattle.gen_core.proofs.Blocks.{Split}
-use Rattle.gen_core.proofs.Entries.{some_entries, split_count, no_line}
+use Rattle.gen_core.proofs.Entries.{some_entries, split_count}
 
 -- ---- lines that are the same at first
 
@@ -158,7 +158,7 @@ array_stable s h (x ∷ xs) ys k e a =
     ]
 
 pub some_fields : (fs : Fields) (l : Line) (ls : List Line) → fields_read fs (l ∷ ls) ≢ Ok none
-some_fields fs l ls e = no_line fs l ls (fields_only fs (l ∷ ls) none e).lines
+some_fields fs l ls e = some_line fs l ls (fields_only fs (l ∷ ls) none e).lines
 
 object_stable : (which : ℕ) (fs : Fields) → IsStable (fields_read fs) → IsStable (block_read (object which fs))
 unfolding block_read

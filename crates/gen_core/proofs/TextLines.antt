@@ -1,31 +1,20 @@
 -- Prefixes of lines, and the lines of a text.
-use Rattle.std.proofs.Common.{◌≡◌, ◌≢◌, ℕ, zero, suc, ◌+◌, ◌-◌, ◌<◌, ◌≤◌, Bool, true, false, cond, eqb, List, [], ◌∷◌, ◌++◌, length, get_or, take, drop, Option, Some, None, refl, sym, ap, subst, ◌∙◌, append_assoc, arith, inl, inr, ◌⊎◌, eq-eqb}
+use Rattle.std.proofs.Common.{◌≡◌, ◌≢◌, ℕ, zero, suc, ◌+◌, ◌-◌, ◌<◌, ◌≤◌, Bool, true, false, cond, eqb, List, [], ◌∷◌, ◌++◌, length, get_or, take, drop, Option, Some, None, refl, sym, ap, subst, ◌∙◌, append_assoc, arith, ◌⊎◌, eq-eqb}
 use Rattle.std.specs.Prelude.{codes, not, slice_get}
-use Rattle.std.proofs.lemmas.Bool.{eqb-true}
+use Rattle.std.proofs.lemmas.Bool.{eqb-true, ne_eqb}
 use Rattle.std.proofs.lemmas.List.{drop_more}
 use Rattle.adb_dump.specs.Dump.{Line, ends_with_byte}
 use Rattle.adb_dump.specs.Margin.{margin}
 use Rattle.adb_dump.specs.ReadBack.{strip_prefix}
 use Rattle.memchr.specs.Find.{IsFirstByte, is_byte}
-use Rattle.adb_dump.proofs.Booleans.{chosen, neq-eqb}
+use Rattle.adb_schema.proofs.Below.{eqb-sym}
 use Rattle.adb_dump.proofs.Pieces.{ends_some, ends_none}
+use Rattle.adb_dump.proofs.ReadOnly.{strip_prefix_some}
+use Rattle.adb_dump.proofs.ValueBack.{strip_prefix-append}
 use Rattle.gen_core.specs.Generated.{TextLines, lines_with_byte, with_first_byte, text_lines}
 use Rattle.gen_core.specs.Reads.{has_rest}
 
 -- ---- prefixes
-
-pub strip_prefix-append : (p l : List ℕ) → strip_prefix p (p ++ l) ≡ Some l
-strip_prefix-append [] l = refl
-strip_prefix-append (c ∷ cs) l = let t : eqb c c ≡ true = eq-eqb c c refl in rw t (strip_prefix-append cs l)
-
-pub strip_prefix_some : (p l r : List ℕ) → strip_prefix p l ≡ Some r → l ≡ p ++ r
-strip_prefix_some [] l r e = cc
-strip_prefix_some (p ∷ ps) [] r e = absurd cc
-strip_prefix_some (p ∷ ps) (c ∷ cs) r e =
-    elim (chosen (eqb p c) _ _ _ e) [
-      | inl x ↦ let head : p ≡ c = eqb-true _ _ x.0 in let tail = strip_prefix_some ps cs r x.1 in cc
-      | inr x ↦ absurd (let f = x.1 in cc)
-    ]
 
 pub stripped_some : (p l r : List ℕ) → l ≡ p ++ r → Some r ≡ strip_prefix p l
 stripped_some p l r is = sym (ap (strip_prefix p) is ∙ strip_prefix-append p r)
@@ -98,7 +87,7 @@ pub line_found : (t : List ℕ) (k : ℕ) → k < length t → get_or t k 0 ≡ 
 line_found [] k lt is before = absurd (omega arith)
 line_found (c ∷ cs) zero lt is before = let t : eqb c 10 ≡ true = eq-eqb c 10 is in rw t refl
 line_found (c ∷ cs) (suc k) lt is before =
-    let f : eqb c 10 ≡ false = neq-eqb c 10 (before 0 (omega arith)) in
+    let f : eqb c 10 ≡ false = ne_eqb c 10 (before 0 (omega arith)) in
     let more = line_found cs k (omega arith) is (λ q lt. before (suc q) (omega arith)) in
     let e : suc k + 1 ≡ suc (k + 1) = omega arith in
     rw (f, e, more) refl
@@ -106,7 +95,7 @@ line_found (c ∷ cs) (suc k) lt is before =
 pub no_line_found : (t : List ℕ) → ((q : ℕ) → q < length t → get_or t q 0 ≢ 10) → (text_lines t).0 ≡ []
 no_line_found [] before = refl
 no_line_found (c ∷ cs) before =
-    let f : eqb c 10 ≡ false = neq-eqb c 10 (before 0 (omega arith)) in
+    let f : eqb c 10 ≡ false = ne_eqb c 10 (before 0 (omega arith)) in
     let more = no_line_found cs (λ q lt. before (suc q) (omega arith)) in
     rw (f, more) refl
 
@@ -137,20 +126,13 @@ rest_by_end c [] = go (eqb c 10) refl
   where
     go : (b : Bool) → eqb c 10 ≡ b → has_rest (cond {A = TextLines} b ([] ∷ [], []) ([], c ∷ [])).1 ≡ not (eqb 10 c)
     go true e = let is : c ≡ 10 = eqb-true c 10 e in rw is refl
-    go false e = let f : eqb 10 c ≡ false = neq-eqb 10 c (λ is. let t : eqb c 10 ≡ true = eq-eqb c 10 (sym is) in absurd cc) in rw f refl
+    go false e = let f : eqb 10 c ≡ false = ne_eqb 10 c (λ is. let t : eqb c 10 ≡ true = eq-eqb c 10 (sym is) in absurd cc) in rw f refl
 rest_by_end c (d ∷ ds) =
     rest_same c (text_lines (d ∷ ds)).0 (text_lines (d ∷ ds)).1 (λ none. ap has_rest (all_rest (d ∷ ds) none)) ∙ rest_by_end d ds
 
-eqb-comm : (a b : ℕ) → eqb a b ≡ eqb b a
-eqb-comm a b = go (eqb a b) refl
-  where
-    go : (t : Bool) → eqb a b ≡ t → t ≡ eqb b a
-    go true e = sym (eq-eqb b a (sym (eqb-true a b e)))
-    go false e = sym (neq-eqb b a (λ is. let t : eqb a b ≡ true = eq-eqb a b (sym is) in absurd cc))
-
 pub rest_some : (x : ℕ) (t : List ℕ) → slice_get t (length t - 1) ≡ Some x → not (eqb x 10) ≡ has_rest (text_lines t).1
 rest_some x [] e = absurd cc
-rest_some x (c ∷ cs) e = ap not (eqb-comm x 10 ∙ sym (ends_some 10 x (c ∷ cs) e)) ∙ sym (rest_by_end c cs)
+rest_some x (c ∷ cs) e = ap not (eqb-sym x 10 ∙ sym (ends_some 10 x (c ∷ cs) e)) ∙ sym (rest_by_end c cs)
 
 -- ---- lines that a search found
 

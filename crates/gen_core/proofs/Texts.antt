@@ -1,21 +1,22 @@
 -- The lines of a text, and the text of lines.
-use Rattle.std.proofs.Common.{◌≡◌, ◌≢◌, ℕ, ◌+◌, Bool, true, false, cond, eqb, List, [], ◌∷◌, ◌++◌, length, Option, Some, None, Result, Ok, Err, refl, sym, ap, subst, ◌∙◌, append_assoc, arith, inl, inr}
-use Rattle.std.specs.Prelude.{codes, option_map, bytes_eq, IsSome, find}
+use Rattle.std.proofs.Common.{◌≡◌, ◌≢◌, ℕ, ◌+◌, Bool, true, false, cond, eqb, List, [], ◌∷◌, ◌++◌, length, Option, Some, None, Result, Ok, Err, refl, sym, ap, subst, ◌∙◌, arith, inl, inr}
+use Rattle.std.specs.Prelude.{option_map, bytes_eq, IsSome, find}
 use Rattle.std.specs.List.{flat_map}
 use Rattle.std.proofs.lemmas.Bool.{eqb-true}
 use Rattle.std.proofs.lemmas.List.{append-nil}
-use Rattle.std.proofs.lemmas.List.Concat.{flat_map-cons}
 use Rattle.hex.specs.Hex.{encode_with}
 use Rattle.adb_view.specs.Plain.{Plain, null}
 use Rattle.adb_view.specs.declared.tables.Which.{Which}
 use Rattle.adb_view.specs.declared.tables.Which.TheVariants.{Dep, Acl, PkgInfo, File, Dir, Scripts, Package, Index, Idb, Intent}
 use Rattle.adb_schema.specs.Soundness.{schema_word}
 use Rattle.base_core.specs.Lists.{and_then}
+use Rattle.base_core.proofs.AtName.{is_name}
 use Rattle.adb_dump.specs.Dump.{Line, dump_lines, dump_text, schema_line, text_of, value_lines}
 use Rattle.adb_dump.specs.ReadBack.{LinesRead, add_char, split_lines, value_read}
 use Rattle.adb_dump.specs.Values.{IsOfBytes, IsValueOf}
-use Rattle.adb_dump.proofs.Booleans.{bytes_eq-same, bytes_eq-true, chosen}
+use Rattle.adb_dump.proofs.Booleans.{chosen}
 use Rattle.adb_dump.proofs.ValueLaws.{only_values, read_back, text_split}
+use Rattle.adb_dump.proofs.TextLines.{line_first}
 use Rattle.adb_view.specs.Schema.{shape_of}
 use Rattle.adb_view.specs.declared.tables.Kind.TheVariants.{Obj}
 use Rattle.gen_core.specs.Dumps.{IsRootValue}
@@ -23,9 +24,6 @@ use Rattle.gen_core.proofs.ReadBytes.{block_bytes}
 use Rattle.gen_core.specs.Generated.{DumpedRoot, TextLines, dumped_root, root_of_lines, root_of_table, root_read, root_tables, table_of_line, text_lines, unless_rest, lines_with_byte, with_first_byte}
 
 -- ---- lines and texts
-
-line_first : (l : Line) (ls : List Line) → text_of (l ∷ ls) ≡ l ++ 10 ∷ text_of ls
-line_first l ls = flat_map-cons (λ (x : Line). x ++ codes "\n") l ls ∙ append_assoc l (10 ∷ []) (text_of ls)
 
 -- a text has its lines, and after them the rest
 pub text_of_lines : (t : List ℕ) → text_of (text_lines t).0 ++ (text_lines t).1 ≡ t
@@ -109,7 +107,7 @@ root_of_line l w e =
     named : (r : Which) → IsSome (schema_word r) → bytes_eq l (schema_line (schema_word r)) ≡ true → Some r ≡ Some w → NamesRoot l w
     named r some t e =
         let same : r ≡ w = cc in
-        subst (λ (x : Which). NamesRoot l x) same (record { root = some; line = sym (bytes_eq-true l (schema_line (schema_word r)) t) })
+        subst (λ (x : Which). NamesRoot l x) same (record { root = some; line = sym (is_name l (schema_line (schema_word r)) t) })
 
 -- ---- the root of a text
 

@@ -54,28 +54,29 @@ pub record EndsAsStated (command : CommandLine) (files : Files) (o : Outcome) : 
 
 -- what is promised of a run that begins in the state v, apart from the ignored names
 pub record IsAsPromised (ignored : List ℕ → Bool) (v : TreeState) (run : Run) : Type 0 where
-  -- if the run ended, or was stopped at any moment, also inside a call, the root recovers to a state
-  -- from before the run, or to that of its outcome, which commits
+  -- Suppose that the run ended, or was stopped at any moment, also inside a call. The root then recovers
+  -- to a state from before the run, or to that of its outcome, which commits.
   pub moments : (m : TreeState) → IsStopOf run m
       → RootRecoversTo (λ names. HasStateBeforeOrOutcome names v run) ignored m
-  -- the state from before is that of the files as read, if each crash before the run left that one
+  -- Suppose that each crash before the run left the state of the files as read. The root then recovers
+  -- to this state, or to that of the outcome, which commits.
   pub one : EachCrashLeaves ignored (files_of v) v → (m : TreeState) → IsStopOf run m
       → RootRecoversTo (λ names. HasOldOrOutcome names v run) ignored m
-  -- once the outcome is answered (Ok, a refusal, or a fault of an output stream), the root recovers to
-  -- its state, if it makes that durable: it commits, or each crash left the state as read before, or an
-  -- intent was found
+  -- Suppose that the run answered by its outcome: Ok, a refusal, or a fault of an output stream. The root
+  -- then recovers to the outcome's state, if this is made durable: the outcome commits, or each crash
+  -- before the run left the state of the files as read, or an intent was found.
   pub answered : AnswersOutcome run.answer → (o : Outcome) → IsOutcomeFrom v run o
       → MakesDurable (effect_by (command_of run.words)) ignored v o
       → HoldsNow run.now (RootRecoversTo (λ names. HasStateOf names o.files) ignored)
-  -- the root recovers to a state from before the run, if it is refused, is out of memory, or commits
-  -- nothing
+  -- If the run is refused, runs out of memory, or commits nothing, the root recovers to a state from
+  -- before the run.
   pub left : IsRunWithoutCommit v run → (m : TreeState) → IsStopOf run m
       → RootRecoversTo (λ names. HasStateBefore names v) ignored m
-  -- the answer, the printed bytes and the files left are the outcome's; or the run reports a fault of
-  -- the tree or of an output stream, with its cause, or that it is out of memory
+  -- The answer, the printed bytes and the files left are the outcome's; or the run reports a fault of
+  -- the tree or of an output stream, with its cause, or that it is out of memory.
   pub answer : IsAnswerOf (IsOutcomeFrom v run) (LeavesFiles run.now)
       (HasCause run.before run.after) run.answer run.out run.err
-  -- a run that changes the installed packages ends in one of the stated ways
+  -- A run that changes the installed packages ends in one of the stated ways (*EndsAsStated*).
   pub change : (command : CommandLine) (o : Outcome) → command_of run.words ≡ Ok command
       → effect_of command.applet ≡ Changes → IsOutcomeFrom v run o
       → EndsAsStated command (files_of v) o

@@ -1,7 +1,7 @@
 mod Found
 mod LineSteps
-mod Listers
+pub mod Listers
 mod NoName
 mod OperandSteps
-mod Refusing
+pub mod Refusing
 mod Worked

@@ -8,13 +8,12 @@ use Rattle.std.specs.List.{cons_option, filter_map, flat_map}
 use Rattle.std.specs.Option.{option_map_or}
 use Rattle.std.proofs.lemmas.Grind.{flat_map-append}
 use Rattle.std.proofs.lemmas.List.{map-append}
+use Rattle.base_core.proofs.Texts.{joined}
+use Rattle.adb_fields.proofs.Listed.{next_listed}
 use Rattle.dep_core.specs.Dependency.{Dependency}
 use Rattle.dep_core.specs.DependencyText.{dep_text}
 use Rattle.candidate_core.specs.Candidates.{dependencies_of, dependency_in}
 use Rattle.report_core.specs.Reports.{report_line, report_lines}
-
-pub joined : (r r1 r2 a b : List ℕ) → r1 ≡ r ++ a → r2 ≡ r1 ++ b → r2 ≡ r ++ (a ++ b)
-joined r r1 r2 a b e1 e2 = e2 ∙ (ap (λ z. z ++ b) e1 ∙ append_assoc r a b)
 
 pub append_nothing : {X : Type 0} (xs : List X) → xs ++ [] ≡ xs
 append_nothing [] = refl
@@ -76,24 +75,11 @@ nothing_left [] i h = nothing i
 nothing_left (x ∷ xs) zero h = absurd (omega arith)
 nothing_left (x ∷ xs) (suc i) h = nothing_left xs i (omega arith)
 
--- of the entries of an array
-pub entry_left : (vs : Plains) (i : ℕ) → i < count_of vs → drop i (list_of vs) ≡ nth vs i ∷ drop (i + 1) (list_of vs)
-entry_left none i h = absurd (omega arith)
-entry_left (more v vs) zero h = refl
-entry_left (more v vs) (suc i) h =
-    let next : suc (i + 1) ≡ suc i + 1 = omega arith in
-    entry_left vs i (omega arith) ∙ ap (λ n. nth vs i ∷ drop n (list_of (more v vs))) next
-
-pub no_entry_left : (vs : Plains) (i : ℕ) → count_of vs ≤ i → drop i (list_of vs) ≡ []
-no_entry_left none i h = nothing i
-no_entry_left (more v vs) zero h = absurd (omega arith)
-no_entry_left (more v vs) (suc i) h = no_entry_left vs i (omega arith)
-
 -- ---- the lines of what is left
 
 pub folder_left : (vs : Plains) (i : ℕ) → i < count_of vs → report_lines (flat_map paths_under (drop i (list_of vs))) ≡ report_lines (paths_under (nth vs i)) ++ report_lines (flat_map paths_under (drop (i + 1) (list_of vs)))
 folder_left vs i h =
-    ap (λ z. report_lines (flat_map paths_under z)) (entry_left vs i h)
+    ap (λ z. report_lines (flat_map paths_under z)) (next_listed vs i h)
     ∙ flat_map-append report_line (paths_under (nth vs i)) (flat_map paths_under (drop (i + 1) (list_of vs)))
 
 -- the lines of the dependencies among some entries
@@ -106,7 +92,7 @@ one_dependency (Some d) ds = refl
 
 pub dependency_left : (vs : Plains) (i : ℕ) → i < count_of vs → dependency_lines (drop i (list_of vs)) ≡ option_map_or (λ d. report_line (dep_text d)) (dependency_in (nth vs i)) [] ++ dependency_lines (drop (i + 1) (list_of vs))
 dependency_left vs i h =
-    ap dependency_lines (entry_left vs i h)
+    ap dependency_lines (next_listed vs i h)
     ∙ one_dependency (dependency_in (nth vs i)) (filter_map dependency_in (drop (i + 1) (list_of vs)))
 
 pub dependencies_listed : (vs : Plains) → filter_map dependency_in (list_of vs) ≡ dependencies_of vs

@@ -27,7 +27,7 @@ refused_is form packages (o ∷ operands) refusal e =
     go true e later = behind o operands refusal (later e)
     go false e later = let is : refusal ≡ NotInstalled o.place = cc in (o, inl refl, is)
 
-unless_err : (refused : Option Refusal) (report : List ℕ) (refusal : Refusal) → info_unless refused report ≡ Err refusal → refused ≡ Some refusal
+pub unless_err : (refused : Option Refusal) (report : List ℕ) (refusal : Refusal) → info_unless refused report ≡ Err refusal → refused ≡ Some refusal
 unless_err None report refusal e = absurd cc
 unless_err (Some r) report refusal e = cc
 

@@ -3,15 +3,17 @@ use Rattle.std.proofs.Common.{◌≡◌, ◌||◌, ◌⊎◌, ◌≢◌, inl, in
 use Rattle.std.proofs.Math.Nat.{eq-or-lt_of_le}
 use Rattle.std.specs.List.{list_any}
 use Rattle.std.specs.Str.{bytes_eq}
+use Rattle.std.proofs.lemmas.Bool.{or_right}
 use Rattle.base_core.specs.Files.{Files, NameMap, drop_name, move_name}
 use Rattle.base_core.specs.Tree.{TreeState, File, bytes_at, files_by, files_of, with_names, move_at, remove_at, after_remove, after_rename, after_sync_names}
 use Rattle.base_core.specs.Undone.{IsDurable, IsCrashImage, IsCrashMap, with_change}
 use Rattle.base_core.proofs.Undone.{change_whole, left_only, read_may_be_left}
+use Rattle.base_core.proofs.AtName.{same_name, name_cases, off_name}
 use Rattle.journal_core.specs.Recovery.{Intent, IsStagedNameOf, EachCrashLeaves, StateDependsOn, intent_name, intent_at, intent_of, is_hidden, move_if, recovered_files, stage_name, state_of, without_names}
 use Rattle.journal_core.specs.Quiet.{StateIsUnchanged}
 use Rattle.journal_core.specs.Staged.{Staging, AreActionsDone, IsActing, IsNeeded, NeededNamesLast, action_count}
 use Rattle.journal_core.proofs.Changes.{change_dropped, change_moved, left_here, synced_left}
-use Rattle.journal_intent.proofs.AtName.{name_cases, same_name, off_name, put_name-off, drop_name-at, drop_name-off}
+use Rattle.journal_intent.proofs.AtName.{put_name-off, drop_name-at, drop_name-off}
 use Rattle.journal_core.proofs.Images.{CrashLaws, quiet_by_maps, quiet_on, settled_by_maps}
 use Rattle.journal_core.proofs.Simulate.{rests_same}
 use Rattle.journal_intent.proofs.StageNames.{stage_names_apart, stage_name_no_intent}
@@ -96,14 +98,10 @@ free_at [] i name free at = absurd (cc)
 free_at (n ∷ ns) zero name free at = let same : n ≡ name = cc in subst IsFreeName same free.0
 free_at (n ∷ ns) (suc i) name free at = free_at ns i name free.1 at
 
-or_true : (a b : Bool) → b ≡ true → (a || b) ≡ true
-or_true true b e = refl
-or_true false b e = e
-
 pub among_at : (names : List (List ℕ)) (i : ℕ) (name : List ℕ) → slice_get names i ≡ Some name → IsOneOf name names
 among_at [] i name at = absurd (cc)
 among_at (n ∷ ns) zero name at = let same : n ≡ name = cc in ap (λ b. b || list_any (bytes_eq name) ns) (same_name name n (sym same))
-among_at (n ∷ ns) (suc i) name at = or_true (bytes_eq name n) (list_any (bytes_eq name) ns) (among_at ns i name at)
+among_at (n ∷ ns) (suc i) name at = or_right (bytes_eq name n) (list_any (bytes_eq name) ns) (among_at ns i name at)
 
 pub numbered_at : (names : List (List ℕ)) (k i : ℕ) (name : List ℕ) → AreFreeNames names → HaveNoRepeats names → slice_get names i ≡ Some name → IsNumbered k names (k + i) name
 numbered_at [] k i name free once at = absurd (cc)
@@ -178,7 +176,7 @@ removed_reads_at v r (Some n) some = files-dropped v r
 pub removed_reads : (v : TreeState) (r : List ℕ) → files_of (after_remove r v) ≡ drop_name (files_of v) r
 removed_reads v r = removed_reads_at v r (v.names r) refl
 
-dropped_none : (F : Files) (r q : List ℕ) → F q ≡ None → drop_name F r q ≡ None
+pub dropped_none : (F : Files) (r q : List ℕ) → F q ≡ None → drop_name F r q ≡ None
 dropped_none F r q none = by (bytes_eq q r)
   where
     by : (b : Bool) → cond b None (F q) ≡ None
@@ -375,7 +373,7 @@ module _ (laws : CrashLaws) (stage now : Staging) (files : Files) (v : TreeState
 
 -- ---- all actions are done
 
-among_index : (names : List (List ℕ)) (q : List ℕ) → IsOneOf q names → (i : ℕ) × (slice_get names i ≡ Some q)
+pub among_index : (names : List (List ℕ)) (q : List ℕ) → IsOneOf q names → (i : ℕ) × (slice_get names i ≡ Some q)
 among_index [] q among = absurd (true_false (sym among))
 among_index (n ∷ ns) q among = ⊎_elim
     (λ is. (0, ap Some (sym is)))

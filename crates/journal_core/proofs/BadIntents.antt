@@ -1,5 +1,6 @@
 -- A state shows a bad intent, and no other.
-use Rattle.std.proofs.Common.{◌≡◌, ◌||◌, ℕ, Bool, true, false, List, Option, None, Some, refl, sym, ap, ◌∙◌}
+use Rattle.std.proofs.Common.{◌≡◌, ℕ, Bool, true, false, List, Option, None, Some, refl, sym, ap, ◌∙◌}
+use Rattle.std.proofs.lemmas.Bool.{or_right}
 use Rattle.adb_schema.specs.Soundness.{first_fault, payload_in, root_value}
 use Rattle.adb_view.specs.declared.tables.Which.TheVariants.{Intent as IntentTable}
 use Rattle.base_core.specs.Files.{Files}
@@ -7,10 +8,6 @@ use Rattle.base_core.specs.declared.cause.Cause.{Cause}
 use Rattle.journal_core.specs.Recovery.{Intent, intent_at, intent_in, intent_name, is_staged, read_intent, recovered_files, recovered_files_by, state_of}
 use Rattle.journal_core.specs.Staged.{IsIntentFault}
 use Rattle.journal_core.proofs.Contents.{hidden_state, shown_state}
-
-or_true : (a b : Bool) → b ≡ true → (a || b) ≡ true
-or_true true b e = refl
-or_true false b e = e
 
 module _ (sound : (file : List ℕ) → first_fault IntentTable file ≡ None → read_intent file ≡ Some (intent_in (root_value IntentTable (payload_in file))))
     (other : (file : List ℕ) (cause : Cause) → first_fault IntentTable file ≡ Some cause → read_intent file ≡ None) where
@@ -40,7 +37,7 @@ module _ (sound : (file : List ℕ) → first_fault IntentTable file ≡ None �
   none_shown ignored files none = by (ignored intent_name) refl
     where
       by : (b : Bool) → ignored intent_name ≡ b → state_of ignored files intent_name ≡ None
-      by true hidden = hidden_state ignored files intent_name (or_true (is_staged intent_name) (ignored intent_name) hidden)
+      by true hidden = hidden_state ignored files intent_name (or_right (is_staged intent_name) (ignored intent_name) hidden)
       by false shown = shown_state ignored files intent_name refl shown ∙ none_left files none (files intent_name) refl
 
   none_some : {X : Type 0} (x : X) (o : Option X) → o ≡ Some x → o ≡ None → ⊥

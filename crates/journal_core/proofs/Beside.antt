@@ -3,9 +3,10 @@ use Rattle.std.proofs.Common.{◌≡◌, ◌≢◌, ◌⊎◌, inl, inr, ℕ, �
 use Rattle.std.specs.Str.{bytes_eq}
 use Rattle.base_core.specs.Files.{Files, HasNoFileAsFolder, put_name}
 use Rattle.base_core.specs.Tree.{TreeState, File, bytes_at, CanCreate}
+use Rattle.base_core.proofs.AtName.{name_cases, off_name}
 use Rattle.journal_core.specs.Recovery.{stage_name}
 use Rattle.journal_core.specs.Staged.{Staging, MayBePresent, AreJournalPathsFree, AreStagingPathsFree, IsStaged, with_staged}
-use Rattle.journal_intent.proofs.AtName.{name_cases, put_name-off, off_name}
+use Rattle.journal_intent.proofs.AtName.{put_name-off}
 use Rattle.journal_intent.proofs.StageNames.{stage_names_apart}
 
 -- names that are all acting_stage are folder-like

@@ -10,8 +10,9 @@ use Rattle.journal_core.specs.Quiet.{StateIsUnchanged}
 use Rattle.journal_core.specs.Kept.{IsInNoMap}
 use Rattle.journal_core.specs.Staged.{Staging, HasNoOtherIntent, IsStaged, with_staged}
 use Rattle.base_core.proofs.Undone.{read_may_be_left}
+use Rattle.base_core.proofs.AtName.{name_cases, off_name}
 use Rattle.journal_core.proofs.Changes.{gone_created, gone_synced}
-use Rattle.journal_intent.proofs.AtName.{name_cases, off_name, put_name-at, put_name-off}
+use Rattle.journal_intent.proofs.AtName.{put_name-at, put_name-off}
 use Rattle.journal_intent.proofs.StageNames.{stage_names_apart, stage_name_no_intent}
 use Rattle.journal_core.proofs.Steps.{set_file-at, file_at-set_file, made_later, create_others}
 use Rattle.journal_core.proofs.Waiting.{off_gone, still_created, alone_created, still_changed, alone_changed, others_changed, read_changed}

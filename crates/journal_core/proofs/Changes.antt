@@ -5,8 +5,9 @@ use Rattle.base_core.specs.Files.{NameMap, drop_name, move_name, put_name}
 use Rattle.base_core.specs.Tree.{TreeState, after_create, after_sync_names, remove_at, with_names}
 use Rattle.base_core.specs.Undone.{IsCrashMap, with_change}
 use Rattle.base_core.proofs.Undone.{change_here, change_off, change_on, change_whole, left_only, read_may_be_left}
+use Rattle.base_core.proofs.AtName.{name_cases, off_name}
 use Rattle.journal_core.specs.Kept.{IsInNoMap}
-use Rattle.journal_intent.proofs.AtName.{name_cases, off_name, put_name-at, put_name-off, drop_name-at, drop_name-off}
+use Rattle.journal_intent.proofs.AtName.{put_name-at, put_name-off, drop_name-at, drop_name-off}
 
 -- a name that the change leaves alone leads as before it
 pub left_off : (old new kept m : NameMap) → m ≡ with_change old new kept → (q : List ℕ) → new q ≡ old q → m q ≡ kept q

@@ -12,6 +12,7 @@ use Rattle.base_core.specs.Tree.{TreeState, File, bytes_at, files_of}
 use Rattle.base_core.specs.Calls.{IfObservable, HoldsNow}
 use Rattle.base_core.specs.Crash.{Since}
 use Rattle.base_core.specs.Undone.{IsDurable}
+use Rattle.base_core.proofs.AtName.{is_name, other_name, same_name, name_cases, off_name}
 use Rattle.journal_core.specs.Kept.{RecoversTo}
 use Rattle.journal_core.specs.Recovering.{AllStaged, HasEmptiedStage, IsReplayed, HasRemovedNames, without_staged_names}
 use Rattle.journal_core.specs.Recovery.{Intent, EachCrashLeaves, StateDependsOn, intent_name, intent_at, intent_of, is_staged, recovered_files, recovered_files_by, after_actions, stage_folder, state_of}
@@ -19,7 +20,7 @@ use Rattle.journal_core.specs.Quiet.{StateIsUnchanged}
 use Rattle.journal_core.specs.Staged.{IsEmptyStage, unstaged_files}
 use Rattle.journal_core.proofs.Acts.{state_same, still_on}
 use Rattle.journal_core.proofs.Below.{begins, is_below}
-use Rattle.journal_intent.proofs.AtName.{drop_name-at, name_cases, off_name, other_name, same_name}
+use Rattle.journal_intent.proofs.AtName.{drop_name-at}
 use Rattle.journal_core.proofs.Chain.{by_now, now_both}
 use Rattle.journal_core.proofs.Compose.{settled_quiet}
 use Rattle.journal_core.proofs.Emptied.{KeepsShown}
@@ -36,14 +37,11 @@ all_staged folder names is below = All-weaker (IsNameBelow folder) (λ name. is_
 true_false : true ≡ false → ⊥
 true_false e = cc
 
-same_bytes : (x y : List ℕ) → bytes_eq x y ≡ true → x ≡ y
-same_bytes x y h = ⊎_elim (λ is. is) (λ off. absurd (true_false (sym h ∙ off))) (name_cases x y)
-
 alike : IsEquivalence bytes_eq
 alike = record {
   refl = λ x. same_name x x refl;
   symm = λ x y. ⊎_elim (λ is. same_name x y is ∙ sym (same_name y x (sym is))) (λ off. off ∙ sym (other_name y x (λ e. off_name x y off (sym e)))) (name_cases x y);
-  congr = λ x y z e. ap (λ (w : List ℕ). bytes_eq w z) (same_bytes x y e);
+  congr = λ x y z e. ap (λ (w : List ℕ). bytes_eq w z) (is_name x y e);
 }
 
 any_of : (q : List ℕ) (names : List (List ℕ)) → Contains names q → list_any (bytes_eq q) names ≡ true
@@ -56,7 +54,7 @@ module _ (names : List (List ℕ)) (folder : List ℕ) (folder_is : folder ≡ s
       by : (a : Bool) → list_any (bytes_eq q) names ≡ a → (b : Bool) → is_staged q ≡ b → (o : Option ℕ) → v.names q ≡ o → cond a None o ≡ cond b None o
       by true x true y o z = refl
       by true x false y o z =
-          let at = (listed.each q).0 (Contains-from_any same_bytes q names x) in
+          let at = (listed.each q).0 (Contains-from_any is_name q names x) in
           absurd (true_false (sym (begins stage_folder q (subst (λ (f : List ℕ). IsFolderOf f q) folder_is at.1)) ∙ y))
       by false x true y None z = refl
       by false x true y (Some n) z =
@@ -70,7 +68,7 @@ module _ (names : List (List ℕ)) (folder : List ℕ) (folder_is : folder ≡ s
 pub none_listed : (names : List (List ℕ)) (folder : List ℕ) → folder ≡ stage_folder → (v : TreeState) → IsListOf folder v names → IsEmptyStage v.names → names ≡ []
 none_listed [] folder is v listed none = refl
 none_listed (n ∷ ns) folder is v listed none =
-    let at = (listed.each n).0 (Contains-from_any same_bytes n (n ∷ ns) (ap (λ b. b || list_any (bytes_eq n) ns) (same_name n n refl))) in
+    let at = (listed.each n).0 (Contains-from_any is_name n (n ∷ ns) (ap (λ b. b || list_any (bytes_eq n) ns) (same_name n n refl))) in
     absurd (let gone = none n (begins stage_folder n (subst (λ (f : List ℕ). IsFolderOf f n) is at.1)) in let some = at.0 in cc (gone, some))
 
 -- ---- the calls of the emptying
@@ -166,7 +164,7 @@ empty_shown_none old new same = on_observable old _ (λ v rest is. no_more (Keep
 
 -- ---- what the files as read stand for
 
-none_recovered : (v : TreeState) → v.names intent_name ≡ None → recovered_files (files_of v) ≡ files_of v
+pub none_recovered : (v : TreeState) → v.names intent_name ≡ None → recovered_files (files_of v) ≡ files_of v
 none_recovered v none = ap (λ o. recovered_files_by o (files_of v)) (ap intent_at (ap (bytes_at v.files) none))
 
 same_unstaged : (F G : Files) → recovered_files F ≡ recovered_files G → unstaged_files F ≡ unstaged_files G

@@ -3,24 +3,18 @@ use Rattle.std.proofs.Common.{◌≡◌, ◌≢◌, ◌||◌, ⊎_elim, ℕ, zer
 use Rattle.std.specs.List.{list_any}
 use Rattle.std.specs.Str.{bytes_eq}
 use Rattle.base_core.specs.Files.{Files, drop_name, put_name}
+use Rattle.base_core.proofs.Booleans.{neither_first, neither_second}
+use Rattle.base_core.proofs.AtName.{name_cases, off_name}
 use Rattle.journal_core.specs.Recovery.{Intent, after_actions, after_moves, is_hidden, is_staged, move_if, recovered_files, stage_name, state_of, without_names}
 use Rattle.journal_core.specs.Staged.{with_staged}
 use Rattle.journal_core.proofs.Replayed.{move_if-off, place_not_among}
-use Rattle.journal_intent.proofs.AtName.{name_cases, off_name, put_name-at, put_name-off}
+use Rattle.journal_intent.proofs.AtName.{put_name-at, put_name-off}
 use Rattle.journal_intent.proofs.StageNames.{stage_names_apart, stage_name_staged}
 use Rattle.journal_intent.specs.FreeNames.{AreFreeNames, HaveNoRepeats, HasFreeNames, IsFreeName, IsNoneOf, IsOneOf}
 use Rattle.journal_intent.specs.IntentValue.{intent_of_lists}
 
 true_false : true ≡ false → ⊥
 true_false e = cc
-
-or_left : (a b : Bool) → (a || b) ≡ false → a ≡ false
-or_left true b e = absurd (true_false e)
-or_left false b e = refl
-
-or_right : (a b : Bool) → (a || b) ≡ false → b ≡ false
-or_right true b e = absurd (true_false e)
-or_right false b e = e
 
 -- ---- the state of files
 
@@ -38,8 +32,8 @@ no_place q shown k is = true_false (sym (stage_name_staged k) ∙ sym (ap is_sta
 moves_off : (names : List (List ℕ)) (k : ℕ) (F : Files) (q : List ℕ) → ((j : ℕ) → q ≢ stage_name j) → IsNoneOf q names → after_moves k names F q ≡ F q
 moves_off [] k F q away none = refl
 moves_off (name ∷ names) k F q away none =
-    moves_off names (k + 1) (move_if F (stage_name k) name (F (stage_name k))) q away (or_right (bytes_eq q name) (list_any (bytes_eq q) names) none)
-    ∙ move_if-off F (stage_name k) name (F (stage_name k)) q (away k) (off_name q name (or_left (bytes_eq q name) (list_any (bytes_eq q) names) none))
+    moves_off names (k + 1) (move_if F (stage_name k) name (F (stage_name k))) q away (neither_second (bytes_eq q name) (list_any (bytes_eq q) names) none)
+    ∙ move_if-off F (stage_name k) name (F (stage_name k)) q (away k) (off_name q name (neither_first (bytes_eq q name) (list_any (bytes_eq q) names) none))
 
 pub untouched_others : (intent : Intent) (files : Files) (q : List ℕ) → is_staged q ≡ false → IsNoneOf q intent.removals → IsNoneOf q intent.writes → after_actions intent files q ≡ files q
 untouched_others intent files q shown kept unwritten =

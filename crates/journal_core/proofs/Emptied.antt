@@ -1,8 +1,9 @@
 -- What waits is taken away where no intent is read.
-use Rattle.std.proofs.Common.{◌≡◌, ◌||◌, ◌≢◌, inl, inr, ⊎_elim, ℕ, zero, suc, ◌+◌, ◌≤◌, Bool, true, false, cond, List, [], ◌∷◌, ◌++◌, take, length, slice_get, Option, None, Some, Result, Ok, Err, refl, sym, ap, subst, ◌∙◌, arith}
+use Rattle.std.proofs.Common.{◌≡◌, ◌||◌, ◌≢◌, inl, inr, ⊎_elim, ℕ, zero, suc, ◌≤◌, Bool, true, false, cond, List, [], ◌∷◌, ◌++◌, take, length, slice_get, Option, None, Some, Result, Ok, Err, refl, sym, ap, subst, ◌∙◌, arith}
 use Rattle.std.specs.List.{list_any}
 use Rattle.std.specs.Str.{bytes_eq}
 use Rattle.std.proofs.lemmas.List.Elements.{All-head, All-tail}
+use Rattle.std.proofs.lemmas.List.{take_all as take_whole}
 use Rattle.base_core.specs.Files.{drop_name}
 use Rattle.base_core.specs.Tree.{TreeState, bytes_at, files_by, files_of, remove_at, after_remove, IsAlwaysAllowed}
 use Rattle.base_core.specs.Calls.{IfObservable, HoldsNow, ChangesHistory, IsCounted}
@@ -10,12 +11,13 @@ use Rattle.base_core.specs.Faults.{Counts}
 use Rattle.base_core.specs.Crash.{Since}
 use Rattle.base_core.specs.Undone.{IsDurable}
 use Rattle.base_core.proofs.Undone.{read_may_be_left}
+use Rattle.base_core.proofs.AtName.{name_cases, off_name}
 use Rattle.journal_core.specs.Kept.{IsInNoMap, KeepsFilesExcept}
 use Rattle.journal_core.specs.Recovering.{AllStaged, HasRemovedNames}
 use Rattle.journal_core.specs.Recovery.{StateDependsOn, intent_name, is_staged}
 use Rattle.journal_core.specs.Quiet.{StateIsUnchanged}
 use Rattle.journal_core.proofs.Acts.{still_on}
-use Rattle.journal_intent.proofs.AtName.{name_cases, off_name, drop_name-at, drop_name-off}
+use Rattle.journal_intent.proofs.AtName.{drop_name-at, drop_name-off}
 use Rattle.journal_core.proofs.Chain.{Runs, proper_now, run_begun, run_done, run_failed, step_now}
 use Rattle.journal_core.proofs.History.{History, on_observable, observable_map}
 use Rattle.journal_core.proofs.OneCall.{now_is}
@@ -94,13 +96,6 @@ pub staged_at : (names : List (List ℕ)) (i : ℕ) (name : List ℕ) → AllSta
 staged_at [] i name all at = absurd (cc)
 staged_at (n ∷ ns) zero name all at = let same : n ≡ name = cc in subst (λ (x : List ℕ). is_staged x ≡ true) same (All-head (λ x. is_staged x ≡ true) n ns all)
 staged_at (n ∷ ns) (suc i) name all at = staged_at ns i name (All-tail (λ x. is_staged x ≡ true) n ns all) at
-
-pub take_more : (names : List (List ℕ)) (i : ℕ) (name : List ℕ) → slice_get names i ≡ Some name → take (i + 1) names ≡ take i names ++ name ∷ []
-take_more [] i name at = absurd (cc)
-take_more (n ∷ ns) zero name at = let same : n ≡ name = cc in ap (λ (x : List ℕ). x ∷ []) same
-take_more (n ∷ ns) (suc i) name at =
-    let next : suc i + 1 ≡ suc (i + 1) = omega arith in
-    ap (λ k. take k (n ∷ ns)) next ∙ ap (λ (l : List (List ℕ)). n ∷ l) (take_more ns i name at)
 
 -- ---- the loop
 
@@ -183,15 +178,6 @@ told_misuses names old h a before now {r} gone so_far counted = by old gone so_f
     by : (o : History) → IfObservable o (λ v. HoldsNow h (HasRemovedNames names v)) → IfObservable o (λ v. before.misuses ≡ a) → IfObservable o (λ v. now.misuses ≡ a)
     by [] g s = tt
     by (v ∷ o) g s = proper_now (HasRemovedNames names v) before now h r g counted (λ w q. tt) ∙ s
-
-take_whole : (names : List (List ℕ)) (n : ℕ) → length names ≤ n → take n names ≡ names
-take_whole [] n le = take_nil n
-  where
-    take_nil : (n : ℕ) → let none : List (List ℕ) = [] in take n none ≡ none
-    take_nil zero = refl
-    take_nil (suc n) = refl
-take_whole (x ∷ xs) zero le = absurd (omega (arith, le))
-take_whole (x ∷ xs) (suc n) le = ap (λ (l : List (List ℕ)). x ∷ l) (take_whole xs n (omega (arith, le)))
 
 pub take_all : (names : List (List ℕ)) (n : ℕ) (old h : History) → length names ≤ n → Gone (take n names) old h → Gone names old h
 take_all names n old h le gone = subst (λ (l : List (List ℕ)). Gone l old h) (take_whole names n le) gone

@@ -14,8 +14,9 @@ use Rattle.journal_core.specs.Kept.{RecoversTo}
 use Rattle.journal_core.specs.Quiet.{StateIsUnchanged}
 use Rattle.journal_core.specs.Staged.{IsActing, IsCommittedFor}
 use Rattle.journal_core.proofs.Agree.{agree-without, agree-unstaged}
-use Rattle.journal_intent.proofs.AtName.{name_cases, off_name, put_name-at, put_name-off, drop_name-at, drop_name-off}
+use Rattle.journal_intent.proofs.AtName.{put_name-at, put_name-off, drop_name-at, drop_name-off}
 use Rattle.base_core.proofs.Undone.{read_may_be_left}
+use Rattle.base_core.proofs.AtName.{name_cases, off_name}
 use Rattle.journal_core.proofs.Acts.{IsReadActing, acting_once_synced, files-moved, state_same, still_on, sync_still}
 use Rattle.journal_core.proofs.Changes.{one_change, synced_left}
 use Rattle.journal_core.proofs.Chain.{Runs, run_begun, run_failed, run_called, run_done, step_now, step_called}

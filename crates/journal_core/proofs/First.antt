@@ -1,24 +1,17 @@
 -- The name of the staged intent is that of no other staged file.
-use Rattle.std.proofs.Common.{◌≡◌, ℕ, zero, suc, ◌+◌, ◌/◌, ◌%◌, ◌≤◌, Bool, true, false, cond, eqb, List, [], ◌∷◌, drop, length, decimal, Option, None, Some, refl, sym, ap, ◌∙◌, arith}
+use Rattle.std.proofs.Common.{◌≡◌, ℕ, suc, ◌+◌, ◌/◌, ◌%◌, ◌≤◌, Bool, true, false, cond, eqb, List, [], ◌∷◌, drop, length, decimal, Option, None, Some, refl, sym, ap, ◌∙◌, arith}
 use Rattle.std.specs.Fmt.{digits, digits_onto, digit_glyph}
 use Rattle.std.proofs.lemmas.Bool.{eqb-true}
 use Rattle.journal_core.specs.Recovery.{Intent, IsStagedNameOf, stage_name}
 use Rattle.journal_intent.proofs.StageNames.{stage_names_apart}
-
-least : (b : Bool) (m : ℕ) (xs ys : List ℕ) → m ≤ length xs → m ≤ length ys → m ≤ length (cond b xs ys)
-least true m xs ys x y = x
-least false m xs ys x y = y
-
-longer : (k n : ℕ) (onto : List ℕ) → length onto ≤ length (digits_onto k 10 false n onto)
-longer zero n onto = omega arith
-longer (suc k) n onto = least (eqb (n / 10) 0) (length onto) _ _ (omega arith) (let more = longer k (n / 10) (digit_glyph false (n % 10) ∷ onto) in omega (arith, more))
+use Rattle.journal_intent.proofs.Digits.{by_least, grows}
 
 two_digits : (n : ℕ) (b : Bool) → eqb (n / 10) 0 ≡ b → b ≡ false → 2 ≤ length (cond b (digit_glyph false (n % 10) ∷ []) (digits_onto 63 10 false (n / 10) (digit_glyph false (n % 10) ∷ [])))
 two_digits n true is low = absurd (cc (low))
 two_digits n false is low = let more = longer_by 62 (n / 10) (digit_glyph false (n % 10) ∷ []) in omega (arith, more)
   where
     longer_by : (k m : ℕ) (onto : List ℕ) → length onto + 1 ≤ length (digits_onto (suc k) 10 false m onto)
-    longer_by k m onto = least (eqb (m / 10) 0) (length onto + 1) _ _ (omega arith) (let more = longer k (m / 10) (digit_glyph false (m % 10) ∷ onto) in omega (arith, more))
+    longer_by k m onto = by_least (eqb (m / 10) 0) (length onto + 1) _ _ (omega arith) (let more = grows k (m / 10) (digit_glyph false (m % 10) ∷ onto) in omega (arith, more))
 
 long : (n : ℕ) → eqb (n / 10) 0 ≡ false → 2 ≤ length (decimal n)
 unfolding digits

@@ -1,5 +1,5 @@
 -- Which changes of names a crash may undo at each moment.
-use Rattle.std.proofs.Common.{◌≡◌, ◌≢◌, ◌||◌, ◌++◌, ⊎_elim, ℕ, Bool, true, false, cond, List, ◌∷◌, [], Option, None, Some, IsSome, Result, Ok, Err, OnOk, refl, sym, ap, subst, ◌∙◌}
+use Rattle.std.proofs.Common.{◌≡◌, ◌≢◌, ◌++◌, ⊎_elim, ℕ, true, false, cond, List, ◌∷◌, [], Option, None, Some, IsSome, Result, Ok, Err, OnOk, refl, sym, ap, subst, ◌∙◌}
 use Rattle.std.specs.List.{list_any}
 use Rattle.std.specs.Str.{bytes_eq}
 use Rattle.base_core.specs.Calls.{IfObservable, HoldsNow, ChangesHistory}
@@ -10,12 +10,14 @@ use Rattle.journal_core.specs.Kept.{IsInNoMap, NamesAreDurableExcept}
 use Rattle.journal_core.specs.Recovering.{IsReplayed}
 use Rattle.journal_core.specs.Recovery.{intent_name, stage_name}
 use Rattle.base_core.proofs.Undone.{left_only}
+use Rattle.base_core.proofs.Booleans.{neither_first, neither_second}
+use Rattle.base_core.proofs.AtName.{off_name}
 use Rattle.journal_core.proofs.Changes.{gone_removed, gone_synced, one_change}
 use Rattle.journal_core.proofs.Chain.{IsAny, Runs, by_now, run_begun, run_called, run_done, run_failed}
 use Rattle.journal_core.proofs.History.{History, done_now, now_since, observable_at, observable_map, on_observable, since_on, since_weaker}
 use Rattle.journal_core.proofs.Keeping.{keep_called}
 use Rattle.journal_core.proofs.OneCall.{now_is}
-use Rattle.journal_intent.proofs.AtName.{off_name, put_name-off, drop_name-at, drop_name-off}
+use Rattle.journal_intent.proofs.AtName.{put_name-off, drop_name-at, drop_name-off}
 use Rattle.journal_intent.proofs.StageNames.{stage_name_no_intent}
 use Rattle.journal_intent.specs.FreeNames.{IsNoneOf}
 
@@ -23,19 +25,11 @@ pub some_none : (o : Option ℕ) → o ≡ None → IsSome o → ⊥
 some_none None none some = cc
 some_none (Some n) none some = cc
 
-or_left : (a b : Bool) → (a || b) ≡ false → a ≡ false
-or_left true b e = cc
-or_left false b e = refl
-
-or_right : (a b : Bool) → (a || b) ≡ false → b ≡ false
-or_right true b e = cc
-or_right false b e = e
-
 pub off_first : (q a : List ℕ) (rest : List (List ℕ)) → IsNoneOf q (a ∷ rest) → q ≢ a
-off_first q a rest none = off_name q a (or_left (bytes_eq q a) (list_any (bytes_eq q) rest) none)
+off_first q a rest none = off_name q a (neither_first (bytes_eq q a) (list_any (bytes_eq q) rest) none)
 
 pub off_rest : (q a : List ℕ) (rest : List (List ℕ)) → IsNoneOf q (a ∷ rest) → IsNoneOf q rest
-off_rest q a rest none = or_right (bytes_eq q a) (list_any (bytes_eq q) rest) none
+off_rest q a rest none = neither_second (bytes_eq q a) (list_any (bytes_eq q) rest) none
 
 -- ---- one step
 

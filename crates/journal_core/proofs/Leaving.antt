@@ -7,6 +7,7 @@ use Rattle.base_core.specs.Crash.{Since}
 use Rattle.base_core.specs.Files.{drop_name}
 use Rattle.base_core.specs.Listed.{AreNamesBelow}
 use Rattle.base_core.specs.Tree.{TreeState, after_remove, after_rename, after_sync_names, bytes_at, files_of, move_at, remove_at, same_state, IsAlwaysAllowed}
+use Rattle.base_core.proofs.AtName.{other_name, name_cases, off_name}
 use Rattle.journal_core.specs.Acting.{MovesIfPresent}
 use Rattle.journal_core.specs.Kept.{JournalOnlyShrinks, IsJournalName, KeepsIntent, NamesAreDurableExcept, ShownNamesAreDurable}
 use Rattle.journal_core.specs.Recovering.{AllStaged, IsReplayed}
@@ -22,7 +23,7 @@ use Rattle.journal_core.proofs.Lasting.{moved_absent, removed_absent, some_none}
 use Rattle.journal_core.proofs.OneCall.{one_called}
 use Rattle.journal_core.proofs.Replayed.{IsProper, proper_of}
 use Rattle.journal_core.proofs.Steps.{remove_others}
-use Rattle.journal_intent.proofs.AtName.{name_cases, off_name, other_name, put_name-off, drop_name-off}
+use Rattle.journal_intent.proofs.AtName.{put_name-off, drop_name-off}
 use Rattle.journal_intent.proofs.StageNames.{stage_name_no_intent}
 use Rattle.journal_intent.specs.FreeNames.{HasFreeNames, IsFreeName}
 

@@ -4,6 +4,7 @@ use Rattle.base_core.specs.Calls.{IfObservable, HoldsNow, ChangesHistory}
 use Rattle.base_core.specs.Crash.{Since}
 use Rattle.base_core.specs.Files.{Files, drop_name}
 use Rattle.base_core.specs.Tree.{TreeState, after_remove, after_rename, after_sync_names, files_of, same_state, IsAlwaysAllowed}
+use Rattle.base_core.proofs.AtName.{name_cases, off_name}
 use Rattle.journal_core.specs.Acting.{MovesIfPresent, acting_stage}
 use Rattle.journal_core.specs.Kept.{HasOldOrNewBytes, IsJournalName, KeepsFilesExcept, KeepsOldOrNewBytes}
 use Rattle.journal_core.specs.Recovery.{Intent, after_actions, intent_name, intent_of, is_staged, move_if, read_intent, recovered_files, recovered_files_by, stage_name, without_names}
@@ -18,7 +19,7 @@ use Rattle.journal_core.proofs.Leaving.{told_called, told_on}
 use Rattle.journal_core.proofs.OneCall.{one_called}
 use Rattle.journal_core.proofs.Replayed.{move_if-off, place_not_among}
 use Rattle.journal_core.proofs.Rowing.{ActsOn}
-use Rattle.journal_intent.proofs.AtName.{drop_name-at, drop_name-off, name_cases, off_name, put_name-at}
+use Rattle.journal_intent.proofs.AtName.{drop_name-at, drop_name-off, put_name-at}
 use Rattle.journal_intent.proofs.StageNames.{stage_name_staged}
 use Rattle.journal_intent.specs.FreeNames.{HasFreeNames, IsOneOf}
 

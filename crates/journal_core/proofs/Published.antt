@@ -9,6 +9,7 @@ use Rattle.base_core.specs.Calls.{IfObservable, HoldsNow}
 use Rattle.base_core.specs.Crash.{Since}
 use Rattle.base_core.specs.Undone.{IsDurable}
 use Rattle.base_core.specs.Restart.{EachMoment, SinceBy}
+use Rattle.base_core.proofs.AtName.{name_cases, off_name}
 use Rattle.journal_core.specs.Committing.{HasCommittedIntent, IsCommitting, IsReadyToCommit, IsWritten}
 use Rattle.journal_core.specs.Filling.{synced_file}
 use Rattle.journal_core.specs.Acting.{acting_stage}
@@ -18,7 +19,7 @@ use Rattle.journal_core.specs.Quiet.{StateIsUnchanged}
 use Rattle.journal_intent.specs.FreeNames.{HasFreeNames}
 use Rattle.journal_core.specs.Staged.{Staging, WasCommittedFor, AreStagingPathsFree, IsActing, MayBePresent, IsOldUntilCommit, IsStaged, CommittedBy, IsCommittedFor}
 use Rattle.journal_core.proofs.Again.{acting_as}
-use Rattle.journal_intent.proofs.AtName.{name_cases, off_name, put_name-off, drop_name-off}
+use Rattle.journal_intent.proofs.AtName.{put_name-off, drop_name-off}
 use Rattle.journal_core.proofs.Beside.{can_make, held_like, read_held}
 use Rattle.journal_core.proofs.Between.{no_intent_read}
 use Rattle.journal_core.proofs.Chain.{by_now, now_both}

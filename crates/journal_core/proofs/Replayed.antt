@@ -3,9 +3,10 @@ use Rattle.std.proofs.Common.{◌≡◌, ◌||◌, ◌≢◌, ⊎_elim, ℕ, ◌
 use Rattle.std.specs.List.{list_any}
 use Rattle.std.specs.Str.{bytes_eq}
 use Rattle.base_core.specs.Files.{Files, drop_name, move_name}
+use Rattle.base_core.proofs.AtName.{other_name, name_cases}
 use Rattle.journal_core.specs.Recovery.{Intent, intent_name, intent_at, intent_of, stage_name, without_names, move_if, after_moves, recovered_files_by, recovered_files}
 use Rattle.journal_intent.specs.FreeNames.{AreFreeNames, HaveNoRepeats, HasFreeNames, IsFreeName, IsNoneOf, IsOneOf}
-use Rattle.journal_intent.proofs.AtName.{name_cases, other_name, put_name-off, drop_name-off, drop_name-at}
+use Rattle.journal_intent.proofs.AtName.{put_name-off, drop_name-off, drop_name-at}
 use Rattle.journal_intent.proofs.StageNames.{stage_names_apart, stage_name_no_intent}
 
 -- an intent whose names are free, each once, and not too many

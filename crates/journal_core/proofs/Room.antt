@@ -4,9 +4,10 @@ use Rattle.std.specs.List.{list_any}
 use Rattle.std.specs.Str.{bytes_eq}
 use Rattle.base_core.specs.Files.{Files, put_name, drop_name}
 use Rattle.base_core.specs.Tree.{TreeState, files_of, CanRename}
+use Rattle.base_core.proofs.AtName.{name_cases, off_name}
 use Rattle.journal_core.specs.Recovery.{Intent, intent_name, intent_at, intent_of, move_if, recovered_files, recovered_files_by, stage_name, after_moves, without_names}
 use Rattle.journal_core.specs.Staged.{Staging, IsActing, MayBePresent, AreJournalPathsFree}
-use Rattle.journal_intent.proofs.AtName.{name_cases, put_name-at, put_name-off, off_name, drop_name-off}
+use Rattle.journal_intent.proofs.AtName.{put_name-at, put_name-off, drop_name-off}
 use Rattle.journal_intent.proofs.StageNames.{stage_name_no_intent}
 use Rattle.journal_core.proofs.Beside.{held_like, as_read}
 use Rattle.journal_core.proofs.Replayed.{IsNumbered, IsProper, moved, move_if-off, recovered-moved}

@@ -1,7 +1,6 @@
 -- The actions of a stage, one after another.
 use Rattle.std.proofs.Common.{◌≡◌, ◌≤◌, ◌<◌, ◌+◌, ℕ, nat_lt, Bool, true, List, refl, sym, ap, subst, ◌∙◌, arith}
 use Rattle.std.proofs.lemmas.Bool.{ltb-true}
-use Rattle.base_core.specs.Faults.{Counts, CountsOnlyRise, IsNoFault}
 use Rattle.base_core.specs.Files.{Files}
 use Rattle.base_core.specs.Tree.{TreeState}
 use Rattle.base_core.specs.Calls.{IfObservable, HoldsNow}
@@ -95,18 +94,6 @@ left_of b n m is holds = ltb-true n m (sym is ∙ holds)
 
 pub within_next : (old new : Staging) → old.acted < action_count old.intent → new ≡ record old { acted = old.acted + 1 } → new.acted ≤ action_count new.intent
 within_next old new less is = subst (λ (s : Staging). s.acted ≤ action_count s.intent) (sym is) (omega (arith, less))
-
-pub goes_same : (a : Counts) → CountsOnlyRise a a
-goes_same a = record { faults = omega arith; misuses = omega arith; memory_faults = omega arith; fallible = λ x. x }
-
-pub goes_through : (a b c : Counts) → CountsOnlyRise a b → CountsOnlyRise b c → CountsOnlyRise a c
-goes_through a b c first then = record { faults = omega (arith, first.faults, then.faults); misuses = omega (arith, first.misuses, then.misuses); memory_faults = omega (arith, first.memory_faults, then.memory_faults); fallible = λ x. first.fallible (then.fallible x) }
-
-pub none_same : (a : Counts) → IsNoFault a a
-none_same a = record { faults = refl; memory_faults = refl }
-
-pub none_through : (a b c : Counts) → IsNoFault a b → IsNoFault b c → IsNoFault a c
-none_through a b c first then = record { faults = then.faults ∙ first.faults; memory_faults = then.memory_faults ∙ first.memory_faults }
 
 pub published_next : (now next : Staging) → now.published ≡ true → next ≡ record now { acted = now.acted + 1 } → next.published ≡ true
 published_next now next published is = ap (λ (s : Staging). s.published) is ∙ published

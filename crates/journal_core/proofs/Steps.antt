@@ -8,9 +8,10 @@ use Rattle.journal_core.specs.Quiet.{StateIsUnchanged}
 use Rattle.journal_core.specs.Recovery.{state_of}
 use Rattle.journal_core.specs.Filling.{IsOutsideState, HasChangedOnly, HasNewFileAt}
 use Rattle.base_core.proofs.Undone.{left_leads, read_may_be_left}
+use Rattle.base_core.proofs.AtName.{name_cases}
 use Rattle.journal_core.proofs.Agree.{state_agree}
 use Rattle.journal_core.proofs.Changes.{left_off}
-use Rattle.journal_intent.proofs.AtName.{name_cases, put_name-at, put_name-off, drop_name-off}
+use Rattle.journal_intent.proofs.AtName.{put_name-at, put_name-off, drop_name-off}
 use Rattle.journal_core.proofs.Images.{CrashLaws, quiet_on, quiet_same}
 use Rattle.journal_core.proofs.Simulate.{file_at, bytes_of_same, rests_off, Simulates, simulated_durable, simulated_quiet}
 

@@ -3,13 +3,13 @@ use Rattle.std.proofs.Common.{◌≡◌, ◌⊎◌, inl, inr, ⊎_elim, ℕ, Lis
 use Rattle.base_core.specs.Calls.{IfObservable, HoldsNow, ChangesHistory}
 use Rattle.base_core.specs.Crash.{Since}
 use Rattle.base_core.specs.Tree.{TreeState, after_rename, after_sync_names, bytes_at, files_of, same_state, IsAlwaysAllowed, CanRename}
+use Rattle.base_core.proofs.AtName.{name_cases, off_name}
 use Rattle.journal_core.specs.Kept.{KeepsFilesExcept}
 use Rattle.journal_core.specs.Recovery.{intent_name, stage_name}
 use Rattle.journal_core.proofs.History.{History, now_since, observable_at, observable_map, on_observable, since_weaker}
 use Rattle.journal_core.proofs.Keeping.{moved_others}
 use Rattle.journal_core.proofs.Leaving.{told_called, told_on}
 use Rattle.journal_core.proofs.Maps.{Keeps, maps_more}
-use Rattle.journal_intent.proofs.AtName.{name_cases, off_name}
 
 abbrev pub KeepsFree : TreeState → TreeState → Type 0
 KeepsFree = KeepsFilesExcept (λ q. (q ≡ intent_name) ⊎ (q ≡ stage_name 0))

@@ -3,10 +3,11 @@ use Rattle.std.proofs.Common.{◌≡◌, ◌⊎◌, inl, inr, ⊎_elim, ℕ, ◌
 use Rattle.std.proofs.lemmas.List.{length-append}
 use Rattle.base_core.specs.Files.{Files, IsFolderOf, no_names, put_name}
 use Rattle.base_core.specs.Tree.{TreeState, files_of}
+use Rattle.base_core.proofs.AtName.{name_cases, off_name}
 use Rattle.journal_core.specs.Recovery.{intent_name, state_of}
 use Rattle.journal_core.specs.Replacing.{IsOutputPathFree, scratch_of}
 use Rattle.journal_core.specs.Staged.{WasCommittedFor, AreStagingPathsFree, MayBePresent}
-use Rattle.journal_intent.proofs.AtName.{name_cases, off_name, put_name-off}
+use Rattle.journal_intent.proofs.AtName.{put_name-off}
 use Rattle.journal_intent.specs.FreeNames.{IsUsedByJournal}
 
 pub now_published : (ignored : List ℕ → Bool) (files : Files) (made n : ℕ) (v : TreeState) (earlier : List TreeState) → v.names intent_name ≡ Some n → made ≤ n → state_of ignored (files_of v) ≡ state_of ignored files

@@ -156,8 +156,8 @@ pub record IsOldUntilCommit (ignored : List ℕ → Bool) (files : Files) (start
       → EachCrashLeavesOld ignored start v
   pub made : start.made ≤ v.made
 
--- a run so far that leads to these files: each of its moments is on the way to them, and by one of them
--- an intent of the run that stands for them was read
+-- a run so far that leads to these files: each of its moments is on the way to them, and at one of them
+-- an intent of the run that yields their state was under its name
 pub record CommittedBy (ignored : List ℕ → Bool) (files : Files) (start : TreeState)
     (old new : List TreeState) : Type 0 where
   pub added : List TreeState

@@ -319,8 +319,8 @@ impl Stage {
         requires closed { self.old.is_open ≡ false }
         requires all { self.old.staged ≡ length self.old.intent.writes }
 
-        // At each moment a crash leaves a state from before or that of the actions done; it leaves
-        // one from before as long as no intent of this call that stands for them was read.
+        // At each moment a crash leaves an old state or the one with all actions done. Before an
+        // intent of this call that yields it is under its name, a crash leaves an old one.
         ensures moments { IfObservable (T.history tree.old) (λ v. (ignored : List ℕ → Bool)
             (contents : List (List ℕ)) (base : Files) → IsDurable (StateDependsOn ignored) v
             → IsStaged self.old contents None base v

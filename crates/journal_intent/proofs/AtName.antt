@@ -1,25 +1,15 @@
 -- What a map has at one name, and at the others.
 use Rattle.std.proofs.Common.{◌≡◌, ◌⊎◌, ◌≢◌, inl, inr, ℕ, Bool, true, false, cond, List, Option, None, Some, refl, ap}
-use Rattle.std.specs.Str.{bytes_eq}
-use Rattle.std.proofs.lemmas.Slice.Eq.{bytes_eq-Decides}
 use Rattle.base_core.specs.Files.{put_name, drop_name}
+use Rattle.base_core.proofs.AtName.{other_name, same_name}
 
 by_test : (b : Bool) (P : Type 0) → (b ≡ true → P) × (P → b ≡ true) → P ⊎ (b ≡ false)
 by_test true P d = inl (d.0 refl)
 by_test false P d = inr refl
 
-pub name_cases : (q name : List ℕ) → (q ≡ name) ⊎ (bytes_eq q name ≡ false)
-name_cases q name = by_test (bytes_eq q name) (q ≡ name) (bytes_eq-Decides q name)
-
-pub same_name : (q name : List ℕ) → q ≡ name → bytes_eq q name ≡ true
-same_name q name = (bytes_eq-Decides q name).1
-
 off_by_test : (b : Bool) (P : Type 0) → (b ≡ true → P) → (P → ⊥) → b ≡ false
 off_by_test true P d = λ no. absurd (no (d refl))
 off_by_test false P d = λ no. refl
-
-pub other_name : (q name : List ℕ) → q ≢ name → bytes_eq q name ≡ false
-other_name q name = off_by_test (bytes_eq q name) (q ≡ name) (bytes_eq-Decides q name).0
 
 pub put_name-at : {A : Type 0} (m : List ℕ → Option A) (name : List ℕ) (x : A) (q : List ℕ) → q ≡ name → put_name m name x q ≡ Some x
 put_name-at m name x q is = ap (λ b. cond b (Some x) (m q)) (same_name q name is)
@@ -32,6 +22,3 @@ drop_name-at m name q is = ap (λ b. cond b None (m q)) (same_name q name is)
 
 pub drop_name-off : {A : Type 0} (m : List ℕ → Option A) (name q : List ℕ) → q ≢ name → drop_name m name q ≡ m q
 drop_name-off m name q ne = ap (λ b. cond b None (m q)) (other_name q name ne)
-
-pub off_name : (q name : List ℕ) → bytes_eq q name ≡ false → q ≢ name
-off_name q name off is = let same = same_name q name is in absurd (cc (same, off))

@@ -1,14 +1,14 @@
 -- The name of each waiting file is one.
 use Rattle.std.proofs.Common.{◌≡◌, ◌||◌, ◌≢◌, ℕ, zero, suc, ◌+◌, ◌/◌, ◌%◌, ◌≤◌, ◌<◌, Bool, true, false, cond, not, ◌&&◌, nat_lt, nat_le, eqb, ltb, List, [], ◌∷◌, length, codes, decimal, refl, ap, ◌∙◌, arith}
 use Rattle.std.specs.Fmt.{digits, digits_onto, digit_glyph}
-use Rattle.std.specs.Str.{bytes_eq, is_utf8, IsAscii}
+use Rattle.std.specs.Str.{bytes_eq, is_utf8}
 use Rattle.std.specs.List.{slice_split, list_all, list_any, onto_first}
-use Rattle.std.proofs.lemmas.Bool.{and_parts, ltb-true, lt-ltb, le-leb, ne_eqb}
+use Rattle.std.proofs.lemmas.Bool.{lt-ltb, le-leb, ne_eqb, and_from}
 use Rattle.std.proofs.lemmas.Str.{IsUtf8-from_ascii, is_utf8-from_IsUtf8}
-use Rattle.std.proofs.lemmas.Str.Ascii.{IsAscii-nil, IsAscii-cons}
 use Rattle.base_core.specs.Name.{is_name, is_part, parts_of}
+use Rattle.base_core.proofs.AtName.{other_name}
+use Rattle.base_core.proofs.NameParts.{all_off, ascii_by}
 use Rattle.journal_intent.specs.Intent.{stage_name}
-use Rattle.journal_intent.proofs.AtName.{other_name}
 
 -- ---- decimal digits
 
@@ -35,7 +35,7 @@ digits-onto zero n acc are = are
 digits-onto (suc k) n acc are =
     by_digits (eqb (n / 10) 0) _ _ (glyph-digit n, are) (digits-onto k (n / 10) (digit_glyph false (n % 10) ∷ acc) (glyph-digit n, are))
 
-by_least : (b : Bool) (m : ℕ) (xs ys : List ℕ) → m ≤ length xs → m ≤ length ys → m ≤ length (cond b xs ys)
+pub by_least : (b : Bool) (m : ℕ) (xs ys : List ℕ) → m ≤ length xs → m ≤ length ys → m ≤ length (cond b xs ys)
 by_least true m xs ys x y = x
 by_least false m xs ys x y = y
 
@@ -43,7 +43,7 @@ by_most : (b : Bool) (m : ℕ) (xs ys : List ℕ) → length xs ≤ m → length
 by_most true m xs ys x y = x
 by_most false m xs ys x y = y
 
-grows : (k n : ℕ) (acc : List ℕ) → length acc ≤ length (digits_onto k 10 false n acc)
+pub grows : (k n : ℕ) (acc : List ℕ) → length acc ≤ length (digits_onto k 10 false n acc)
 grows zero n acc = omega arith
 grows (suc k) n acc =
     by_least (eqb (n / 10) 0) (length acc) _ _ (omega arith) (let more = grows k (n / 10) (digit_glyph false (n % 10) ∷ acc) in omega (arith, more))
@@ -85,12 +85,6 @@ one_part (d ∷ ds) are =
     ap (λ b. cond b ([] ∷ slice_split (λ b. eqb b 47) ds) (onto_first d (slice_split (λ b. eqb b 47) ds))) (ne_eqb d 47 (λ e. omega (arith, low, e)))
     ∙ ap (onto_first d) (one_part ds are.1)
 
-all_off : (a b c : Bool) → a ≡ false → b ≡ false → c ≡ false → (not a && not b && not c) ≡ true
-all_off true b c x y z = absurd (cc (x))
-all_off false true c x y z = absurd (cc (y))
-all_off false false true x y z = absurd (cc (z))
-all_off false false false x y z = refl
-
 off_dot : (ds rest : List ℕ) → AreDigits ds → ds ≢ 46 ∷ rest
 off_dot [] rest are e = cc
 off_dot (d ∷ ds) rest are e = let same : d ≡ 46 = cc in let low = are.0.0 in absurd (omega (arith, low, same))
@@ -101,14 +95,6 @@ digits_part ds are some = all_off (eqb (length ds) 0) (bytes_eq ds (codes ".")) 
     (other_name ds (codes ".") (off_dot ds [] are))
     (other_name ds (codes "..") (off_dot ds (46 ∷ []) are))
 
-all_both : (a b : Bool) → a ≡ true → b ≡ true → (a && b) ≡ true
-all_both true b x y = y
-all_both false b x y = absurd (cc (x))
-
-ascii_by : (bs : List ℕ) → list_all (λ b. ltb b 128) bs ≡ true → IsAscii bs
-ascii_by [] all = IsAscii-nil
-ascii_by (b ∷ bs) all = let parts = and_parts (ltb b 128) (list_all (λ b. ltb b 128) bs) all in IsAscii-cons b bs (ltb-true b 128 parts.0) (ascii_by bs parts.1)
-
 parts_good : (ds : List ℕ) → AreDigits ds → 1 ≤ length ds → list_all is_part (slice_split (λ b. eqb b 47) ds) ≡ true
 parts_good ds are some = ap (list_all is_part) (one_part ds are) ∙ ap (λ b. b && true) (digits_part ds are some)
 
@@ -118,10 +104,10 @@ stage_is_name k =
     let are = decimal-digits k in
     let some = decimal-some k in
     let few = decimal-few k in
-    all_both _ (list_all is_part (parts_of (stage_name k)))
-    (all_both _ (is_utf8 (stage_name k))
-    (all_both _ (not (list_any (λ b. eqb b 0) (stage_name k)))
-    (all_both (nat_lt 0 (length (stage_name k))) (nat_le (length (stage_name k)) 1024) (lt-ltb _ _ (omega (arith))) (le-leb _ _ (omega (arith, few))))
+    and_from _ (list_all is_part (parts_of (stage_name k)))
+    (and_from _ (is_utf8 (stage_name k))
+    (and_from _ (not (list_any (λ b. eqb b 0) (stage_name k)))
+    (and_from (nat_lt 0 (length (stage_name k))) (nat_le (length (stage_name k)) 1024) (lt-ltb _ _ (omega (arith))) (le-leb _ _ (omega (arith, few))))
     (ap not (no_zero (decimal k) are)))
     (is_utf8-from_IsUtf8 (stage_name k) (IsUtf8-from_ascii (stage_name k) (ascii_by (stage_name k) (ascii_digits (decimal k) are)))))
     (parts_good (decimal k) are some)

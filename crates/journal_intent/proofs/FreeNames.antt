@@ -1,11 +1,12 @@
 -- The names of a sound intent are free, and each stands once.
 use Rattle.std.proofs.Common.{◌≡◌, ◌||◌, inl, inr, ⊎_elim, not, map, ℕ, ◌<◌, ◌+◌, ◌^◌, Bool, true, false, List, [], ◌∷◌, ◌++◌, length, Option, Some, None, refl, ap, sym, subst, ◌∙◌, arith}
-use Rattle.std.proofs.lemmas.Bool.{and_parts}
+use Rattle.std.proofs.lemmas.Bool.{and_parts, not-true, or_from}
 use Rattle.std.proofs.lemmas.List.Elements.{All-head, All-tail}
 use Rattle.std.specs.List.{All, list_any}
 use Rattle.std.specs.Str.{bytes_eq}
 use Rattle.base_core.specs.Name.{is_name}
 use Rattle.base_core.specs.declared.cause.Cause.{Cause}
+use Rattle.base_core.proofs.AtName.{other_name, name_cases}
 use Rattle.adb_fields.specs.FirstPair.{IsIn}
 use Rattle.adb_fields.specs.Once.{AreDistinctNames}
 use Rattle.adb_fields.specs.Repeated.{entries_at, list_of}
@@ -22,21 +23,16 @@ use Rattle.adb_view.specs.Shaped.{Each}
 use Rattle.journal_intent.specs.FreeNames.{AllNamed, AreFreeNames, HaveNoRepeats, HasFreeNames, IsFreeName, IsNoneOf, IsOneOf}
 use Rattle.journal_intent.specs.Intent.{AreChangeNames, Intent, intent_in, intent_name, intent_unless, is_staged, read_intent, stage_folder, stage_name}
 use Rattle.journal_intent.specs.IntentValue.{intent_of_lists}
-use Rattle.journal_intent.proofs.AtName.{name_cases, other_name}
 use Rattle.journal_intent.proofs.ReadIntent.{spelled}
 use Rattle.journal_intent.proofs.Spelling.{distinct}
 
 true_false : true ≡ false → ⊥
 true_false e = cc
 
-not_true : (b : Bool) → not b ≡ true → b ≡ false
-not_true true h = absurd (true_false (sym h))
-not_true false h = refl
-
 place_is_stage : (k : ℕ) → is_intent_or_stage_name (stage_name k) ≡ true
 place_is_stage k = refl
 
-or_false : (a b c : Bool) → (a || ((b || c) || false)) ≡ false → c ≡ false
+pub or_false : (a b c : Bool) → (a || ((b || c) || false)) ≡ false → c ≡ false
 or_false true b c h = absurd (true_false h)
 or_false false true c h = absurd (true_false h)
 or_false false false true h = absurd (true_false h)
@@ -50,7 +46,7 @@ not_staged name h = or_false (is_at_or_below intent_name name) (bytes_eq name st
 free_of : (name : List ℕ) → is_change_name name ≡ true → IsFreeName name
 free_of name change =
     let parts = and_parts (is_name name) (not (is_intent_or_stage_name name)) change in
-    let open_name = not_true (is_intent_or_stage_name name) parts.1 in
+    let open_name = not-true (is_intent_or_stage_name name) parts.1 in
     record {
       no_intent = λ is. true_false (sym (ap is_intent_or_stage_name is) ∙ open_name);
       unstaged = not_staged name open_name;
@@ -63,12 +59,9 @@ frees (more v vs) all = (free_of (text_in v) all.0, frees vs all.1)
 
 -- ---- each stands once
 
-both_false : (a b : Bool) → a ≡ false → b ≡ false → (a || b) ≡ false
-both_false a b x y = ap (λ c. c || b) x ∙ y
-
 none_of : (name : List ℕ) (names : List (List ℕ)) → (IsIn name names → ⊥) → IsNoneOf name names
 none_of name [] out = refl
-none_of name (x ∷ xs) out = both_false (bytes_eq name x) (list_any (bytes_eq name) xs) (other_name name x (λ is. out (inl is))) (none_of name xs (λ at. out (inr at)))
+none_of name (x ∷ xs) out = or_from (bytes_eq name x) (list_any (bytes_eq name) xs) (other_name name x (λ is. out (inl is))) (none_of name xs (λ at. out (inr at)))
 
 one_of : (name : List ℕ) (names : List (List ℕ)) → IsOneOf name names → IsIn name names
 one_of name [] is = absurd (true_false (sym is))
@@ -89,7 +82,7 @@ in_right (r ∷ rs) ws name at = inr (in_right rs ws name at)
 apart_left : (rs ws : List (List ℕ)) (name : List ℕ) → AreDistinctNames (rs ++ ws) → IsIn name ws → IsNoneOf name rs
 apart_left [] ws name once at = refl
 apart_left (r ∷ rs) ws name once at =
-    both_false (bytes_eq name r) (list_any (bytes_eq name) rs) (other_name name r (λ is. once.0 (subst (λ (x : List ℕ). IsIn x (rs ++ ws)) is (in_right rs ws name at)))) (apart_left rs ws name once.1 at)
+    or_from (bytes_eq name r) (list_any (bytes_eq name) rs) (other_name name r (λ is. once.0 (subst (λ (x : List ℕ). IsIn x (rs ++ ws)) is (in_right rs ws name at)))) (apart_left rs ws name once.1 at)
 
 -- ---- those of a change that is to be made
 

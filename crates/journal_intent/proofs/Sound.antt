@@ -1,7 +1,6 @@
 -- The container of an intent's value passes all tests, and is read as this intent.
-use Rattle.std.proofs.Common.{◌≡◌, ◌≢◌, ℕ, ◌≤◌, ◌<◌, ◌^◌, List, [], ◌∷◌, length, Some, None, Ok, sym, ap, ◌∙◌, arith, lit<}
-use Rattle.std.specs.Int.{w32, to_le_bytes}
-use Rattle.std.proofs.lemmas.List.{length-append}
+use Rattle.std.proofs.Common.{◌≡◌, ◌≢◌, ℕ, ◌≤◌, ◌<◌, ◌^◌, List, [], ◌∷◌, length, Some, None, Ok, sym, ap, ◌∙◌, lit<}
+use Rattle.adb_sound.proofs.Payloads.{payload_long}
 use Rattle.adb_block.specs.AllBlocks.{blocks_of}
 use Rattle.adb_block.specs.Container.{Spells}
 use Rattle.adb_block.specs.Header.{header_of}
@@ -10,14 +9,11 @@ use Rattle.adb_view.specs.Plain.{Plain}
 use Rattle.adb_schema.specs.Soundness.{first_fault, payload_in, root_value}
 use Rattle.adb_schema.specs.declared.read.TheConstants.{INTENT_WORD}
 use Rattle.adb_view.specs.declared.tables.Which.TheVariants.{Intent as Table, Package}
-use Rattle.adb_write.specs.Canonical.{canonical, empty_layout, payload_with_root, write, Layout, MOST_BYTES}
+use Rattle.adb_write.specs.Canonical.{canonical, empty_layout, write, MOST_BYTES}
 use Rattle.adb_write.specs.File.{adb_piece, file_of}
 use Rattle.adb_write.specs.Size.{size_of}
 use Rattle.pkg_core.specs.Whole.{container_fault, fault_by_header, whole_fault}
 use Rattle.journal_intent.specs.Intent.{intent_in, intent_unless, read_intent}
-
-payload_long : (root : ℕ) (out : Layout) → 8 ≤ length (payload_with_root root out)
-payload_long root out = omega (arith, length-append (to_le_bytes w32 root) out.body)
 
 pub not_package : Table ≢ Package
 not_package e = cc

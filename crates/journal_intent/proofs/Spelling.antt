@@ -4,6 +4,7 @@ use Rattle.std.specs.Prelude.{AllPairs, get_or}
 use Rattle.std.specs.List.{All}
 use Rattle.std.specs.Str.{bytes_eq}
 use Rattle.std.proofs.lemmas.List.Elements.{All-head, All-tail}
+use Rattle.base_core.proofs.AtName.{same_name}
 use Rattle.adb_view.specs.Plain.{Plain, Plains, none, more, text, blob_value, IsNormal, AreNormal, count_of, text_plains}
 use Rattle.adb_view.specs.Shaped.{Each, IsBlob, HasShape}
 use Rattle.adb_fields.specs.FirstPair.{IsIn}
@@ -15,20 +16,17 @@ use Rattle.adb_view.specs.Schema.{shape_of}
 use Rattle.adb_view.specs.Values.{text_in}
 use Rattle.adb_view.specs.declared.tables.Which.TheVariants as Tables
 use Rattle.adb_view.specs.declared.tables.Kind.TheVariants as Kinds
+use Rattle.adb_view.proofs.ValueEntries.{text_blob}
+use Rattle.adb_view.proofs.Normal.{blob_value_normal}
 use Rattle.adb_write.specs.Size.{entries_of, value_count}
 use Rattle.journal_intent.specs.Intent.{AreChangeNames, Intent, intent_in}
 use Rattle.journal_intent.specs.IntentValue.{intent_of_lists, value_of_intent}
-use Rattle.journal_intent.proofs.AtName.{same_name}
 
 -- ---- it is read back
 
-text_of : (bytes : List ℕ) → text_in (blob_value bytes) ≡ bytes
-text_of [] = refl
-text_of (b ∷ bytes) = refl
-
 texts_back : (names : List (List ℕ)) → map text_in (list_of (text_plains names)) ≡ names
 texts_back [] = refl
-texts_back (n ∷ ns) = (λ i. text_of n i ∷ map text_in (list_of (text_plains ns))) ∙ ap (λ (l : List (List ℕ)). n ∷ l) (texts_back ns)
+texts_back (n ∷ ns) = (λ i. text_blob n i ∷ map text_in (list_of (text_plains ns))) ∙ ap (λ (l : List (List ℕ)). n ∷ l) (texts_back ns)
 
 pub value_back : (removals writes : List (List ℕ)) → intent_in (value_of_intent (intent_of_lists removals writes)) ≡ intent_of_lists removals writes
 value_back [] [] = refl
@@ -38,15 +36,10 @@ value_back (r ∷ rs) (w ∷ ws) = λ i. record { removals = texts_back (r ∷ r
 
 -- ---- it is normal
 
-normal_blob : (bytes : List ℕ) → IsNormal (blob_value bytes)
-unfolding IsNormal
-normal_blob [] = tt
-normal_blob (b ∷ bytes) = λ e. cc
-
 normal_texts : (names : List (List ℕ)) → AreNormal (text_plains names)
 unfolding IsNormal
 normal_texts [] = tt
-normal_texts (n ∷ ns) = (normal_blob n, normal_texts ns)
+normal_texts (n ∷ ns) = (blob_value_normal n, normal_texts ns)
 
 some_more : (v : Plain) (vs : Plains) → more v vs ≢ none
 some_more v vs e = subst is_more e tt
@@ -84,11 +77,11 @@ value_shape (r ∷ rs) (w ∷ ws) = (texts_shape (r ∷ rs), (texts_shape (w ∷
 
 each_change : (names : List (List ℕ)) → All (λ name. is_change_name name ≡ true) names → Each IsChangeName (text_plains names)
 each_change [] all = tt
-each_change (n ∷ ns) all = (ap is_change_name (text_of n) ∙ All-head (λ name. is_change_name name ≡ true) n ns all, each_change ns (All-tail (λ name. is_change_name name ≡ true) n ns all))
+each_change (n ∷ ns) all = (ap is_change_name (text_blob n) ∙ All-head (λ name. is_change_name name ≡ true) n ns all, each_change ns (All-tail (λ name. is_change_name name ≡ true) n ns all))
 
 each_left : (xs ys : List (List ℕ)) → All (λ name. is_change_name name ≡ true) (xs ++ ys) → Each IsChangeName (text_plains xs)
 each_left [] ys all = tt
-each_left (x ∷ xs) ys all = (ap is_change_name (text_of x) ∙ All-head (λ name. is_change_name name ≡ true) x (xs ++ ys) all, each_left xs ys (All-tail (λ name. is_change_name name ≡ true) x (xs ++ ys) all))
+each_left (x ∷ xs) ys all = (ap is_change_name (text_blob x) ∙ All-head (λ name. is_change_name name ≡ true) x (xs ++ ys) all, each_left xs ys (All-tail (λ name. is_change_name name ≡ true) x (xs ++ ys) all))
 
 each_right : (xs ys : List (List ℕ)) → All (λ name. is_change_name name ≡ true) (xs ++ ys) → Each IsChangeName (text_plains ys)
 each_right [] ys all = each_change ys all

@@ -1,14 +1,12 @@
 -- The texts of a list are taken one after another.
 use Rattle.std.proofs.Common.{◌≡◌, ◌≤◌, ◌<◌, ◌+◌, ◌-◌, ◌^◌, ℕ, zero, suc, List, [], ◌∷◌, ◌++◌, map, take, length, true, refl, sym, ap, subst, ◌∙◌, arith}
+use Rattle.std.proofs.lemmas.List.{take_all}
 use Rattle.base_core.specs.Name.{is_name}
 use Rattle.adb_view.specs.Plain.{Plain, Plains, none, more, blob_value}
 use Rattle.adb_fields.specs.Repeated.{list_of}
 use Rattle.adb_view.specs.Values.{count_of, nth, text_in}
+use Rattle.adb_view.proofs.ValueEntries.{text_blob}
 use Rattle.journal_intent.specs.FreeNames.{AllNamed}
-
-text_of : (bytes : List ℕ) → text_in (blob_value bytes) ≡ bytes
-text_of [] = refl
-text_of (b ∷ bytes) = refl
 
 named_at : (vs : Plains) (i : ℕ) → i < count_of vs → AllNamed vs → is_name (text_in (nth vs i)) ≡ true
 named_at none i below all = absurd (omega (arith, below))
@@ -16,7 +14,7 @@ named_at (more v vs) zero below all = all.0
 named_at (more v vs) (suc i) below all = named_at vs i (omega (arith, below)) all.1
 
 pub text_named : (vs : Plains) (i : ℕ) (bytes : List ℕ) → i < count_of vs → AllNamed vs → blob_value bytes ≡ nth vs i → is_name bytes ≡ true
-text_named vs i bytes below all is = subst (λ (b : List ℕ). is_name b ≡ true) (sym (ap text_in is) ∙ text_of bytes) (named_at vs i below all)
+text_named vs i bytes below all is = subst (λ (b : List ℕ). is_name b ≡ true) (sym (ap text_in is) ∙ text_blob bytes) (named_at vs i below all)
 
 take_texts : (vs : Plains) (i : ℕ) → i < count_of vs → take (i + 1) (map text_in (list_of vs)) ≡ take i (map text_in (list_of vs)) ++ text_in (nth vs i) ∷ []
 take_texts none i below = absurd (omega (arith, below))
@@ -27,20 +25,14 @@ take_texts (more v vs) (suc i) below =
 
 pub texts_more : (vs : Plains) (i : ℕ) (bytes : List ℕ) (old new : List (List ℕ)) → i < count_of vs → blob_value bytes ≡ nth vs i → old ≡ take i (map text_in (list_of vs)) → new ≡ old ++ bytes ∷ [] → new ≡ take (i + 1) (map text_in (list_of vs))
 texts_more vs i bytes old new below is so_far added =
-    added ∙ ap (λ (l : List (List ℕ)). l ++ bytes ∷ []) so_far ∙ ap (λ (b : List ℕ). take i (map text_in (list_of vs)) ++ b ∷ []) (sym (text_of bytes) ∙ ap text_in is) ∙ sym (take_texts vs i below)
+    added ∙ ap (λ (l : List (List ℕ)). l ++ bytes ∷ []) so_far ∙ ap (λ (b : List ℕ). take i (map text_in (list_of vs)) ++ b ∷ []) (sym (text_blob bytes) ∙ ap text_in is) ∙ sym (take_texts vs i below)
 
 count_texts : (vs : Plains) → length (map text_in (list_of vs)) ≡ count_of vs
 count_texts none = refl
 count_texts (more v vs) = ap suc (count_texts vs)
 
-take_whole : (xs : List (List ℕ)) (n : ℕ) → length xs ≤ n → take n xs ≡ xs
-take_whole [] zero le = refl
-take_whole [] (suc n) le = refl
-take_whole (x ∷ xs) zero le = absurd (omega (arith, le))
-take_whole (x ∷ xs) (suc n) le = ap (λ (l : List (List ℕ)). x ∷ l) (take_whole xs n (omega (arith, le)))
-
 pub texts_all : (vs : Plains) (n : ℕ) (names : List (List ℕ)) → count_of vs ≤ n → names ≡ take n (map text_in (list_of vs)) → names ≡ map text_in (list_of vs)
-texts_all vs n names all is = is ∙ take_whole (map text_in (list_of vs)) n (let count = count_texts vs in omega (arith, count, all))
+texts_all vs n names all is = is ∙ take_all (map text_in (list_of vs)) n (let count = count_texts vs in omega (arith, count, all))
 
 pub texts_few : (vs : Plains) (names : List (List ℕ)) → names ≡ map text_in (list_of vs) → count_of vs < 2 ^ 32 → length names < 2 ^ 32
 texts_few vs names is few = let count = ap length is ∙ count_texts vs in omega (arith, count, few)

@@ -1,5 +1,5 @@
 -- Names that are in order, each once, and what stands twice among them: nothing.
-use Rattle.std.proofs.Common.{◌≡◌, ◌≢◌, ◌⊎◌, inl, inr, ℕ, suc, ◌+◌, ◌<◌, List, [], ◌∷◌, length, map, get_or, Option, Some, None, AllPairs, refl, sym, ap, subst, ◌∙◌, arith}
+use Rattle.std.proofs.Common.{◌≡◌, ◌≢◌, ◌⊎◌, inl, inr, ℕ, suc, ◌+◌, List, [], ◌∷◌, map, Option, Some, None, AllPairs, refl, sym, ap, subst, ◌∙◌, arith}
 use Rattle.std.specs.Ordering.{nat_cmp, ordering_reverse}
 use Rattle.std.specs.Cmp.Lexicographic.{slice_cmp}
 use Rattle.std.specs.List.{flat_map}
@@ -8,6 +8,7 @@ use Rattle.std.specs.declared.cmp.Ordering.TheVariants.{Less, Equal, Greater}
 use Rattle.std.proofs.lemmas.Cmp.{nat_list_cmp_total}
 use Rattle.std.proofs.lemmas.List.Concat.{flat_map-cons}
 use Rattle.std.proofs.lemmas.List.{append-nil}
+use Rattle.base_core.proofs.Listed.{at_index}
 use Rattle.adb_view.specs.Plain.{Plain}
 use Rattle.adb_fields.specs.Pairs.{NameWithPosition}
 use Rattle.adb_fields.specs.FirstPair.{IsFirstOf}
@@ -45,11 +46,6 @@ less_apart x y e same = never_less x (subst (λ (z : List ℕ). cmp x z ≡ Less
 pub rises_apart : (xs : List (List ℕ)) → Rises xs → IsApart xs
 rises_apart [] r = tt
 rises_apart (x ∷ xs) r = (λ q here. less_apart x q (r.0 q here), rises_apart xs r.1)
-
-pub at_index : (q : List ℕ) (xs : List (List ℕ)) → IsIn q xs → (i : ℕ) × (i < length xs) × (get_or xs i q ≡ q)
-at_index q [] h = absurd h
-at_index q (x ∷ xs) (inl is) = (0, omega arith, sym is)
-at_index q (x ∷ xs) (inr h) = let (i, lt, is) = at_index q xs h in (suc i, omega arith, is)
 
 pub rises_from_pairs : (xs : List (List ℕ)) → AllPairs (λ a b. cmp a b ≡ Less) xs → Rises xs
 rises_from_pairs [] pairs = tt

@@ -16,10 +16,11 @@ use Rattle.make_index.specs.Entries.{entry_of_package}
 use Rattle.adb_copy.specs.Zeros.{info_with, with_at}
 use Rattle.make_core.proofs.Blind.{AreBlind, AreBlindBut, IsBlind, turned_but}
 use Rattle.make_core.proofs.OpenedPackage.{IsOpened, Values, opened}
-use Rattle.make_core.proofs.ValueParts.{part_kept, part_shaped, placed_kept, placed_later, placed_shaped, placed_there}
+use Rattle.make_core.proofs.ValueParts.{part_kept, part_shaped, placed_kept, placed_later, placed_shaped}
 use Rattle.make_core.proofs.GoodValues.{IsGood, good_leaf}
 use Rattle.adb_copy.proofs.Shapes.{entries_shape}
 use Rattle.adb_copy.proofs.WithoutZeros.{HasInts, HaveInts, entries_ints, normal_ints, nth_ints, placed_ints, zeros_normal, zeros_shape}
+use Rattle.adb_copy.proofs.Zeros.{at_same}
 use Rattle.make_core.proofs.Zeros.{zeros_leaves}
 
 abbrev infos : Fields
@@ -103,7 +104,7 @@ both_ints : (vs : Plains) (id : List ℕ) (len : ℕ) → len < 2 ^ 64 → HaveI
 both_ints vs id len small h = placed_ints 12 (int len) (with_at 2 (blob id) vs) (int_ints len small) (placed_ints 2 (blob id) vs (blob_ints id) h)
 
 id_stands : (vs : Plains) (id : List ℕ) (len : ℕ) → nth (with_both vs id len) 2 ≡ blob id
-id_stands vs id len = placed_later 2 12 (int len) (with_at 2 (blob id) vs) (lit< tt) ∙ placed_there 2 (blob id) vs
+id_stands vs id len = placed_later 2 12 (int len) (with_at 2 (blob id) vs) (lit< tt) ∙ at_same 2 (blob id) vs
 
 both_kept : (a b : Surroundings) (vs : Plains) (id : List ℕ) (len : ℕ) → length id ≡ 32 → a.root ≡ Package → b.root ≡ Index
     → first_bad (field_leaves infos 301 a vs) ≡ None → first_bad (field_leaves infos 301 b (with_both vs id len)) ≡ None

@@ -2,7 +2,7 @@
 use Rattle.std.proofs.Common.{◌≡◌, ◌⊎◌, inl, inr, ℕ, ◌^◌, ◌<◌, Bool, true, false, cond, not, ◌&&◌, ◌||◌, nat_lt, if◌then◌else◌, List, [], ◌∷◌, ◌++◌, map, Option, Some, None, option_and_then, Ok, Err, refl, ap, sym, subst, ◌∙◌, arith}
 use Rattle.std.specs.Prelude.{is_some, unwrap_or}
 use Rattle.std.specs.List.{find, list_any}
-use Rattle.std.proofs.lemmas.Bool.{and_parts, ltb-true}
+use Rattle.std.proofs.lemmas.Bool.{and_parts, ltb-true, or_right, or_cases, or_left}
 use Rattle.std.proofs.lemmas.List.Concat.{flat_map-cons}
 use Rattle.std.proofs.lemmas.List.Folds.{list_any-append}
 use Rattle.version_core.specs.Order.{is_version}
@@ -27,6 +27,7 @@ use Rattle.make_info.specs.Fields.{FieldValue, text, number, need, kind_of_field
 use Rattle.make_info.specs.FieldTexts.{FieldText, field_text_in, values_of_info, is_for, is_text_for, is_same, is_too_long}
 use Rattle.make_info.specs.Information.{InfoItem, all_items, first_offence, information_fields, information_value, information_of, is_item_for, info_item, item_value, items_of_text, items_of_option, lacks_name_or_version, value_of_list, need_value, number_in, offends, replaces_priority, plain_value, value_of_single, unless_offence, plains_for, with_values}
 use Rattle.make_info.specs.Values.{number_value}
+use Rattle.make_info.proofs.OutputFacts.{no_offence}
 use Rattle.make_core.proofs.GoodValues.{IsGood, arr_good, hash_good, null_number, number_good, obj_good, text_good}
 use Rattle.make_core.proofs.PackageFiles.{around_folder, size_good}
 use Rattle.make_core.proofs.SaidGood.{AreSaidAs, IsNeed, IsSaidAs, said_good, same_kind}
@@ -76,10 +77,6 @@ abbrev AreAllowed : List OptionValue → Type 0
 AreAllowed [] = Unit {0}
 AreAllowed (v ∷ vs) = (is_some (items_of_option v) ≡ true) × AreAllowed vs
 
-some_if_not : (b c : Bool) → (not b || c) ≡ false → b ≡ true
-some_if_not true c e = refl
-some_if_not false c e = absurd (cc (e))
-
 allowed : (too_long : Bool) (before told : List OptionValue) → first_offence too_long before told ≡ None → AreAllowed told
 allowed too_long before [] e = tt
 allowed too_long before (v ∷ vs) e = by_offence (offends too_long before v) refl (allowed too_long (before ++ v ∷ []) vs) e
@@ -87,7 +84,7 @@ allowed too_long before (v ∷ vs) e = by_offence (offends too_long before v) re
     by_offence : (b : Bool) → offends too_long before v ≡ b → (first_offence too_long (before ++ v ∷ []) vs ≡ None → AreAllowed vs)
         → (if b then Some v.place else first_offence too_long (before ++ v ∷ []) vs) ≡ None → AreAllowed (v ∷ vs)
     by_offence true is further k = absurd (cc (k))
-    by_offence false is further k = (some_if_not (is_some (items_of_option v)) _ is, further k)
+    by_offence false is further k = (no_offence (is_some (items_of_option v)) _ is, further k)
 
 -- each value of the field says a thing of it
 abbrev SaysOne : Kind → Type 0
@@ -117,23 +114,11 @@ among_by f (Some g) says is some =
     let kind = same_kind g.field f is in
     among_given f g (values_by_kind (kind_of_field g.field) g.value) is (λ ss e. says g.value ss (ap (λ (k : Kind). values_by_kind k g.value) (sym kind) ∙ e)) some
 
-either_any : (a b : Bool) → (a || b) ≡ true → (a ≡ true) ⊎ (b ≡ true)
-either_any true b e = inl refl
-either_any false b e = inr e
-
-or_left : (a b : Bool) → a ≡ true → (a || b) ≡ true
-or_left true b e = refl
-or_left false b e = absurd (cc (e))
-
-or_right : (a b : Bool) → b ≡ true → (a || b) ≡ true
-or_right true b e = refl
-or_right false b e = e
-
 among : (f : Field) (told : List OptionValue) → SaysOne (kind_of_field f) → AreAllowed told → list_any (is_for f) told ≡ true → list_any (is_item_for f) (all_items told) ≡ true
 among f [] says ok e = absurd (cc (e))
 among f (v ∷ vs) says ok e =
     ap (list_any (is_item_for f)) (flat_map-cons said_by v vs)
-    ∙ (list_any-append (is_item_for f) (said_by v) (all_items vs) ∙ by_side (either_any (is_for f v) (list_any (is_for f) vs) e) (among f vs says ok.1))
+    ∙ (list_any-append (is_item_for f) (said_by v) (all_items vs) ∙ by_side (or_cases (is_for f v) (list_any (is_for f) vs) e) (among f vs says ok.1))
   where
     by_side : (is_for f v ≡ true) ⊎ (list_any (is_for f) vs ≡ true) → (list_any (is_for f) vs ≡ true → list_any (is_item_for f) (all_items vs) ≡ true) → (list_any (is_item_for f) (said_by v) || list_any (is_item_for f) (all_items vs)) ≡ true
     by_side (inl here) further = or_left _ _ (among_by f (field_text_in v.text) says here ok.0)

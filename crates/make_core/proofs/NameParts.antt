@@ -1,8 +1,8 @@
 -- Where a name has a slash, names stand before it and behind it; the last one ends the folder.
-use Rattle.std.proofs.Common.{◌≡◌, ◌⊎◌, inl, inr, ℕ, suc, zero, ◌+◌, ◌-◌, ◌<◌, ◌≤◌, Bool, true, false, cond, not, ◌&&◌, ◌||◌, ◌==◌, eqb, nat_le, nat_lt, List, [], ◌∷◌, ◌++◌, length, take, drop, get_or, refl, sym, ap, subst, ◌∙◌, append_assoc, arith}
+use Rattle.std.proofs.Common.{◌≡◌, ◌⊎◌, inl, inr, ℕ, suc, zero, ◌+◌, ◌-◌, ◌<◌, ◌≤◌, Bool, true, false, cond, not, ◌==◌, eqb, nat_le, nat_lt, List, [], ◌∷◌, ◌++◌, length, take, drop, get_or, refl, sym, ap, subst, ◌∙◌, append_assoc, arith}
 use Rattle.std.specs.Str.{IsUtf8, is_utf8}
 use Rattle.std.specs.List.{list_all, list_any, suffix_len}
-use Rattle.std.proofs.lemmas.Bool.{and_parts, eqb-true, le-leb, leb-true, lt-ltb, ltb-true}
+use Rattle.std.proofs.lemmas.Bool.{and_parts, eqb-true, le-leb, leb-true, lt-ltb, ltb-true, not-true, and_from, or_parts}
 use Rattle.std.proofs.lemmas.List.{drop_at, get_or-append-add, length-append, take_at}
 use Rattle.std.proofs.lemmas.List.Folds.{list_all-append, list_any-append}
 use Rattle.std.proofs.lemmas.List.Sums.{suffix_len_is}
@@ -22,13 +22,6 @@ pub record IsNamed (bytes : List ℕ) : Type 0 where
   pub utf8 : is_utf8 bytes ≡ true
   pub parts : list_all is_part (parts_of bytes) ≡ true
 
-not_true : (b : Bool) → not b ≡ true → b ≡ false
-not_true true e = absurd (cc (e))
-not_true false e = refl
-
-pub both_true : (a b : Bool) → a ≡ true → b ≡ true → (a && b) ≡ true
-both_true a b e f = rw (e, f) refl
-
 pub named : (bytes : List ℕ) → is_name bytes ≡ true → IsNamed bytes
 unfolding is_name
 named bytes is =
@@ -36,15 +29,15 @@ named bytes is =
     let b = and_parts _ (is_utf8 bytes) a.0 in
     let c = and_parts _ (not (list_any (λ b. b == 0) bytes)) b.0 in
     let d = and_parts (nat_lt 0 (length bytes)) (nat_le (length bytes) 1024) c.0 in
-    record { some = ltb-true 0 (length bytes) d.0; short = leb-true (length bytes) 1024 d.1; no_zero = not_true _ c.1; utf8 = b.1; parts = a.1 }
+    record { some = ltb-true 0 (length bytes) d.0; short = leb-true (length bytes) 1024 d.1; no_zero = not-true _ c.1; utf8 = b.1; parts = a.1 }
 
 name_of : (bytes : List ℕ) → IsNamed bytes → is_name bytes ≡ true
 unfolding is_name
 name_of bytes n =
-    both_true _ (list_all is_part (parts_of bytes))
-    (both_true _ (is_utf8 bytes)
-    (both_true _ (not (list_any (λ b. b == 0) bytes))
-    (both_true (nat_lt 0 (length bytes)) (nat_le (length bytes) 1024) (lt-ltb 0 (length bytes) n.some) (le-leb (length bytes) 1024 n.short))
+    and_from _ (list_all is_part (parts_of bytes))
+    (and_from _ (is_utf8 bytes)
+    (and_from _ (not (list_any (λ b. b == 0) bytes))
+    (and_from (nat_lt 0 (length bytes)) (nat_le (length bytes) 1024) (lt-ltb 0 (length bytes) n.some) (le-leb (length bytes) 1024 n.short))
     (ap not n.no_zero))
     n.utf8)
     n.parts
@@ -71,16 +64,12 @@ utf8_sides a b good =
     let back_is : drop (length a + 1) all ≡ b = ap (drop (length a + 1)) (sym grouped) ∙ drop_at (a ++ 47 ∷ []) b (length a + 1) (omega (arith, length-append a (47 ∷ []))) in
     (is_utf8-from_IsUtf8 a (subst IsUtf8 front_is front), is_utf8-from_IsUtf8 b (subst IsUtf8 back_is back))
 
-neither : (a b : Bool) → (a || b) ≡ false → (a ≡ false) × (b ≡ false)
-neither false b e = (refl, e)
-neither true b e = absurd (cc (e))
-
 pub sides : (a b : List ℕ) → is_name (a ++ 47 ∷ b) ≡ true → (is_name a ≡ true) × (is_name b ≡ true)
 sides a b is =
     let n = named (a ++ 47 ∷ b) is in
     let long : length (a ++ 47 ∷ b) ≡ length a + suc (length b) = length-append a (47 ∷ b) in
     let short = n.short in
-    let zero_free = neither (list_any (λ b. b == 0) a) (list_any (λ b. b == 0) b) (sym (list_any-append (λ b. b == 0) a (47 ∷ b)) ∙ n.no_zero) in
+    let zero_free = or_parts (list_any (λ b. b == 0) a) (list_any (λ b. b == 0) b) (sym (list_any-append (λ b. b == 0) a (47 ∷ b)) ∙ n.no_zero) in
     let utf8 = utf8_sides a b n.utf8 in
     let parts = and_parts (list_all is_part (parts_of a)) (list_all is_part (parts_of b)) (sym (list_all-append is_part (parts_of a) (parts_of b)) ∙ (ap (list_all is_part) (sym (split_slash a b)) ∙ n.parts)) in (
       name_of a (record { some = some_bytes a parts.0; short = omega arith; no_zero = zero_free.0; utf8 = utf8.0; parts = parts.0 }),
@@ -91,8 +80,8 @@ sides a b is =
 
 no_slash_at : (xs : List ℕ) (k d : ℕ) → list_any is_slash xs ≡ false → k < length xs → is_slash (get_or xs k d) ≡ false
 no_slash_at [] k d e lt = absurd (omega arith)
-no_slash_at (x ∷ xs) zero d e lt = (neither (is_slash x) (list_any is_slash xs) e).0
-no_slash_at (x ∷ xs) (suc k) d e lt = no_slash_at xs k d (neither (is_slash x) (list_any is_slash xs) e).1 (omega arith)
+no_slash_at (x ∷ xs) zero d e lt = (or_parts (is_slash x) (list_any is_slash xs) e).0
+no_slash_at (x ∷ xs) (suc k) d e lt = no_slash_at xs k d (or_parts (is_slash x) (list_any is_slash xs) e).1 (omega arith)
 
 abbrev is_other : ℕ → Bool
 is_other b = not (is_slash b)
@@ -164,10 +153,10 @@ pub record IsPath (path : List ℕ) : Type 0 where
 file_by : (path folder part : List ℕ) → folder_of path ≡ folder → last_part_of path ≡ part → path_of folder part ≡ path → is_name part ≡ true → list_any is_slash part ≡ false → length path ≤ 1024 → IsPath path
 file_by path folder part f p is name free short =
     let whole : path_of (folder_of path) (last_part_of path) ≡ path = (λ k. path_of (f k) (p k)) ∙ is in
-    let one : is_one_part (last_part_of path) ≡ true = ap is_one_part p ∙ both_true (is_name part) (not (list_any (λ b. b == 47) part)) name (ap not free) in
+    let one : is_one_part (last_part_of path) ≡ true = ap is_one_part p ∙ and_from (is_name part) (not (list_any (λ b. b == 47) part)) name (ap not free) in
     record {
       is = whole;
-      good = both_true (is_one_part (last_part_of path)) (nat_le (length (path_of (folder_of path) (last_part_of path))) 1024) one (ap (λ (xs : List ℕ). nat_le (length xs) 1024) whole ∙ le-leb (length path) 1024 short);
+      good = and_from (is_one_part (last_part_of path)) (nat_le (length (path_of (folder_of path) (last_part_of path))) 1024) one (ap (λ (xs : List ℕ). nat_le (length xs) 1024) whole ∙ le-leb (length path) 1024 short);
     }
 
 pub path_good : (path : List ℕ) → is_name path ≡ true → IsPath path

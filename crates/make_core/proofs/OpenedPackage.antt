@@ -1,10 +1,10 @@
 -- The value of a package in which no test fails is normal, has its shape and keeps the rules.
 use Rattle.std.proofs.Common.{◌≡◌, ◌↔◌, ℕ, ◌-◌, ◌<◌, Bool, true, false, if◌then◌else◌, List, drop, Option, Some, None, Result, Ok, Err, refl, subst, length, ◌≤◌}
 use Rattle.std.specs.Prelude.{All, IfSome, is_some, unwrap_or}
-use Rattle.std.specs.Option.{option_or}
 use Rattle.std.proofs.lemmas.List.Elements.{All-drop, All-take}
 use Rattle.base_core.specs.declared.cause.Cause.{Cause}
 use Rattle.base_core.specs.declared.cause.Cause.TheVariants.{BlockOrder, Truncated}
+use Rattle.base_core.proofs.Causes.{first_none, second_none}
 use Rattle.adb_block.specs.Piece.{Piece, comes_after}
 use Rattle.adb_block.specs.Framing.{HeadFields, Step, ended, failed, block, head_of, step_by_head, kind_of_number, step_by_order, step_by_size, next_step}
 use Rattle.adb_block.specs.Header.{header_of}
@@ -31,14 +31,6 @@ pub record Values : Type 0 where
 
 abbrev AreBytes : List ℕ → Type 0
 AreBytes bytes = All (λ b. b < 256) bytes
-
-pub front_none : (o u : Option Cause) → option_or o u ≡ None → o ≡ None
-front_none None u h = refl
-front_none (Some c) u h = h
-
-pub back_none : (o u : Option Cause) → option_or o u ≡ None → u ≡ None
-back_none None u h = h
-back_none (Some c) u h = (cc)
 
 -- ---- the first block holds bytes of the file
 
@@ -85,12 +77,12 @@ first_passed : (at : ℕ) (further : Piece → ℕ → Reading) (s : Step) → I
 unfolding IsFirst
 first_passed at further ended f h = absurd f
 first_passed at further (failed c) f h = absurd cc
-first_passed at further (block b size) f h = (f, front_none (payload_fault Package b.payload) _ h)
+first_passed at further (block b size) f h = (f, first_none (payload_fault Package b.payload) _ h)
 
 header_passed : (file : List ℕ) (h : Result ℕ Cause) → AreBytes file → file_fault (fault_after_first Package) Package file h ≡ None → IsPayload (payload_after_header file h)
 unfolding reading_of reading_from
 header_passed file (Ok schema) bytes e =
-    first_passed 8 _ (next_step None 8 (drop 8 file)) (step_first 8 (drop 8 file) (All-drop (λ b. b < 256) 8 file bytes)) (back_none (schema_fault Package schema) _ e)
+    first_passed 8 _ (next_step None 8 (drop 8 file)) (step_first 8 (drop 8 file) (All-drop (λ b. b < 256) 8 file bytes)) (second_none (schema_fault Package schema) _ e)
 header_passed file (Err c) bytes e = absurd cc
 
 passed : (file : List ℕ) → AreBytes file → package_fault file ≡ None → IsPayload (payload_in file)
@@ -111,14 +103,14 @@ some_is None e = absurd cc
 value_opened : Values → (payload : List ℕ) → IsPayload payload → IsOpened (root_value Package payload)
 unfolding value_at
 value_opened laws payload p =
-    let shape = back_none (head_fault payload) _ p.1 in
-    let texts = back_none (shape_fault payload (shape_of (Obj Package)) (root_of payload)) _ shape in
-    let found = (laws.faultless payload (shape_of (Obj Package)) (root_of payload)).0 (front_none _ _ shape) in
+    let shape = second_none (head_fault payload) _ p.1 in
+    let texts = second_none (shape_fault payload (shape_of (Obj Package)) (root_of payload)) _ shape in
+    let found = (laws.faultless payload (shape_of (Obj Package)) (root_of payload)).0 (first_none _ _ shape) in
     let is = some_is (plain_of payload (shape_of (Obj Package)) (root_of payload)) found.0 in
     record {
       normal = subst (λ (o : Option Plain). IfSome o IsNormal) is (laws.normal payload p.0 (shape_of (Obj Package)) (root_of payload));
       shaped = subst (λ (o : Option Plain). IfSome o (HasShape (shape_of (Obj Package)))) is (laws.shapes payload (shape_of (Obj Package)) (root_of payload));
-      kept = front_none _ _ texts;
+      kept = first_none _ _ texts;
     }
 
 pub opened : Values → (file : List ℕ) → AreBytes file → package_fault file ≡ None → IsOpened (package_with_contents file).value

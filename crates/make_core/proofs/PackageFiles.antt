@@ -1,7 +1,7 @@
 -- The values of files and of folders, whatever their bytes, and what they say of contents.
 use Rattle.std.proofs.Common.{◌≡◌, ℕ, zero, suc, ◌-◌, ◌^◌, ◌<◌, ◌≤◌, Bool, true, false, not, ◌&&◌, ◌==◌, eqb, ltb, nat_lt, if◌then◌else◌, List, [], ◌∷◌, length, take, map, codes, bytes_eq, refl, ap, sym, subst, ◌∙◌, arith, lit<, Option}
 use Rattle.std.specs.Str.{is_utf8}
-use Rattle.std.proofs.lemmas.Bool.{and_parts, eq-eqb, lt-ltb, ltb-false, ltb-true, ne_eqb}
+use Rattle.std.proofs.lemmas.Bool.{and_parts, eq-eqb, lt-ltb, ltb-false, ltb-true, ne_eqb, not-true, and_from}
 use Rattle.std.proofs.lemmas.List.{length-drop, take_all}
 use Rattle.std.proofs.lemmas.Slice.Eq.{bytes_eq-Decides}
 use Rattle.sha2.specs.Sha256.{sha256}
@@ -46,20 +46,13 @@ after_mark bytes mark other = by_length (ltb (length bytes) 11) refl
         let rest : length (link_text bytes) ≡ length bytes - 10 = length-drop 10 bytes in
         omega (arith, long, rest)
 
-not_true : (b : Bool) → not b ≡ true → b ≡ false
-not_true true e = absurd (cc (e))
-not_true false e = refl
-
-both_true : (a b : Bool) → a ≡ true → b ≡ true → (a && b) ≡ true
-both_true a b e f = rw (e, f) refl
-
 link_target : (bytes : List ℕ) → is_link_file bytes ≡ true → is_target (0 ∷ 160 ∷ link_text bytes) ≡ true
 unfolding is_link_file
 link_target bytes e =
     let a = and_parts (bytes_eq (take 10 bytes) (codes "!<symlink>") && not (length bytes == 10)) (is_utf8 (link_text bytes)) e in
     let b = and_parts (bytes_eq (take 10 bytes) (codes "!<symlink>")) (not (length bytes == 10)) a.0 in
     let mark = (bytes_eq-Decides (take 10 bytes) (codes "!<symlink>")).0 b.0 in
-    both_true (nat_lt 0 (length (link_text bytes))) (is_utf8 (link_text bytes)) (lt-ltb 0 (length (link_text bytes)) (after_mark bytes mark (not_true _ b.1))) a.1
+    and_from (nat_lt 0 (length (link_text bytes))) (is_utf8 (link_text bytes)) (lt-ltb 0 (length (link_text bytes)) (after_mark bytes mark (not-true _ b.1))) a.1
 
 pub good_kind : (bytes : List ℕ) → size_of_kind (kind_of_file bytes) < 2 ^ 64 → IsGoodKind (kind_of_file bytes)
 unfolding kind_of_file
@@ -154,7 +147,7 @@ unfolding shape_of text_rule
 file_good folder name kind named good =
     let inside : Surroundings = around_file folder kind in
     obj_good 4 (shapes_of (table File)) 503 (in_folder folder) inside (file_fields name kind) (file_inside folder name kind) (
-      text_good 401 inside name (both_true (is_file_name folder name) true named refl),
+      text_good 401 inside name (and_from (is_file_name folder name) true named refl),
       (
         acl_good 420 402 inside (lit< tt),
         (

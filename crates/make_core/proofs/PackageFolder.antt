@@ -35,7 +35,7 @@ use Rattle.make_core.proofs.SoundPackage.{Holds, IsReadBack, Sizes, are_listed, 
 
 -- ---- what was read
 
-found_is : (place : ℕ) (o : Option (List ℕ)) (bytes : List ℕ) → found_at place o ≡ Ok bytes → o ≡ Some bytes
+pub found_is : (place : ℕ) (o : Option (List ℕ)) (bytes : List ℕ) → found_at place o ≡ Ok bytes → o ≡ Some bytes
 found_is place None bytes e = absurd (cc (e))
 found_is place (Some b) bytes e = let same : b ≡ bytes = cc (e) in ap Some same
 

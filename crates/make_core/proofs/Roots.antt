@@ -1,7 +1,7 @@
 -- A good value of which a payload was written may stand at the root of a container.
-use Rattle.std.proofs.Common.{◌≡◌, ℕ, ◌||◌, Bool, true, false, List, Option, Some, None, Ok, refl, ap, sym, ◌∙◌}
+use Rattle.std.proofs.Common.{◌≡◌, ℕ, false, List, Option, Some, None, Ok, refl, ap, sym, ◌∙◌}
 use Rattle.std.specs.Prelude.{is_some}
-use Rattle.std.proofs.lemmas.Bool.{ltb-false}
+use Rattle.std.proofs.lemmas.Bool.{ltb-false, or_parts}
 use Rattle.adb_view.specs.Plain.{IsNormal, Plain}
 use Rattle.adb_view.specs.Schema.{shape_of}
 use Rattle.adb_schema.specs.Texts.{at_root}
@@ -25,10 +25,6 @@ pub written : (v : Plain) (payload : List ℕ) → written_of v ≡ Ok payload �
 unfolding written_of
 written v payload h = written_by v payload (overflow_of v) refl h
 
-both_false : (a b : Bool) → (a || b) ≡ false → (a ≡ false) × (b ≡ false)
-both_false false b e = (refl, e)
-both_false true b e = (cc)
-
 -- a normal value overflows exactly past a limit
 abbrev pub Exact : Type 0
 Exact = (v : Plain) → IsNormal v → is_some (overflow_of v) ≡ passes (size_of v, value_count v)
@@ -36,7 +32,7 @@ Exact = (v : Plain) → IsNormal v → is_some (overflow_of v) ≡ passes (size_
 pub root_good : Exact → (which : Which) (v : Plain) (payload : List ℕ) → IsGood (shape_of (Obj which)) 0 (at_root which) v → repeated_fault which v ≡ None → IsWritten v payload → IsRootOf which v
 root_good exact which v payload g once w =
     let within : passes (size_of v, value_count v) ≡ false = sym (exact v g.normal) ∙ ap is_some w.none in
-    let limits = both_false _ _ within in
+    let limits = or_parts _ _ within in
     record {
       normal = g.normal;
       shaped = g.shaped;

@@ -90,7 +90,7 @@ sources_are read n [] names sources below e =
 sources_are read n (v ∷ vs) names sources below e =
     sources_good (without_dot v.text) names v.place read n sources (are_listed (without_dot v.text) names below.each) (rises_from_pairs names below.rising) e
 
-info_ok : (r : Result (List InfoItem) ℕ) (items : List InfoItem) → or_info_bad r ≡ Ok items → r ≡ Ok items
+pub info_ok : (r : Result (List InfoItem) ℕ) (items : List InfoItem) → or_info_bad r ≡ Ok items → r ≡ Ok items
 info_ok (Ok x) items e = let same : x ≡ items = cc (e) in ap Ok same
 info_ok (Err place) items e = absurd (cc (e))
 

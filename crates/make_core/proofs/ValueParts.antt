@@ -67,12 +67,6 @@ placed_kept (field name t fs) (suc i) s place around v (more u us) e a h =
     let further = placed_kept fs i s (place + 1) around v us e (subst (λ m. first_bad (leaves s m around v) ≡ None) n a) (good_back (leaves t place around u) (field_leaves fs (place + 1) around us) h) in
     good_append (leaves t place around u) (field_leaves fs (place + 1) around (with_at i v us)) (good_front (leaves t place around u) (field_leaves fs (place + 1) around us) h) further
 
-pub placed_there : (i : ℕ) (v : Plain) (vs : Plains) → nth (with_at i v vs) i ≡ v
-placed_there zero v none = refl
-placed_there zero v (more u us) = refl
-placed_there (suc i) v none = placed_there i v none
-placed_there (suc i) v (more u us) = placed_there i v us
-
 pub placed_later : (i j : ℕ) (v : Plain) (vs : Plains) → i < j → nth (with_at j v vs) i ≡ nth vs i
 placed_later zero zero v vs lt = absurd (omega arith)
 placed_later zero (suc j) v none lt = refl

@@ -1,6 +1,6 @@
 -- An entry in a payload of its own.
-use Rattle.std.proofs.Common.{◌≡◌, ℕ, suc, zero, ◌+◌, ◌<◌, ◌≤◌, ◌^◌, Bool, true, false, List, [], ◌++◌, length, Option, Some, None, Result, Ok, Err, refl, ap, sym, subst, ◌∙◌, arith, true≢false, length-append, get_or}
-use Rattle.std.specs.Prelude.{is_some, is_none, unwrap_or, nat_lt, ◌||◌, IfSome, All, if◌then◌else◌, Vec}
+use Rattle.std.proofs.Common.{◌≡◌, ℕ, suc, zero, ◌+◌, ◌<◌, ◌≤◌, ◌^◌, true, List, [], ◌++◌, length, Option, Some, None, Result, Ok, Err, refl, ap, sym, subst, ◌∙◌, arith, length-append, get_or}
+use Rattle.std.specs.Prelude.{is_some, is_none, unwrap_or, nat_lt, IfSome, All, if◌then◌else◌, Vec}
 use Rattle.std.proofs.lemmas.Bool.{ltb-false, le-ltb}
 use Rattle.base_core.specs.declared.cause.Cause.TheVariants.{Truncated}
 use Rattle.std.specs.Int.{w32, to_le_bytes}
@@ -27,6 +27,7 @@ use Rattle.std.proofs.lemmas.List.{get_or_default}
 use Rattle.make_index.proofs.IndexAgain.{entry_again, entry_id, entry_name, entry_normal, entry_shape, entry_version}
 use Rattle.sha2.specs.Sha256.{sha256}
 use Rattle.std.specs.declared.alloc.Global.{Global}
+use Rattle.base_core.proofs.Booleans.{neither_first}
 use Rattle.adb_copy.proofs.Shapes.{FoundShapes, info_of_package, value_shape}
 use Rattle.make_index.proofs.IndexSound.{payload_all}
 
@@ -51,12 +52,8 @@ written_is v p h = go (overflow_of v) refl
     go None e = (ap (ok_in []) (sym h ∙ ap (or_overflow (canonical v)) e), e)
     go (Some c) e = absurd (err_ok c p (sym (ap (or_overflow (canonical v)) e) ∙ h))
 
-small_of : (a b : Bool) → (a || b) ≡ false → a ≡ false
-small_of true b h = absurd (true≢false h)
-small_of false b h = refl
-
 within : (v : Plain) → (is_some (overflow_of v) ≡ passes (size_of v, value_count v)) → overflow_of v ≡ None → size_of v ≤ MOST_BYTES
-within v law e = ltb-false MOST_BYTES (size_of v) (small_of (nat_lt MOST_BYTES (size_of v)) _ (sym law ∙ ap is_some e))
+within v law e = ltb-false MOST_BYTES (size_of v) (neither_first (nat_lt MOST_BYTES (size_of v)) _ (sym law ∙ ap is_some e))
 
 -- ---- it is read back
 

@@ -5,14 +5,14 @@ use Rattle.std.specs.List.{list_all, list_any, slice_split, onto_first}
 use Rattle.std.specs.Option.{option_and_then}
 use Rattle.std.specs.Str.{bytes_eq}
 use Rattle.std.specs.Cmp.Lexicographic.{bytes_decides}
-use Rattle.std.proofs.lemmas.List.Folds.{list_all-append}
-use Rattle.std.proofs.lemmas.Bool.{and_parts, and_from, lt-ltb, ltb-true}
+use Rattle.std.proofs.lemmas.Bool.{and_parts, and_from, lt-ltb, ltb-true, not-true, or_parts, false_from_ne_true}
 use Rattle.std.proofs.lemmas.Bool.Decides.{nat_tests}
 use Rattle.std.proofs.lemmas.Str.{IsUtf8-from_ascii, is_utf8-from_IsUtf8}
 use Rattle.base_core.specs.Name.{is_name, is_part, parts_of}
 use Rattle.dep_core.specs.Dependency.{begins_with_punctuation, is_dep_name, is_mark, is_name_byte, is_package_name}
 use Rattle.version_core.specs.Grammar.{is_version_byte}
 use Rattle.version_core.specs.Order.{is_version}
+use Rattle.version_core.proofs.VersionBytes.{all-imp, all-append}
 use Rattle.command_core.specs.declared.values.OptionValue.{OptionValue}
 use Rattle.make_info.specs.declared.field.Field.TheVariants as Fields
 use Rattle.make_info.specs.FieldTexts.{first_text_for, if_passes, package_name_in, default_output, package_file_name, package_file_name_of, package_version_in}
@@ -21,25 +21,12 @@ use Rattle.make_info.specs.FieldTexts.{first_text_for, if_passes, package_name_i
 abbrev pub HaveVersionBytes : Type 0
 HaveVersionBytes = (text : List ℕ) → is_version text ≡ true → list_all is_version_byte text ≡ true
 
-all-imp : (P Q : ℕ → Bool) → ((b : ℕ) → P b ≡ true → Q b ≡ true) → (xs : List ℕ) → list_all P xs ≡ true → list_all Q xs ≡ true
-all-imp P Q imp [] h = refl
-all-imp P Q imp (x ∷ xs) h =
-    let parts : (P x ≡ true) × (list_all P xs ≡ true) = and_parts (P x) (list_all P xs) h in
-    and_from (Q x) (list_all Q xs) (imp x parts.0) (all-imp P Q imp xs parts.1)
-
-all-append : (P : ℕ → Bool) (xs ys : List ℕ) → list_all P xs ≡ true → list_all P ys ≡ true → list_all P (xs ++ ys) ≡ true
-all-append P xs ys hx hy = list_all-append P xs ys ∙ and_from (list_all P xs) (list_all P ys) hx hy
-
 -- printable, and no slash
 abbrev pub is_file_byte : ℕ → Bool
 is_file_byte b = nat_lt 32 b && (nat_lt b 127 && not (eqb b 47))
 
 version_byte : (b : ℕ) → is_version_byte b ≡ true → is_file_byte b ≡ true
 version_byte b h = grind (arith, nat_tests)
-
-neither : (a b : Bool) → (a || b) ≡ false → (a ≡ false) × (b ≡ false)
-neither true b h = cc
-neither false b h = (refl, h)
 
 name_byte : (b : ℕ) → is_name_byte b ≡ true → eqb b 47 ≡ false → is_file_byte b ≡ true
 name_byte b h k =
@@ -51,12 +38,8 @@ name_bytes : (name : List ℕ) → list_all is_name_byte name ≡ true → list_
 name_bytes [] h k = refl
 name_bytes (b ∷ rest) h k =
     let all = and_parts (is_name_byte b) (list_all is_name_byte rest) h in
-    let no_slash = neither (eqb b 47) (list_any (λ b. eqb b 47) rest) k in
+    let no_slash = or_parts (eqb b 47) (list_any (λ b. eqb b 47) rest) k in
     and_from (is_file_byte b) (list_all is_file_byte rest) (name_byte b all.0 no_slash.0) (name_bytes rest all.1 no_slash.1)
-
-not_true : (b : Bool) → not b ≡ true → b ≡ false
-not_true true h = cc
-not_true false h = refl
 
 package_name_bytes : (name : List ℕ) → is_package_name name ≡ true → (list_all is_file_byte name ≡ true) × (0 < length name)
 package_name_bytes name h =
@@ -64,7 +47,7 @@ package_name_bytes name h =
     let dep = (and_parts (is_dep_name name) (not (begins_with_punctuation name)) all.0).0 in
     let parts = and_parts (nat_lt 0 (length name) && nat_le (length name) 255) (list_all is_name_byte name) dep in
     let some = (and_parts (nat_lt 0 (length name)) (nat_le (length name) 255) parts.0).0 in
-    (name_bytes name parts.1 (not_true (list_any (λ b. eqb b 47) name) all.1), ltb-true 0 (length name) some)
+    (name_bytes name parts.1 (not-true (list_any (λ b. eqb b 47) name) all.1), ltb-true 0 (length name) some)
 
 -- ---- what such bytes are
 
@@ -79,7 +62,7 @@ not_zero b h = grind (arith, nat_tests)
 
 not_slash : (b : ℕ) → is_file_byte b ≡ true → eqb b 47 ≡ false
 not_slash b h =
-    not_true (eqb b 47) (and_parts (nat_lt b 127) (not (eqb b 47)) (and_parts (nat_lt 32 b) (nat_lt b 127 && not (eqb b 47)) h).1).1
+    not-true (eqb b 47) (and_parts (nat_lt b 127) (not (eqb b 47)) (and_parts (nat_lt 32 b) (nat_lt b 127 && not (eqb b 47)) h).1).1
 
 ascii : (xs : List ℕ) → list_all is_file_byte xs ≡ true → (i : ℕ) → get_or xs i 0 < 128
 ascii [] h i = lit< tt
@@ -91,16 +74,12 @@ ascii (b ∷ rest) h (suc i) = ascii rest (and_parts (is_file_byte b) (list_all 
 one_part : (p : ℕ → Bool) (xs : List ℕ) → list_any p xs ≡ false → slice_split p xs ≡ xs ∷ []
 one_part p [] h = refl
 one_part p (x ∷ xs) h =
-    let both = neither (p x) (list_any p xs) h in
+    let both = or_parts (p x) (list_any p xs) h in
     ap (λ b. cond b ([] ∷ slice_split p xs) (onto_first x (slice_split p xs))) both.0 ∙ ap (onto_first x) (one_part p xs both.1)
-
-refuted : (b : Bool) → (b ≡ true → ⊥) → b ≡ false
-refuted true h = absurd (h refl)
-refuted false _ = refl
 
 differs : (xs ys : List ℕ) → length ys < length xs → bytes_eq xs ys ≡ false
 differs xs ys h =
-    refuted (bytes_eq xs ys) (λ t. let same : length xs ≡ length ys = ap length ((bytes_decides xs ys).0 t) in omega (arith, same, h))
+    false_from_ne_true (bytes_eq xs ys) (λ t. let same : length xs ≡ length ys = ap length ((bytes_decides xs ys).0 t) in omega (arith, same, h))
 
 is_a_part : (xs : List ℕ) → 2 < length xs → is_part xs ≡ true
 is_a_part xs h =

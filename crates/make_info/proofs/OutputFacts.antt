@@ -5,6 +5,7 @@ use Rattle.std.specs.Prelude.{is_ok, is_some, ◌==◌, ◌&&◌, ◌||◌, if�
 use Rattle.std.specs.List.{list_any}
 use Rattle.std.specs.Option.{option_and_then, option_map, option_or}
 use Rattle.std.proofs.lemmas.Option.{none-some}
+use Rattle.base_core.proofs.Options.{none_at}
 use Rattle.version_core.specs.Order.{is_version}
 use Rattle.dep_core.specs.Dependency.{is_package_name}
 use Rattle.command_core.specs.Applets.{needed_option}
@@ -20,7 +21,7 @@ use Rattle.command_core.specs.Files.{longest_output}
 use Rattle.make_info.specs.FieldTexts.{FieldText, file_name_in, first_text_for, field_text_in, if_passes, values_of_info, is_for, is_text_for, is_info_option, is_too_long, package_name_in, named_output, default_output, package_file_name_of, text_when_for, package_version_in}
 use Rattle.make_info.specs.Information.{InfoItem, all_items, first_offence, information, information_of, is_second, info_item, items_of_text, items_of_option, lacks_name_or_version, offends, unless_offence}
 use Rattle.make_info.specs.Output.{if_allowed, is_mkpkg, output_name, package_output}
-use Rattle.make_info.proofs.Outputs.{AreOutputs, allowed, by_offending, named_short, no_value, own_fits, unoffended}
+use Rattle.make_info.proofs.Outputs.{AreOutputs, allowed, named_short, no_value, own_fits, unoffended}
 use Rattle.make_info.proofs.Reading.{same_field}
 
 -- ---- it is short
@@ -68,7 +69,7 @@ some_of_map : {A B : Type 0} (f : A → B) (o : Option A) → is_some (option_ma
 some_of_map f None h = cc
 some_of_map f (Some x) h = refl
 
-no_offence : (a b : Bool) → (not a || b) ≡ false → a ≡ true
+pub no_offence : (a b : Bool) → (not a || b) ≡ false → a ≡ true
 no_offence true b h = refl
 no_offence false b h = cc
 
@@ -103,7 +104,7 @@ module _ (f : Field) (is_good : List ℕ → Bool) (strict : IsStrict f is_good)
     by_info : (v : OptionValue) (before rest : List OptionValue) (later : Option (List ℕ)) (b : Bool) → first_offence too_long before (cond b (v ∷ rest) rest) ≡ None → list_any (is_for f) (cond b (v ∷ rest) rest) ≡ true
         → Later rest later → is_some (option_and_then (if_passes is_good) (option_or (cond b (text_when_for f (field_text_in v.text)) None) later)) ≡ true
     by_info v before rest later true none any more =
-        let parts = by_offending (offends too_long before v) v.place (first_offence too_long (before ++ v ∷ []) rest) none in
+        let parts = none_at (offends too_long before v) v.place (first_offence too_long (before ++ v ∷ []) rest) none in
         by_field v before rest later (is_for f v) refl parts.0 parts.1 any more
     by_info v before rest later false none any more = more before none any
 

@@ -5,6 +5,7 @@ use Rattle.std.specs.Prelude.{IfOk, IfSome, is_ok, is_some, nat_lt, nat_le, ◌&
 use Rattle.std.specs.Option.{option_and_then, option_map, option_or}
 use Rattle.std.proofs.lemmas.Bool.{and_parts, leb-true, ltb-false}
 use Rattle.base_core.specs.Name.{is_name}
+use Rattle.base_core.proofs.Options.{none_at}
 use Rattle.version_core.specs.Order.{is_version}
 use Rattle.command_core.specs.Command.{CommandLine}
 use Rattle.command_core.specs.Sound.{IsCommand}
@@ -71,23 +72,19 @@ pub no_value : (f : Field) (given : Option FieldText) → is_text_for f given �
 no_value f None h = refl
 no_value f (Some given) h = ap (λ b. cond b (Some given.value) None) h
 
-pub by_offending : (b : Bool) (place : ℕ) (later : Option ℕ) → cond b (Some place) later ≡ None → (b ≡ false) × (later ≡ None)
-by_offending true place later h = cc
-by_offending false place later h = (refl, h)
-
 none_or : (a b : Option (List ℕ)) → a ≡ None → b ≡ None → option_or a b ≡ None
 none_or None b h k = k
 none_or (Some x) b h k = cc
 
 version_here : (done rest : List OptionValue) (v : OptionValue) (b : Bool) → first_offence true done (cond b (v ∷ rest) rest) ≡ None → cond b (text_when_for Fields.Version (field_text_in v.text)) None ≡ None
 version_here done rest v true h =
-    no_value Fields.Version (field_text_in v.text) (not_good (not (is_some (items_of_option v))) (is_second done v) (is_for Fields.Version v) (by_offending (offends true done v) v.place (first_offence true (done ++ v ∷ []) rest) h).0)
+    no_value Fields.Version (field_text_in v.text) (not_good (not (is_some (items_of_option v))) (is_second done v) (is_for Fields.Version v) (none_at (offends true done v) v.place (first_offence true (done ++ v ∷ []) rest) h).0)
 version_here done rest v false h = refl
 
 -- none of the rest offends either, behind some values
 version_later : (done rest : List OptionValue) (v : OptionValue) (b : Bool) → first_offence true done (cond b (v ∷ rest) rest) ≡ None → (before : List OptionValue) × (first_offence true before rest ≡ None)
 version_later done rest v true h =
-    (done ++ v ∷ [], (by_offending (offends true done v) v.place (first_offence true (done ++ v ∷ []) rest) h).1)
+    (done ++ v ∷ [], (none_at (offends true done v) v.place (first_offence true (done ++ v ∷ []) rest) h).1)
 version_later done rest v false h = (done, h)
 
 no_version : (done vs : List OptionValue) → first_offence true done (values_of_info vs) ≡ None → first_text_for Fields.Version vs ≡ None

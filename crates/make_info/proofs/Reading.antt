@@ -8,6 +8,7 @@ use Rattle.std.proofs.lemmas.List.Concat.{flat_map-append}
 use Rattle.std.proofs.lemmas.List.Folds.{find-append, list_any-append}
 use Rattle.hex.specs.Hex.{decode_of}
 use Rattle.hex.specs.declared.error.FromHexError.{FromHexError}
+use Rattle.std.proofs.Math.Bool.{or-false}
 use Rattle.dep_core.specs.Dependency.{is_package_name}
 use Rattle.version_core.specs.Order.{is_version}
 use Rattle.command_core.specs.declared.values.OptionValue.{OptionValue}
@@ -162,10 +163,6 @@ some_or : (a b : Option InfoItem) → is_some (option_or a b) ≡ (is_some a || 
 some_or (Some x) b = refl
 some_or None b = refl
 
-or_false : (a : Bool) → (a || false) ≡ a
-or_false true = refl
-or_false false = refl
-
 pub one_taken : (too_long : Bool) (told rest : List OptionValue) (v : OptionValue) (said new : List InfoItem) → IsReadTo too_long told (v ∷ rest) said → Some new ≡ items_with too_long said v.text → IsReadTo too_long told rest new
 one_taken too_long told rest v said new r h =
     let more : SaysAs said new r.done (field_text_in v.text) = says too_long r.done said new v h in
@@ -181,7 +178,7 @@ one_taken too_long told rest v said new r h =
           ∙ (ap is_some (find-append (is_item_for f) said items)
           ∙ (some_or (find (is_item_for f) said) (find (is_item_for f) items)
           ∙ (ap (λ b. b || is_some (find (is_item_for f) items)) (r.fresh f k)
-          ∙ (ap (λ b. list_any (is_for f) r.done || b) (more.1 f k ∙ sym (or_false (is_for f v)))
+          ∙ (ap (λ b. list_any (is_for f) r.done || b) (more.1 f k ∙ sym (or-false (is_for f v)))
           ∙ sym (list_any-append (is_for f) r.done (v ∷ []))))));
     }
 

@@ -3,30 +3,20 @@ use Rattle.std.proofs.Common.{◌≡◌, ◌≢◌, ℕ, zero, suc, Bool, true, 
 use Rattle.std.proofs.lemmas.Slice.Eq.{bytes_eq-Decides}
 use Rattle.adb_copy.specs.Zeros.{all_without_zeros, info_with, with_at, without_zeros}
 use Rattle.adb_copy.proofs.WithoutZeros.{int_zeros}
-use Rattle.adb_copy.proofs.Zeros.{nth_zeros}
+use Rattle.adb_copy.proofs.Zeros.{nth_zeros, at_same}
 use Rattle.adb_view.specs.Schema.{field_name_text, table}
 use Rattle.adb_view.specs.Values.{entries_in, entry_in, int_in, nth}
 use Rattle.adb_view.specs.declared.tables.Field.{Field}
 use Rattle.adb_view.specs.declared.tables.Which.TheVariants.{Package, PkgInfo}
-use Rattle.adb_view.proofs.ValueEntries.{entries_arr, nth_obj}
+use Rattle.adb_view.proofs.ValueEntries.{nth_obj}
 use Rattle.adb_view.specs.Plain.{Plain, null, int, blob, arr, obj, Plains, none, more, blob_value, obj_of, without_last_nulls}
 use Rattle.make_index.specs.Entries.{entry_of_package}
-use Rattle.make_core.proofs.ValueParts.{placed_later, placed_there}
+use Rattle.make_core.proofs.ValueParts.{placed_later}
 use Rattle.make_laws.specs.MadePackages.{contained_package}
 use Rattle.make_laws.specs.NamedFields.{field_named, place_of_name}
 use Rattle.pkg_core.specs.Whole.{package_id}
 
 -- ---- values without zeros
-
-pub entry_zeros : (v : Plain) (i : ℕ) → entry_in (without_zeros v) i ≡ without_zeros (entry_in v i)
-unfolding without_zeros all_without_zeros
-entry_zeros null i = refl
-entry_zeros (int zero) i = refl
-entry_zeros (int (suc n)) i = refl
-entry_zeros (blob []) i = refl
-entry_zeros (blob (b ∷ bs)) i = refl
-entry_zeros (arr vs) i = ap (λ us. nth us i) (entries_arr (all_without_zeros vs)) ∙ nth_zeros vs i
-entry_zeros (obj vs) i = nth_obj (all_without_zeros vs) i ∙ nth_zeros vs i
 
 no_int : (us : Plains) → obj_of us ≢ int 0
 no_int none e = absurd (cc (e))
@@ -88,12 +78,12 @@ unfolding without_zeros
 id_told file =
     let id : List ℕ = package_id file in
     entry_at (own_info file) id (length file) 2
-    ∙ ap without_zeros (placed_later 2 12 (int (length file)) (with_at 2 (blob id) (entries_in (own_info file))) (omega arith) ∙ placed_there 2 (blob id) (entries_in (own_info file)))
+    ∙ ap without_zeros (placed_later 2 12 (int (length file)) (with_at 2 (blob id) (entries_in (own_info file))) (omega arith) ∙ at_same 2 (blob id) (entries_in (own_info file)))
 
 pub length_told : (file : List ℕ) → int_in (field_named PkgInfo (codes "file-size") (entry_of_package file)) ≡ length file
 length_told file =
     let id : List ℕ = package_id file in
-    ap int_in (entry_at (own_info file) id (length file) 12 ∙ ap without_zeros (placed_there 12 (int (length file)) (with_at 2 (blob id) (entries_in (own_info file)))))
+    ap int_in (entry_at (own_info file) id (length file) 12 ∙ ap without_zeros (at_same 12 (int (length file)) (with_at 2 (blob id) (entries_in (own_info file)))))
     ∙ int_zeros (int (length file))
 
 pub others_told : (file name : List ℕ) → name ≢ codes "hashes" → name ≢ codes "file-size" → field_named PkgInfo name (entry_of_package file) ≡ without_zeros (field_named PkgInfo name (own_info file))

@@ -5,7 +5,7 @@ use Rattle.std.specs.Char.{is_ascii_digit}
 use Rattle.std.specs.Fmt.{decimal}
 use Rattle.std.specs.List.{filter, list_all, slice_split}
 use Rattle.std.specs.Str.Parse.{digits_value}
-use Rattle.std.proofs.lemmas.Bool.{and_parts, eq-eqb, lt-ltb, ltb-true, ne_eqb}
+use Rattle.std.proofs.lemmas.Bool.{and_parts, eq-eqb, lt-ltb, ltb-true, ne_eqb, not-true, and_from}
 use Rattle.std.proofs.lemmas.Fmt.{decimal-digits_value, decimal_nonempty, digits_decimal, digits_value-decimal, first_decimal}
 use Rattle.hex.specs.Hex.{decode_of, decode_pairs, digit_or_error, hex_digit_value, ◌>>=◌}
 use Rattle.hex.specs.declared.error.FromHexError.{FromHexError}
@@ -20,7 +20,6 @@ use Rattle.version_core.specs.Order.{is_version}
 use Rattle.make_info.specs.declared.field.Field.{Field}
 use Rattle.make_info.specs.declared.field.Field.TheVariants as Fields
 use Rattle.make_info.specs.Fields.{FieldValue, text, number, need, and_needs, decimal_number, if_untagged, is_nonempty, kind_of_field, need_in, needs_in, nonempty_parts, text_if, text_values, value_of_digits, values_by_kind}
-use Rattle.make_core.proofs.NameParts.{both_true}
 use Rattle.make_laws.specs.OptionGrammar.{SaysNeeds, SaysNumber, SaysOfField, SaysText, SpellNeeds, SpellsBytes, SpellsNumber, spaced_parts}
 
 -- ---- texts
@@ -97,18 +96,14 @@ if_both true true m n e = let same : m ≡ n = cc (e) in (refl, refl, same)
 if_both true false m n e = absurd (cc (e))
 if_both false b m n e = absurd (cc (e))
 
-not_true : (b : Bool) → not b ≡ true → b ≡ false
-not_true true e = absurd (cc (e))
-not_true false e = refl
-
 alone : (ds : List ℕ) → not (has_zero_in_front ds) ≡ true → get_or ds 0 0 ≡ 48 → 0 < length ds → length ds ≡ 1
 alone [] h z some = absurd (omega arith)
-alone (d ∷ ds) h z some = by_rest ds (not_true (has_zero_in_front (d ∷ ds)) h)
+alone (d ∷ ds) h z some = by_rest ds (not-true (has_zero_in_front (d ∷ ds)) h)
   where
     by_rest : (es : List ℕ) → ((d == 48) && nat_lt 0 (length es)) ≡ false → length (d ∷ es) ≡ 1
     by_rest [] f = refl
     by_rest (e ∷ es) f =
-        let yes : ((d == 48) && nat_lt 0 (length (e ∷ es))) ≡ true = both_true (d == 48) (nat_lt 0 (length (e ∷ es))) (eq-eqb d 48 z) (lt-ltb 0 (length (e ∷ es)) (omega arith)) in
+        let yes : ((d == 48) && nat_lt 0 (length (e ∷ es))) ≡ true = and_from (d == 48) (nat_lt 0 (length (e ∷ es))) (eq-eqb d 48 z) (lt-ltb 0 (length (e ∷ es)) (omega arith)) in
         absurd (cc (f, yes))
 
 number_to : (value : List ℕ) (n : ℕ) → decimal_number value ≡ Some n → SpellsNumber value n
@@ -135,8 +130,8 @@ number_from value n s =
     let ds : List ℕ = decimal n in
     let read : digits_value 10 ds ≡ n = digits_value-decimal digits_model n s.0 in
     let good : is_decimal ds ≡ true =
-    both_true (nat_lt 0 (length ds) && not (has_zero_in_front ds)) (list_all is_ascii_digit ds)
-    (both_true (nat_lt 0 (length ds)) (not (has_zero_in_front ds)) (lt-ltb 0 (length ds) (decimal_nonempty n s.0)) (no_zero_of n s.0))
+    and_from (nat_lt 0 (length ds) && not (has_zero_in_front ds)) (list_all is_ascii_digit ds)
+    (and_from (nat_lt 0 (length ds)) (not (has_zero_in_front ds)) (lt-ltb 0 (length ds) (decimal_nonempty n s.0)) (no_zero_of n s.0))
     (digits_decimal digits_model n s.0) in
     let small : nat_lt (digits_value 10 ds) (2 ^ 64) ≡ true = lt-ltb (digits_value 10 ds) (2 ^ 64) (omega (arith, read, s.0)) in
     ap decimal_number s.1

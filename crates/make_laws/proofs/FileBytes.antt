@@ -1,10 +1,11 @@
 -- What a file of a package tells of its bytes.
-use Rattle.std.proofs.Common.{◌≡◌, ◌≢◌, ℕ, ◌+◌, Bool, true, false, not, ◌&&◌, ◌==◌, if◌then◌else◌, List, [], ◌∷◌, ◌++◌, length, take, codes, bytes_eq, refl, ap, sym, ◌∙◌, arith}
+use Rattle.std.proofs.Common.{◌≡◌, ◌≢◌, ℕ, ◌+◌, Bool, true, false, not, ◌&&◌, ◌==◌, List, [], ◌∷◌, ◌++◌, length, take, codes, bytes_eq, refl, ap, sym, ◌∙◌, arith}
 use Rattle.std.specs.Str.{is_utf8}
-use Rattle.std.proofs.lemmas.Bool.{and_parts, eq-eqb, ne_eqb}
+use Rattle.std.proofs.lemmas.Bool.{and_parts, eq-eqb, ne_eqb, not-true, and_from}
 use Rattle.std.proofs.lemmas.List.{length-append, take-append-drop}
 use Rattle.std.proofs.lemmas.Slice.Eq.{bytes_eq-Decides}
 use Rattle.sha2.specs.Sha256.{sha256}
+use Rattle.make_package.proofs.FileFields.{kind_by}
 use Rattle.adb_view.specs.Values.{int_in}
 use Rattle.adb_view.specs.declared.tables.Which.TheVariants.{File}
 use Rattle.adb_view.proofs.ValueEntries.{nth_obj}
@@ -13,17 +14,12 @@ use Rattle.make_info.specs.Values.{size_value}
 use Rattle.package_files.specs.Package.{file_fields, hash_of_kind, is_link_file, kind_of_file, link_text, size_of_kind, target_of_kind, value_of_file}
 use Rattle.package_files.specs.declared.file.FileKind.{FileKind}
 use Rattle.package_files.specs.declared.file.FileKind.TheVariants.{Link, Regular}
-use Rattle.make_core.proofs.NameParts.{both_true}
 use Rattle.make_core.proofs.PackageFiles.{int-size_value}
 use Rattle.make_laws.specs.NamedFields.{field_named}
 use Rattle.make_laws.specs.SourceBytes.{IsLinkTo, IsNoLink}
 
 abbrev mark : List ℕ
 mark = codes "!<symlink>"
-
-kind_by : (bytes : List ℕ) (b : Bool) → is_link_file bytes ≡ b → kind_of_file bytes ≡ (if b then Link (0 ∷ 160 ∷ link_text bytes) else Regular (length bytes) (sha256 bytes))
-unfolding kind_of_file
-kind_by bytes b e = ap (λ (c : Bool). if c then Link (0 ∷ 160 ∷ link_text bytes) else Regular (length bytes) (sha256 bytes)) e
 
 linked : (target : List ℕ) → target ≢ [] → is_utf8 target ≡ true → is_link_file (mark ++ target) ≡ true
 unfolding is_link_file
@@ -32,11 +28,7 @@ linked (t ∷ ts) some utf8 =
     let bytes : List ℕ = mark ++ t ∷ ts in
     let long : length bytes ≡ 10 + length (t ∷ ts) = length-append mark (t ∷ ts) in
     let other : (length bytes == 10) ≡ false = ne_eqb (length bytes) 10 (omega arith) in
-    both_true (bytes_eq (take 10 bytes) mark && not (length bytes == 10)) (is_utf8 (link_text bytes)) (both_true (bytes_eq (take 10 bytes) mark) (not (length bytes == 10)) refl (ap not other)) utf8
-
-not_true : (b : Bool) → not b ≡ true → b ≡ false
-not_true true e = absurd (cc (e))
-not_true false e = refl
+    and_from (bytes_eq (take 10 bytes) mark && not (length bytes == 10)) (is_utf8 (link_text bytes)) (and_from (bytes_eq (take 10 bytes) mark) (not (length bytes == 10)) refl (ap not other)) utf8
 
 is_link : (bytes : List ℕ) → is_link_file bytes ≡ true → IsLinkTo (link_text bytes) bytes
 unfolding is_link_file
@@ -45,7 +37,7 @@ is_link bytes e =
     let b = and_parts (bytes_eq (take 10 bytes) mark) (not (length bytes == 10)) a.0 in
     let front : take 10 bytes ≡ mark = (bytes_eq-Decides (take 10 bytes) mark).0 b.0 in
     let whole : bytes ≡ mark ++ link_text bytes = sym (take-append-drop 10 bytes) ∙ ap (λ (xs : List ℕ). xs ++ link_text bytes) front in
-    let other : (length bytes == 10) ≡ false = not_true (length bytes == 10) b.1 in
+    let other : (length bytes == 10) ≡ false = not-true (length bytes == 10) b.1 in
     record {
       marked = whole;
       some = λ none.

@@ -1,9 +1,9 @@
 -- A text gives a value to a field exactly when it is FIELD:VALUE.
-use Rattle.std.proofs.Common.{◌≡◌, ℕ, suc, ◌+◌, ◌<◌, Bool, true, false, cond, not, ◌||◌, ◌==◌, nat_lt, bytes_eq, List, [], ◌∷◌, ◌++◌, length, take, drop, get_or, Option, Some, None, refl, ap, sym, ◌∙◌, append_assoc, arith}
+use Rattle.std.proofs.Common.{◌≡◌, ℕ, suc, ◌+◌, ◌<◌, Bool, true, false, cond, not, ◌==◌, nat_lt, bytes_eq, List, [], ◌∷◌, ◌++◌, length, take, drop, get_or, Option, Some, None, refl, ap, sym, ◌∙◌, append_assoc, arith}
 use Rattle.std.specs.List.{find, list_any, position, prefix_len}
 use Rattle.std.specs.Option.{option_map}
 use Rattle.std.proofs.Math.Seq.{split_at}
-use Rattle.std.proofs.lemmas.Bool.{eqb-true, lt-ltb}
+use Rattle.std.proofs.lemmas.Bool.{eqb-true, lt-ltb, or_parts}
 use Rattle.std.proofs.lemmas.List.{drop_at, length-append, take_at}
 use Rattle.std.proofs.lemmas.List.Quantifiers.{position-Some}
 use Rattle.std.proofs.lemmas.Slice.Eq.{bytes_eq-Decides}
@@ -58,16 +58,12 @@ colon_free Fields.InstallIf = refl
 colon_free Fields.Recommends = refl
 colon_free Fields.Tags = refl
 
-pub neither : (a b : Bool) → (a || b) ≡ false → (a ≡ false) × (b ≡ false)
-neither false b e = (refl, e)
-neither true b e = absurd (cc (e))
-
 -- ---- a text of the form is read
 
 before_colon : (word value : List ℕ) → list_any is_colon word ≡ false → prefix_len (λ b. not (is_colon b)) (word ++ 58 ∷ value) ≡ length word
 before_colon [] value h = refl
 before_colon (b ∷ bs) value h =
-    let both = neither (is_colon b) (list_any is_colon bs) h in
+    let both = or_parts (is_colon b) (list_any is_colon bs) h in
     let rest = before_colon bs value both.1 in
     ap (λ (c : Bool). cond (not c) (1 + prefix_len (λ b. not (is_colon b)) (bs ++ 58 ∷ value)) 0) both.0 ∙ omega (arith, rest)
 

@@ -1,5 +1,5 @@
 -- The scripts of a package are those that options give.
-use Rattle.std.proofs.Common.{◌≡◌, inl, inr, ℕ, Bool, true, false, if◌then◌else◌, List, [], ◌∷◌, bytes_eq, Option, Some, None, Ok, refl, ap, sym, subst, ◌∙◌}
+use Rattle.std.proofs.Common.{◌≡◌, inl, inr, ℕ, Bool, true, false, if◌then◌else◌, List, [], ◌∷◌, bytes_eq, Some, Ok, refl, ap, sym, subst, ◌∙◌}
 use Rattle.std.proofs.lemmas.Slice.Eq.{bytes_eq-Decides}
 use Rattle.adb_fields.specs.FirstPair.{IsIn}
 use Rattle.adb_view.proofs.ValueEntries.{nth_obj}
@@ -12,12 +12,9 @@ use Rattle.make_info.specs.Reads.{Reads}
 use Rattle.package_files.specs.Package.{Script, script_fields, script_in, value_of_scripts}
 use Rattle.package_files.specs.Sources.{found_at, script_at, script_with, scripts_from}
 use Rattle.make_core.proofs.ListedNames.{AllOf, after_ok, each_read}
+use Rattle.make_core.proofs.PackageFolder.{found_is}
 use Rattle.make_laws.specs.NamedFields.{field_named}
 use Rattle.make_laws.specs.ScriptFiles.{IsNotGiven, IsScriptGiven}
-
-found_is : (place : ℕ) (o : Option (List ℕ)) (bytes : List ℕ) → found_at place o ≡ Ok bytes → o ≡ Some bytes
-found_is place None bytes e = absurd (cc (e))
-found_is place (Some b) bytes e = let same : b ≡ bytes = cc (e) in ap Some same
 
 module _ (read : Reads) where
   -- an option gives a script of its type, with the bytes that are found

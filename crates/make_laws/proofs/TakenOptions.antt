@@ -3,6 +3,7 @@ use Rattle.std.proofs.Common.{◌≡◌, ◌≢◌, inl, inr, ℕ, Bool, true, f
 use Rattle.std.specs.Prelude.{is_some}
 use Rattle.std.specs.List.{list_any}
 use Rattle.std.proofs.lemmas.Slice.Eq.{bytes_eq-Decides}
+use Rattle.std.proofs.lemmas.Bool.{or_parts}
 use Rattle.adb_fields.specs.FirstPair.{IsIn}
 use Rattle.command_core.specs.declared.values.OptionValue.{OptionValue}
 use Rattle.dep_core.specs.Dependency.{Dependency}
@@ -16,7 +17,7 @@ use Rattle.make_info.specs.Information.{items_of_text, offends, repeats_field, w
 use Rattle.make_info.proofs.Reading.{same_field}
 use Rattle.make_laws.specs.OptionGrammar.{IsGivenFor, IsTakenOption, is_list_field, option_text}
 use Rattle.make_laws.proofs.FieldValues.{says_from, says_to}
-use Rattle.make_laws.proofs.OptionTexts.{given, neither, text_is}
+use Rattle.make_laws.proofs.OptionTexts.{given, text_is}
 
 list_is : (f : Field) → is_list (kind_of_field f) ≡ is_list_field f
 list_is Fields.Name = refl
@@ -54,10 +55,10 @@ for_given f v (value, e) =
 none_before : (f : Field) (before : List OptionValue) → list_any (is_for f) before ≡ false → (other : OptionValue) → IsIn other before → IsGivenFor f other → ⊥
 none_before f [] e other h g = h
 none_before f (v ∷ vs) e other (inl is) g =
-    let no = (neither (is_for f v) (list_any (is_for f) vs) e).0 in
+    let no = (or_parts (is_for f v) (list_any (is_for f) vs) e).0 in
     let yes = ap (is_for f) (sym is) ∙ for_given f other g in
     cc (no, yes)
-none_before f (v ∷ vs) e other (inr h) g = none_before f vs (neither (is_for f v) (list_any (is_for f) vs) e).1 other h g
+none_before f (v ∷ vs) e other (inr h) g = none_before f vs (or_parts (is_for f v) (list_any (is_for f) vs) e).1 other h g
 
 none_given : (f : Field) (before : List OptionValue) → ((other : OptionValue) → IsIn other before → IsGivenFor f other → ⊥) → list_any (is_for f) before ≡ false
 none_given f [] none = refl
@@ -110,8 +111,8 @@ module _ (spelled : (t : List ℕ) (d : Dependency) → dependency_of t ≡ Some
   taken_by too_long before v None is e = absurd (cc (e))
   taken_by too_long before v (Some g) is e =
       let f : Field = g.field in
-      let one = neither (not (is_some (items_of_text g))) (repeats_field before (Some g) || (too_long && is_same f Fields.Version)) e in
-      let two = neither (repeats_field before (Some g)) (too_long && is_same f Fields.Version) one.1 in
+      let one = or_parts (not (is_some (items_of_text g))) (repeats_field before (Some g) || (too_long && is_same f Fields.Version)) e in
+      let two = or_parts (repeats_field before (Some g)) (too_long && is_same f Fields.Version) one.1 in
       let said = some_said f (values_by_kind (kind_of_field f) g.value) one.0 in
       record {
         field = f;

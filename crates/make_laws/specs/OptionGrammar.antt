@@ -101,9 +101,8 @@ is_list_field f = false
 abbrev pub IsGivenFor : Field → OptionValue → Type 0
 IsGivenFor f option = (value : List ℕ) × (option.text ≡ option_text f value)
 
--- an option is accepted after those before it (*taken* in `docs/names.md`, "Command lines and
--- outcomes"): its value is one of its field; if the field is no list, it is the first; and it is
--- no version that makes NAME-VERSION.apk too long (`too_long`)
+-- an option is accepted after those before it: its value is one of its field; if the field is no list, it
+-- is the first; and it is no version that makes NAME-VERSION.apk too long (`too_long`)
 pub record IsTakenOption (too_long : Bool) (before : List OptionValue) (option : OptionValue) :
     Type 0 where
   pub field : Field

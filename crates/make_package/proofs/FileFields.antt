@@ -17,7 +17,7 @@ AreFields name kind size hash target =
     × (value_by_name (codes "hashes") (table File) (file_fields name kind) ≡ Some hash)
     × (value_by_name (codes "target") (table File) (file_fields name kind) ≡ Some target)
 
-kind_by : (bytes : List ℕ) (b : Bool) → is_link_file bytes ≡ b → kind_of_file bytes ≡ (if b then Link (0 ∷ 160 ∷ link_text bytes) else Regular (length bytes) (sha256 bytes))
+pub kind_by : (bytes : List ℕ) (b : Bool) → is_link_file bytes ≡ b → kind_of_file bytes ≡ (if b then Link (0 ∷ 160 ∷ link_text bytes) else Regular (length bytes) (sha256 bytes))
 unfolding kind_of_file
 kind_by bytes b e = ap (λ (c : Bool). if c then Link (0 ∷ 160 ∷ link_text bytes) else Regular (length bytes) (sha256 bytes)) e
 

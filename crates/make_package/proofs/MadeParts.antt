@@ -26,6 +26,7 @@ use Rattle.command_core.specs.Files.{is_file, without_dot}
 use Rattle.command_core.specs.declared.command.Applet.{Applet}
 use Rattle.command_core.specs.declared.command.Applet.TheVariants.{Mkpkg}
 use Rattle.command_core.specs.declared.values.OptionValue.{OptionValue}
+use Rattle.command_core.proofs.Parts.{value_at}
 use Rattle.package_files.specs.Blocks.{contents_block, contents_blocks}
 use Rattle.make_info.specs.Faults.{IsOverflow}
 use Rattle.make_info.specs.Information.{InfoItem, information_value, replaces_priority}
@@ -66,17 +67,11 @@ first_two options v vs h =
     let parts = and_parts (is_value_by (rule_for options v.letter) v.text && list_all (are_apart options v) vs) (are_values options vs) h in
     ((and_parts (is_value_by (rule_for options v.letter) v.text) (list_all (are_apart options v) vs) parts.0).0, parts.1)
 
-value_allowed : (options : List ValueRule) (vs : List OptionValue) (i : ℕ) (v : OptionValue) → are_values options vs ≡ true → slice_get vs i ≡ Some v → is_value_by (rule_for options v.letter) v.text ≡ true
-value_allowed options [] i v h e = cc
-value_allowed options (u ∷ us) zero v h e =
-    let same : u ≡ v = cc in subst (λ (w : OptionValue). is_value_by (rule_for options w.letter) w.text ≡ true) same (first_two options u us h).0
-value_allowed options (u ∷ us) (suc i) v h e = value_allowed options us i v (first_two options u us h).1 e
-
 -- the value of the option for scripts gives a file
 pub script_allowed : (vs : List OptionValue) (i : ℕ) (v : OptionValue) → are_values (value_rules Mkpkg) vs ≡ true → slice_get vs i ≡ Some v → v.letter ≡ SCRIPT → is_file (script_file v.text) ≡ true
 script_allowed vs i v h at e =
     let good : is_value_by (rule_for (value_rules Mkpkg) SCRIPT) v.text ≡ true =
-    subst (λ (l : ℕ). is_value_by (rule_for (value_rules Mkpkg) l) v.text ≡ true) e (value_allowed (value_rules Mkpkg) vs i v h at) in
+    subst (λ (l : ℕ). is_value_by (rule_for (value_rules Mkpkg) l) v.text ≡ true) e (value_at (value_rules Mkpkg) vs i v h at) in
     (and_parts (list_any (λ t. bytes_eq t (script_type v.text)) script_types) (is_file (script_file v.text)) good).1
 
 pub script_there : (vs : List OptionValue) (i : ℕ) (v : OptionValue) → are_values (value_rules Mkpkg) vs ≡ true → slice_get vs i ≡ Some v → v.letter ≡ SCRIPT

@@ -9,8 +9,8 @@ use Rattle.std.specs.declared.cmp.Ordering.{Ordering}
 use Rattle.std.specs.declared.cmp.Ordering.TheVariants.{Less, Equal, Greater}
 use Rattle.std.proofs.lemmas.Bool.Decides.{nat_tests}
 use Rattle.std.proofs.lemmas.List.Sorted.{ranks_by, sorted_far}
+use Rattle.std.proofs.lemmas.Bool.{cases_Bool}
 use Rattle.candidate_core.specs.Options.{IsIn}
-use Rattle.candidate_core.proofs.OptionLists.{bool_cases}
 use Rattle.candidate_core.proofs.Steps.{get_at}
 
 lt_less : (r : Ordering) → is_lt r ≡ true → r ≡ Less
@@ -21,7 +21,7 @@ lt_less Greater e = absurd (cc)
 nat_less : (m n : ℕ) → m < n → nat_cmp m n ≡ Less
 nat_less m n h = grind (arith, nat_tests)
 
-nat_same : (m n : ℕ) → m ≡ n → nat_cmp m n ≡ Equal
+pub nat_same : (m n : ℕ) → m ≡ n → nat_cmp m n ≡ Equal
 nat_same m n h = grind (arith, nat_tests)
 
 nat_greater : (m n : ℕ) → n < m → nat_cmp m n ≡ Greater
@@ -35,7 +35,7 @@ module _ {X : Type 0} (cmp : X → X → Ordering) (total : IsTotalOrder cmp) wh
   same_count a b e [] = refl
   same_count a b e (x ∷ xs) =
       let t : is_lt (cmp x a) ≡ is_lt (cmp x b) = ap is_lt (alike_right total a b x e) in
-      elim (bool_cases (is_lt (cmp x b))) [
+      elim (cases_Bool (is_lt (cmp x b))) [
         | inl h ↦ rw (t ∙ h, h) (ap suc (same_count a b e xs))
         | inr h ↦ rw (t ∙ h, h) (same_count a b e xs)
       ]
@@ -48,9 +48,9 @@ module _ {X : Type 0} (cmp : X → X → Ordering) (total : IsTotalOrder cmp) wh
     at_most [] = omega arith
     at_most (x ∷ xs) =
         let rest = at_most xs in
-        elim (bool_cases (is_lt (cmp x a))) [
+        elim (cases_Bool (is_lt (cmp x a))) [
           | inl e ↦ rw (e, before_both x e) (omega (arith, rest))
-          | inr e ↦ elim (bool_cases (is_lt (cmp x b))) [
+          | inr e ↦ elim (cases_Bool (is_lt (cmp x b))) [
             | inl h ↦ rw (e, h) (omega (arith, rest))
             | inr h ↦ rw (e, h) rest
           ]
@@ -65,9 +65,9 @@ module _ {X : Type 0} (cmp : X → X → Ordering) (total : IsTotalOrder cmp) wh
         rw (e, h) (omega (arith, rest))
     below (x ∷ xs) (inr m) =
         let rest = below xs m in
-        elim (bool_cases (is_lt (cmp x a))) [
+        elim (cases_Bool (is_lt (cmp x a))) [
           | inl e ↦ rw (e, before_both x e) (omega (arith, rest))
-          | inr e ↦ elim (bool_cases (is_lt (cmp x b))) [
+          | inr e ↦ elim (cases_Bool (is_lt (cmp x b))) [
             | inl h ↦ rw (e, h) (omega (arith, rest))
             | inr h ↦ rw (e, h) rest
           ]
@@ -110,7 +110,7 @@ front_count p (x ∷ xs) (suc i) h point =
 -- as many of a list pass as of what a function makes of it
 pub counted_in : {X Y : Type 0} (f : X → Y) (p : Y → Bool) (xs : List X) → length (filter (λ x. p (f x)) xs) ≡ length (filter p (map f xs))
 counted_in f p [] = refl
-counted_in f p (x ∷ xs) = elim (bool_cases (p (f x))) [
+counted_in f p (x ∷ xs) = elim (cases_Bool (p (f x))) [
   | inl e ↦ rw e (ap suc (counted_in f p xs))
   | inr e ↦ rw e (counted_in f p xs)
 ]

@@ -5,8 +5,8 @@ use Rattle.std.specs.List.{filter}
 use Rattle.std.specs.List.Sorted.{IsPermutation}
 use Rattle.std.proofs.lemmas.List.Recursion.{is_sum_by}
 use Rattle.std.proofs.lemmas.List.Sorted.{All-permutation, IsPermutation-sym, sum_by-IsPermutation}
+use Rattle.std.proofs.lemmas.Bool.{cases_Bool}
 use Rattle.candidate_core.specs.Options.{IsIn}
-use Rattle.candidate_core.proofs.OptionLists.{bool_cases}
 
 module _ {X : Type 0} where
   at_each : (x : X) (xs : List X) → All (λ c. IsIn c xs) xs → (i : ℕ) (d : X) → i < length (x ∷ xs) → IsIn (get_or (x ∷ xs) i d) (x ∷ xs)
@@ -27,7 +27,7 @@ module _ {X : Type 0} where
       member_of_all (λ k. IsIn k ys) xs c (All-permutation (λ k. IsIn k ys) ys xs (IsPermutation-sym xs ys moved) (members_of ys)) m
 
   filter_more : (p : X → Bool) (x : X) (xs : List X) → length (filter p (x ∷ xs)) ≡ (if p x then 1 else 0) + length (filter p xs)
-  filter_more p x xs = elim (bool_cases (p x)) [ inl e ↦ rw e (omega arith) | inr e ↦ rw e (omega arith) ]
+  filter_more p x xs = elim (cases_Bool (p x)) [ inl e ↦ rw e (omega arith) | inr e ↦ rw e (omega arith) ]
 
   filter_sum : (p : X → Bool) (xs : List X) → length (filter p xs) ≡ sum_by (λ x. if p x then 1 else 0) xs
   filter_sum p = is_sum_by (λ xs. length (filter p xs)) (λ x. if p x then 1 else 0) refl (filter_more p)

@@ -50,7 +50,8 @@ ranking_by pinned untagged named kept under priority name version repository pla
 abbrev pub with_version : RankedVersion → Option (List ℕ) → RankedVersion
 with_version ranked version = record ranked { version = version }
 
--- the ranking of a candidate, with the places and the ranks of a ranking
+-- the ranking of a candidate, by its own keys and versions; of the ranking `r` only the places and the
+-- ranks stay
 abbrev pub read_as : SealedPool → Need → Candidate → Ranking → Ranking
 read_as pool need c r =
     ranking_by (is_pinned pool.world c) (is_untagged c) (has_needed_name need c)

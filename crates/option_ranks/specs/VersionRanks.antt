@@ -76,18 +76,17 @@ IsRankAt versions other rank = (v : RankedVersion)
 abbrev pub IsListed : VersionKind → List (Option (List ℕ)) → Ranking → Type 0
 IsListed kind versions r = IsIn (version_of kind r).version versions
 
--- one function of places gives the texts of the versions of a kind of all these rankings
+-- the versions of one kind of all these rankings are read from the same texts
 abbrev pub AreReadAlike : VersionKind → List Ranking → Type 0
 AreReadAlike kind rankings = (text : ℕ → ℕ → List ℕ)
     × All (λ r. IsReadBy text (version_of kind r)) rankings
 
--- one function of places has the texts of these versions and of one more
+-- these versions and one more are read from the same texts
 abbrev pub IsReadTogether : List RankedVersion → RankedVersion → Type 0
 IsReadTogether versions v = (text : ℕ → ℕ → List ℕ)
     × (IsReadBy text v × All (IsReadBy text) versions)
 
--- one function of places gives the texts of these versions, and of the versions of a kind of all
--- these rankings
+-- these versions, and the versions of one kind of all these rankings, are read from the same texts
 abbrev pub AreReadTogether : VersionKind → List RankedVersion → List Ranking → Type 0
 AreReadTogether kind versions rankings = (text : ℕ → ℕ → List ℕ)
     × (All (IsReadBy text) versions × All (λ r. IsReadBy text (version_of kind r)) rankings)

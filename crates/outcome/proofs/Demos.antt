@@ -3,6 +3,7 @@ use Rattle.std.proofs.Common.{◌≡◌, ◌⊎◌, inl, inr, ◌||◌, ◌-◌,
 use Rattle.std.specs.Prelude.{if◌then◌else◌, option_and_then, slice_get, take}
 use Rattle.std.specs.List.{list_any}
 use Rattle.std.specs.Str.{bytes_eq}
+use Rattle.std.proofs.lemmas.Bool.{or_right}
 use Rattle.adb_schema.specs.Reserved.{is_reserved}
 use Rattle.base_core.specs.Files.{Files, HasNamesAmong, drop_name, no_names, put_name}
 use Rattle.base_core.specs.declared.cause.Cause.{Cause}
@@ -37,10 +38,6 @@ use Rattle.outcome.specs.Work.{recovery_fault, work_files}
 -- the names of which they are
 abbrev pub AreFew : Files → Type 0
 AreFew files = (names : List (List ℕ)) × HasNamesAmong names files
-
-or_right : (a b : Bool) → b ≡ true → (a || b) ≡ true
-or_right true b is = refl
-or_right false b is = is
 
 few_put : (files : Files) (name bytes : List ℕ) → AreFew files → AreFew (put_name files name bytes)
 few_put files name bytes (names, within) = (name ∷ names, λ q some. by_name (bytes_eq q name) q refl some)

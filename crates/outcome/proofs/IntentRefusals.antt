@@ -37,7 +37,7 @@ IsOther refusal = (cause : Cause) → refusal ≡ IntentBad cause → ⊥
 abbrev NamesNoIntent : Outcome → Type 0
 NamesNoIntent o = (cause : Cause) → o.refusal ≡ Some (IntentBad cause) → ⊥
 
-some_same : (a b : Refusal) → Some a ≡ Some b → a ≡ b
+pub some_same : (a b : Refusal) → Some a ≡ Some b → a ≡ b
 some_same a b is = cc
 
 refused_other : (files : Files) (refusal : Refusal) → IsOther refusal → NamesNoIntent (just_refusal files refusal)

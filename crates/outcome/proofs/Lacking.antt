@@ -21,23 +21,23 @@ use Rattle.outcome.specs.Commands.{reads_in}
 
 -- ---- a text is never refused for want of memory
 
-bad_remembers : (payload : List ℕ) (cause : Option Cause) → unless_bad payload cause ≡ Err Memory → ⊥
+pub bad_remembers : (payload : List ℕ) (cause : Option Cause) → unless_bad payload cause ≡ Err Memory → ⊥
 bad_remembers payload None e = cc (e)
 bad_remembers payload (Some cause) e = cc (e)
 
-large_remembers : (r : Result (List ℕ) PayloadCounts) → or_too_large r ≡ Err Memory → ⊥
+pub large_remembers : (r : Result (List ℕ) PayloadCounts) → or_too_large r ≡ Err Memory → ⊥
 large_remembers (Ok payload) e = cc (e)
 large_remembers (Err counts) e = cc (e)
 
-written_remembers : (r : Result (List Record) ℕ) → written_payload r ≡ Err Memory → ⊥
+pub written_remembers : (r : Result (List Record) ℕ) → written_payload r ≡ Err Memory → ⊥
 written_remembers (Ok records) e = large_remembers (written_of (value_of_records records)) e
 written_remembers (Err line) e = cc (e)
 
-tested_remembers : (r : Result (List ℕ) V2Fault) → (r ≡ Err Memory → ⊥) → payload_if_sound r ≡ Err Memory → ⊥
+pub tested_remembers : (r : Result (List ℕ) V2Fault) → (r ≡ Err Memory → ⊥) → payload_if_sound r ≡ Err Memory → ⊥
 tested_remembers (Ok payload) h e = bad_remembers payload (payload_fault Idb payload) e
 tested_remembers (Err fault) h e = h e
 
-text_remembers : (text : List ℕ) → payload_of_text text ≡ Err Memory → ⊥
+pub text_remembers : (text : List ℕ) → payload_of_text text ≡ Err Memory → ⊥
 unfolding payload_of_text
 text_remembers text e = tested_remembers (written_payload (records_of text)) (written_remembers (records_of text)) e
 

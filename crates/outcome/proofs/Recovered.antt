@@ -1,9 +1,9 @@
 -- What holds of each file still holds once a root is recovered.
-use Rattle.std.proofs.Common.{◌≡◌, ◌||◌, ℕ, ◌+◌, Bool, true, false, List, [], ◌∷◌, ◌++◌, map, not, Option, Some, None, IsSome, refl, sym, ap, subst, ◌∙◌}
+use Rattle.std.proofs.Common.{◌≡◌, ℕ, ◌+◌, Bool, true, false, List, [], ◌∷◌, ◌++◌, map, not, Option, Some, None, IsSome, refl, sym, ap, subst, ◌∙◌}
 use Rattle.std.specs.Prelude.{if◌then◌else◌, is_some}
 use Rattle.std.specs.List.{list_any}
 use Rattle.std.specs.Str.{bytes_eq}
-use Rattle.std.proofs.lemmas.Bool.{and_parts}
+use Rattle.std.proofs.lemmas.Bool.{and_parts, or_right, or_left}
 use Rattle.std.proofs.lemmas.Option.{same_Some}
 use Rattle.std.proofs.lemmas.Slice.Eq.{bytes_eq-Decides}
 use Rattle.adb_fields.specs.Repeated.{list_of}
@@ -71,16 +71,9 @@ some_bytes : (o : Option (List ℕ)) → IsSome o → (bytes : List ℕ) × (o �
 some_bytes None some = cc
 some_bytes (Some bytes) some = (bytes, refl)
 
-or_true : (a b : Bool) → b ≡ true → (a || b) ≡ true
-or_true true b is = refl
-or_true false b is = is
-
-or_left : (a b : Bool) → a ≡ true → (a || b) ≡ true
-or_left a b is = ap (λ c. c || b) is
-
 within_more : (names within : List (List ℕ)) (q : List ℕ) → list_any (bytes_eq q) within ≡ true → list_any (bytes_eq q) (names ++ within) ≡ true
 within_more [] within q is = is
-within_more (n ∷ names) within q is = or_true (bytes_eq q n) (list_any (bytes_eq q) (names ++ within)) (within_more names within q is)
+within_more (n ∷ names) within q is = or_right (bytes_eq q n) (list_any (bytes_eq q) (names ++ within)) (within_more names within q is)
 
 -- each of these names is in the list
 abbrev AreIn : List (List ℕ) → List (List ℕ) → Type 0
@@ -89,7 +82,7 @@ AreIn all (n ∷ names) = (list_any (bytes_eq n) all ≡ true) × AreIn all name
 
 in_more : (x : List ℕ) (all names : List (List ℕ)) → AreIn all names → AreIn (x ∷ all) names
 in_more x all [] are = tt
-in_more x all (n ∷ names) (one, others) = (or_true (bytes_eq n x) (list_any (bytes_eq n) all) one, in_more x all names others)
+in_more x all (n ∷ names) (one, others) = (or_right (bytes_eq n x) (list_any (bytes_eq n) all) one, in_more x all names others)
 
 in_itself : (names within : List (List ℕ)) → AreIn (names ++ within) names
 in_itself [] within = tt

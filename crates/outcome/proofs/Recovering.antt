@@ -71,7 +71,7 @@ fault_is Tells files h = refl
 fault_is Makes files h = refl
 fault_is Changes files h = refl
 
-work_is : (effect : Effect) (files : Files) → does_recover effect ≡ true → work_files effect files ≡ unstaged_files files
+pub work_is : (effect : Effect) (files : Files) → does_recover effect ≡ true → work_files effect files ≡ unstaged_files files
 work_is Computes files h = absurd (true≢false (sym h))
 work_is Reads files h = absurd (true≢false (sym h))
 work_is Tells files h = refl

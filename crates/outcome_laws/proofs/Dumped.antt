@@ -19,6 +19,7 @@ use Rattle.adb_view.specs.declared.tables.Which.TheVariants as Tables
 use Rattle.base_core.specs.Files.{Files}
 use Rattle.base_core.specs.declared.cause.Cause.{Cause}
 use Rattle.base_core.specs.declared.cause.Cause.TheVariants.{DataOrder, Truncated}
+use Rattle.base_core.proofs.Causes.{both_none}
 use Rattle.command_core.specs.Files.{without_dot}
 use Rattle.command_core.specs.declared.operands.Operand.{Operand}
 use Rattle.container_laws.specs.TestsInOrder.{PassesEveryTest}
@@ -73,10 +74,6 @@ text_printed read files o file found e = go (dump_of file) refl
         absurd cc
 
 -- ---- the framing of the blocks
-
-both_none : (a b : Option Cause) → option_or a b ≡ None → (a ≡ None) × (b ≡ None)
-both_none None b e = (refl, e)
-both_none (Some c) b e = absurd cc
 
 framed_further : (r : Reading) → further_fault r ≡ None → framing_fault r ≡ None
 unfolding further_fault

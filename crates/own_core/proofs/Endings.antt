@@ -4,6 +4,7 @@ use Rattle.std.specs.Cmp.Lexicographic.{pointwise, bytes_decides}
 use Rattle.std.specs.Prelude.{nat_eq, if◌then◌else◌}
 use Rattle.std.specs.List.{ends_with, list_any}
 use Rattle.std.proofs.lemmas.List.Folds.{list_any-append}
+use Rattle.std.proofs.Math.Seq.{take-append_seam, drop-append_seam}
 use Rattle.base_core.specs.Name.{IsName}
 use Rattle.base_core.proofs.NameParts.{IsEnding, ending_makes_name}
 use Rattle.adb_fields.specs.Paths.{path_of}
@@ -15,14 +16,6 @@ ending = codes ".apk-new"
 
 -- ---- in front of it
 
-drop_front : (xs ys : List ℕ) → drop (length xs) (xs ++ ys) ≡ ys
-drop_front [] ys = refl
-drop_front (x ∷ xs) ys = drop_front xs ys
-
-take_front : (xs ys : List ℕ) → take (length xs) (xs ++ ys) ≡ xs
-take_front [] ys = refl
-take_front (x ∷ xs) ys = ap (λ r. x ∷ r) (take_front xs ys)
-
 both_parts : (n : ℕ) (xs : List ℕ) → take n xs ++ drop n xs ≡ xs
 both_parts zero xs = refl
 both_parts (suc n) [] = refl
@@ -32,12 +25,12 @@ front_len : (xs : List ℕ) → length (xs ++ ending) - 8 ≡ length xs
 front_len xs = let n : length (xs ++ ending) ≡ length xs + 8 = length-append xs ending in omega (arith, n)
 
 last_eight : (xs : List ℕ) → drop (length (xs ++ ending) - 8) (xs ++ ending) ≡ ending
-last_eight xs = ap (λ n. drop n (xs ++ ending)) (front_len xs) ∙ drop_front xs ending
+last_eight xs = ap (λ n. drop n (xs ++ ending)) (front_len xs) ∙ drop-append_seam xs ending
 
 pub front_of : (xs : List ℕ) → path_beside (xs ++ ending) ≡ Some xs
 front_of xs =
     ap (λ b. if b then Some (take (length (xs ++ ending) - 8) (xs ++ ending)) else None) ((bytes_decides ending (drop (length (xs ++ ending) - 8) (xs ++ ending))).1 (sym (last_eight xs)))
-    ∙ ap Some (ap (λ n. take n (xs ++ ending)) (front_len xs) ∙ take_front xs ending)
+    ∙ ap Some (ap (λ n. take n (xs ++ ending)) (front_len xs) ∙ take-append_seam xs ending)
 
 pub ends_so : (name : List ℕ) → path_beside name ≡ None ⊎ ((front : List ℕ) × (name ≡ front ++ ending))
 ends_so name = go (ends_with nat_eq name ending) refl

@@ -1,5 +1,5 @@
 -- The files of a tree that does not tell them, put together of those that were found path by path.
-use Rattle.std.proofs.Common.{◌≡◌, inl, inr, ℕ, Bool, true, false, List, [], ◌∷◌, Option, None, refl, ap, sym, ◌∙◌}
+use Rattle.std.proofs.Common.{◌≡◌, inl, inr, ℕ, List, [], ◌∷◌, Option, None, refl, ap, sym, ◌∙◌}
 use Rattle.std.specs.Prelude.{bytes_eq, if◌then◌else◌}
 use Rattle.std.specs.Cmp.Lexicographic.{bytes_decides}
 use Rattle.std.specs.Ordering.{is_lt}
@@ -7,15 +7,11 @@ use Rattle.base_core.specs.Calls.{IfObservable}
 use Rattle.base_core.specs.Files.{Files}
 use Rattle.base_core.specs.Tree.{TreeState, files_of}
 use Rattle.base_core.proofs.Rising as Names
+use Rattle.base_core.proofs.NameParts.{other_bytes}
 use Rattle.path_claims.specs.Claims.{PathClaim}
 use Rattle.claim_lists.proofs.Firsts.{paths}
 use Rattle.claim_lists.proofs.PathOrder.{less_apart}
 use Rattle.own_core.specs.Found.{AreByFiles, said_of}
-
--- the file of a tree that tells it, or none
-pub found_there : (h : List TreeState) (q : List ℕ) → (found : Option (List ℕ)) × IfObservable h (λ v. found ≡ files_of v q)
-found_there [] q = (None, tt)
-found_there (v ∷ earlier) q = (files_of v q, refl)
 
 pub by_tree : {Y : Type 0} (said : PathClaim → Option (List ℕ) → Y) (v : TreeState) (earlier : List TreeState) (cs : List PathClaim) (ys : List Y) → AreByFiles said (v ∷ earlier) cs ys → ys ≡ said_of said (files_of v) cs
 by_tree said v earlier [] [] are = refl
@@ -35,19 +31,12 @@ found_or said h [] ys are others q = others q
 found_or said h (c ∷ cs) [] are others q = others q
 found_or said h (c ∷ cs) (y ∷ ys) are others q = if bytes_eq c.path q then are.0.found else found_or said h cs ys are.1 others q
 
-not_there : (p q : List ℕ) → (p ≡ q → ⊥) → bytes_eq p q ≡ false
-not_there p q h = go (bytes_eq p q) refl
-  where
-    go : (b : Bool) → bytes_eq p q ≡ b → b ≡ false
-    go true e = absurd (h ((bytes_decides p q).0 e))
-    go false e = refl
-
 found_elsewhere : {Y : Type 0} (said : PathClaim → Option (List ℕ) → Y) (h : List TreeState) (cs : List PathClaim) (ys : List Y) (are : AreByFiles said h cs ys) (others : Files) (q : List ℕ)
     → (Names.IsIn q (paths cs) → ⊥) → found_or said h cs ys are others q ≡ others q
 found_elsewhere said h [] ys are others q off = refl
 found_elsewhere said h (c ∷ cs) [] are others q off = refl
 found_elsewhere said h (c ∷ cs) (y ∷ ys) are others q off =
-    ap (λ b. if b then are.0.found else found_or said h cs ys are.1 others q) (not_there c.path q (λ is. off (inl (sym is))))
+    ap (λ b. if b then are.0.found else found_or said h cs ys are.1 others q) (other_bytes c.path q (λ is. off (inl (sym is))))
     ∙ found_elsewhere said h cs ys are.1 others q (λ here. off (inr here))
 
 found_each : {Y : Type 0} (said : PathClaim → Option (List ℕ) → Y) (h : List TreeState) (cs : List PathClaim) (ys : List Y) (are : AreByFiles said h cs ys) (others : Files)

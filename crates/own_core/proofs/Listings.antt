@@ -6,6 +6,7 @@ use Rattle.std.specs.List.{filter, find, list_any}
 use Rattle.std.specs.List.Sorted.{ties}
 use Rattle.std.specs.Ordering.{is_lt}
 use borrow.Author.Tests.{eqb-true}
+use Rattle.std.proofs.Math.Bool.{and-false}
 use Rattle.base_core.specs.Name.{IsName}
 use Rattle.adb_view.specs.Plain.{Plains, none, more}
 use Rattle.adb_view.specs.Values.{count_of, entries_in, entry_in, nth}
@@ -195,10 +196,6 @@ never : {X : Type 0} (p : X → Bool) → ((x : X) → p x ≡ false) → (xs : 
 never p h [] = refl
 never p h (x ∷ xs) = ap (λ b. cond b (Some x) (find p xs)) (h x) ∙ never p h xs
 
-and_false : (a : Bool) → (a && false) ≡ false
-and_false true = refl
-and_false false = refl
-
 and_true : (a : Bool) → (a && true) ≡ a
 and_true true = refl
 and_true false = refl
@@ -227,7 +224,7 @@ module _ (members : List Member) (path : List ℕ) where
           at_place false h = refl
 
       no_test : is_added_at members w ≡ false → (l : Listing) → by_owner (Some w) l ≡ false
-      no_test c l = ap (λ t. bytes_eq l.path path && t) (at_place (l.place == w) refl) ∙ and_false (bytes_eq l.path path)
+      no_test c l = ap (λ t. bytes_eq l.path path && t) (at_place (l.place == w) refl) ∙ and-false (bytes_eq l.path path)
         where
           at_place : (t : Bool) → (l.place == w) ≡ t → (t && is_added_at members l.place) ≡ false
           at_place true h = ap (is_added_at members) (eqb-true l.place w h) ∙ c
@@ -247,7 +244,7 @@ module _ (members : List Member) (path : List ℕ) where
 
   owner_listed : (o : Option ℕ) → find (by_owner o) (member_listings members)
       ≡ if_member_added (option_and_then (λ place. find (λ l. l.place == place) (filter (λ l. bytes_eq l.path path) (member_listings members))) o)
-  owner_listed None = never (by_owner None) (λ l. and_false (bytes_eq l.path path)) (member_listings members)
+  owner_listed None = never (by_owner None) (λ l. and-false (bytes_eq l.path path)) (member_listings members)
   owner_listed (Some w) = by_place w (is_added_at members w) refl ∙ ap if_member_added (sym (found_and (λ l. l.place == w) (λ l. bytes_eq l.path path) (member_listings members)))
 
   claim_test : (c : PathClaim) → (is_of_path path c && is_of_added_owner members c) ≡ (bytes_eq c.path path && (is_member c.member (owner_of_path members path) && is_added_at members c.member))

@@ -1,18 +1,17 @@
 -- The lists of the program are the change's, over the files of the tree.
 use Rattle.std.proofs.Common.{◌≡◌, ◌⊎◌, inl, inr, ℕ, Bool, true, false, cond, List, [], ◌∷◌, map, Option, Some, None, refl, ap, sym, ◌∙◌, subst, true≢false}
-use Rattle.std.specs.Prelude.{◌&&◌, ◌||◌, ◌==◌, option_map, option_and_then, bytes_eq, is_some, if◌then◌else◌, not}
+use Rattle.std.specs.Prelude.{◌&&◌, ◌||◌, option_map, option_and_then, bytes_eq, is_some, if◌then◌else◌, not}
 use Rattle.std.specs.Cmp.Lexicographic.{bytes_decides}
 use Rattle.std.specs.List.{filter, find, list_any}
 use Rattle.base_core.specs.Files.{Files}
 use Rattle.base_core.proofs.Rising as Names
 use Rattle.base_core.specs.Sorted.{sorted_by}
-use Rattle.db_core.specs.Members.{Listing, claims_of, is_added, member_listings, members_of_kept}
+use Rattle.db_core.specs.Members.{Listing, is_added, member_listings, members_of_kept}
 use Rattle.path_claims.specs.Claims.{PathClaim, claim_cmp, is_of_path}
-use Rattle.path_claims.specs.Contest.{beats_each, winner}
 use Rattle.path_claims.proofs.Places.{no_some, value_or}
 use Rattle.claim_lists.proofs.Firsts.{found_in, in_found, paths}
 use Rattle.claim_lists.proofs.Lists.{found_passes}
-use Rattle.file_owners.specs.Owners.{claims_in, member_beats, owner_of_path}
+use Rattle.file_owners.specs.Owners.{claims_in}
 use Rattle.change_files.specs.Fate as Fates
 use Rattle.change_files.specs.Fate.{fate_by, fate_of, goes_aside, goes_in, gives_way, is_guarded}
 use Rattle.change_files.specs.FileChange.{FileChange, added_owner_listing, if_member_added, is_claimed, old_entry, old_listings, owner_listing, was_listed}
@@ -20,6 +19,7 @@ use Rattle.change_files.specs.FilesAfter.{if_aside, if_in, is_changed, is_kept, 
 use Rattle.std.specs.Option.{option_or}
 use Rattle.change_files.specs.NamesAfter.{added_paths}
 use Rattle.change_files.specs.PlanLists.{aside_of, kept_of, old_paths, removals_of}
+use Rattle.change_files.proofs.Coming.{no_owner}
 use Rattle.own_core.specs.ClaimEntries.{claim_entry, is_of_added_owner}
 use Rattle.own_core.specs.Fates.{claim_fate, is_fate, is_flag}
 use Rattle.own_core.specs.Going.{is_file_kept, is_beside, is_path_left_over}
@@ -179,12 +179,6 @@ no_claims (l ∷ ls) q h = go (bytes_eq l.path q) (no_claims ls q) h
     go : (b : Bool) → (list_any (λ l. bytes_eq l.path q) ls ≡ false → filter (λ l. bytes_eq l.path q) ls ≡ []) → (b || list_any (λ l. bytes_eq l.path q) ls) ≡ false → cond b (l ∷ filter (λ l. bytes_eq l.path q) ls) (filter (λ l. bytes_eq l.path q) ls) ≡ []
     go true rest h = absurd (true≢false h)
     go false rest h = rest h
-
-pub no_owner : (change : FileChange) (q : List ℕ) → is_claimed change q ≡ false → added_owner_listing change q ≡ None
-unfolding is_claimed owner_listing owner_of_path claims_of winner
-no_owner change q h =
-    let none = no_claims (member_listings change.members) q h in
-    (λ j. if_member_added (option_and_then (λ place. find (λ l. l.place == place) (none j)) (find (beats_each (member_beats change.members) (map (λ l. l.place) (none j))) (map (λ l. l.place) (none j)))))
 
 pub left_is : (change : FileChange) (files : Files) (q : List ℕ) (b : Bool) → b ≡ is_some (option_and_then (aside_listing_at change files) (path_beside q))
     → (not (is_claimed change q) && not (is_written change files q)) ≡ (not (is_claimed change q) && not b)

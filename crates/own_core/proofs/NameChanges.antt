@@ -11,6 +11,8 @@ use Rattle.adb_view.specs.Plain.{Plain}
 use Rattle.base_core.specs.ByteOrder.{bytes_cmp}
 use Rattle.base_core.specs.Sorted.{sorted_by, with_element}
 use Rattle.base_core.proofs.Sorting.{Each}
+use Rattle.base_core.proofs.Booleans.{or_swap}
+use Rattle.base_core.proofs.AtName.{either_way}
 use Rattle.db_core.specs.Members.{Listing, Member, is_added, member_listings, members_of_kept}
 use Rattle.db_core.specs.Seen.{members_of}
 use Rattle.path_claims.specs.Claims.{PathClaim, claim_cmp, is_of_path}
@@ -43,11 +45,6 @@ any_both p (x ∷ xs) ys = go (p x) (any_both p xs ys)
     go : (b : Bool) → list_any p (xs ++ ys) ≡ (list_any p xs || list_any p ys) → (b || list_any p (xs ++ ys)) ≡ ((b || list_any p xs) || list_any p ys)
     go true h = refl
     go false h = h
-
-or_swap : (a b c : Bool) → (a || (b || c)) ≡ (b || (a || c))
-or_swap true true c = refl
-or_swap true false c = refl
-or_swap false b c = refl
 
 any_with : {X : Type 0} (cmp : X → X → Ordering) (p : X → Bool) (x : X) (ys : List X) → list_any p (with_element cmp x ys) ≡ (p x || list_any p ys)
 any_with cmp p x [] = refl
@@ -87,15 +84,6 @@ any_coming members t cs e =
 
 -- ---- names beside
 
-turned : (a b : List ℕ) → bytes_eq a b ≡ bytes_eq b a
-turned a b = go (bytes_eq a b) (bytes_eq b a) refl refl
-  where
-    go : (s t : Bool) → bytes_eq a b ≡ s → bytes_eq b a ≡ t → s ≡ t
-    go true true e f = refl
-    go true false e f = absurd (true≢false (sym ((bytes_decides b a).1 (sym ((bytes_decides a b).0 e))) ∙ f))
-    go false true e f = absurd (true≢false (sym ((bytes_decides a b).1 (sym ((bytes_decides b a).0 f))) ∙ e))
-    go false false e f = refl
-
 same_aside : (p q : List ℕ) → bytes_eq (p ++ ending) (aside_name q) ≡ bytes_eq p q
 same_aside p q = go (bytes_eq (p ++ ending) (aside_name q)) (bytes_eq p q) refl refl
   where
@@ -110,7 +98,7 @@ same_aside p q = go (bytes_eq (p ++ ending) (aside_name q)) (bytes_eq p q) refl 
 
 any_aside : (p : List ℕ) (cs : List PathClaim) → list_any (bytes_eq (p ++ ending)) (map (λ c. aside_name c.path) cs) ≡ is_some (find (is_of_path p) cs)
 any_aside p [] = refl
-any_aside p (c ∷ cs) = go (bytes_eq c.path p) (same_aside p c.path ∙ turned p c.path) (any_aside p cs)
+any_aside p (c ∷ cs) = go (bytes_eq c.path p) (same_aside p c.path ∙ either_way p c.path) (any_aside p cs)
   where
     go : (b : Bool) → bytes_eq (p ++ ending) (aside_name c.path) ≡ b → list_any (bytes_eq (p ++ ending)) (map (λ c. aside_name c.path) cs) ≡ is_some (find (is_of_path p) cs)
         → (bytes_eq (p ++ ending) (aside_name c.path) || list_any (bytes_eq (p ++ ending)) (map (λ c. aside_name c.path) cs)) ≡ is_some (cond b (Some c) (find (is_of_path p) cs))

@@ -1,82 +1,21 @@
 -- Names in byte order, each once, and the paths of claims.
-use Rattle.std.proofs.Common.{◌≡◌, ◌⊎◌, inl, inr, ℕ, Bool, true, false, cond, List, [], ◌∷◌, Option, Some, None, refl, ap, sym, ◌∙◌, true≢false, Ordering, Less, Equal, Greater}
-use Rattle.std.specs.Prelude.{bytes_eq, if◌then◌else◌}
+use Rattle.std.proofs.Common.{◌≡◌, ◌⊎◌, inl, inr, ℕ, Bool, true, false, cond, List, [], ◌∷◌, Option, Some, None, refl, ap, sym, ◌∙◌, true≢false, Less}
+use Rattle.std.specs.Prelude.{bytes_eq}
 use Rattle.std.specs.Cmp.Lexicographic.{bytes_decides}
 use Rattle.std.specs.List.{filter, find}
-use Rattle.std.specs.Ordering.{is_gt, is_lt}
+use Rattle.std.specs.Ordering.{is_lt}
 use Rattle.std.proofs.lemmas.Cmp.{nat_list_cmp_total}
 use Rattle.base_core.proofs.Rising as Names
 use Rattle.base_core.specs.ByteOrder.{bytes_cmp, precedes}
-use Rattle.base_core.specs.Sorted.{sorted_by, with_element}
 use Rattle.base_core.proofs.Sorting as Sorting
+use Rattle.base_core.proofs.Orderings.{is_less}
 use Rattle.path_claims.specs.Claims.{PathClaim, is_of_path}
 use Rattle.claim_lists.proofs.Firsts.{paths}
 use Rattle.claim_lists.proofs.PathOrder.{behind}
 use Rattle.change_files.specs.PlanLists.{names_in_order, unless_next, without_repeats}
-
--- ---- names of a sorted list
-
-in_with : (q x : List ℕ) (ys : List (List ℕ)) → Names.IsIn q (with_element bytes_cmp x ys) → (q ≡ x) ⊎ Names.IsIn q ys
-in_with q x [] (inl is) = inl is
-in_with q x [] (inr old) = absurd old
-in_with q x (y ∷ ys) here = go (is_gt (bytes_cmp x y)) (in_with q x ys) here
-  where
-    go : (b : Bool) → (Names.IsIn q (with_element bytes_cmp x ys) → (q ≡ x) ⊎ Names.IsIn q ys) → Names.IsIn q (if b then y ∷ with_element bytes_cmp x ys else x ∷ y ∷ ys) → (q ≡ x) ⊎ Names.IsIn q (y ∷ ys)
-    go true rest (inl is) = inr (inl is)
-    go true rest (inr more) = elim (rest more) [ inl is ↦ inl is | inr old ↦ inr (inr old) ]
-    go false rest here = here
-
-with_in : (q x : List ℕ) (ys : List (List ℕ)) → (q ≡ x) ⊎ Names.IsIn q ys → Names.IsIn q (with_element bytes_cmp x ys)
-with_in q x [] here = here
-with_in q x (y ∷ ys) here = go (is_gt (bytes_cmp x y)) (with_in q x ys) here
-  where
-    go : (b : Bool) → ((q ≡ x) ⊎ Names.IsIn q ys → Names.IsIn q (with_element bytes_cmp x ys)) → (q ≡ x) ⊎ Names.IsIn q (y ∷ ys) → Names.IsIn q (if b then y ∷ with_element bytes_cmp x ys else x ∷ y ∷ ys)
-    go true rest (inl is) = inr (rest (inl is))
-    go true rest (inr (inl is)) = inl is
-    go true rest (inr (inr old)) = inr (rest (inr old))
-    go false rest here = here
-
-pub in_sorted_names : (q : List ℕ) (xs : List (List ℕ)) → Names.IsIn q (sorted_by bytes_cmp xs) → Names.IsIn q xs
-in_sorted_names q [] here = here
-in_sorted_names q (x ∷ xs) here = elim (in_with q x (sorted_by bytes_cmp xs) here) [ inl is ↦ inl is | inr old ↦ inr (in_sorted_names q xs old) ]
-
-pub sorted_names_in : (q : List ℕ) (xs : List (List ℕ)) → Names.IsIn q xs → Names.IsIn q (sorted_by bytes_cmp xs)
-sorted_names_in q [] here = here
-sorted_names_in q (x ∷ xs) (inl is) = with_in q x (sorted_by bytes_cmp xs) (inl is)
-sorted_names_in q (x ∷ xs) (inr old) = with_in q x (sorted_by bytes_cmp xs) (inr (sorted_names_in q xs old))
+use Rattle.change_files.proofs.InOrder.{from_with, in_sorted, from_sorted, from_unless, from_once, in_order, from_order, order_rises, filter_rises}
 
 -- ---- each once
-
-in_unless : (q x : List ℕ) (ys : List (List ℕ)) → Names.IsIn q (unless_next x ys) → (q ≡ x) ⊎ Names.IsIn q ys
-in_unless q x [] here = here
-in_unless q x (y ∷ ys) here = go (bytes_eq x y) here
-  where
-    go : (b : Bool) → Names.IsIn q (cond b (y ∷ ys) (x ∷ y ∷ ys)) → (q ≡ x) ⊎ Names.IsIn q (y ∷ ys)
-    go true here = inr here
-    go false here = here
-
-unless_in : (q x : List ℕ) (ys : List (List ℕ)) → (q ≡ x) ⊎ Names.IsIn q ys → Names.IsIn q (unless_next x ys)
-unless_in q x [] here = here
-unless_in q x (y ∷ ys) here = go (bytes_eq x y) refl here
-  where
-    go : (b : Bool) → bytes_eq x y ≡ b → (q ≡ x) ⊎ Names.IsIn q (y ∷ ys) → Names.IsIn q (cond b (y ∷ ys) (x ∷ y ∷ ys))
-    go true e (inl is) = inl (is ∙ (bytes_decides x y).0 e)
-    go true e (inr old) = old
-    go false e here = here
-
-in_once : (q : List ℕ) (xs : List (List ℕ)) → Names.IsIn q (without_repeats xs) → Names.IsIn q xs
-in_once q [] here = here
-in_once q (x ∷ xs) here = elim (in_unless q x (without_repeats xs) here) [ inl is ↦ inl is | inr old ↦ inr (in_once q xs old) ]
-
-once_in : (q : List ℕ) (xs : List (List ℕ)) → Names.IsIn q xs → Names.IsIn q (without_repeats xs)
-once_in q [] here = here
-once_in q (x ∷ xs) (inl is) = unless_in q x (without_repeats xs) (inl is)
-once_in q (x ∷ xs) (inr old) = unless_in q x (without_repeats xs) (inr (once_in q xs old))
-
-pub is_less : (o : Ordering) → is_lt o ≡ true → o ≡ Less
-is_less Less h = refl
-is_less Equal h = absurd (true≢false (sym h))
-is_less Greater h = absurd (true≢false (sym h))
 
 pub not_below : (x : List ℕ) (xs : List (List ℕ)) → Sorting.Each (λ y. is_lt (bytes_cmp y x) ≡ false) xs → (q : List ℕ) → Names.IsIn q xs → precedes q x ≡ false
 not_below x [] h q here = absurd here
@@ -85,7 +24,7 @@ not_below x (y ∷ ys) h q (inr old) = not_below x ys h.1 q old
 
 once_rises : (xs : List (List ℕ)) → Sorting.Rises (λ x y. is_lt (bytes_cmp x y)) (Sorting.ranks bytes_cmp nat_list_cmp_total) xs → Names.Rises (without_repeats xs)
 once_rises [] up = tt
-once_rises (x ∷ xs) up = go (without_repeats xs) (once_rises xs up.1) (λ q here. not_below x xs up.0 q (in_once q xs here))
+once_rises (x ∷ xs) up = go (without_repeats xs) (once_rises xs up.1) (λ q here. not_below x xs up.0 q (from_once q xs here))
   where
     go : (w : List (List ℕ)) → Names.Rises w → ((q : List ℕ) → Names.IsIn q w → precedes q x ≡ false) → Names.Rises (unless_next x w)
     go [] r low = (λ q here. absurd here, tt)
@@ -104,18 +43,6 @@ once_rises (x ∷ xs) up = go (without_repeats xs) (once_rises xs up.1) (λ q he
                 by_one : (t : Bool) → bytes_eq a b ≡ t → t ≡ false
                 by_one true f = absurd (true≢false (sym ((bytes_decides b a).1 (sym ((bytes_decides a b).0 f))) ∙ e))
                 by_one false f = refl
-
-pub names_rise : (xs : List (List ℕ)) → Names.Rises (names_in_order xs)
-unfolding names_in_order
-names_rise xs = once_rises (sorted_by bytes_cmp xs) (Sorting.rises_in_order bytes_cmp nat_list_cmp_total xs)
-
-pub in_names : (q : List ℕ) (xs : List (List ℕ)) → Names.IsIn q (names_in_order xs) → Names.IsIn q xs
-unfolding names_in_order
-in_names q xs here = in_sorted_names q xs (in_once q (sorted_by bytes_cmp xs) here)
-
-pub names_in : (q : List ℕ) (xs : List (List ℕ)) → Names.IsIn q xs → Names.IsIn q (names_in_order xs)
-unfolding names_in_order
-names_in q xs here = once_in q (sorted_by bytes_cmp xs) (sorted_names_in q xs here)
 
 -- ---- those that pass
 
@@ -138,20 +65,12 @@ passing_in p q (x ∷ xs) here h = go (p x) refl (λ old. passing_in p q xs old 
     go false e rest (inl is) = absurd (true≢false (sym h ∙ (ap p is ∙ e)))
     go false e rest (inr old) = rest old
 
-pub passing_rises : (p : List ℕ → Bool) (xs : List (List ℕ)) → Names.Rises xs → Names.Rises (filter p xs)
-passing_rises p [] r = tt
-passing_rises p (x ∷ xs) r = go (p x) (passing_rises p xs r.1)
-  where
-    go : (b : Bool) → Names.Rises (filter p xs) → Names.Rises (cond b (x ∷ filter p xs) (filter p xs))
-    go true rest = (λ q here. r.0 q (in_passing p q xs here).0, rest)
-    go false rest = rest
-
 -- a rising list of just the names that pass
 pub same_names : (p : List ℕ → Bool) (ys xs : List (List ℕ)) → Names.Rises ys → ((q : List ℕ) → Names.IsIn q ys → Names.IsIn q xs × (p q ≡ true))
     → ((q : List ℕ) → Names.IsIn q xs → p q ≡ true → Names.IsIn q ys) → ys ≡ filter p (names_in_order xs)
-same_names p ys xs r there back = Names.same_list ys (filter p (names_in_order xs)) r (passing_rises p (names_in_order xs) (names_rise xs))
-    (λ q here. passing_in p q (names_in_order xs) (names_in q xs (there q here).0) (there q here).1)
-    (λ q here. back q (in_names q xs (in_passing p q (names_in_order xs) here).0) (in_passing p q (names_in_order xs) here).1)
+same_names p ys xs r there back = Names.same_list ys (filter p (names_in_order xs)) r (filter_rises p (names_in_order xs) (order_rises xs))
+    (λ q here. passing_in p q (names_in_order xs) (in_order q xs (there q here).0) (there q here).1)
+    (λ q here. back q (from_order q xs (in_passing p q (names_in_order xs) here).0) (in_passing p q (names_in_order xs) here).1)
 
 -- ---- claims whose paths rise
 

@@ -4,12 +4,14 @@ use Rattle.std.specs.Prelude.{◌&&◌, ◌||◌, not, if◌then◌else◌, IsSo
 use Rattle.adb_view.specs.Plain.{Plain}
 use Rattle.base_core.specs.Calls.{IfObservable}
 use Rattle.base_core.specs.Tree.{TreeState, files_of}
+use Rattle.base_core.proofs.Observed.{found_there}
 use Rattle.db_core.specs.Members.{members_of_kept}
 use Rattle.path_claims.specs.Claims.{PathClaim}
-use Rattle.file_guard.specs.AsListed.{is_as_listed, is_as_listed_by}
+use Rattle.file_guard.specs.AsListed.{is_as_listed}
 use Rattle.file_guard.specs.Listed.{IsOfEntry, comparison_of, is_as_described}
 use Rattle.file_guard.specs.declared.compare.Comparison.{Comparison}
 use Rattle.file_guard.specs.declared.compare.ListedFile.{ListedFile}
+use Rattle.file_guard.proofs.Told.{told_as_listed}
 use Rattle.change_files.specs.Fate as Fates
 use Rattle.change_files.specs.Fate.{fate_beside, fate_by, goes_in, is_as_old, is_guarded}
 use Rattle.change_files.specs.FileChange.{FileChange, old_entry}
@@ -18,16 +20,12 @@ use Rattle.own_core.specs.ClaimEntries.{claim_entry}
 use Rattle.own_core.specs.Fates.{IsOfEntryIfAny, claim_fate}
 use Rattle.own_core.specs.Found.{IsByFile}
 use Rattle.own_core.specs.Going.{is_file_kept}
-use Rattle.own_core.proofs.FoundFiles.{found_there}
-
-as_told : (listed : ListedFile) (entry : Plain) (bytes : List ℕ) → IsOfEntry listed entry → is_as_described (Some listed) bytes ≡ is_as_listed entry bytes
-as_told listed entry bytes of = (λ j. is_as_listed_by (of.size j) (of.hash j) (of.target j) bytes)
 
 as_told_old : (listed : Option ListedFile) (before : Option Plain) (bytes : List ℕ) → IsOfEntryIfAny listed before → is_as_described listed bytes ≡ is_as_old before bytes
 as_told_old None None bytes of = refl
 as_told_old None (Some entry) bytes of = absurd of
 as_told_old (Some listed) None bytes of = absurd of
-as_told_old (Some listed) (Some entry) bytes of = as_told listed entry bytes of
+as_told_old (Some listed) (Some entry) bytes of = told_as_listed listed entry bytes of
 
 -- ---- a file that comes
 
@@ -46,7 +44,7 @@ changed_fate change h c name listed old found fate named guarded of before (file
         → fate_by change c.path (claim_entry change.members c) file ≡ fate_beside change c.path (claim_entry change.members c)
     by_file None off = absurd off
     by_file (Some bytes) unlike =
-        let new : is_as_listed (claim_entry change.members c) bytes ≡ false = sym (as_told listed (claim_entry change.members c) bytes of) ∙ unlike.0 in
+        let new : is_as_listed (claim_entry change.members c) bytes ≡ false = sym (told_as_listed listed (claim_entry change.members c) bytes of) ∙ unlike.0 in
         let so_far : is_as_old (old_entry change c.path) bytes ≡ false = sym (as_told_old old (old_entry change c.path) bytes before) ∙ unlike.1 in
         (λ j. if not (guarded j) || (new j || so_far j) then goes_in else fate_beside change c.path (claim_entry change.members c))
 

@@ -13,10 +13,10 @@ use Rattle.root_names.proofs.RootNamesAreNames.{database_named, world_named}
 use Rattle.base_core.specs.ByteOrder.{bytes_cmp}
 use Rattle.base_core.specs.Sorted.{sorted_by, with_element}
 use Rattle.base_core.proofs.Sorting.{Each, sorted_up}
+use Rattle.base_core.proofs.Orderings.{names_total}
 use Rattle.db_core.specs.Members.{Member, member_listings, members_of_kept}
 use Rattle.db_core.specs.Seen.{members_of, packages_of}
 use Rattle.path_claims.specs.Claims.{PathClaim, claim_cmp, is_of_path}
-use Rattle.path_claims.proofs.ClaimOrder.{paths_total}
 use Rattle.path_clashes.specs.Clash.{NameChange}
 use Rattle.path_clashes.specs.ClashSeen.{clash_seen}
 use Rattle.path_clashes.specs.FirstClash.{IsClashOf, MayBeClashOf}
@@ -47,7 +47,7 @@ use Rattle.own_core.proofs.WritesMeaning.{each_finds_itself}
 -- ---- names that are written
 
 pub sorted_list : (xs ys : List (List ℕ)) → xs ≡ sorted_by bytes_cmp ys → IsSorted bytes_cmp xs
-sorted_list xs ys e = subst (IsSorted bytes_cmp) (sym e) (sorted_up bytes_cmp paths_total ys)
+sorted_list xs ys e = subst (IsSorted bytes_cmp) (sym e) (sorted_up bytes_cmp names_total ys)
 
 name_with : (x : List ℕ) (ys : List (List ℕ)) → IsName x → Each IsName ys → Each IsName (with_element bytes_cmp x ys)
 name_with x [] n h = (n, tt)

@@ -11,7 +11,8 @@ use Rattle.base_core.proofs.Rising as Names
 use Rattle.base_core.specs.ByteOrder.{bytes_cmp, smallest_text}
 use Rattle.base_core.specs.Sorted.{sorted_by}
 use Rattle.base_core.proofs.Smallest.{smallest_first}
-use Rattle.base_core.proofs.Sorting.{Each, Rises, one_order, ranks, rises_in_order, sort_seen, sorted_up, stable, stable_in_order}
+use Rattle.base_core.proofs.Sorting.{Each, Rises, one_order, ranks, rises_in_order, stable_in_order}
+use Rattle.base_core.proofs.Orderings.{names_total}
 use Rattle.adb_schema.specs.Reserved.{is_reserved}
 use Rattle.db_core.specs.Members.{Listing, Member, is_added, member_listings}
 use Rattle.path_claims.specs.Claims.{ContestedPath, PathClaim, claim_cmp, claimants, contested_at, contested_by, contested_path, is_of_path, owner_by}
@@ -19,14 +20,15 @@ use Rattle.path_claims.specs.Contest.{first_rivals, rivals_of}
 use Rattle.path_claims.specs.Seen.{claim_seen}
 use Rattle.path_claims.specs.declared.claim.Claim.{Claim}
 use Rattle.path_claims.specs.declared.contest.Rivals.{Rivals}
-use Rattle.path_claims.proofs.ClaimOrder.{claims_total, paths_total}
+use Rattle.path_claims.proofs.ClaimOrder.{claims_total}
 use Rattle.path_claims.proofs.Places.{map_len, no_some, seen_at, value_or}
+use Rattle.path_claims.proofs.Whole.{paths_in_order}
 use Rattle.claim_lists.proofs.Lists.{filter_swap, first_of, found_both, found_first, found_is, or_found, take_at, take_whole}
 use Rattle.file_owners.specs.Owners.{claim_by, claims_from, claims_in, contested_of, member_beats}
 use Rattle.change_files.specs.PlanLists.{first_reserved}
+use Rattle.change_files.proofs.InOrder.{from_sorted}
 use Rattle.own_core.specs.ClaimEntries.{is_added_at, is_added_if_any, is_added_and_reserved}
 use Rattle.own_core.proofs.Listings.{IsPlaced, each_all, each_placed}
-use Rattle.own_core.proofs.NamesOnce.{in_sorted_names}
 use Rattle.own_core.proofs.MarkedClaims.{found_from}
 
 -- ---- what is kept of a sorted list is sorted
@@ -61,10 +63,6 @@ module _ {X : Type 0} (cmp : X → X → Ordering) (o : IsTotalOrder cmp) where
 
 -- ---- the first reserved path
 
-paths_sorted : (cs : List PathClaim) → map (λ c. c.path) (sorted_by claim_cmp cs) ≡ sorted_by bytes_cmp (map (λ c. c.path) cs)
-unfolding claim_cmp
-paths_sorted cs = sort_seen (λ c. c.path) bytes_cmp paths_total cs (sorted_by claim_cmp cs) (sorted_up claim_cmp claims_total cs) (stable claim_cmp claims_total cs)
-
 first_path : (cs : List PathClaim) → slice_get (map (λ c. c.path) cs) 0 ≡ option_map (λ c. c.path) (first_of cs)
 first_path [] = refl
 first_path (c ∷ cs) = refl
@@ -73,7 +71,7 @@ pub first_kept : (p : PathClaim → Bool) (cs : List PathClaim) → option_map (
 first_kept p cs =
     ap (option_map (λ c. c.path)) (found_first p (sorted_by claim_cmp cs) ∙ ap first_of (kept_sorted claim_cmp claims_total p cs))
     ∙ (sym (first_path (sorted_by claim_cmp (filter p cs)))
-    ∙ (ap (λ ys. slice_get ys 0) (paths_sorted (filter p cs))
+    ∙ (ap (λ ys. slice_get ys 0) (paths_in_order (filter p cs))
     ∙ sym (smallest_first (map (λ c. c.path) (filter p cs)))))
 
 reserved_listings : (members : List Member) (n : ℕ) (ls : List Listing) → Each (IsPlaced members) ls
@@ -185,7 +183,7 @@ contestable members contest named e = by_path (contested_path (member_beats memb
         let is : record { path = path; rivals = r } ≡ contest = ap (value_or contest) k in
         let low = rivals_low (member_beats members) (length members) (claimants (claims_from 0 (member_listings members)) path) r (claimants_low members path 0 (member_listings members) (each_placed members)) g in
         let place = found_from (λ p. is_none (owner_by (member_beats members) (claims_from 0 (member_listings members)) p)) (sorted_by bytes_cmp (map (λ c. c.path) (claims_from 0 (member_listings members)))) path f in
-        let here = in_sorted_names path (map (λ c. c.path) (claims_from 0 (member_listings members))) (at_in (sorted_by bytes_cmp (map (λ c. c.path) (claims_from 0 (member_listings members)))) place.0 path place.1) in
+        let here = from_sorted path (map (λ c. c.path) (claims_from 0 (member_listings members))) (at_in (sorted_by bytes_cmp (map (λ c. c.path) (claims_from 0 (member_listings members)))) place.0 path place.1) in
         subst (IsContestable members) is (record { name = named_paths 0 (member_listings members) path (each_all (λ l. IsName l.path) (member_listings members) named) here; first = low.0; second = low.1 })
 
     by_path : (o : Option (List ℕ)) → contested_path (member_beats members) (claims_from 0 (member_listings members)) ≡ o → option_and_then (contested_at (member_beats members) (claims_from 0 (member_listings members))) o ≡ Some contest

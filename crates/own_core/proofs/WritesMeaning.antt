@@ -24,15 +24,19 @@ use Rattle.file_guard.specs.AsListed.{is_as_listed}
 use Rattle.change_files.specs.FileChange.{FileChange, added_owner_listing, is_claimed, old_entry}
 use Rattle.change_files.specs.FilesAfter.{if_aside, if_in, aside_listing_at, path_beside, written_as, written_in}
 use Rattle.std.specs.Option.{option_or}
+use Rattle.base_core.proofs.Orderings.{is_less}
+use Rattle.base_core.proofs.Listed.{in_both}
 use Rattle.change_files.specs.NamesAfter.{added_paths}
 use Rattle.change_files.specs.PlanLists.{FileWrite, file_writes_of, names_in_order, write_to}
+use Rattle.change_files.proofs.InOrder.{from_with, in_sorted, from_sorted}
+use Rattle.change_files.proofs.Coming.{no_owner}
 use Rattle.own_core.specs.ClaimEntries.{claim_entry, is_of_added_owner}
 use Rattle.own_core.specs.Fates.{claim_fate, is_fate}
 use Rattle.own_core.specs.WritesSeen.{aside_write, claim_write, write_by, write_cmp}
 use Rattle.own_core.proofs.Endings.{found_front, front_of}
 use Rattle.own_core.proofs.Listings.{GoTogether, IsClaimFor}
-use Rattle.own_core.proofs.Meaning.{in_coming_paths, in_is, is_there, laid_is, no_owner, same_fate, there_is, together, with_fate}
-use Rattle.own_core.proofs.NamesOnce.{in_sorted_names, kept_rises, not_below, same_names, sorted_names_in, is_less}
+use Rattle.own_core.proofs.Meaning.{in_coming_paths, in_is, is_there, laid_is, same_fate, there_is, together, with_fate}
+use Rattle.own_core.proofs.NamesOnce.{kept_rises, not_below, same_names}
 
 -- ---- lists of different names
 
@@ -40,27 +44,17 @@ abbrev pub Distinct : List (List ℕ) → Type 0
 Distinct [] = Unit {0}
 Distinct (x ∷ xs) = (Names.IsIn x xs → ⊥) × Distinct xs
 
-in_element : (q x : List ℕ) (ys : List (List ℕ)) → Names.IsIn q (with_element bytes_cmp x ys) → (q ≡ x) ⊎ Names.IsIn q ys
-in_element q x [] (inl is) = inl is
-in_element q x [] (inr old) = absurd old
-in_element q x (y ∷ ys) here = go (is_gt (bytes_cmp x y)) (in_element q x ys) here
-  where
-    go : (b : Bool) → (Names.IsIn q (with_element bytes_cmp x ys) → (q ≡ x) ⊎ Names.IsIn q ys) → Names.IsIn q (if b then y ∷ with_element bytes_cmp x ys else x ∷ y ∷ ys) → (q ≡ x) ⊎ Names.IsIn q (y ∷ ys)
-    go true rest (inl is) = inr (inl is)
-    go true rest (inr more) = elim (rest more) [ inl is ↦ inl is | inr old ↦ inr (inr old) ]
-    go false rest here = here
-
 distinct_with : (x : List ℕ) (ys : List (List ℕ)) → (Names.IsIn x ys → ⊥) → Distinct ys → Distinct (with_element bytes_cmp x ys)
 distinct_with x [] n d = (λ here. here, tt)
 distinct_with x (y ∷ ys) n d = go (is_gt (bytes_cmp x y)) (distinct_with x ys (λ here. n (inr here)) d.1)
   where
     go : (b : Bool) → Distinct (with_element bytes_cmp x ys) → Distinct (if b then y ∷ with_element bytes_cmp x ys else x ∷ y ∷ ys)
-    go true rest = (λ here. elim (in_element y x ys here) [ inl is ↦ n (inl (sym is)) | inr old ↦ d.0 old ], rest)
+    go true rest = (λ here. elim (from_with y x ys here) [ inl is ↦ n (inl (sym is)) | inr old ↦ d.0 old ], rest)
     go false rest = (n, d)
 
 distinct_sorted : (xs : List (List ℕ)) → Distinct xs → Distinct (sorted_by bytes_cmp xs)
 distinct_sorted [] d = tt
-distinct_sorted (x ∷ xs) d = distinct_with x (sorted_by bytes_cmp xs) (λ here. d.0 (in_sorted_names x xs here)) (distinct_sorted xs d.1)
+distinct_sorted (x ∷ xs) d = distinct_with x (sorted_by bytes_cmp xs) (λ here. d.0 (from_sorted x xs here)) (distinct_sorted xs d.1)
 
 strictly : (xs : List (List ℕ)) → Sorting.Rises (λ x y. is_lt (bytes_cmp x y)) (Sorting.ranks bytes_cmp nat_list_cmp_total) xs → Distinct xs → Names.Rises xs
 strictly [] up d = tt
@@ -127,11 +121,6 @@ names_of_beside (c ∷ cs) = ap (λ r. aside_name c.path ∷ r) (names_of_beside
 names_both : (xs ys : List FileWrite) → write_names (xs ++ ys) ≡ write_names xs ++ write_names ys
 names_both [] ys = refl
 names_both (x ∷ xs) ys = ap (λ r. x.name ∷ r) (names_both xs ys)
-
-in_both : (q : List ℕ) (xs ys : List (List ℕ)) → Names.IsIn q (xs ++ ys) → Names.IsIn q xs ⊎ Names.IsIn q ys
-in_both q [] ys here = inr here
-in_both q (x ∷ xs) ys (inl is) = inl (inl is)
-in_both q (x ∷ xs) ys (inr old) = elim (in_both q xs ys old) [ inl a ↦ inl (inr a) | inr b ↦ inr b ]
 
 both_in : (q : List ℕ) (xs ys : List (List ℕ)) → Names.IsIn q xs ⊎ Names.IsIn q ys → Names.IsIn q (xs ++ ys)
 both_in q [] ys (inl a) = absurd a
@@ -329,14 +318,14 @@ module _ (change : FileChange) (files : Files) (coming : List PathClaim) (up : N
   in_write_names : (q : List ℕ) → Names.IsIn q (paths ins) ⊎ Names.IsIn q (map aside_name (paths asides)) → Names.IsIn q (write_names (sorted_by write_cmp all_writes))
   in_write_names q h =
       subst (Names.IsIn q) (sym (names_sorted all_writes))
-      (sorted_names_in q (write_names all_writes)
+      (in_sorted q (write_names all_writes)
       (subst (Names.IsIn q) (sym (names_both (map claim_write ins) (map aside_write asides) ∙ (λ j. names_of_in ins j ++ names_of_beside asides j))) (both_in q (paths ins) (map aside_name (paths asides)) h)))
 
   of_write_names : (q : List ℕ) → Names.IsIn q (write_names (sorted_by write_cmp all_writes)) → Names.IsIn q (paths ins) ⊎ Names.IsIn q (map aside_name (paths asides))
   of_write_names q here =
       in_both q (paths ins) (map aside_name (paths asides))
       (subst (Names.IsIn q) (names_both (map claim_write ins) (map aside_write asides) ∙ (λ j. names_of_in ins j ++ names_of_beside asides j))
-      (in_sorted_names q (write_names all_writes) (subst (Names.IsIn q) (names_sorted all_writes) here)))
+      (from_sorted q (write_names all_writes) (subst (Names.IsIn q) (names_sorted all_writes) here)))
 
   abbrev places : List (List ℕ)
   places = added_paths change.members ++ map aside_name (added_paths change.members)

@@ -15,7 +15,7 @@ pub record IsByFile {Y : Type 0} (said : PathClaim → Option (List ℕ) → Y) 
   pub told : IfObservable history (λ v. found ≡ files_of v c.path)
   pub is : y ≡ said c found
 
--- the values are what `said` says of some claims, one for each, in their order
+-- each value is what `said` says of its claim and of what is found under the claim's path
 abbrev pub AreByFiles :
     {Y : Type 0} → (PathClaim → Option (List ℕ) → Y) → List TreeState → List PathClaim → List Y → Type 0
 AreByFiles said history [] [] = Unit {0}

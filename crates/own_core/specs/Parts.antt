@@ -36,8 +36,8 @@ abbrev pub left_over_claims_by : Change → List PathClaim → List PathClaim
 left_over_claims_by change asides =
     filter (λ c. is_path_left_over (file_change_of change) asides c.path) (claims_before change)
 
--- the files of a change are divided: the added ones by their fates, and those that are left over by
--- whether they are kept
+-- The files of a change are divided. Of the added files some go in and some are laid beside. Of those
+-- that are left over some are removed and some are kept.
 pub record AreParts (change : Change) (history : List TreeState) (coming : List PathClaim)
     (parts : Parts) : Type 0 where
   pub fates : List Fates.Fate

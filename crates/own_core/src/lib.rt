@@ -8,9 +8,9 @@
 //! `Fates` and `Going` (what is done with an added file, and with one that is left over), `Found`
 //! (the same, given the tree's files) and `Parts`.
 //!
-//! The rules are in `docs/commands.md`, "What a change does with files"; the terms *fate*, *aside*,
-//! *left over* and *kept* in `docs/names.md`, "The installed database and a change of it". The
-//! README of this crate says what is read and what is refused.
+//! The rules are in `docs/commands.md`, "What a change does with files"; the terms *aside*, *left
+//! over* and *kept* in `docs/names.md`, "The installed database and a change of it". The README of
+//! this crate says what is read and what is refused.
 #![tactic(auto)]
 
 mod change;

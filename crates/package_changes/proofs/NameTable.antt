@@ -7,11 +7,11 @@ use Rattle.std.specs.Option.{option_map_or, option_or}
 use Rattle.std.specs.Cmp.Lexicographic.{bytes_decides}
 use Rattle.std.proofs.lemmas.List.{drop_all}
 use Rattle.indexmap.specs.IndexMap.{insert_entry}
+use Rattle.base_core.proofs.AtName.{either_way}
 use Rattle.candidate_core.specs.Candidates.{Candidate}
 use Rattle.package_changes.specs.Changes.{is_selected_named}
 use Rattle.package_changes.specs.SelectedNames.{names_and_places, place_beside}
 use Rattle.package_changes.proofs.Lists.{left_at}
-use Rattle.package_changes.proofs.NamesInOrder.{same_either_way}
 
 abbrev pub Entries : Type 0
 Entries = List (Bor (List ℕ) × ℕ)
@@ -26,7 +26,7 @@ or_none (Some n) = refl
 pub looked_up : (name : List ℕ) (es : Entries) → lookup (is_key name) es ≡ place_beside name (names_and_places es)
 looked_up name [] = refl
 looked_up name (e ∷ es) =
-    ap (λ t. if t then Some e.1 else lookup (is_key name) es) (same_either_way name e.0.now)
+    ap (λ t. if t then Some e.1 else lookup (is_key name) es) (either_way name e.0.now)
     ∙ ap (λ o. if bytes_eq e.0.now name then Some e.1 else o) (looked_up name es)
 
 -- a name that is there stays as it is

@@ -1,18 +1,10 @@
 -- Names without repeats.
-use Rattle.std.proofs.Common.{◌≡◌, ℕ, Bool, true, false, cond, List, [], ◌∷◌, map, Bor, refl, sym, ◌∙◌, ap, subst, true≢false}
+use Rattle.std.proofs.Common.{◌≡◌, ℕ, Bool, true, false, cond, List, [], ◌∷◌, map, Bor, refl, sym, ◌∙◌, ap, subst}
 use Rattle.std.specs.Prelude.{bytes_eq}
 use Rattle.std.specs.List.{dedup, dedup_from}
 use Rattle.std.specs.Cmp.Lexicographic.{bytes_decides}
+use Rattle.base_core.proofs.AtName.{either_way}
 use Rattle.change_files.specs.PlanLists.{unless_next, without_repeats}
-
-pub same_either_way : (a b : List ℕ) → bytes_eq a b ≡ bytes_eq b a
-same_either_way a b = go (bytes_eq a b) (bytes_eq b a) refl refl
-  where
-    go : (s t : Bool) → bytes_eq a b ≡ s → bytes_eq b a ≡ t → s ≡ t
-    go true true e f = refl
-    go false false e f = refl
-    go true false e f = absurd (true≢false (sym ((bytes_decides b a).1 (sym ((bytes_decides a b).0 e))) ∙ f))
-    go false true e f = absurd (true≢false (sym ((bytes_decides a b).1 (sym ((bytes_decides b a).0 f))) ∙ e))
 
 abbrev pub is_same_name : Bor (List ℕ) → Bor (List ℕ) → Bool
 is_same_name a b = bytes_eq a.now b.now
@@ -54,9 +46,9 @@ kept_from x (y ∷ ys) = go (is_same_name y x) refl (kept_from x ys) (kept_from 
     go true e first second =
         first
         ∙ (ap (λ z. without_repeats (z ∷ map (λ n. n.now) ys)) (sym ((bytes_decides y.now x.now).0 e))
-        ∙ sym (repeated x.now y.now (map (λ n. n.now) ys) (same_either_way x.now y.now ∙ e)))
+        ∙ sym (repeated x.now y.now (map (λ n. n.now) ys) (either_way x.now y.now ∙ e)))
     go false e first second =
-        ap (λ z. x.now ∷ z) second ∙ sym (another x.now y.now (map (λ n. n.now) ys) (same_either_way x.now y.now ∙ e))
+        ap (λ z. x.now ∷ z) second ∙ sym (another x.now y.now (map (λ n. n.now) ys) (either_way x.now y.now ∙ e))
 
 pub kept_once : (xs : List (Bor (List ℕ))) → map (λ n. n.now) (dedup is_same_name xs) ≡ without_repeats (map (λ n. n.now) xs)
 kept_once [] = refl

@@ -59,7 +59,7 @@ found_at_place pool p (n ∷ places) = go (candidate_at pool n) refl (found_at_p
 -- ---- changes
 
 -- the change alone
-change_alone : (o : Option Change) (old new : Option ℕ) → option_map (λ (c : PlacedChange). c.change) (option_map (λ change. record { change = change; old = old; new = new }) o) ≡ o
+pub change_alone : (o : Option Change) (old new : Option ℕ) → option_map (λ (c : PlacedChange). c.change) (option_map (λ change. record { change = change; old = old; new = new }) o) ≡ o
 change_alone None old new = refl
 change_alone (Some c) old new = refl
 

@@ -1,14 +1,12 @@
 -- Texts that are pushed one behind another.
-use Rattle.std.proofs.Common.{◌≡◌, ℕ, zero, suc, ◌+◌, ◌<◌, get_or, Bool, true, false, cond, List, [], ◌∷◌, ◌++◌, map, length, drop, Option, Some, None, Bor, refl, ◌∙◌, ap, arith, append_assoc}
+use Rattle.std.proofs.Common.{◌≡◌, ℕ, zero, suc, ◌+◌, ◌<◌, get_or, Bool, true, false, cond, List, [], ◌∷◌, ◌++◌, map, length, drop, Option, Some, None, Bor, refl, ◌∙◌, ap, arith}
 use Rattle.std.specs.Prelude.{fold, if◌then◌else◌, option_to_list, slice_get}
 use Rattle.std.specs.List.{cons_option, filter, flat_map, position_from, list_any}
 use Rattle.std.specs.Option.{option_map_or}
 use Rattle.std.specs.Prelude.{is_some, ◌||◌}
+use Rattle.base_core.proofs.Texts.{joined}
 use Rattle.candidate_core.specs.Candidates.{Candidate}
 use Rattle.package_changes.proofs.Lists.{item_at}
-
-pub joined : (r r1 r2 a b : List ℕ) → r1 ≡ r ++ a → r2 ≡ r1 ++ b → r2 ≡ r ++ (a ++ b)
-joined r r1 r2 a b e1 e2 = e2 ∙ (ap (λ z. z ++ b) e1 ∙ append_assoc r a b)
 
 pub four : (r r1 r2 r3 r4 a b c d : List ℕ) → r1 ≡ r ++ a → r2 ≡ r1 ++ b → r3 ≡ r2 ++ c → r4 ≡ r3 ++ d → r4 ≡ r ++ (a ++ b ++ c ++ d)
 four r r1 r2 r3 r4 a b c d e1 e2 e3 e4 =

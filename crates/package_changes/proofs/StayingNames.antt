@@ -1,7 +1,8 @@
 -- Only what a selected candidate is named can stay.
-use Rattle.std.proofs.Common.{◌≡◌, ℕ, Bool, true, false, cond, List, [], ◌∷◌, ◌++◌, map, Option, Some, None, Bor, refl, sym, ◌∙◌, ap, subst}
+use Rattle.std.proofs.Common.{◌≡◌, ℕ, Bool, true, false, cond, List, [], ◌∷◌, ◌++◌, map, Some, None, Bor, refl, sym, ◌∙◌, ap, subst}
 use Rattle.std.specs.Prelude.{is_some, option_and_then}
 use Rattle.std.specs.List.{filter, find, flat_map}
+use Rattle.base_core.proofs.Options.{is_none}
 use Rattle.adb_view.specs.Plain.{Plain}
 use Rattle.candidate_core.specs.Candidates.{Candidate}
 use Rattle.candidate_core.specs.Rank.{SealedPool, candidate_at}
@@ -26,10 +27,6 @@ no_line pool trace name none =
     ap (flat_map (λ (c : Candidate). report_line (stays_text name (names_in_need (candidates_at pool trace) c))))
     (none_passes (is_selected_named name) (candidates_at pool trace)
     (sym (found_at_place pool (is_selected_named name) trace) ∙ ap (option_and_then (candidate_at pool)) none))
-
-is_none : (o : Option ℕ) → is_some o ≡ false → o ≡ None
-is_none None e = refl
-is_none (Some n) e = absurd (cc)
 
 -- names that no selected candidate has add nothing
 pub only_selected_stay : (before : List Plain) (pool : SealedPool) (trace : List ℕ) (table : List (List ℕ × ℕ)) → ((name : List ℕ) → place_beside name table ≡ selected_place pool trace name) → (names : List (Bor (List ℕ)))

@@ -1,7 +1,6 @@
 //! What happens to each package, name by name, with the kept ones.
 //! The rules are in `docs/commands.md`, "`add` and `del`", **What is reported**, and "`upgrade` and
-//! `fix`"; the terms in `docs/names.md`, "A change of what is
-//! installed".
+//! `fix`"; the terms in `docs/names.md`, "A change of what is installed".
 ghost use Rattle.adb_fields.specs.Repeated.{package_name};
 ghost use Rattle.adb_schema.specs.Views.{package_value};
 ghost use Rattle.change_files.specs.PlanLists.{names_in_order};

@@ -1,10 +1,9 @@
 -- Where a folder is found among others, and what one more file adds to the folders' lists.
-use Rattle.std.proofs.Common.{◌≡◌, ℕ, zero, suc, ◌+◌, ◌<◌, ◌⊎◌, inl, inr, ◌==◌, Bool, true, false, List, [], ◌∷◌, ◌++◌, length, take, get_or, set, map, replicate, refl, sym, ap, ◌∙◌, subst, arith, if◌then◌else◌, Bor, Result, Ok, Err, Option, Some, None, append-nil, slice_get}
+use Rattle.std.proofs.Common.{◌≡◌, ℕ, zero, suc, ◌+◌, ◌<◌, ◌⊎◌, inl, inr, ◌==◌, Bool, false, List, [], ◌∷◌, ◌++◌, length, take, get_or, set, map, replicate, refl, sym, ap, ◌∙◌, subst, arith, if◌then◌else◌, Bor, Result, Ok, Err, Option, Some, None, append-nil, slice_get}
 use Rattle.std.proofs.lemmas.List.{take_more, length-map, get_or-map}
 use Rattle.std.proofs.lemmas.List.Elements.{filter-append}
 use Rattle.std.proofs.lemmas.Map.Text.{is_eq-slice_cmp}
 use Rattle.std.proofs.lemmas.Map.Lookups.{exact_bytes}
-use Rattle.std.proofs.lemmas.Slice.Eq.{bytes_eq-Decides}
 use borrow.Author.Tests.{ne_eqb, eq-eqb}
 use Rattle.std.specs.List.{AllWithin, AllByRecursion, filter}
 use Rattle.std.specs.List.Sorted.{IsStrictlySortedBy, IsBinarySearchResult, IsSearchInRange}
@@ -14,15 +13,13 @@ use Rattle.std.specs.Str.{bytes_eq}
 use Rattle.std.specs.declared.cmp.Ordering.{Ordering}
 use Rattle.std.specs.declared.cmp.Ordering.TheVariants.{Less, Greater}
 use Rattle.std.proofs.lemmas.Option.{get_or_from_slice_get, slice_get_within}
+use Rattle.base_core.proofs.AtName.{own_name}
 use Rattle.package_files.specs.Folders.{folder_of, path_below, names_in_folder}
 use Rattle.package_files.specs.BorrowedNames.{IsIndexOf}
 use Rattle.package_files.proofs.FolderLemmas.{cmp, turned, against, searchable}
 
 abbrev names_of : List (Bor (List ℕ)) → List (List ℕ)
 names_of xs = map (λ name. name.now) xs
-
-same_bytes : (x : List ℕ) → bytes_eq x x ≡ true
-same_bytes x = (bytes_eq-Decides x x).1 refl
 
 pub differs : (x y : List ℕ) (o : Ordering) → cmp y x ≡ o → bytes_eq x y ≡ is_eq (ordering_reverse o)
 differs x y o e = sym (is_eq-slice_cmp x y) ∙ ap is_eq (turned y x o e)
@@ -59,7 +56,7 @@ only_there : (ns : List (List ℕ)) (i k : ℕ) → i < length ns → k < length
 only_there ns i k hi hk sorted (inl lt) =
     differs (get_or ns i []) (get_or ns k []) Less (in_turn ns k i lt hi sorted) ∙ sym (ne_eqb k i (omega arith))
 only_there ns i k hi hk sorted (inr (inl e)) =
-    ap (λ (j : ℕ). bytes_eq (get_or ns i []) (get_or ns j [])) e ∙ same_bytes (get_or ns i []) ∙ sym (eq-eqb k i e)
+    ap (λ (j : ℕ). bytes_eq (get_or ns i []) (get_or ns j [])) e ∙ own_name (get_or ns i []) ∙ sym (eq-eqb k i e)
 only_there ns i k hi hk sorted (inr (inr lt)) =
     differs (get_or ns i []) (get_or ns k []) Greater (turned (get_or ns i []) (get_or ns k []) Less (in_turn ns i k lt hk sorted)) ∙ sym (ne_eqb k i (omega arith))
 

@@ -5,31 +5,21 @@ use Rattle.base_core.specs.declared.cause.Cause.{Cause}
 use Rattle.adb_block.specs.Header.{header_of}
 use Rattle.adb_block.specs.Reading.{Reading, done, fault, more, reading_of}
 use Rattle.adb_block.specs.ReaderPosition.{start_of}
-use Rattle.adb_view.specs.Plain.{Plain, plain_of}
-use Rattle.adb_view.specs.Schema.{shape_of}
-use Rattle.adb_view.specs.Values.{value_at}
-use Rattle.std.specs.Option.{option_or}
+use Rattle.adb_view.specs.Plain.{Plain}
+use Rattle.base_core.proofs.Causes.{second_none}
 use Rattle.adb_view.specs.declared.tables.Which.TheVariants.{Package}
 use Rattle.adb_schema.specs.Soundness.{blocks_fault, file_fault, first_payload, payload_after_header, payload_fault, payload_in, root_value, schema_fault}
 use Rattle.pkg_core.specs.Contents.{Contents, Expected, bytes_of_file, bytes_or_none, contents_in, expected_contents, hash_fault, is_of_file}
 use Rattle.pkg_core.specs.GoodContents.{AreContentsOf, IsContentsOf}
 use Rattle.pkg_core.specs.Opened.{expected_with_positions, has_positions}
 use Rattle.pkg_core.specs.Whole.{fault_after_first, files_after_first, files_by_header, files_in_file, package_fault, whole_fault}
-use Rattle.pkg_core.proofs.Given.{files_right}
+use Rattle.pkg_core.proofs.Given.{files_right, nothing_expected}
 use Rattle.pkg_core.specs.Seen.{HasAt}
 use Rattle.package_test.specs.Places.{AreAtPlaces, AreInFileOrder, is_place_of, offset_of_file}
 use Rattle.package_test.specs.declared.places.FilePlace.{FilePlace}
 use Rattle.package_test.proofs.FileOrder.{expected_in_order, placed_in_order}
 
 -- ---- a package without fault has the contents of each file
-
-second_none : (o u : Option Cause) → option_or o u ≡ None → u ≡ None
-second_none None u h = h
-second_none (Some c) u h = (cc)
-
-nothing_expected : expected_contents (root_value Package []) ≡ []
-unfolding value_at plain_of shape_of
-nothing_expected = refl
 
 blocks_right : (r : Reading) → blocks_fault (fault_after_first Package) Package r ≡ None → AreContentsOf (expected_contents (root_value Package (first_payload r))) (contents_in (files_after_first r))
 blocks_right done h = let A : List Expected → Type 0 = λ es. AreContentsOf es [] in subst A (sym nothing_expected) tt

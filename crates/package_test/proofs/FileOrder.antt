@@ -1,9 +1,9 @@
 -- Places in the order of the files, and the one with two positions among them.
-use Rattle.std.proofs.Common.{◌≡◌, ◌⊎◌, inl, inr, ℕ, zero, suc, ◌+◌, ◌<◌, ◌≤◌, ◌==◌, ◌&&◌, ◌||◌, nat_lt, Bool, true, false, cond, List, [], ◌∷◌, ◌++◌, length, get_or, Option, Some, None, refl, ap, sym, subst, ◌∙◌, true≢false, append_assoc, arith}
+use Rattle.std.proofs.Common.{◌≡◌, ◌⊎◌, inl, inr, ℕ, zero, suc, ◌+◌, ◌<◌, ◌≤◌, ◌==◌, ◌&&◌, nat_lt, Bool, true, false, cond, List, [], ◌∷◌, ◌++◌, length, get_or, Option, Some, None, refl, ap, sym, subst, ◌∙◌, true≢false, append_assoc, arith}
 use Rattle.std.specs.Prelude.{if◌then◌else◌, option_map}
 use Rattle.std.specs.List.{find}
 use Rattle.std.specs.List.Sorted.{IsPartitionPoint, IsPartitionedBy}
-use Rattle.std.proofs.lemmas.Bool.{and_from, cases_eq, cases_lt, eq-eqb, eqb-true, false_from_ne_true, lt-ltb, ltb-true}
+use Rattle.std.proofs.lemmas.Bool.{and_from, cases_eq, cases_lt, eq-eqb, eqb-true, false_from_ne_true, lt-ltb, ltb-true, or_right, and_parts, or_cases, or_left}
 use Rattle.adb_view.specs.Plain.{Plain}
 use Rattle.adb_fields.specs.Repeated.{files_in, folders_in}
 use Rattle.adb_schema.specs.Texts.{is_with_contents}
@@ -15,27 +15,12 @@ use Rattle.package_test.specs.declared.places.FilePlace.{FilePlace}
 
 -- ---- positions
 
-or_true : (x y : Bool) → (x || y) ≡ true → (x ≡ true) ⊎ (y ≡ true)
-or_true true y h = inl refl
-or_true false y h = inr h
-
-both_true : (x y : Bool) → (x && y) ≡ true → (x ≡ true) × (y ≡ true)
-both_true true y h = (refl, h)
-both_true false y h = absurd (true≢false (sym h))
-
 before_by : (a b c d : ℕ) → is_before_file a b c d ≡ true → IsBeforeFile a b c d
-before_by a b c d h = go (or_true (nat_lt a c) ((a == c) && nat_lt b d) h)
+before_by a b c d h = go (or_cases (nat_lt a c) ((a == c) && nat_lt b d) h)
   where
     go : (nat_lt a c ≡ true) ⊎ (((a == c) && nat_lt b d) ≡ true) → IsBeforeFile a b c d
     go (inl less) = inl (ltb-true a c less)
-    go (inr same) = let p = both_true (a == c) (nat_lt b d) same in inr (eqb-true a c p.0, ltb-true b d p.1)
-
-or_left : (x y : Bool) → x ≡ true → (x || y) ≡ true
-or_left x y h = ap (λ (b : Bool). b || y) h
-
-or_right : (x y : Bool) → y ≡ true → (x || y) ≡ true
-or_right true y h = refl
-or_right false y h = h
+    go (inr same) = let p = and_parts (a == c) (nat_lt b d) same in inr (eqb-true a c p.0, ltb-true b d p.1)
 
 before_is : (a b c d : ℕ) → IsBeforeFile a b c d → is_before_file a b c d ≡ true
 before_is a b c d (inl less) = or_left (nat_lt a c) _ (lt-ltb a c less)
@@ -54,7 +39,7 @@ not_itself a b c d (inr (is, x)) same too = omega (arith, x, too)
 -- ---- places
 
 is_there : (folder file : ℕ) (place : FilePlace) → is_place_of folder file place ≡ true → (place.folder ≡ folder) × (place.file ≡ file)
-is_there folder file place h = let p = both_true (place.folder == folder) (place.file == file) h in (eqb-true place.folder folder p.0, eqb-true place.file file p.1)
+is_there folder file place h = let p = and_parts (place.folder == folder) (place.file == file) h in (eqb-true place.folder folder p.0, eqb-true place.file file p.1)
 
 pub there_is : (folder file : ℕ) (place : FilePlace) → place.folder ≡ folder → place.file ≡ file → is_place_of folder file place ≡ true
 there_is folder file place same too = ap (λ (x : Bool). x && (place.file == file)) (eq-eqb place.folder folder same) ∙ eq-eqb place.file file too

@@ -1,7 +1,7 @@
 -- Pieces that were read in sequence.
-use Rattle.std.proofs.Common.{◌≡◌, ℕ, zero, suc, ◌+◌, ◌-◌, ◌*◌, ◌<◌, ◌≤◌, Bool, true, false, if◌then◌else◌, List, [], ◌∷◌, ◌++◌, length, take, drop, replicate, Option, Some, None, Result, Ok, Err, refl, ap, sym, subst, ◌∙◌, arith, suc-mul}
+use Rattle.std.proofs.Common.{◌≡◌, ℕ, zero, suc, ◌+◌, ◌-◌, ◌*◌, ◌<◌, ◌≤◌, Bool, true, false, if◌then◌else◌, List, [], ◌∷◌, ◌++◌, length, take, replicate, Option, Some, None, Result, Ok, Err, refl, ap, sym, subst, ◌∙◌, arith, suc-mul}
 use Rattle.std.specs.Prelude.{IfOk, IfSome, IsErrOf}
-use Rattle.std.proofs.lemmas.List.{drop-drop, length-append, length-replicate}
+use Rattle.std.proofs.lemmas.List.{length-append, length-replicate}
 use Rattle.base_core.specs.declared.cause.Cause.{Cause}
 use Rattle.base_core.specs.Calls.{IfObservable}
 use Rattle.base_core.specs.Faults.{Counts}
@@ -10,7 +10,7 @@ use Rattle.base_core.specs.declared.tree.TreeFault.{TreeFault}
 use Rattle.base_core.specs.declared.tree.TreeFault.TheVariants.{Disk as DiskFault}
 use Rattle.pkg_core.specs.Contents.{Contents, Expected, FilesRead, contents_in, fault_in, given, no_more}
 use Rattle.pkg_core.specs.Seen.{HasAt, IsSeenIn, IsSoLong, ReadsFile}
-use Rattle.pkg_core.proofs.SeenBytes.{file_with, has_rest}
+use Rattle.pkg_core.proofs.SeenBytes.{file_with, has_rest, take_more, has_both}
 use Rattle.pkg_core.specs.Pieces.{PiecesRead, file_given, files_joined, no_piece, piece, refusal, refusal_in}
 use Rattle.pkg_core.specs.declared.file.Part.{Part}
 use Rattle.piece_reader.specs.Readers.{AnswersNext, HasPieceAt, IsOfFirstExpected, IsReading, KeepsStart, files_to_read, returned_len, returned_len_from, name_in_tree, offset_of, package_len, start_of_file}
@@ -131,19 +131,6 @@ still_stand : (opened : Option OpenFile) (pkg so_far : List ℕ) (before after :
 still_stand (Some o) pkg so_far before after same long has = subst (λ (n : ℕ). HasAt pkg n so_far) (sym same) has
 still_stand None pkg [] before after same long has = refl
 still_stand None pkg (b ∷ bytes) before after same long has = absurd (omega (arith, long))
-
-take_both : (m n : ℕ) (xs : List ℕ) → take (m + n) xs ≡ take m xs ++ take n (drop m xs)
-take_both zero n xs = ap (λ (k : ℕ). take k xs) (let e : 0 + n ≡ n = omega arith in e)
-take_both (suc m) n [] = ap (λ (k : ℕ). take k no_bytes) (let e : suc m + n ≡ suc (m + n) = omega arith in e) ∙ sym (take_none n)
-take_both (suc m) n (x ∷ xs) =
-    let e : suc m + n ≡ suc (m + n) = omega arith in
-    ap (λ (k : ℕ). take k (x ∷ xs)) e ∙ ap (λ (ys : List ℕ). x ∷ ys) (take_both m n xs)
-
-has_both : (pkg : List ℕ) (at : ℕ) (xs ys : List ℕ) → HasAt pkg at xs → HasAt pkg (at + length xs) ys → HasAt pkg at (xs ++ ys)
-has_both pkg at xs ys first second =
-    ap (λ (n : ℕ). take n (drop at pkg)) (length-append xs ys)
-    ∙ (take_both (length xs) (length ys) (drop at pkg)
-    ∙ (λ k. first k ++ (ap (take (length ys)) (drop-drop (length xs) at pkg) ∙ second) k))
 
 with_one_more : (cs : List Contents) (c : Contents) (files : FilesRead) → with_files cs (given c files) ≡ with_files (cs ++ c ∷ []) files
 with_one_more [] c files = refl

@@ -1,11 +1,7 @@
 -- Claims are ordered by their paths.
 use Rattle.std.specs.Cmp.{IsTotalOrder}
 use Rattle.std.proofs.lemmas.Cmp.{on_total, nat_list_cmp_total}
-use Rattle.base_core.specs.ByteOrder.{bytes_cmp}
 use Rattle.path_claims.specs.Claims.{claim_cmp}
-
-pub paths_total : IsTotalOrder bytes_cmp
-paths_total = nat_list_cmp_total
 
 pub claims_total : IsTotalOrder claim_cmp
 unfolding claim_cmp

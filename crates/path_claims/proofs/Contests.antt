@@ -4,6 +4,7 @@ use Rattle.std.specs.Prelude.{◌||◌, ◌&&◌, ◌⊎◌, ◌==◌, if◌then
 use Rattle.std.specs.List.{find, list_any}
 use Rattle.std.proofs.lemmas.List.{take_all}
 use borrow.Author.Tests.{eqb-true}
+use Rattle.base_core.proofs.Numbers.{not_first}
 use Rattle.path_claims.specs.Contest.{beats_each, first_rivals, rivals_of, winner, IsOneWay}
 use Rattle.path_claims.specs.LeftOver.{left_over}
 
@@ -139,13 +140,10 @@ one_owner beats w members x y h k p q =
 
 -- ---- over what is seen of a list
 
-none_long : (n : ℕ) → suc n ≡ 0 → ⊥
-none_long n e = omega arith
-
 pub none_wins : {X : Type 0} (beats : ℕ → ℕ → Bool) (f : X → ℕ) (xs : List X) → (length xs == 0) ≡ true → None ≡ winner beats (map f xs)
 unfolding winner
 none_wins beats f [] h = refl
-none_wins beats f (x ∷ xs) h = absurd (none_long (length xs) (eqb-true _ _ h))
+none_wins beats f (x ∷ xs) h = absurd (not_first (length xs) (eqb-true _ _ h))
 
 pub one_wins : {X : Type 0} (beats : ℕ → ℕ → Bool) → IsOneWay beats → (f : X → ℕ) (xs : List X) (d : X) (left : ℕ) (b : Bool) → (length xs == 0) ≡ false
     → left ≡ left_over beats (f (slice_index_or xs 0 d)) (map f (take (length xs - 1) (drop 1 xs))) → b ≡ beats_each beats (map f xs) left
@@ -171,7 +169,7 @@ find_past f p (x ∷ xs) (suc i) l = find_past f p xs i (omega arith)
 pub no_rivals : {X : Type 0} (beats : ℕ → ℕ → Bool) (f : X → ℕ) (xs : List X) → (length xs == 0) ≡ true → None ≡ first_rivals beats (map f xs)
 unfolding first_rivals
 no_rivals beats f [] h = refl
-no_rivals beats f (x ∷ xs) h = absurd (none_long (length xs) (eqb-true _ _ h))
+no_rivals beats f (x ∷ xs) h = absurd (not_first (length xs) (eqb-true _ _ h))
 
 abbrev pub test : (ℕ → ℕ → Bool) → ℕ → ℕ → Bool
 test beats x y = not ((x == y) || beats x y)

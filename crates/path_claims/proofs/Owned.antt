@@ -8,6 +8,7 @@ use Rattle.std.specs.Ordering.{is_eq, is_lt, ordering_reverse}
 use Rattle.std.specs.declared.cmp.Ordering.{Ordering}
 use Rattle.std.specs.declared.cmp.Ordering.TheVariants.{Less, Equal, Greater}
 use Rattle.std.proofs.lemmas.Cmp.{nat_list_cmp_total}
+use Rattle.std.proofs.lemmas.Bool.{not-true, not-false}
 use Rattle.base_core.specs.ByteOrder.{bytes_cmp}
 use Rattle.base_core.proofs.Sorting.{ranks, rises_sorted}
 use Rattle.path_claims.specs.Claims.{PathClaim, claim_cmp, claimants, is_of_path, owner_by}
@@ -31,14 +32,6 @@ ties_path z x =
     ap (λ r. not (is_lt r) && not (is_lt (bytes_cmp x.path z.path))) (nat_list_cmp_total.antisymm z.path x.path)
     ∙ (tied_by (bytes_cmp x.path z.path) ∙ sym (texts_ties x.path z.path))
 
-by_not : (b : Bool) → not b ≡ true → b ≡ false
-by_not true e = absurd (true≢false (sym e))
-by_not false e = refl
-
-by_not_false : (b : Bool) → not b ≡ false → b ≡ true
-by_not_false true e = refl
-by_not_false false e = absurd (true≢false e)
-
 pub all_of_path : (cs : List PathClaim) → IsSorted claim_cmp cs → (i : ℕ) (c : PathClaim) → slice_get cs i ≡ Some c → is_first_of_path cs i ≡ true
     → filter (is_of_path c.path) cs ≡ passing_front (is_of_path c.path) (drop i cs)
 all_of_path cs up i c g s =
@@ -52,7 +45,7 @@ all_of_path cs up i c g s =
     apart (suc i) c g s j y e h =
         let is : j ≡ i = omega arith in
         let k : slice_get cs i ≡ Some y = ap (slice_get cs) (sym is) ∙ h in
-        ties_path c y ∙ by_not (bytes_eq y.path c.path) (sym (λ n. differ_in_path (k n) (g n)) ∙ s)
+        ties_path c y ∙ not-true (bytes_eq y.path c.path) (sym (λ n. differ_in_path (k n) (g n)) ∙ s)
 
 pub map_seen : {X Y Z : Type 0} (f : X → Y) (g : Y → Z) (xs : List X) → map g (map f xs) ≡ map (λ x. g (f x)) xs
 map_seen f g [] = refl
@@ -84,7 +77,7 @@ same_owner beats cs (suc i) o s h c g = go (slice_get cs i) refl
     go : (b : Option PathClaim) → slice_get cs i ≡ b → o ≡ owner_by beats cs c.path
     go None e = absurd (true≢false (sym (s ∙ (λ n. differ_in_path (e n) (g n)))))
     go (Some y) e =
-        let one : y.path ≡ c.path = (bytes_decides y.path c.path).0 (by_not_false (bytes_eq y.path c.path) (sym (s ∙ (λ n. differ_in_path (e n) (g n))))) in
+        let one : y.path ≡ c.path = (bytes_decides y.path c.path).0 (not-false (bytes_eq y.path c.path) (sym (s ∙ (λ n. differ_in_path (e n) (g n))))) in
         h i y (omega arith) e ∙ ap (owner_by beats cs) one
 
 -- ---- the list of owners, one more

@@ -8,9 +8,10 @@ use Rattle.std.specs.List.Sorted.{IsSorted, ties}
 use Rattle.base_core.specs.ByteOrder.{bytes_cmp}
 use Rattle.base_core.specs.Sorted.{sorted_by, with_element}
 use Rattle.base_core.proofs.Sorting.{sort_seen, sorted_up, stable, stable_in_order}
+use Rattle.base_core.proofs.Orderings.{names_total}
 use Rattle.path_claims.specs.Claims.{AreNumbered, ContestedPath, PathClaim, claim_cmp, claimants, contested_at, contested_by, is_member, is_of_path, is_owner_by, owner_by}
 use Rattle.path_claims.specs.Contest.{first_rivals, winner}
-use Rattle.path_claims.proofs.ClaimOrder.{claims_total, paths_total}
+use Rattle.path_claims.proofs.ClaimOrder.{claims_total}
 use Rattle.path_claims.proofs.Marks.{AreAlike}
 use Rattle.path_claims.proofs.Owned.{ties_path}
 use Rattle.path_claims.proofs.Places.{no_some, value_or}
@@ -148,9 +149,9 @@ flags_are beats all cs os flags n s e m l k marked =
 
 -- ---- the contested path
 
-paths_in_order : (all : List PathClaim) → map (λ c. c.path) (sorted_by claim_cmp all) ≡ sorted_by bytes_cmp (map (λ c. c.path) all)
+pub paths_in_order : (all : List PathClaim) → map (λ c. c.path) (sorted_by claim_cmp all) ≡ sorted_by bytes_cmp (map (λ c. c.path) all)
 unfolding claim_cmp
-paths_in_order all = sort_seen (λ c. c.path) bytes_cmp paths_total all (sorted_by claim_cmp all) (sorted_up claim_cmp claims_total all) (stable claim_cmp claims_total all)
+paths_in_order all = sort_seen (λ c. c.path) bytes_cmp names_total all (sorted_by claim_cmp all) (sorted_up claim_cmp claims_total all) (stable claim_cmp claims_total all)
 
 pub contested_is : (beats : ℕ → ℕ → Bool) (all cs : List PathClaim) (o : Option ContestedPath) → cs ≡ sorted_by claim_cmp all
     → o ≡ option_and_then (contested_at beats cs) (find (λ path. is_none (owner_by beats cs path)) (map (λ c. c.path) cs))

@@ -1,28 +1,17 @@
 -- Folders above a name, and a walk over its slashes.
-use Rattle.std.proofs.Common.{◌≡◌, ⊎_elim, ℕ, ◌+◌, ◌<◌, ◌≤◌, Bool, true, false, List, [], ◌∷◌, ◌++◌, length, get_or, take, drop, Option, Some, refl, sym, ap, subst, ◌∙◌, arith, length-append, take-append-drop}
+use Rattle.std.proofs.Common.{◌≡◌, ⊎_elim, ℕ, ◌<◌, ◌≤◌, Bool, true, false, List, [], ◌∷◌, ◌++◌, length, get_or, take, drop, Option, Some, refl, sym, ap, subst, ◌∙◌, arith, take-append-drop}
 use Rattle.std.specs.Prelude.{bytes_eq}
-use Rattle.std.proofs.Math.Seq.{get_or-append_seam, take-append_seam}
 use Rattle.std.proofs.lemmas.Bool.{cases_lt, false_from_ne_true}
-use Rattle.std.proofs.lemmas.List.{drop_more, get_or-take, length-take-le, take-take}
+use Rattle.std.proofs.lemmas.List.{get_or-take, length-take-le, take-take}
 use Rattle.std.specs.Cmp.Lexicographic.{bytes_decides}
 use Rattle.base_core.specs.Files.{Files, IsFolderOf}
 use Rattle.base_core.specs.ByteOrder.{precedes}
+use Rattle.base_core.proofs.Folders.{folder_at, at_folder}
 use Rattle.path_clashes.specs.Clash.{NameChange, is_name_after}
 use Rattle.path_clashes.specs.NearName.{IsFolderFound, name_if}
 use Rattle.path_clashes.proofs.PairOrder.{precedes_front}
 
 -- ---- a folder is the name up to a slash
-
-pub folder_at : (name : List ℕ) (k : ℕ) → k < length name → get_or name k 0 ≡ 47 → IsFolderOf (take k name) name
-folder_at name k within slash =
-    (drop (k + 1) name, sym (take-append-drop k name) ∙ ap (λ (l : List ℕ). take k name ++ l) (drop_more name k 0 within ∙ ap (λ x. x ∷ drop (k + 1) name) slash))
-
-pub at_folder : (folder name : List ℕ) → IsFolderOf folder name → (length folder < length name) × (get_or name (length folder) 0 ≡ 47) × (take (length folder) name ≡ folder)
-at_folder folder name (rest, is) = (
-  omega (arith, ap length is, length-append folder (47 ∷ rest)),
-  ap (λ (l : List ℕ). get_or l (length folder) 0) is ∙ get_or-append_seam folder 47 rest 0,
-  ap (take (length folder)) is ∙ take-append_seam folder (47 ∷ rest),
-)
 
 -- one above a name is above each other one that shares a longer front with it
 pub shared_folder : (before name folder : List ℕ) (len : ℕ) → len ≤ length before → take len before ≡ take len name → IsFolderOf folder name → length folder < len → IsFolderOf folder before

@@ -10,8 +10,9 @@ use Rattle.base_core.specs.Files.{IsFolderOf}
 use Rattle.base_core.specs.Listed.{IsListOf}
 use Rattle.base_core.specs.Tree.{File, TreeState, bytes_at, files_of}
 use Rattle.base_core.specs.ByteOrder.{bytes_cmp, precedes}
+use Rattle.base_core.proofs.Orderings.{precedes_one_way}
 use Rattle.path_clashes.specs.NearName.{IsNameFound, is_name_present}
-use Rattle.path_clashes.proofs.PairOrder.{precedes_itself, precedes_one_way}
+use Rattle.path_clashes.proofs.PairOrder.{precedes_itself}
 
 -- ---- what `find` finds
 

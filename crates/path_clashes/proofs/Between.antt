@@ -9,7 +9,8 @@ use Rattle.std.proofs.lemmas.List.{take_all}
 use Rattle.std.proofs.lemmas.Map.Lookups.{exact_unsigned}
 use Rattle.base_core.specs.Files.{IsFolderOf}
 use Rattle.base_core.specs.ByteOrder.{bytes_cmp, precedes}
-use Rattle.path_clashes.proofs.Above.{at_folder, name_behind, shared_folder}
+use Rattle.base_core.proofs.Folders.{at_folder}
+use Rattle.path_clashes.proofs.Above.{name_behind, shared_folder}
 use Rattle.path_clashes.proofs.OneFirst.{one_name}
 
 -- ---- between two names

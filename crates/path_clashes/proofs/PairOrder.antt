@@ -20,9 +20,6 @@ names_rank = ranks_by nat_list_cmp_total (λ (a : List ℕ). a)
 pub precedes_itself : (a : List ℕ) → precedes a a ≡ false
 precedes_itself a = ap is_lt (tied_itself nat_list_cmp_total a)
 
-pub precedes_one_way : (a b : List ℕ) → precedes a b ≡ true → precedes b a ≡ false
-precedes_one_way a b h = names_rank.one_way a b h
-
 pub precedes_front : (front rest : List ℕ) → precedes (front ++ rest) front ≡ false
 precedes_front [] [] = refl
 precedes_front [] (b ∷ rest) = refl

@@ -92,9 +92,9 @@ fn common_len(one: &[u8], other: &[u8]) -> usize
     len
 }
 
-/// The first clash of a written path (`bytes`) with the names above it and below it. The folders
-/// that are also above the path before it (`before`) were searched with that one; if both paths are
-/// the same, so was everything.
+/// The first clash of a written path (`bytes`) with the names above it and below it. Folders that
+/// it shares with the path before it (`before`) were searched then and are skipped; an equal path
+/// needs no search.
 fn clash_near<T: Tree, G: IsReleased>(
     alloc: Global,
     tree: &mut T,

@@ -1,6 +1,6 @@
 //! Whether a change of names makes one name a folder of another.
 //!
-//! The change is given by the paths that it writes, and by a `IsReleased`, which says under which
+//! The change is given by the paths that it writes, and by an `IsReleased`, which says under which
 //! names a file is removed. `first_clash` searches near the paths alone: the folders above them,
 //! and the names below them. The contracts cite `Clash`, `FirstClash` and `WrittenPaths` of
 //! `specs/`. The rule is in `docs/commands.md`, "What a change does with files", test 2; the terms

@@ -1,10 +1,11 @@
 -- What the bytes of a file are compared with.
-use Rattle.std.proofs.Common.{◌≡◌, ℕ, zero, suc, ◌+◌, ◌-◌, ◌<◌, ◌==◌, ◌&&◌, nat_lt, Bool, true, false, cond, List, [], ◌∷◌, ◌++◌, length, Option, Some, None, Result, Ok, Err, refl, ap, sym, subst, ◌∙◌, true≢false, append-nil, arith}
+use Rattle.std.proofs.Common.{◌≡◌, ℕ, zero, suc, ◌+◌, ◌-◌, ◌<◌, ◌==◌, nat_lt, Bool, true, false, cond, List, [], ◌∷◌, ◌++◌, length, Option, Some, None, Result, Ok, Err, refl, ap, sym, subst, ◌∙◌, append-nil, arith}
 use Rattle.std.specs.Prelude.{option_map, replicate}
 use Rattle.std.specs.List.{find}
 use Rattle.std.proofs.lemmas.Bool.{ltb-true}
 use Rattle.std.proofs.lemmas.List.{length-append, length-replicate}
 use Rattle.base_core.specs.declared.cause.Cause.{Cause}
+use Rattle.base_core.proofs.Booleans.{both_second}
 use Rattle.adb_view.specs.Plain.{Plain}
 use Rattle.adb_fields.specs.Repeated.{files_in, folders_in}
 use Rattle.adb_schema.specs.Texts.{is_with_contents}
@@ -26,15 +27,11 @@ more_sizes : (es others : List Expected) → HaveSizes es → HaveSizes others �
 more_sizes [] others a b = b
 more_sizes (e ∷ es) others a b = (a.0, more_sizes es others a.1 b)
 
-both_true : (x y : Bool) → (x && y) ≡ true → y ≡ true
-both_true true y h = h
-both_true false y h = absurd (true≢false (sym h))
-
 file_sizes : (folder i : ℕ) (file : Plain) → HaveSizes (expected_at folder i file)
 file_sizes folder i file = by (is_with_contents file) refl
   where
     by : (b : Bool) → is_with_contents file ≡ b → HaveSizes (cond b (record { folder = folder; file = i; size = int_in (entry_in file 2); hash = text_in (entry_in file 4) } ∷ []) [])
-    by true is = (ltb-true 0 (int_in (entry_in file 2)) (both_true (length (text_in (entry_in file 5)) == 0) (nat_lt 0 (int_in (entry_in file 2))) is), tt)
+    by true is = (ltb-true 0 (int_in (entry_in file 2)) (both_second (length (text_in (entry_in file 5)) == 0) (nat_lt 0 (int_in (entry_in file 2))) is), tt)
     by false is = tt
 
 files_sizes : (folder i : ℕ) (files : List Plain) → HaveSizes (expected_files folder i files)

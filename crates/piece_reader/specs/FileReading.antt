@@ -59,7 +59,7 @@ GivesBytes AreUnreadBytesThen left bytes (Err Disk) = Unit {0}
 
 -- ---- the tests of the bytes, whatever the tree has
 
--- the bytes have the expected size and digest; a file without contents has none
+-- of a file without contents there are no bytes; of any other, the bytes have the expected size and digest
 abbrev pub AreAsExpected : Option Expected → List ℕ → Type 0
 AreAsExpected None bytes = bytes ≡ []
 AreAsExpected (Some e) bytes = (length bytes ≡ e.size) × (hash_fault e.hash bytes ≡ None)

@@ -139,7 +139,8 @@ impl<'a> FilePieces<'a> {
         tree: &mut T,
         piece: &mut Piece,
     ) -> Result<bool, PieceFault>
-        // If the tree has the package.
+        // If the tree has the package: the piece is the next of the bytes that are left; or none
+        // are left.
         ensures piece { IfObservable (T.history tree.old) (λ v. (pkg left : List ℕ)
             → files_of v (package_name_of_file self.old) ≡ Some pkg
             → IsFileReading self.old pkg left
@@ -178,6 +179,8 @@ impl<'a> FilePieces<'a> {
     /// a failed test is not remembered yet.
     fn read_next<T: Tree>(&mut self, tree: &mut T, piece: &mut Piece) -> Result<bool, PieceFault>
         requires { kept_fault self.old ≡ None }
+        // If the tree has the package: the piece is the next of the bytes that are left; or none
+        // are left.
         ensures piece { IfObservable (T.history tree.old) (λ v. (pkg left : List ℕ)
             → files_of v (package_name_of_file self.old) ≡ Some pkg
             → IsFileReading self.old pkg left

@@ -29,8 +29,8 @@ pub(crate) enum Asked {
     /// Its pieces, and then the lengths of those of each file read again, from one that does not
     /// exist to the first: `back SIZES`.
     Back,
-    /// The same from the last to the first, with a byte of the last file changed in between:
-    /// `change AT SIZES`.
+    /// Its pieces, and then the lengths of those of each file read again, from the last to the
+    /// first, with a byte of the last file changed in between: `change AT SIZES`.
     Change,
     /// The result for the package cut at each length, from one offset on: `ends FROM SIZES`.
     Ends,

@@ -12,7 +12,7 @@ use Rattle.adb_view.specs.Head.{head_fault, root_of}
 use Rattle.adb_view.specs.Plain.{Plain, plain_of}
 use Rattle.adb_view.specs.Schema.{shape_of}
 use Rattle.adb_view.specs.Values.{value_at}
-use Rattle.std.specs.Option.{option_or}
+use Rattle.base_core.proofs.Causes.{first_none, second_none}
 use Rattle.adb_view.specs.Walk.{shape_fault}
 use Rattle.adb_schema.specs.Texts.{text_fault}
 use Rattle.adb_view.specs.declared.tables.Kind.TheVariants.{Obj}
@@ -25,7 +25,7 @@ use Rattle.pkg_core.proofs.Digests.{texts_give_digests, true_contents, HasFirstV
 use Rattle.pkg_core.specs.Whole.{fault_after_first, files_after_first, files_by_header, files_in_file, package_fault, package_with_contents, whole_fault}
 
 -- the sizes agree, and then the digests
-size_right : (b : Bool) (d : Cause) (o : Option Cause) → (if not b then Some d else o) ≡ None → (b ≡ true) × (o ≡ None)
+pub size_right : (b : Bool) (d : Cause) (o : Option Cause) → (if not b then Some d else o) ≡ None → (b ≡ true) × (o ≡ None)
 size_right true d o h = (refl, h)
 size_right false d o h = (cc)
 
@@ -75,19 +75,11 @@ files_right es (more b at r) h = block_right b.kind b.payload at (λ left. files
 
 -- ---- a whole package
 
-second_none : (o u : Option Cause) → option_or o u ≡ None → u ≡ None
-second_none None u h = h
-second_none (Some c) u h = (cc)
-
-first_none : (o u : Option Cause) → option_or o u ≡ None → o ≡ None
-first_none None u h = refl
-first_none (Some c) u h = h
-
-nothing_expected : expected_contents (root_value Package []) ≡ []
+pub nothing_expected : expected_contents (root_value Package []) ≡ []
 unfolding value_at plain_of shape_of
 nothing_expected = refl
 
-texts_good : (payload : List ℕ) → payload_fault Package payload ≡ None → text_fault Package (root_value Package payload) ≡ None
+pub texts_good : (payload : List ℕ) → payload_fault Package payload ≡ None → text_fault Package (root_value Package payload) ≡ None
 texts_good payload h =
     let shape = second_none (head_fault payload) _ h in
     let texts = second_none (shape_fault payload (shape_of (Obj Package)) (root_of payload)) _ shape in

@@ -1,15 +1,9 @@
 -- The header of a file is that of its first eight bytes.
 use Rattle.std.proofs.Common.{◌≡◌, ℕ, ◌<◌, ◌≤◌, min, Bool, true, false, nat_lt, nat_le, List, length, take, drop, refl, ap, sym, subst, ◌∙◌, arith, lit≤}
-use Rattle.std.proofs.lemmas.List.{take-take, drop-take, length-take}
-use Rattle.std.proofs.lemmas.Grind.{common_steps}
+use Rattle.std.proofs.lemmas.List.{take-take, drop-take, length-take, take_all}
 use Rattle.std.specs.Int.{w32, from_le_bytes}
+use Rattle.std.proofs.lemmas.Bool.{le-ltb}
 use Rattle.adb_block.specs.Header.{header_of, word_at}
-
-all_taken : (n : ℕ) (file : List ℕ) → length file ≤ n → take n file ≡ file
-all_taken n file le = grind (arith, common_steps)
-
-lt_false : (a b : ℕ) → b ≤ a → nat_lt a b ≡ false
-lt_false a b h = grind arith
 
 header_parts : (a b : List ℕ) → nat_lt (length a) 4 ≡ nat_lt (length b) 4 → nat_lt (length a) 8 ≡ nat_lt (length b) 8 → take 4 a ≡ take 4 b → word_at 4 a ≡ word_at 4 b → header_of a ≡ header_of b
 unfolding header_of
@@ -21,8 +15,8 @@ header_long file le =
     let front : take 4 (take 8 file) ≡ take 4 file = take-take 4 8 file (lit≤ tt) in
     let back : take 4 (drop 4 (take 8 file)) ≡ take 4 (drop 4 file) = ap (take 4) (drop-take 4 4 file) ∙ take-take 4 4 (drop 4 file) (lit≤ tt) in
     header_parts (take 8 file) file
-    (lt_false (length (take 8 file)) 4 (omega (arith, n)) ∙ sym (lt_false (length file) 4 (omega (arith, le))))
-    (lt_false (length (take 8 file)) 8 (omega (arith, n)) ∙ sym (lt_false (length file) 8 le))
+    (le-ltb (length (take 8 file)) 4 (omega (arith, n)) ∙ sym (le-ltb (length file) 4 (omega (arith, le))))
+    (le-ltb (length (take 8 file)) 8 (omega (arith, n)) ∙ sym (le-ltb (length file) 8 le))
     front
     (ap (λ (w : List ℕ). from_le_bytes w32 w) back)
 
@@ -38,4 +32,4 @@ header_front file bytes len n long has = by_room (nat_le 8 len) refl
     by_room false e =
         let over : len < 8 = grind arith in
         let all : length file ≤ length bytes = omega arith in
-        ap header_of (sym has ∙ all_taken (length bytes) file all)
+        ap header_of (sym has ∙ take_all (length bytes) file all)

@@ -1,25 +1,12 @@
 -- The files and the folders of a list, one by one.
-use Rattle.std.proofs.Common.{◌≡◌, ℕ, zero, suc, Bool, true, false, if◌then◌else◌, ◌+◌, ◌-◌, ◌<◌, ◌≤◌, List, [], ◌∷◌, ◌++◌, drop, refl, ap, sym, ◌∙◌, subst, arith}
-use Rattle.adb_view.specs.Plain.{Plain, Plains, none, more}
+use Rattle.std.proofs.Common.{◌≡◌, ℕ, Bool, true, false, if◌then◌else◌, ◌+◌, ◌-◌, ◌<◌, ◌≤◌, List, [], ◌∷◌, ◌++◌, drop, refl, ap, sym, ◌∙◌, arith}
+use Rattle.adb_view.specs.Plain.{Plain, Plains}
 use Rattle.adb_view.specs.Values.{nth, count_of, entries_in, entry_in, int_in, text_in}
 use Rattle.adb_schema.specs.Texts.{is_with_contents}
 use Rattle.adb_fields.specs.Repeated.{list_of}
+use Rattle.adb_fields.proofs.Listed.{next_listed, none_listed}
 use Rattle.pkg_core.specs.Contents.{Expected, expected_at, expected_files, expected_folders}
 use Rattle.pkg_core.specs.Opened.{left_from}
-
-pub next_listed : (vs : Plains) (i : ℕ) → i < count_of vs → drop i (list_of vs) ≡ nth vs i ∷ drop (i + 1) (list_of vs)
-next_listed none i h = absurd (omega arith)
-next_listed (more v vs) zero h = refl
-next_listed (more v vs) (suc i) h =
-    let e : suc i + 1 ≡ suc (i + 1) = omega arith in
-    let P : ℕ → Type 0 = λ n. drop i (list_of vs) ≡ nth vs i ∷ drop n (v ∷ list_of vs) in
-    subst P (sym e) (next_listed vs i (omega arith))
-
-pub none_listed : (vs : Plains) (i : ℕ) → count_of vs ≤ i → drop i (list_of vs) ≡ []
-none_listed none zero h = refl
-none_listed none (suc i) h = refl
-none_listed (more v vs) zero h = absurd (omega arith)
-none_listed (more v vs) (suc i) h = none_listed vs i (omega arith)
 
 -- a file more, with contents or without
 file_more : (d i : ℕ) (vs : Plains) → i < count_of vs → expected_files d (i + 1) (drop i (list_of vs)) ≡ expected_at d (i + 1) (nth vs i) ++ expected_files d (i + 1 + 1) (drop (i + 1) (list_of vs))

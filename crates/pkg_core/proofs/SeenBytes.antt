@@ -5,9 +5,11 @@ use Rattle.std.specs.Option.{option_map}
 use Rattle.std.proofs.lemmas.List.{length-append, drop-drop, drop-take, take-take, length-replicate, length-take, length-drop}
 use Rattle.std.proofs.lemmas.Bool.{eqb-true}
 use Rattle.std.proofs.lemmas.Grind.{common_steps}
+use Rattle.std.proofs.Math.Seq.{take-append_seam, drop-append_seam}
 use Rattle.base_core.specs.Calls.{IfObservable}
-use Rattle.base_core.specs.Faults.{Counts, CountsOnlyRise, HasCause, IsNoFault}
+use Rattle.base_core.specs.Faults.{Counts, IsNoFault}
 use Rattle.base_core.specs.Tree.{TreeState, CanRead, files_of}
+use Rattle.base_core.proofs.Counting.{goes_on_twice, no_fault_twice, cause_later}
 use Rattle.pkg_core.specs.Seen.{HasAt, IsSeen, IsSeenIn, IsSoLong, ReadsFile}
 
 -- ---- a file
@@ -29,24 +31,18 @@ has_both file at xs ys h g =
     ∙ (ap (λ (zs : List ℕ). zs ++ take (length ys) (drop (length xs) (drop at file))) h
     ∙ ap (λ (zs : List ℕ). xs ++ zs) (ap (take (length ys)) (drop_further at (length xs) file) ∙ g)))
 
-take_front : (xs ys : List ℕ) → take (length xs) (xs ++ ys) ≡ xs
-take_front xs ys = grind (arith, common_steps)
-
-drop_front : (xs ys : List ℕ) → drop (length xs) (xs ++ ys) ≡ ys
-drop_front xs ys = grind (arith, common_steps)
-
 pub has_front : (file : List ℕ) (at : ℕ) (xs ys : List ℕ) → HasAt file at (xs ++ ys) → HasAt file at xs
 has_front file at xs ys h =
     let n = length-append xs ys in
     sym (take-take (length xs) (length (xs ++ ys)) (drop at file) (omega arith))
-    ∙ (ap (take (length xs)) h ∙ take_front xs ys)
+    ∙ (ap (take (length xs)) h ∙ take-append_seam xs ys)
 
 pub has_rest : (file : List ℕ) (at : ℕ) (xs ys : List ℕ) → HasAt file at (xs ++ ys) → HasAt file (at + length xs) ys
 has_rest file at xs ys h =
     ap (take (length ys)) (sym (drop_further at (length xs) file))
     ∙ (sym (drop-take (length xs) (length ys) (drop at file))
     ∙ (ap (λ (n : ℕ). drop (length xs) (take n (drop at file))) (sym (length-append xs ys))
-    ∙ (ap (drop (length xs)) h ∙ drop_front xs ys)))
+    ∙ (ap (drop (length xs)) h ∙ drop-append_seam xs ys)))
 
 -- ---- under a name of a tree
 
@@ -136,7 +132,7 @@ zeros_behind len seen le =
     omega arith
 
 begins_so : (seen rest : List ℕ) → HasAt (seen ++ rest) 0 seen
-begins_so seen rest = take_front seen rest
+begins_so seen rest = take-append_seam seen rest
 
 -- a file that is so long, and has the bytes that were seen: the one under the name, where the tree
 -- tells it
@@ -163,28 +159,19 @@ proper_both : (history : List TreeState) (name : List ℕ) (len a b c : ℕ) →
 proper_both [] name len a b c h g = h
 proper_both (v ∷ earlier) name len a b c h g = λ long. g long ∙ h long
 
-no_fault_both : (a b c : Counts) → IsNoFault a b → IsNoFault b c → IsNoFault a c
-no_fault_both a b c h g = record { faults = g.faults ∙ h.faults; memory_faults = g.memory_faults ∙ h.memory_faults }
-
-pub goes_on_both : (a b c : Counts) → CountsOnlyRise a b → CountsOnlyRise b c → CountsOnlyRise a c
-goes_on_both a b c h g = grind arith
-
-pub cause_after : (a b c : Counts) → CountsOnlyRise a b → HasCause b c → HasCause a c
-cause_after a b c h g = grind arith
-
 pub others_both : {B F : Type 0} (e : F) (a b c : Counts) (then : Result B F) → IsNoFault a b → IfErr then (λ fault. (fault ≡ e → ⊥) → IsNoFault b c) → IfErr then (λ fault. (fault ≡ e → ⊥) → IsNoFault a c)
 others_both e a b c (Ok value) h g = g
-others_both e a b c (Err fault) h g = λ other. no_fault_both a b c h (g other)
+others_both e a b c (Err fault) h g = λ other. no_fault_twice a b c h (g other)
 
 pub kept_both : {B F : Type 0} (a b c : Counts) (then : Result B F) → IsNoFault a b → OnOk then (IsNoFault b c) → OnOk then (IsNoFault a c)
-kept_both a b c (Ok value) h g = no_fault_both a b c h g
+kept_both a b c (Ok value) h g = no_fault_twice a b c h g
 kept_both a b c (Err fault) h g = g
 
 pub reads_in_a_row : {A B E F : Type 0} (name : List ℕ) (len : ℕ) (d : E) (e : F) (h0 h1 h2 : List TreeState) (a b c : Counts) (value : A) (then : Result B F) → ReadsFile name len d h0 h1 a b (Ok value) → ReadsFile name len e h1 h2 b c then → ReadsFile name len e h0 h2 a c then
 reads_in_a_row name len d e h0 h1 h2 a b c value then first second = record {
   same = second.same ∙ first.same;
-  goes_on = goes_on_both a b c first.goes_on second.goes_on;
-  disk = λ failed. cause_after a b c first.goes_on (second.disk failed);
+  goes_on = goes_on_twice a b c first.goes_on second.goes_on;
+  disk = λ failed. cause_later a b c first.goes_on (second.disk failed);
   kept = kept_both a b c then first.kept second.kept;
   others = others_both e a b c then first.kept second.others;
   proper = proper_both h0 name len a.misuses b.misuses c.misuses first.proper (subst (λ (h : List TreeState). IfObservable h (λ v. IsSoLong name len v → c.misuses ≡ b.misuses)) first.same second.proper);

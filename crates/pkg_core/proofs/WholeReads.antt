@@ -1,20 +1,16 @@
 -- From a file that is so long to the file under the name.
-use Rattle.std.proofs.Common.{◌≡◌, ℕ, List, [], ◌∷◌, length, Option, Some, None, Result, Ok, Err, refl, sym, subst, ◌∙◌}
+use Rattle.std.proofs.Common.{◌≡◌, ℕ, List, length, Option, Some, None, Result, Ok, Err, sym, subst, ◌∙◌}
 use Rattle.std.specs.Prelude.{IsErrAnd}
 use Rattle.std.specs.Option.{option_map}
 use Rattle.base_core.specs.Calls.{IfObservable}
 use Rattle.base_core.specs.Tree.{TreeState, files_of}
+use Rattle.base_core.proofs.Observed.{found_there}
 use Rattle.pkg_core.specs.Front.{IsFrontOf, IsFrontRead, IsPresentRead}
 use Rattle.pkg_core.specs.Seen.{HasAt, IsSeenIn}
 use Rattle.pkg_core.specs.declared.front.Front.{Front}
 use Rattle.pkg_core.specs.declared.front.FrontFault.{FrontFault}
 use Rattle.pkg_core.specs.declared.front.FrontFault.TheVariants.{Bad, Disk, Memory}
 use Rattle.pkg_core.proofs.SeenBytes.{file_with}
-
--- what is found, where the tree tells it
-pub some_found : (h : List TreeState) (name : List ℕ) → (found : Option (List ℕ)) × IfObservable h (λ v. found ≡ files_of v name)
-some_found [] name = (None, tt)
-some_found (v ∷ earlier) name = (files_of v name, refl)
 
 -- a fault that says nothing of the file
 no_bad : (schema : ℕ) (found : Option (List ℕ)) (r : Result (Option Front) FrontFault) → IsErrAnd r (λ fault. fault ≡ Disk) → IsFrontRead schema found r
@@ -26,7 +22,7 @@ no_bad schema (Some file) (Err Disk) is = tt
 no_bad schema (Some file) (Err Memory) is = tt
 
 pub disk_read : (schema : ℕ) (h : List TreeState) (name : List ℕ) (r : Result (Option Front) FrontFault) → IsErrAnd r (λ fault. fault ≡ Disk) → (found : Option (List ℕ)) × IfObservable h (λ v. found ≡ files_of v name) × IsFrontRead schema found r
-disk_read schema h name r is = let (found, told) = some_found h name in (found, told, no_bad schema found r is)
+disk_read schema h name r is = let (found, told) = found_there h name in (found, told, no_bad schema found r is)
 
 err_in : (schema : ℕ) (file : List ℕ) (seen : ℕ) (fault : FrontFault) (r : Result (Option Front) FrontFault) → IsErrAnd r (λ other. other ≡ fault) → IsPresentRead schema (Err fault) seen file → IsFrontRead schema (Some file) r
 err_in schema file seen fault (Ok front) is h = absurd is

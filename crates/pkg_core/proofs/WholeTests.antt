@@ -20,7 +20,7 @@ told_first : (x y : Option Cause) (c : Cause) → x ≡ Some c → option_or (op
 told_first None y c h = (cc)
 told_first (Some d) y c h = h
 
-or_none : (x : Option Cause) → option_or x None ≡ x
+pub or_none : (x : Option Cause) → option_or x None ≡ x
 or_none None = refl
 or_none (Some c) = refl
 

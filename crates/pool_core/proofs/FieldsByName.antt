@@ -2,11 +2,11 @@
 use Rattle.std.proofs.Common.{◌≡◌, ℕ, zero, suc, Bool, true, false, List, [], ◌∷◌, refl, inl, inr}
 use Rattle.std.specs.Prelude.{if◌then◌else◌}
 use Rattle.std.specs.Str.{bytes_eq}
+use Rattle.std.proofs.lemmas.Bool.{cases_Bool}
 use Rattle.adb_view.specs.Plain.{Plains, none, more}
 use Rattle.adb_view.specs.Values.{nth}
 use Rattle.adb_view.specs.declared.tables.Kind.{Kind}
 use Rattle.pool_core.specs.FieldNames.{value_under_name}
-use Rattle.candidate_core.proofs.OptionLists.{bool_cases}
 
 -- whether the place is the first at which the table has the name
 abbrev pub is_place_of : List ℕ → ℕ → List (List ℕ × Kind) → Bool
@@ -19,7 +19,7 @@ by_place name i [] values h = absurd (cc)
 by_place name zero (f ∷ fields) none h = refl
 by_place name (suc i) (f ∷ fields) none h = refl
 by_place name zero (f ∷ fields) (more v values) h = rw h refl
-by_place name (suc i) (f ∷ fields) (more v values) h = elim (bool_cases (bytes_eq f.0 name)) [
+by_place name (suc i) (f ∷ fields) (more v values) h = elim (cases_Bool (bytes_eq f.0 name)) [
   | inl e ↦ let bad : false ≡ true = rw e at h in absurd (cc)
   | inr e ↦ rw e (by_place name i fields values (rw e at h))
 ]

@@ -1,31 +1,23 @@
 -- Those of the offering candidates that pass a stronger test.
 use Rattle.std.proofs.Common.{◌≡◌, inl, inr, ℕ, suc, ◌+◌, Bool, true, false, List, [], ◌∷◌, refl, subst, ap, ◌∙◌, arith}
-use Rattle.std.specs.Prelude.{slice_get, Option, Some, None, ◌&&◌, ◌||◌, not}
+use Rattle.std.specs.Prelude.{slice_get, Option, Some, None, ◌&&◌, not}
 use Rattle.std.specs.Option.{option_map_or}
 use Rattle.std.specs.List.{filter, list_any}
 use Rattle.std.specs.Str.{bytes_eq}
+use Rattle.std.proofs.lemmas.Bool.{cases_Bool}
+use Rattle.base_core.proofs.Booleans.{both_second, both_first, or_weaker}
 use Rattle.dep_core.specs.Dependency.{Dependency}
 use Rattle.dep_core.specs.Meets.{is_wanted}
 use Rattle.candidate_core.specs.Candidates.{Candidate, Need, entry, named, is_eligible, is_met_by_entry, meets_dependency, offers_name, need_name}
 use Rattle.candidate_core.specs.Rank.{SealedPool, is_at, meets_at}
 use Rattle.candidate_core.specs.Options.{may_meet, places_offering, places_from}
-use Rattle.candidate_core.proofs.OptionLists.{bool_cases}
-
-wanted_alone : (p q : Bool) → (p && q) ≡ true → p ≡ true
-wanted_alone true q h = refl
-wanted_alone false q h = h
 
 any_weaker : (p q : Dependency → Bool) (xs : List Dependency) → ((x : Dependency) → p x ≡ true → q x ≡ true) → list_any p xs ≡ true → list_any q xs ≡ true
 any_weaker p q [] to h = h
-any_weaker p q (x ∷ xs) to h = elim (bool_cases (p x)) [
+any_weaker p q (x ∷ xs) to h = elim (cases_Bool (p x)) [
   | inl e ↦ rw (to x e) refl
-  | inr e ↦ elim (bool_cases (q x)) [ inl g ↦ rw g refl | inr g ↦ rw g (any_weaker p q xs to (rw e at h)) ]
+  | inr e ↦ elim (cases_Bool (q x)) [ inl g ↦ rw g refl | inr g ↦ rw g (any_weaker p q xs to (rw e at h)) ]
 ]
-
-or_weaker : (a b c d : Bool) → (a ≡ true → c ≡ true) → (b ≡ true → d ≡ true) → (a || b) ≡ true → (c || d) ≡ true
-or_weaker true b c d f g h = rw (f refl) refl
-or_weaker false b true d f g h = refl
-or_weaker false b false d f g h = g h
 
 and_weaker : (a b c : Bool) → (b ≡ true → c ≡ true) → (a && b) ≡ true → (a && c) ≡ true
 and_weaker true b c f h = f h
@@ -34,22 +26,18 @@ and_weaker false b c f h = h
 pub meeting_offers : (d : Dependency) (c : Candidate) → meets_dependency d c ≡ true → offers_name d.name c ≡ true
 meeting_offers d c h =
     or_weaker _ _ (bytes_eq d.name c.name) (list_any (λ (p : Dependency). not p.conflict && bytes_eq d.name p.name) c.provides)
-    (λ e. wanted_alone (bytes_eq d.name c.name) (is_wanted d.version d.bits c.version) e)
-    (λ e. any_weaker (is_met_by_entry d) (λ (p : Dependency). not p.conflict && bytes_eq d.name p.name) c.provides (λ p g. and_weaker (not p.conflict) _ (bytes_eq d.name p.name) (λ k. wanted_alone (bytes_eq d.name p.name) (is_wanted d.version d.bits p.version) k) g) e) h
+    (λ e. both_first (bytes_eq d.name c.name) (is_wanted d.version d.bits c.version) e)
+    (λ e. any_weaker (is_met_by_entry d) (λ (p : Dependency). not p.conflict && bytes_eq d.name p.name) c.provides (λ p g. and_weaker (not p.conflict) _ (bytes_eq d.name p.name) (λ k. both_first (bytes_eq d.name p.name) (is_wanted d.version d.bits p.version) k) g) e) h
 
-last_true : (p q : Bool) → (p && q) ≡ true → q ≡ true
-last_true true q h = h
-last_true false q h = absurd (cc)
-
-filter_places : (weak strong : Candidate → Bool) (all : ℕ → Option Candidate) (n : ℕ) (cs : List Candidate) → ((c : Candidate) → strong c ≡ true → weak c ≡ true) → ((k : ℕ) → all (n + k) ≡ slice_get cs k) → filter (λ k. option_map_or strong (all k) false) (places_from n weak cs) ≡ places_from n strong cs
+pub filter_places : (weak strong : Candidate → Bool) (all : ℕ → Option Candidate) (n : ℕ) (cs : List Candidate) → ((c : Candidate) → strong c ≡ true → weak c ≡ true) → ((k : ℕ) → all (n + k) ≡ slice_get cs k) → filter (λ k. option_map_or strong (all k) false) (places_from n weak cs) ≡ places_from n strong cs
 filter_places weak strong all n [] to there = refl
 filter_places weak strong all n (c ∷ cs) to there =
     let z : n + 0 ≡ n = omega arith in
     let here : all n ≡ Some c = subst (λ (k : ℕ). all k ≡ Some c) z (there 0) in
     let rest = filter_places weak strong all (suc n) cs to (λ k. let e : n + suc k ≡ suc n + k = omega arith in subst (λ (j : ℕ). all j ≡ slice_get cs k) e (there (suc k))) in
-    elim (bool_cases (strong c)) [
+    elim (cases_Bool (strong c)) [
       | inl s ↦ rw (s, to c s) (let is : option_map_or strong (all n) false ≡ true = ap (λ (o : Option Candidate). option_map_or strong o false) here ∙ s in rw is (ap (λ (z : List ℕ). n ∷ z) rest))
-      | inr s ↦ elim (bool_cases (weak c)) [
+      | inr s ↦ elim (cases_Bool (weak c)) [
         | inl w ↦ rw (s, w) (let is : option_map_or strong (all n) false ≡ false = ap (λ (o : Option Candidate). option_map_or strong o false) here ∙ s in rw is rest)
         | inr w ↦ rw (s, w) rest
       ]
@@ -58,18 +46,18 @@ filter_places weak strong all n (c ∷ cs) to there =
 entry_places : (pool : SealedPool) (d : Dependency) → filter (λ k. is_at pool (may_meet pool (entry d)) k) (places_offering d.name pool.candidates) ≡ places_from 0 (may_meet pool (entry d)) pool.candidates
 entry_places pool d =
     filter_places (offers_name d.name) (may_meet pool (entry d)) (λ k. slice_get pool.candidates k) 0 pool.candidates
-    (λ c h. meeting_offers d c (last_true (is_eligible pool.world c) (meets_dependency d c) h)) (λ k. ap (slice_get pool.candidates) (omega arith))
+    (λ c h. meeting_offers d c (both_second (is_eligible pool.world c) (meets_dependency d c) h)) (λ k. ap (slice_get pool.candidates) (omega arith))
 
 named_places : (pool : SealedPool) (name : List ℕ) → filter (λ k. is_at pool (may_meet pool (named name)) k) (places_offering name pool.candidates) ≡ places_from 0 (may_meet pool (named name)) pool.candidates
 named_places pool name =
     filter_places (offers_name name) (may_meet pool (named name)) (λ k. slice_get pool.candidates k) 0 pool.candidates
-    (λ c h. rw (last_true (is_eligible pool.world c) (bytes_eq name c.name) h) refl) (λ k. ap (slice_get pool.candidates) (omega arith))
+    (λ c h. rw (both_second (is_eligible pool.world c) (bytes_eq name c.name) h) refl) (λ k. ap (slice_get pool.candidates) (omega arith))
 
 pub fitting_places : (pool : SealedPool) (need : Need) → filter (λ k. is_at pool (may_meet pool need) k) (places_offering (need_name need) pool.candidates) ≡ places_from 0 (may_meet pool need) pool.candidates
 fitting_places pool (entry d) = entry_places pool d
 fitting_places pool (named name) = named_places pool name
 
-at_weaker : (p q : Candidate → Bool) (o : Option Candidate) → ((c : Candidate) → p c ≡ true → q c ≡ true) → option_map_or p o false ≡ true → option_map_or q o false ≡ true
+pub at_weaker : (p q : Candidate → Bool) (o : Option Candidate) → ((c : Candidate) → p c ≡ true → q c ≡ true) → option_map_or p o false ≡ true → option_map_or q o false ≡ true
 at_weaker p q None to h = absurd (cc)
 at_weaker p q (Some c) to h = to c h
 

@@ -6,6 +6,8 @@ use Rattle.std.specs.Cmp.Lexicographic.{bytes_decides}
 use Rattle.std.specs.List.{list_any}
 use Rattle.std.specs.Str.{bytes_eq}
 use Rattle.std.proofs.Math.ListN.{set}
+use Rattle.std.proofs.Math.Bool.{or-true, or-false, or_assoc}
+use Rattle.std.proofs.lemmas.Bool.{cases_Bool}
 use Rattle.dep_core.specs.Dependency.{Dependency}
 use Rattle.pool_core.specs.declared.marks.Effect.{Effect}
 use Rattle.pool_core.specs.declared.marks.Effect.TheVariants.{Bar, Pin}
@@ -14,20 +16,7 @@ use Rattle.pool_core.specs.Marks.{affects, is_affected, mark_at, marks_with}
 use Rattle.candidate_core.specs.Options.{places_from}
 use Rattle.candidate_core.specs.Rank.{is_pinned, is_pinned_to}
 use Rattle.pool_core.proofs.Filtered.{meeting_offers}
-use Rattle.candidate_core.proofs.OptionLists.{bool_cases}
 use Rattle.candidate_core.proofs.Steps.{any_snoc}
-
-or_false : (m : Bool) → (m || false) ≡ m
-or_false true = refl
-or_false false = refl
-
-or_true : (m : Bool) → (m || true) ≡ true
-or_true true = refl
-or_true false = refl
-
-or_or : (a b c : Bool) → ((a || b) || c) ≡ (a || (b || c))
-or_or true b c = refl
-or_or false b c = refl
 
 pub length-marks_with : (test : Candidate → Bool) (ms : List Bool) (cs : List Candidate) → length (marks_with test ms cs) ≡ length ms
 length-marks_with test [] cs = refl
@@ -49,7 +38,7 @@ mark_at-passed test k (m ∷ ms) [] c h e l = absurd (omega (arith, l))
 mark_at-passed test zero (m ∷ ms) (d ∷ cs) c h e l =
     let s : c ≡ d = cc in
     let is : test d ≡ true = subst (λ (z : Candidate). test z ≡ true) s e in
-    ap (λ (b : Bool). b ∷ ms) (ap (λ (b : Bool). m || b) is ∙ or_true m)
+    ap (λ (b : Bool). b ∷ ms) (ap (λ (b : Bool). m || b) is ∙ or-true m)
 mark_at-passed test (suc k) (m ∷ ms) (d ∷ cs) c h e l = ap (λ (z : List Bool). m ∷ z) (mark_at-passed test k ms cs c h e (omega (arith, l)))
 
 pub mark_at-failed : (test : Candidate → Bool) (k : ℕ) (ms : List Bool) (cs : List Candidate) (c : Candidate) → slice_get cs k ≡ Some c → test c ≡ false → mark_at test k ms cs ≡ ms
@@ -58,7 +47,7 @@ mark_at-failed test k (m ∷ ms) [] c h e = refl
 mark_at-failed test zero (m ∷ ms) (d ∷ cs) c h e =
     let s : c ≡ d = cc in
     let is : test d ≡ false = subst (λ (z : Candidate). test z ≡ false) s e in
-    ap (λ (b : Bool). b ∷ ms) (ap (λ (b : Bool). m || b) is ∙ or_false m)
+    ap (λ (b : Bool). b ∷ ms) (ap (λ (b : Bool). m || b) is ∙ or-false m)
 mark_at-failed test (suc k) (m ∷ ms) (d ∷ cs) c h e = ap (λ (z : List Bool). m ∷ z) (mark_at-failed test k ms cs c h e)
 
 -- ---- some places
@@ -77,7 +66,7 @@ length-marks_among test (k ∷ ks) ms cs = length-marks_among test ks (mark_at t
 
 later_places : (n : ℕ) (test : Candidate → Bool) (cs : List Candidate) → places_from (suc n) test cs ≡ map suc (places_from n test cs)
 later_places n test [] = refl
-later_places n test (c ∷ cs) = elim (bool_cases (test c)) [
+later_places n test (c ∷ cs) = elim (cases_Bool (test c)) [
   | inl e ↦ rw e (ap (λ (z : List ℕ). suc n ∷ z) (later_places (suc n) test cs))
   | inr e ↦ rw e (later_places (suc n) test cs)
 ]
@@ -95,29 +84,29 @@ marks_at_places weak test out (m ∷ ms) (c ∷ cs) h =
     let rest : marks_among test (places_from 0 weak cs) ms cs ≡ marks_with test ms cs = marks_at_places weak test out ms cs (omega (arith, h)) in
     let behind : (b : Bool) → marks_among test (places_from 1 weak cs) (b ∷ ms) (c ∷ cs) ≡ b ∷ marks_with test ms cs =
     λ b. ap (λ (ks : List ℕ). marks_among test ks (b ∷ ms) (c ∷ cs)) (later_places 0 weak cs) ∙ (later_marks test (places_from 0 weak cs) b ms c cs ∙ ap (λ (z : List Bool). b ∷ z) rest) in
-    elim (bool_cases (weak c)) [
+    elim (cases_Bool (weak c)) [
       | inl e ↦ rw e (behind (m || test c))
-      | inr e ↦ rw e (behind m ∙ ap (λ (b : Bool). b ∷ marks_with test ms cs) (sym (ap (λ (b : Bool). m || b) (out c e) ∙ or_false m)))
+      | inr e ↦ rw e (behind m ∙ ap (λ (b : Bool). b ∷ marks_with test ms cs) (sym (ap (λ (b : Bool). m || b) (out c e) ∙ or-false m)))
     ]
 
 -- ---- what an entry affects offers its name
 
 pinned_offers : (name : List ℕ) (d : Dependency) (o : Option (List ℕ)) → option_map_or (λ tag. bytes_eq name d.name && option_map_or (bytes_eq tag) d.tag false) o false ≡ true → bytes_eq d.name name ≡ true
 pinned_offers name d None h = absurd (cc)
-pinned_offers name d (Some tag) h = elim (bool_cases (bytes_eq name d.name)) [
+pinned_offers name d (Some tag) h = elim (cases_Bool (bytes_eq name d.name)) [
   | inl e ↦ (bytes_decides d.name name).1 (sym ((bytes_decides name d.name).0 e))
   | inr e ↦ let bad : false ≡ true = rw e at h in absurd (cc)
 ]
 
 affected_offers : (effect : Effect) (d : Dependency) (c : Candidate) → affects effect d c ≡ true → offers_name d.name c ≡ true
-affected_offers Bar d c h = elim (bool_cases d.conflict) [
+affected_offers Bar d c h = elim (cases_Bool d.conflict) [
   | inl e ↦ meeting_offers d c (rw e at h)
   | inr e ↦ let bad : false ≡ true = rw e at h in absurd (cc)
 ]
 affected_offers Pin d c h = rw (pinned_offers c.name d c.tag h) refl
 
 not_affected : (effect : Effect) (d : Dependency) (c : Candidate) → offers_name d.name c ≡ false → affects effect d c ≡ false
-not_affected effect d c h = elim (bool_cases (affects effect d c)) [
+not_affected effect d c h = elim (cases_Bool (affects effect d c)) [
   | inl e ↦ let bad : true ≡ false = sym (affected_offers effect d c e) ∙ h in absurd (cc)
   | inr e ↦ e
 ]
@@ -130,14 +119,14 @@ marks_at_offers effect d ms cs h = marks_at_places (offers_name d.name) (affects
 pub no_entry : (effect : Effect) (ms : List Bool) (cs : List Candidate) → marks_with (is_affected effect []) ms cs ≡ ms
 no_entry effect [] cs = refl
 no_entry effect (m ∷ ms) [] = refl
-no_entry effect (m ∷ ms) (c ∷ cs) = ap (λ (b : Bool). b ∷ marks_with (is_affected effect []) ms cs) (or_false m) ∙ ap (λ (z : List Bool). m ∷ z) (no_entry effect ms cs)
+no_entry effect (m ∷ ms) (c ∷ cs) = ap (λ (b : Bool). b ∷ marks_with (is_affected effect []) ms cs) (or-false m) ∙ ap (λ (z : List Bool). m ∷ z) (no_entry effect ms cs)
 
 pub one_entry_more : (effect : Effect) (ds : List Dependency) (d : Dependency) (ms : List Bool) (cs : List Candidate) → marks_with (affects effect d) (marks_with (is_affected effect ds) ms cs) cs ≡ marks_with (is_affected effect (ds ++ d ∷ [])) ms cs
 one_entry_more effect ds d [] cs = refl
 one_entry_more effect ds d (m ∷ ms) [] = refl
 one_entry_more effect ds d (m ∷ ms) (c ∷ cs) =
     let here : ((m || is_affected effect ds c) || affects effect d c) ≡ (m || is_affected effect (ds ++ d ∷ []) c) =
-    or_or m (is_affected effect ds c) (affects effect d c) ∙ ap (λ (b : Bool). m || b) (sym (any_snoc (λ (e : Dependency). affects effect e c) ds d)) in
+    or_assoc m (is_affected effect ds c) (affects effect d c) ∙ ap (λ (b : Bool). m || b) (sym (any_snoc (λ (e : Dependency). affects effect e c) ds d)) in
     ap (λ (b : Bool). b ∷ marks_with (affects effect d) (marks_with (is_affected effect ds) ms cs) cs) here
     ∙ ap (λ (z : List Bool). (m || is_affected effect (ds ++ d ∷ []) c) ∷ z) (one_entry_more effect ds d ms cs)
 

@@ -4,37 +4,34 @@ use Rattle.std.specs.Prelude.{Option, Some, None, slice_get, if◌then◌else◌
 use Rattle.std.specs.Cmp.Lexicographic.{bytes_decides}
 use Rattle.std.specs.List.{list_any, starts_with}
 use Rattle.std.specs.Str.{bytes_eq}
+use Rattle.std.proofs.Math.Bool.{or-true, and-false}
+use Rattle.std.proofs.lemmas.Bool.{cases_Bool}
+use Rattle.base_core.proofs.Booleans.{both_second, both_first}
 use Rattle.candidate_core.specs.Candidates.{Candidate, as_installed, as_installed_where_same, is_same_id, is_same_package, is_same_version, with_installed}
-use Rattle.candidate_core.proofs.Installed.{and_first, and_last}
-use Rattle.candidate_core.proofs.OptionLists.{bool_cases}
 
-same_version : (a b : Option (List ℕ)) → is_same_version a b ≡ true → a ≡ b
+pub same_version : (a b : Option (List ℕ)) → is_same_version a b ≡ true → a ≡ b
 same_version None None h = refl
 same_version None (Some b) h = absurd (cc)
 same_version (Some a) None h = absurd (cc)
 same_version (Some a) (Some b) h = ap (λ (z : List ℕ). Some z) ((bytes_decides a b).0 h)
 
 pub same_name : (installed c : Candidate) → is_same_package installed c ≡ true → c.name ≡ installed.name
-same_name installed c h = (bytes_decides c.name installed.name).0 (and_first (bytes_eq c.name installed.name) _ (and_last (is_some c.repository) _ h))
+same_name installed c h = (bytes_decides c.name installed.name).0 (both_first (bytes_eq c.name installed.name) _ (both_second (is_some c.repository) _ h))
 
 both_last : (installed c : Candidate) → is_same_package installed c ≡ true → (is_same_version c.version installed.version && is_same_id c.id installed.id) ≡ true
-both_last installed c h = and_last (bytes_eq c.name installed.name) _ (and_last (is_some c.repository) _ h)
+both_last installed c h = both_second (bytes_eq c.name installed.name) _ (both_second (is_some c.repository) _ h)
 
 pub same_text : (installed c : Candidate) → is_same_package installed c ≡ true → c.version ≡ installed.version
-same_text installed c h = same_version c.version installed.version (and_first (is_same_version c.version installed.version) _ (both_last installed c h))
+same_text installed c h = same_version c.version installed.version (both_first (is_same_version c.version installed.version) _ (both_last installed c h))
 
 pub same_id : (installed c : Candidate) → is_same_package installed c ≡ true → is_same_id c.id installed.id ≡ true
-same_id installed c h = and_last (is_same_version c.version installed.version) _ (both_last installed c h)
-
-and_false : (p : Bool) → (p && false) ≡ false
-and_false true = refl
-and_false false = refl
+same_id installed c h = both_second (is_same_version c.version installed.version) _ (both_last installed c h)
 
 no_id : (a : List ℕ) → is_same_id a [] ≡ false
-no_id a = and_false (nat_lt 0 (length a))
+no_id a = and-false (nat_lt 0 (length a))
 
 pub never_without_id : (installed c : Candidate) → installed.id ≡ [] → is_same_package installed c ≡ false
-never_without_id installed c none = elim (bool_cases (is_same_package installed c)) [
+never_without_id installed c none = elim (cases_Bool (is_same_package installed c)) [
   | inl e ↦ let bad : true ≡ false = sym (same_id installed c e) ∙ (ap (is_same_id c.id) none ∙ no_id c.id) in absurd (cc)
   | inr e ↦ e
 ]
@@ -61,15 +58,11 @@ front_is_front : (a rest : List ℕ) → starts_with nat_eq (a ++ rest) a ≡ tr
 front_is_front [] rest = grind arith
 front_is_front (x ∷ a) rest = rw (eq_itself x) (front_is_front a rest)
 
-or_true : (p : Bool) → (p || true) ≡ true
-or_true true = refl
-or_true false = refl
-
 nonempty : (x : ℕ) (xs : List ℕ) → nat_lt 0 (length (x ∷ xs)) ≡ true
 nonempty x xs = grind arith
 
 same_by : (a b : List ℕ) → nat_lt 0 (length a) ≡ true → nat_lt 0 (length b) ≡ true → starts_with nat_eq b a ≡ true → is_same_id a b ≡ true
-same_by a b la lb s = rw (la, lb, s) (or_true (starts_with nat_eq a b))
+same_by a b la lb s = rw (la, lb, s) (or-true (starts_with nat_eq a b))
 
 pub front_is_same : (id rest : List ℕ) → 0 < length id → is_same_id id (id ++ rest) ≡ true
 front_is_same [] rest h = absurd (omega arith)
@@ -96,17 +89,17 @@ none_same_at installed c zero [] h e = absurd (cc)
 none_same_at installed c (suc k) [] h e = absurd (cc)
 none_same_at installed c zero (d ∷ cs) h e =
     let s : d ≡ c = cc in
-    elim (bool_cases (is_same_package installed d)) [
+    elim (cases_Bool (is_same_package installed d)) [
       | inl t ↦ let bad : true ≡ false = rw t at e in absurd (cc)
       | inr f ↦ subst (λ (z : Candidate). is_same_package installed z ≡ false) s f
     ]
-none_same_at installed c (suc k) (d ∷ cs) h e = elim (bool_cases (is_same_package installed d)) [
+none_same_at installed c (suc k) (d ∷ cs) h e = elim (cases_Bool (is_same_package installed d)) [
   | inl t ↦ let bad : true ≡ false = rw t at e in absurd (cc)
   | inr f ↦ none_same_at installed c k cs h (rw f at e)
 ]
 
 pub kept : (cs : List Candidate) (installed c : Candidate) (k : ℕ) → slice_get cs k ≡ Some c → slice_get (with_installed cs installed) k ≡ Some (if is_same_package installed c then as_installed c else c)
-kept cs installed c k h = elim (bool_cases (list_any (is_same_package installed) cs)) [
+kept cs installed c k h = elim (cases_Bool (list_any (is_same_package installed) cs)) [
   | inl some ↦ rw some (kept_or_marked installed c k cs h)
   | inr none ↦ rw (none, none_same_at installed c k cs h none) (kept_in_front c k cs (installed ∷ []) h)
 ]

@@ -4,6 +4,8 @@ use Rattle.std.specs.Prelude.{Option, Some, None, is_some, ◌&&◌, ◌||◌, n
 use Rattle.std.specs.Option.{option_map_or}
 use Rattle.std.specs.List.{filter, list_any}
 use Rattle.std.specs.Str.{bytes_eq}
+use Rattle.std.proofs.lemmas.Bool.{cases_Bool}
+use Rattle.base_core.proofs.Booleans.{both_second, both_first}
 use Rattle.dep_core.specs.Dependency.{Dependency}
 use Rattle.pool_core.specs.declared.world_marks.EntryKind.TheVariants.{Conflict, Tagged}
 use Rattle.candidate_core.specs.Candidates.{Candidate, has_usable_install_if, is_allowed, is_eligible, is_barred_by, meets_dependency, uses_tag}
@@ -11,13 +13,12 @@ use Rattle.candidate_core.specs.Options.{places_from}
 use Rattle.candidate_core.specs.Rank.{is_pinned, is_pinned_to}
 use Rattle.candidate_core.specs.PositiveInstallIfs.{has_positive_install_if, places_marked}
 use Rattle.pool_core.specs.World.{entries_of_kind, is_entry_of_kind}
-use Rattle.candidate_core.proofs.OptionLists.{bool_cases}
 
 any_filter : {X : Type 0} (p q : X → Bool) (xs : List X) → ((x : X) → p x ≡ true → q x ≡ true) → list_any p (filter q xs) ≡ list_any p xs
 any_filter p q [] to = refl
-any_filter p q (x ∷ xs) to = elim (bool_cases (q x)) [
+any_filter p q (x ∷ xs) to = elim (cases_Bool (q x)) [
   | inl e ↦ rw e (ap (λ (b : Bool). p x || b) (any_filter p q xs to))
-  | inr e ↦ elim (bool_cases (p x)) [
+  | inr e ↦ elim (cases_Bool (p x)) [
     | inl g ↦ let bad : true ≡ false = sym (to x g) ∙ e in absurd (cc)
     | inr g ↦ rw (e, g) (any_filter p q xs to)
   ]
@@ -27,21 +28,13 @@ tag_there : (tag : List ℕ) (o : Option (List ℕ)) → option_map_or (bytes_eq
 tag_there tag None h = absurd (cc)
 tag_there tag (Some t) h = refl
 
-both_last : (a b : Bool) → (a && b) ≡ true → b ≡ true
-both_last true b h = h
-both_last false b h = absurd (cc)
-
-both_first : (a b : Bool) → (a && b) ≡ true → a ≡ true
-both_first true b h = refl
-both_first false b h = h
-
 uses_tag-tagged : (world : List Dependency) (tag : List ℕ) → uses_tag (entries_of_kind Tagged world) tag ≡ uses_tag world tag
 uses_tag-tagged world tag = any_filter (λ (d : Dependency). option_map_or (bytes_eq tag) d.tag false) (is_entry_of_kind Tagged) world (λ d h. tag_there tag d.tag h)
 
 pinned_to-tagged : (world : List Dependency) (name tag : List ℕ) → is_pinned_to (entries_of_kind Tagged world) name tag ≡ is_pinned_to world name tag
 pinned_to-tagged world name tag =
     any_filter (λ (d : Dependency). bytes_eq name d.name && option_map_or (bytes_eq tag) d.tag false) (is_entry_of_kind Tagged) world
-    (λ d h. tag_there tag d.tag (both_last (bytes_eq name d.name) (option_map_or (bytes_eq tag) d.tag false) h))
+    (λ d h. tag_there tag d.tag (both_second (bytes_eq name d.name) (option_map_or (bytes_eq tag) d.tag false) h))
 
 barred-conflicts : (world : List Dependency) (c : Candidate) → is_barred_by (entries_of_kind Conflict world) c ≡ is_barred_by world c
 barred-conflicts world c =
@@ -78,7 +71,7 @@ pinned_marked world tagged marks cs t is =
 
 marked_places : (world : List Dependency) (n : ℕ) (cs : List Candidate) → places_marked n (map (is_eligible world) cs) cs ≡ places_from n (has_usable_install_if world) cs
 marked_places world n [] = refl
-marked_places world n (c ∷ cs) = elim (bool_cases (is_eligible world c && has_positive_install_if c)) [
+marked_places world n (c ∷ cs) = elim (cases_Bool (is_eligible world c && has_positive_install_if c)) [
   | inl e ↦ rw e (ap (λ (z : List ℕ). n ∷ z) (marked_places world (suc n) cs))
   | inr e ↦ rw e (marked_places world (suc n) cs)
 ]

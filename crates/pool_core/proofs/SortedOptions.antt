@@ -4,11 +4,11 @@ use Rattle.std.specs.Prelude.{not, ◌&&◌}
 use Rattle.std.specs.List.{filter}
 use Rattle.std.specs.List.Sorted.{IsPermutation, IsSortedBy, ties}
 use Rattle.std.specs.Cmp.{IsStrictWeakOrder}
-use Rattle.std.proofs.lemmas.Bool.{cases_eq}
+use Rattle.std.proofs.lemmas.Bool.{cases_eq, cases_Bool}
 use Rattle.std.proofs.lemmas.List.Sorted.{IsPermutation-sym, sorted_far}
 use Rattle.candidate_core.specs.Options.{AreDistinct, IsIn, IsBestFirst, rank_order_of}
 use Rattle.option_ranks.proofs.MovedMembers.{moved_filter, moved_member}
-use Rattle.candidate_core.proofs.OptionLists.{bool_cases, ranked_in, in_ranked}
+use Rattle.candidate_core.proofs.OptionLists.{ranked_in, in_ranked}
 
 module _ (better : ℕ → ℕ → Bool) (weak : IsStrictWeakOrder better) (chain : (a b c : ℕ) → better a b ≡ true → better b c ≡ true → better a c ≡ true) (one_of : (a b : ℕ) → (a ≡ b → ⊥) → (better a b ≡ true) ⊎ (better b a ≡ true)) where
   no_true : false ≡ true → ⊥
@@ -18,7 +18,7 @@ module _ (better : ℕ → ℕ → Bool) (weak : IsStrictWeakOrder better) (chai
   asym a b h g = no_true (sym (weak.one_way a b h) ∙ g)
 
   not_self : (a : ℕ) → better a a ≡ false
-  not_self a = elim (bool_cases (better a a)) [ inl e ↦ absurd (asym a a e e) | inr e ↦ e ]
+  not_self a = elim (cases_Bool (better a a)) [ inl e ↦ absurd (asym a a e e) | inr e ↦ e ]
 
   ties_self : (a : ℕ) → ties better a a ≡ true
   ties_self a = rw (not_self a) refl
@@ -26,7 +26,7 @@ module _ (better : ℕ → ℕ → Bool) (weak : IsStrictWeakOrder better) (chai
   filter_pos : (a : ℕ) (p : ℕ → Bool) (xs : List ℕ) → IsIn a xs → p a ≡ true → 1 ≤ length (filter p xs)
   filter_pos a p [] h e = absurd h
   filter_pos a p (x ∷ xs) (inl q) e = rw (subst (λ (z : ℕ). p z ≡ true) q e) (omega arith)
-  filter_pos a p (x ∷ xs) (inr h) e = elim (bool_cases (p x)) [ inl t ↦ rw t (omega arith) | inr t ↦ rw t (filter_pos a p xs h e) ]
+  filter_pos a p (x ∷ xs) (inr h) e = elim (cases_Bool (p x)) [ inl t ↦ rw t (omega arith) | inr t ↦ rw t (filter_pos a p xs h e) ]
 
   tie_same : (a b : ℕ) → ties better a b ≡ true → a ≡ b
   tie_same a b h = elim (told a b) [
@@ -46,14 +46,14 @@ module _ (better : ℕ → ℕ → Bool) (weak : IsStrictWeakOrder better) (chai
 
   once : (a : ℕ) (xs : List ℕ) → AreDistinct xs → length (filter (ties better a) xs) ≤ 1
   once a [] r = omega arith
-  once a (x ∷ xs) r = elim (bool_cases (ties better a x)) [
+  once a (x ∷ xs) r = elim (cases_Bool (ties better a x)) [
     | inl e ↦ rw e (let n = none_left a xs (λ h. r.0 (subst (λ (z : ℕ). IsIn z xs) (tie_same a x e) h)) in omega arith)
     | inr e ↦ rw e (once a xs r.1)
   ]
     where
       none_left : (a : ℕ) (ys : List ℕ) → (IsIn a ys → ⊥) → length (filter (ties better a) ys) ≡ 0
       none_left a [] out = refl
-      none_left a (y ∷ ys) out = elim (bool_cases (ties better a y)) [
+      none_left a (y ∷ ys) out = elim (cases_Bool (ties better a y)) [
         | inl e ↦ absurd (out (inl (tie_same a y e)))
         | inr e ↦ rw e (none_left a ys (λ h. out (inr h)))
       ]
@@ -62,7 +62,7 @@ module _ (better : ℕ → ℕ → Bool) (weak : IsStrictWeakOrder better) (chai
   apart_of [] few = tt
   apart_of (y ∷ ys) few = (
     (λ h. let one : length (filter (ties better y) (y ∷ ys)) ≤ 1 = few y in let two : suc (length (filter (ties better y) ys)) ≤ 1 = rw (ties_self y) at one in let pos = filter_pos y (ties better y) ys h (ties_self y) in absurd (omega arith)),
-    apart_of ys (λ a. elim (bool_cases (ties better a y)) [
+    apart_of ys (λ a. elim (cases_Bool (ties better a y)) [
       | inl e ↦ let one : suc (length (filter (ties better a) ys)) ≤ 1 = rw e at (few a) in omega arith
       | inr e ↦ rw e at (few a)
     ]),

@@ -3,9 +3,10 @@ use Rattle.std.proofs.Common.{◌≡◌, ◌⊎◌, ◌↔◌, inl, inr, ℕ, su
 use Rattle.std.specs.Prelude.{is_some, not, ◌==◌, ◌||◌}
 use Rattle.std.specs.List.{list_any}
 use Rattle.std.proofs.lemmas.Bool.Decides.{Decides-eqb}
+use Rattle.std.proofs.lemmas.Bool.{or_right, and_parts, or_cases, or_left, cases_Bool}
+use Rattle.base_core.proofs.Booleans.{implied, implies}
 use Rattle.candidate_core.specs.Candidates.{Candidate}
 use Rattle.candidate_core.specs.Options.{IsIn}
-use Rattle.candidate_core.proofs.OptionLists.{bool_cases}
 use Rattle.command_core.specs.declared.operands.Operand.{Operand}
 use Rattle.dep_core.specs.Dependency.{Dependency}
 use Rattle.star_patterns.specs.Fills.{IsFilledTo}
@@ -14,35 +15,16 @@ use Rattle.query_core.specs.Asked.{IsNameOf, IsNameAsked, IsPartAsked, ProvidesN
 use Rattle.query_core.specs.List.{is_list_candidate, is_name_matched}
 use Rattle.query_core.specs.Search.{candidate_names, is_name_found, is_search_candidate, provided_names}
 use Rattle.query_core.proofs.Parts.{found_in_part, part_found}
-use Rattle.query_core.proofs.Runs.{both_true, is_in_at, passes_at}
+use Rattle.query_core.proofs.Runs.{is_in_at, passes_at}
 
 pub any_in : {X : Type 0} (p : X → Bool) (xs : List X) (x : X) → IsIn x xs → p x ≡ true → list_any p xs ≡ true
 any_in p [] x h e = absurd h
 any_in {X} p (y ∷ xs) x (inl s) e = rw (subst (λ (z : X). p z ≡ true) s e) refl
-any_in p (y ∷ xs) x (inr h) e = elim (bool_cases (p y)) [ inl t ↦ rw t refl | inr t ↦ rw t (any_in p xs x h e) ]
-
-either : (a b : Bool) → (a || b) ≡ true → (a ≡ true) ⊎ (b ≡ true)
-either true b h = inl refl
-either false b h = inr h
-
-or_left : (a b : Bool) → a ≡ true → (a || b) ≡ true
-or_left a b h = rw h refl
-
-or_right : (a b : Bool) → b ≡ true → (a || b) ≡ true
-or_right true b h = refl
-or_right false b h = h
+any_in p (y ∷ xs) x (inr h) e = elim (cases_Bool (p y)) [ inl t ↦ rw t refl | inr t ↦ rw t (any_in p xs x h e) ]
 
 empty : (patterns : List Operand) → (length patterns == 0) ≡ true → patterns ≡ []
 empty [] h = refl
 empty (o ∷ patterns) h = let bad : suc (length patterns) ≡ 0 = (Decides-eqb (suc (length patterns)) 0).0 h in absurd (omega (arith, bad))
-
-implied : (a b : Bool) → (not a || b) ≡ true → a ≡ true → b ≡ true
-implied true b h e = h
-implied false b h e = absurd (cc)
-
-implies : (a b : Bool) → (a ≡ true → b ≡ true) → (not a || b) ≡ true
-implies true b h = h refl
-implies false b h = refl
 
 module _ (law : (pattern text : List ℕ) → (is_matched pattern text ≡ true) ↔ IsFilledTo pattern text) where
   name_asked : (patterns : List Operand) (name : List ℕ) → is_name_matched patterns name ≡ true → IsNameAsked patterns name
@@ -75,8 +57,8 @@ module _ (law : (pattern text : List ℕ) → (is_matched pattern text ≡ true)
   pub listed_if_asked : (patterns : List Operand) (installed_only : Bool) (c : Candidate) → (is_list_candidate patterns installed_only c ≡ true) ↔ (((patterns ≡ []) ⊎ IsNameAsked patterns c.name) × (installed_only ≡ true → c.installed ≡ true))
   listed_if_asked patterns installed_only c = (
     (λ h.
-        let both = both_true (length patterns == 0 || is_name_matched patterns c.name) (not installed_only || c.installed) h in (
-          (elim (either (length patterns == 0) (is_name_matched patterns c.name) both.0) [ inl e ↦ inl (empty patterns e) | inr e ↦ inr (name_asked patterns c.name e) ]),
+        let both = and_parts (length patterns == 0 || is_name_matched patterns c.name) (not installed_only || c.installed) h in (
+          (elim (or_cases (length patterns == 0) (is_name_matched patterns c.name) both.0) [ inl e ↦ inl (empty patterns e) | inr e ↦ inr (name_asked patterns c.name e) ]),
           implied installed_only c.installed both.1,
         )),
     (λ h.
@@ -103,7 +85,7 @@ module _ (law : (pattern text : List ℕ) → (is_matched pattern text ≡ true)
   in_provided : (ps : List Dependency) (p : Dependency) → IsIn p ps → p.conflict ≡ false → IsIn p.name (provided_names ps)
   in_provided [] p h e = absurd h
   in_provided (q ∷ ps) p (inl is) e = rw (subst (λ (r : Dependency). r.conflict ≡ false) is e) (inl (ap (λ (r : Dependency). r.name) is))
-  in_provided (q ∷ ps) p (inr m) e = elim (bool_cases (q.conflict)) [ inl t ↦ rw t (in_provided ps p m e) | inr t ↦ rw t (inr (in_provided ps p m e)) ]
+  in_provided (q ∷ ps) p (inr m) e = elim (cases_Bool (q.conflict)) [ inl t ↦ rw t (in_provided ps p m e) | inr t ↦ rw t (inr (in_provided ps p m e)) ]
 
   has_name : (c : Candidate) (name : List ℕ) → IsIn name (candidate_names c) → IsNameOf c name
   has_name c name (inl is) = inl (sym is)
@@ -116,7 +98,7 @@ module _ (law : (pattern text : List ℕ) → (is_matched pattern text ≡ true)
   pub searched_if_asked : (patterns : List Operand) (c : Candidate) → (is_search_candidate patterns c ≡ true) ↔ ((is_some c.repository ≡ true) × ((name : List ℕ) × (IsNameOf c name × IsPartAsked patterns name)))
   searched_if_asked patterns c = (
     (λ h.
-        let both = both_true (is_some c.repository) (list_any (is_name_found patterns) (candidate_names c)) h in
+        let both = and_parts (is_some c.repository) (list_any (is_name_found patterns) (candidate_names c)) h in
         let found = passes_at (is_name_found patterns) (candidate_names c) both.1 in
         let name : List ℕ = found.1.0 in
         (both.0, (name, (has_name c name (is_in_at (candidate_names c) found.0 name found.1.1.0), part_asked patterns name found.1.1.1)))),

@@ -1,13 +1,13 @@
 -- What is gathered of the candidates of a version, one more at a time.
-use Rattle.std.proofs.Common.{◌≡◌, inl, inr, ℕ, ◌+◌, ◌≤◌, Bool, false, List, [], ◌∷◌, ◌++◌, take, refl, sym, ap, subst, ◌∙◌, arith}
+use Rattle.std.proofs.Common.{◌≡◌, inl, inr, ℕ, ◌+◌, Bool, false, List, [], ◌∷◌, ◌++◌, take, refl, sym, ap, subst, ◌∙◌}
 use Rattle.std.specs.Prelude.{Option, Some, None, option_to_list, slice_get, ◌||◌}
 use Rattle.std.specs.List.{cons_option, filter_map, list_any}
 use Rattle.std.specs.List.Sorted.{IsPermutation, IsSorted}
 use Rattle.std.specs.Ordering.{is_lt, nat_cmp}
-use Rattle.std.proofs.lemmas.Bool.Decides.{nat_tests}
 use Rattle.std.proofs.lemmas.Cmp.{nat_cmp_total}
 use Rattle.std.proofs.lemmas.List.Elements.{filter_map-append}
 use Rattle.std.proofs.lemmas.List.Sorted.{IsPermutation-sym}
+use Rattle.std.proofs.lemmas.Map.Keys.{ge_from_not_lt}
 use Rattle.base_core.proofs.Sorting.{Each, Rises, ranks, rises_sorted}
 use Rattle.candidate_core.specs.Candidates.{Candidate}
 use Rattle.candidate_core.specs.Options.{IsIn}
@@ -49,12 +49,9 @@ each_in P [] x all h = absurd h
 each_in P (y ∷ xs) x all (inl e) = subst P (sym e) all.0
 each_in P (y ∷ xs) x all (inr h) = each_in P xs x all.1 h
 
-not_less : (m n : ℕ) → is_lt (nat_cmp m n) ≡ false → n ≤ m
-not_less m n h = grind (arith, nat_tests)
-
 never_fall : (ns : List ℕ) → Rises (λ m n. is_lt (nat_cmp m n)) (ranks nat_cmp nat_cmp_total) ns → NeverFall ns
 never_fall [] h = tt
-never_fall (n ∷ ns) h = ((λ m g. not_less m n (each_in (λ (k : ℕ). is_lt (nat_cmp k n) ≡ false) ns m h.0 g)), never_fall ns h.1)
+never_fall (n ∷ ns) h = ((λ m g. ge_from_not_lt m n (each_in (λ (k : ℕ). is_lt (nat_cmp k n) ≡ false) ns m h.0 g)), never_fall ns h.1)
 
 pub gathered : (those : List Candidate) (version : Option (List ℕ)) (is_installed : Bool) (numbers sorted : List ℕ) → is_installed ≡ list_any (λ (c : Candidate). c.installed) those → numbers ≡ numbers_of those → IsPermutation numbers sorted → IsSorted nat_cmp sorted → SaysPlacesOf those (version_places_by version is_installed sorted)
 gathered those version is_installed numbers sorted installed is moved up = record {

@@ -14,10 +14,12 @@ use Rattle.version_core.specs.Order.{version_cmp}
 use Rattle.base_core.specs.Sorted.{sorted_by}
 use Rattle.base_core.proofs.Sorting.{sorted_same, sorted_up}
 use Rattle.std.proofs.lemmas.List.Sorted.{IsPermutation-sym}
+use Rattle.std.proofs.lemmas.Bool.{and_parts, cases_Bool, ltb-true, ltb-false}
+use Rattle.pool_core.proofs.SamePackage.{same_version}
 use Rattle.candidate_core.specs.Candidates.{Candidate, is_same_version}
 use Rattle.candidate_core.specs.Options.{IsIn, places_from}
 use Rattle.candidate_core.specs.Rank.{bytes_cmp, greater_version}
-use Rattle.candidate_core.proofs.OptionLists.{bool_cases, in_places, places_in}
+use Rattle.candidate_core.proofs.OptionLists.{in_places, places_in}
 use Rattle.candidate_core.proofs.LoopTests.{any_at}
 use Rattle.candidate_core.proofs.Steps.{get_at}
 use Rattle.option_ranks.specs.Ranking.{Ranking}
@@ -31,8 +33,7 @@ use Rattle.query_core.specs.QueryRanking.{AreInQueryOrder, IsQueryRanking, have_
 use Rattle.query_core.specs.VersionPlaces.{SaysPlacesOf, VersionPlaces}
 use Rattle.query_core.proofs.Gathered.{candidates_of}
 use Rattle.query_core.proofs.QueryOrder.{candidates_total, last_decides, query_total, texts_same}
-use Rattle.query_core.proofs.RisingLines.{lt_is, not_lt_is}
-use Rattle.query_core.proofs.Runs.{any_filtered, any_found_at, at_some_place, below_length, below_taken, bool_same, both_true, dropped_at, dropped_twice, found_any_at, from_mapped, is_in_at, mapped_at, mapped_drop, once_run, one_text, passes_at, same_text, taken_at}
+use Rattle.query_core.proofs.Runs.{any_filtered, any_found_at, at_some_place, below_length, below_taken, bool_same, dropped_at, dropped_twice, found_any_at, from_mapped, is_in_at, mapped_at, mapped_drop, once_run, passes_at, same_text, taken_at}
 
 abbrev pub version_of : Ranking → Option (List ℕ)
 version_of r = r.version.version
@@ -168,9 +169,9 @@ module _ (versions : IsTotalOrder version_cmp) (cs : List Candidate) (name : Lis
 
       -- the versions up to the end of the run are not found after it
       pub apart_after : (i j : ℕ) (a b : Ranking) → i < end → end ≤ j → slice_get rs i ≡ Some a → slice_get rs j ≡ Some b → version_of a ≡ version_of b → ⊥
-      apart_after i j a b low high h g same = elim (bool_cases (nat_lt i start)) [
-        | inl e ↦ apart i j a b (lt_is i start e) (omega (arith, some, high)) h g same
-        | inr e ↦ none_after j b high g (in_run i a (not_lt_is i start e) low h ∙ same)
+      apart_after i j a b low high h g same = elim (cases_Bool (nat_lt i start)) [
+        | inl e ↦ apart i j a b (ltb-true i start e) (omega (arith, some, high)) h g same
+        | inr e ↦ none_after j b high g (in_run i a (ltb-false i start e) low h ∙ same)
       ]
 
       -- the version of the run is left once
@@ -205,8 +206,8 @@ module _ (versions : IsTotalOrder version_cmp) (cs : List Candidate) (name : Lis
           let k : ℕ = found.0 in
           let x : Candidate = found.1.0 in
           let here : slice_get cs k ≡ Some x = found.1.1.0 in
-          let pq = both_true (p x) (q x) found.1.1.1 in
-          let named = both_true (has_own_name name x) (is_same_version (version_of s) x.version) pq.0 in
+          let pq = and_parts (p x) (q x) found.1.1.1 in
+          let named = and_parts (has_own_name name x) (is_same_version (version_of s) x.version) pq.0 in
           let unsorted : List ℕ = places_from 0 (has_own_name name) cs in
           let passes : option_map_or (has_own_name name) (slice_get cs k) false ≡ true = ap (λ (o : Option Candidate). option_map_or (has_own_name name) o false) here ∙ named.0 in
           let z : 0 + k ≡ k = omega arith in
@@ -218,12 +219,12 @@ module _ (versions : IsTotalOrder version_cmp) (cs : List Candidate) (name : Lis
           let r : Ranking = ranked.0 in
           let at : slice_get rs i ≡ Some r = ranked.1.0 in
           let there : slice_get cs r.place ≡ Some x = ap (slice_get cs) ranked.1.1 ∙ here in
-          let same : version_of s ≡ version_of r = one_text (version_of s) x.version named.1 ∙ sym (version_is i r x at there) in
-          elim (bool_cases (nat_lt i start)) [
-            | inl e ↦ absurd (apart i start r s (lt_is i start e) (omega arith) at first (sym same))
-            | inr e ↦ elim (bool_cases (nat_lt i end)) [
-              | inl f ↦ any_found_at (λ (a : Ranking). slice_get cs a.place) q (take (end - start) (drop start rs)) (i - start) r x (at_run i r (not_lt_is i start e) (lt_is i end f) at) there pq.1
-              | inr f ↦ absurd (none_after i r (not_lt_is i end f) at same)
+          let same : version_of s ≡ version_of r = same_version (version_of s) x.version named.1 ∙ sym (version_is i r x at there) in
+          elim (cases_Bool (nat_lt i start)) [
+            | inl e ↦ absurd (apart i start r s (ltb-true i start e) (omega arith) at first (sym same))
+            | inr e ↦ elim (cases_Bool (nat_lt i end)) [
+              | inl f ↦ any_found_at (λ (a : Ranking). slice_get cs a.place) q (take (end - start) (drop start rs)) (i - start) r x (at_run i r (ltb-false i start e) (ltb-true i end f) at) there pq.1
+              | inr f ↦ absurd (none_after i r (ltb-false i end f) at same)
             ]
           ]
 

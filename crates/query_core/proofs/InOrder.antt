@@ -11,13 +11,15 @@ use Rattle.std.specs.declared.cmp.Ordering.TheVariants.{Less, Equal, Greater}
 use Rattle.std.proofs.lemmas.Bool.Decides.{nat_tests}
 use Rattle.std.proofs.lemmas.List.Sorted.{IsPermutation-sym}
 use Rattle.std.proofs.lemmas.Slice.Eq.{bytes_eq-Decides}
+use Rattle.std.proofs.lemmas.Bool.{cases_Bool}
+use Rattle.pool_core.proofs.SamePackage.{same_version}
 use Rattle.version_core.specs.Order.{version_cmp}
 use Rattle.base_core.specs.Sorted.{sorted_by, with_element}
 use Rattle.base_core.proofs.Sorting.{Rises, ranks, rises_in_order, sorted_same}
 use Rattle.candidate_core.specs.Candidates.{Candidate, is_same_version}
 use Rattle.candidate_core.specs.Options.{AreDistinct, IsIn, places_from}
 use Rattle.candidate_core.specs.Rank.{bytes_cmp, greater_version}
-use Rattle.candidate_core.proofs.OptionLists.{bool_cases, in_places, places_apart, places_in}
+use Rattle.candidate_core.proofs.OptionLists.{in_places, places_apart, places_in}
 use Rattle.dep_core.specs.Repositories.{Repository}
 use Rattle.option_ranks.proofs.MovedMembers.{moved_member}
 use Rattle.option_ranks.proofs.RankOrder.{versions_back}
@@ -28,7 +30,7 @@ use Rattle.query_core.specs.Policy.{has_own_name, name_policy, version_policy, v
 use Rattle.query_core.proofs.AskedFor.{any_in}
 use Rattle.query_core.proofs.Gathered.{each_in}
 use Rattle.query_core.proofs.QueryOrder.{last_decides, one_place, query_total, texts_same}
-use Rattle.query_core.proofs.Runs.{one_text, same_text}
+use Rattle.query_core.proofs.Runs.{same_text}
 
 -- ---- key by key
 
@@ -81,7 +83,7 @@ selects test cs place h =
 in_placed : (cmp : ℕ → ℕ → Ordering) (x z : ℕ) (ys : List ℕ) → IsIn z (with_element cmp x ys) → (z ≡ x) ⊎ IsIn z ys
 in_placed cmp x z [] (inl e) = inl e
 in_placed cmp x z [] (inr h) = absurd h
-in_placed cmp x z (y ∷ ys) h = elim (bool_cases (is_gt (cmp x y))) [
+in_placed cmp x z (y ∷ ys) h = elim (cases_Bool (is_gt (cmp x y))) [
   | inl g ↦ elim (rw g at h) [
     | inl e ↦ inr (inl e)
     | inr m ↦ elim (in_placed cmp x z ys m) [ inl e ↦ inl e | inr k ↦ inr (inr k) ]
@@ -91,7 +93,7 @@ in_placed cmp x z (y ∷ ys) h = elim (bool_cases (is_gt (cmp x y))) [
 
 placed_distinct : (cmp : ℕ → ℕ → Ordering) (x : ℕ) (ys : List ℕ) → (IsIn x ys → ⊥) → AreDistinct ys → AreDistinct (with_element cmp x ys)
 placed_distinct cmp x [] out d = ((λ h. absurd h), tt)
-placed_distinct cmp x (y ∷ ys) out d = elim (bool_cases (is_gt (cmp x y))) [
+placed_distinct cmp x (y ∷ ys) out d = elim (cases_Bool (is_gt (cmp x y))) [
   | inl g ↦ rw g ((λ h. elim (in_placed cmp x y ys h) [ inl e ↦ out (inl (sym e)) | inr k ↦ d.0 k ]), placed_distinct cmp x ys (λ h. out (inr h)) d.1)
   | inr g ↦ rw g (out, d)
 ]
@@ -129,22 +131,22 @@ selected_in_order versions test cs =
 
 once_in : (v : Option (List ℕ)) (vs : List (Option (List ℕ))) → IsIn v (versions_once vs) → IsIn v vs
 once_in v [] h = h
-once_in v (w ∷ vs) h = elim (bool_cases (list_any (is_same_version w) vs)) [
+once_in v (w ∷ vs) h = elim (cases_Bool (list_any (is_same_version w) vs)) [
   | inl e ↦ inr (once_in v vs (rw e at h))
   | inr e ↦ elim (rw e at h) [ inl s ↦ inl s | inr m ↦ inr (once_in v vs m) ]
 ]
 
 same_in : (v : Option (List ℕ)) (vs : List (Option (List ℕ))) → list_any (is_same_version v) vs ≡ true → IsIn v vs
 same_in v [] h = absurd (cc)
-same_in v (w ∷ vs) h = elim (bool_cases (is_same_version v w)) [ inl e ↦ inl (one_text v w e) | inr e ↦ inr (same_in v vs (rw e at h)) ]
+same_in v (w ∷ vs) h = elim (cases_Bool (is_same_version v w)) [ inl e ↦ inl (same_version v w e) | inr e ↦ inr (same_in v vs (rw e at h)) ]
 
 in_once : (v : Option (List ℕ)) (vs : List (Option (List ℕ))) → IsIn v vs → IsIn v (versions_once vs)
 in_once v [] h = h
-in_once v (w ∷ vs) (inl s) = elim (bool_cases (list_any (is_same_version w) vs)) [
+in_once v (w ∷ vs) (inl s) = elim (cases_Bool (list_any (is_same_version w) vs)) [
   | inl e ↦ rw e (in_once v vs (subst (λ (x : Option (List ℕ)). IsIn x vs) (sym s) (same_in w vs e)))
   | inr e ↦ rw e (inl s)
 ]
-in_once v (w ∷ vs) (inr m) = elim (bool_cases (list_any (is_same_version w) vs)) [
+in_once v (w ∷ vs) (inr m) = elim (cases_Bool (list_any (is_same_version w) vs)) [
   | inl e ↦ rw e (in_once v vs m)
   | inr e ↦ rw e (inr (in_once v vs m))
 ]
@@ -202,7 +204,7 @@ NeverBefore (v ∷ vs) = ((w : Option (List ℕ)) → IsIn w vs → (version_tex
 
 once_in_order : (vs : List (Option (List ℕ))) → NeverBefore vs → AreInOrderBy version_text_cmp (versions_once vs)
 once_in_order [] h = tt
-once_in_order (v ∷ vs) h = elim (bool_cases (list_any (is_same_version v) vs)) [
+once_in_order (v ∷ vs) h = elim (cases_Bool (list_any (is_same_version v) vs)) [
   | inl e ↦ rw e (once_in_order vs h.1)
   | inr e ↦ rw e (
     (λ w m. elim (h.0 w (once_in w vs m)) [

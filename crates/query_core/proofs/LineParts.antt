@@ -3,7 +3,6 @@ use Rattle.std.proofs.Common.{◌≡◌, ℕ, zero, suc, ◌+◌, ◌<◌, ◌�
 use Rattle.std.specs.Prelude.{Some, nat_lt, slice_get, if◌then◌else◌}
 use Rattle.std.specs.List.{filter, filter_map, flat_map, list_any}
 use Rattle.candidate_core.specs.Candidates.{Candidate}
-use Rattle.candidate_core.proofs.OptionLists.{bool_cases}
 use Rattle.dep_core.specs.Repositories.{Repository}
 use Rattle.option_ranks.specs.Ranking.{Ranking}
 use Rattle.option_ranks.proofs.RankedOptions.{place_of}
@@ -17,6 +16,7 @@ use Rattle.query_core.specs.declared.candidates.LineForm.{LineForm}
 use Rattle.query_core.proofs.RisingLines.{lines_of_numbers}
 use Rattle.query_core.proofs.Runs.{below_length}
 use Rattle.std.proofs.Common.{inl, inr}
+use Rattle.std.proofs.lemmas.Bool.{cases_Bool}
 
 -- ---- what is left of a list
 
@@ -47,7 +47,7 @@ pub versions_left : (repositories : List Repository) (vs : List VersionPlaces) (
 versions_left repositories vs i v h = ap (flat_map (version_lines repositories)) (left_at vs i v h)
 
 pub numbers_left : (repositories : List Repository) (last : ℕ) (ns : List ℕ) (i n : ℕ) → slice_get ns i ≡ Some n → rising_lines repositories last (drop i ns) ≡ (if nat_lt last n then numbered_line repositories n else []) ++ rising_lines repositories (if nat_lt last n then n else last) (drop (i + 1) ns)
-numbers_left repositories last ns i n h = ap (rising_lines repositories last) (left_at ns i n h) ∙ elim (bool_cases (nat_lt last n)) [ inl e ↦ rw e refl | inr e ↦ rw e refl ]
+numbers_left repositories last ns i n h = ap (rising_lines repositories last) (left_at ns i n h) ∙ elim (cases_Bool (nat_lt last n)) [ inl e ↦ rw e refl | inr e ↦ rw e refl ]
 
 -- what is read of candidates is at their places
 pub read_within : (cs : List Candidate) (rs : List Ranking) → All (IsQueryRanking cs) rs → All (λ (r : Ranking). r.place < length cs) rs

@@ -2,13 +2,10 @@
 use Rattle.std.proofs.Common.{◌≡◌, inl, inr, ℕ, Bool, true, false, List, [], ◌∷◌, ◌++◌, refl, sym, ap, ◌∙◌, append_assoc, true≢false}
 use Rattle.std.specs.Prelude.{◌==◌, ◌&&◌, ◌||◌, if◌then◌else◌}
 use Rattle.std.specs.List.{list_any}
-use Rattle.std.proofs.lemmas.Bool.{and_parts, or_right}
+use Rattle.std.proofs.lemmas.Bool.{and_parts, cases_Bool}
 use Rattle.star_patterns.specs.Ends.{is_end_matched}
 use Rattle.star_patterns.specs.Patterns.{is_byte_then, is_matched, is_matched_within, suffixes_of}
-use Rattle.candidate_core.proofs.OptionLists.{bool_cases}
-
-literal_byte : (p : ℕ) (q b : List ℕ) → (p == 42) ≡ false → is_matched (p ∷ q) b ≡ is_byte_then p (is_matched q) b
-literal_byte p q b e = ap (λ t. if t then list_any (is_matched q) (suffixes_of b) else is_byte_then p (is_matched q) b) e
+use Rattle.star_patterns.proofs.Pieces.{literal_byte, whole_end, end_matched, empty_end}
 
 -- an end of a text that a pattern matches
 record IsEnd (q b : List ℕ) : Type 0 where
@@ -30,19 +27,6 @@ end_of_nothing q false e m = absurd (true≢false (sym m))
 end_found : (q b : List ℕ) → is_end_matched q b ≡ true → IsEnd q b
 end_found q [] m = end_of_nothing q (is_matched q []) refl m
 end_found q (c ∷ b) m = end_next q b c (is_matched q (c ∷ b)) refl m (λ further. end_found q b further)
-
-whole_end : (q b : List ℕ) → is_matched q b ≡ true → is_end_matched q b ≡ true
-whole_end q [] m = ap (λ t. t || false) m
-whole_end q (c ∷ b) m = ap (λ t. t || is_end_matched q b) m
-
-end_matched : (q front rest : List ℕ) → is_end_matched q rest ≡ true → is_end_matched q (front ++ rest) ≡ true
-end_matched q [] rest m = m
-end_matched q (c ∷ front) rest m = or_right (is_matched q (c ∷ (front ++ rest))) (is_end_matched q (front ++ rest)) (end_matched q front rest m)
-
--- the empty pattern matches the empty end of any text
-empty_end : (text : List ℕ) → is_end_matched [] text ≡ true
-empty_end [] = refl
-empty_end (b ∷ text) = or_right (is_matched [] (b ∷ text)) (is_end_matched [] text) (empty_end text)
 
 star_matched : (b : ℕ) (p text : List ℕ) → (b == 42) ≡ true → is_end_matched p text ≡ true → is_matched (b ∷ p) text ≡ true
 star_matched b p text e m = ap (λ t. if t then list_any (is_matched p) (suffixes_of text) else is_byte_then b (is_matched p) text) e ∙ m
@@ -82,7 +66,7 @@ front_byte b p (t ∷ text) e again m =
 
 front : (p text : List ℕ) → is_matched (p ++ 42 ∷ []) text ≡ true → BeginsWithMatch p text
 front [] text m = record { part = []; after = text; is = refl; matched = refl }
-front (b ∷ p) text m = elim (bool_cases (b == 42)) [
+front (b ∷ p) text m = elim (cases_Bool (b == 42)) [
   | inl e ↦ front_star b p text e (λ rest h. front p rest h) (matched_star b (p ++ 42 ∷ []) text e m)
   | inr e ↦ front_byte b p text e (λ rest h. front p rest h) (sym (literal_byte b (p ++ 42 ∷ []) text e) ∙ m)
 ]
@@ -95,7 +79,7 @@ back_byte b p (t ∷ part) after e again m =
 
 back : (p part after : List ℕ) → is_matched p part ≡ true → is_matched (p ++ 42 ∷ []) (part ++ after) ≡ true
 back [] part after m = empty_end (part ++ after)
-back (b ∷ p) part after m = elim (bool_cases (b == 42)) [
+back (b ∷ p) part after m = elim (cases_Bool (b == 42)) [
   | inl e ↦
       let found = end_found p part (matched_star b p part e m) in
       let text : part ++ after ≡ found.front ++ (found.rest ++ after) = ap (λ z. z ++ after) found.is ∙ append_assoc found.front found.rest after in

@@ -1,25 +1,26 @@
 -- Candidates that are sorted by what was read of each, and by the texts or the ranks of their versions, are in the order of queries.
 use Rattle.std.proofs.Common.{◌≡◌, All, ℕ, ◌+◌, ◌<◌, true, false, List, [], length, map, get_or, refl, sym, ap, subst, ◌∙◌, arith}
-use Rattle.std.specs.Prelude.{Option, Some, None, ◌==◌, slice_get}
+use Rattle.std.specs.Prelude.{Option, Some, None, slice_get}
 use Rattle.std.specs.Option.{option_cmp}
-use Rattle.std.specs.Cmp.{IsTotalOrder, nat_cmp_total, on_total, then_total, ranks}
+use Rattle.std.specs.Cmp.{IsTotalOrder, nat_cmp_total, on_total, then_total}
 use Rattle.std.specs.Cmp.Lexicographic.{nat_list_cmp_total, options_total}
-use Rattle.std.specs.Ordering.{is_eq, is_lt, nat_cmp, ordering_then, MatchOrdering}
+use Rattle.std.specs.Ordering.{is_eq, is_lt, nat_cmp, ordering_then}
 use Rattle.std.specs.declared.cmp.Ordering.{Ordering}
 use Rattle.std.specs.declared.cmp.Ordering.TheVariants.{Less, Equal, Greater}
 use Rattle.std.specs.List.Sorted.{IsPermutation, IsSortedBy}
-use Rattle.std.proofs.lemmas.Bool.Decides.{Decides-eqb, nat_tests}
 use Rattle.std.proofs.lemmas.List.{get_or-map, length-map}
 use Rattle.std.proofs.lemmas.List.Sorted.{All-permutation, IsPermutation-map, IsPermutation-refl, IsPermutation-trans}
 use Rattle.std.proofs.lemmas.Map.Text.{is_eq-slice_cmp}
 use Rattle.std.proofs.lemmas.Slice.Eq.{bytes_eq-Decides}
+use Rattle.pool_core.proofs.SamePackage.{same_version}
 use Rattle.version_core.specs.Order.{version_cmp}
+use Rattle.version_core.proofs.Fits.{nat_cmp-Equal}
 use Rattle.candidate_core.specs.Candidates.{Candidate, is_same_version}
 use Rattle.candidate_core.specs.Rank.{bytes_cmp, greater_version}
 use Rattle.candidate_core.specs.declared.versions.VersionKind.{VersionKind}
 use Rattle.candidate_core.specs.declared.versions.VersionKind.TheVariants.{Under, Own}
 use Rattle.option_ranks.specs.Ranking.{Ranking, ranking_by, ranking_cmp, version_order}
-use Rattle.option_ranks.specs.VersionRanks.{AreRankedTwice, AreReadyFor, rank_among, with_rank}
+use Rattle.option_ranks.specs.VersionRanks.{AreRankedTwice, AreReadyFor, with_rank}
 use Rattle.option_ranks.specs.declared.rank.VersionKey.{VersionKey}
 use Rattle.option_ranks.specs.declared.rank.VersionKey.TheVariants.{ByRank, ByText}
 use Rattle.option_ranks.proofs.MovedMembers.{member_of_all}
@@ -45,11 +46,8 @@ last_decides Less r h = absurd (cc)
 last_decides Equal r h = h
 last_decides Greater r h = absurd (cc)
 
-same_number : (a b : ℕ) → nat_cmp a b ≡ Equal → a ≡ b
-same_number a b h = let r : MatchOrdering Equal (a < b) (a ≡ b) (b < a) = subst (λ (z : Ordering). MatchOrdering z (a < b) (a ≡ b) (b < a)) h (ranks a b) in r
-
 pub one_place : (cs : List Candidate) (a b : ℕ) → query_cmp cs a b ≡ Equal → a ≡ b
-one_place cs a b h = same_number a b (last_decides (option_cmp name_and_version_cmp (slice_get cs a) (slice_get cs b)) (nat_cmp a b) h)
+one_place cs a b h = nat_cmp-Equal a b (last_decides (option_cmp name_and_version_cmp (slice_get cs a) (slice_get cs b)) (nat_cmp a b) h)
 
 -- ---- the order of rankings
 
@@ -101,28 +99,9 @@ texts_same None (Some y) h = absurd (cc)
 texts_same (Some x) None h = absurd (cc)
 texts_same (Some x) (Some y) h = ap Some ((bytes_eq-Decides x y).0 (sym (is_eq-slice_cmp x y) ∙ ap is_eq h))
 
-one_version : (o p : Option (List ℕ)) → is_same_version o p ≡ true → o ≡ p
-one_version None None h = refl
-one_version None (Some y) h = absurd (cc)
-one_version (Some x) None h = absurd (cc)
-one_version (Some x) (Some y) h = ap Some ((bytes_eq-Decides x y).0 h)
-
 same_as_itself : (o : Option (List ℕ)) → is_same_version o o ≡ true
 same_as_itself None = refl
 same_as_itself (Some x) = (bytes_eq-Decides x x).1 refl
-
-equal_numbers : (a b : ℕ) → a ≡ b → nat_cmp a b ≡ Equal
-equal_numbers a b h = grind (arith, nat_tests)
-
-module _ (versions : IsTotalOrder version_cmp) (owns : List (Option (List ℕ))) (a b : Ranking) (p : HasRank Own owns a) (q : HasRank Own owns b) where
-  alike_by_rank : (a.version.rank == b.version.rank) ≡ true → a.version.version ≡ b.version.version
-  alike_by_rank h =
-      texts_same a.version.version b.version.version
-      (last_decides (greater_version a.version.version b.version.version) (option_cmp bytes_cmp a.version.version b.version.version)
-      (sym (same_by_rank versions Own owns a b p q) ∙ equal_numbers a.version.rank b.version.rank ((Decides-eqb a.version.rank b.version.rank).0 h)))
-
-  same_by_version : a.version.version ≡ b.version.version → (a.version.rank == b.version.rank) ≡ true
-  same_by_version h = (Decides-eqb a.version.rank b.version.rank).1 (p.rank ∙ (ap (rank_among Own owns) h ∙ sym q.rank))
 
 -- ---- sorted rankings
 
@@ -189,6 +168,6 @@ module _ (versions : IsTotalOrder version_cmp) (cs : List Candidate) (read : Lis
       let P : Ranking → Type 0 = IsQueryRanking cs in
       record {
         read = All-permutation P ready sorted moved (subst (λ (rs : List Ranking). All P rs) (sym same) each);
-        alike = λ a b m n e. one_version a.version.version b.version.version e;
+        alike = λ a b m n e. same_version a.version.version b.version.version e;
         same = λ a b m n e. subst (λ (o : Option (List ℕ)). is_same_version a.version.version o ≡ true) e (same_as_itself a.version.version);
       }

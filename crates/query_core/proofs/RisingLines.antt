@@ -3,61 +3,49 @@ use Rattle.std.proofs.Common.{◌≡◌, inl, inr, ℕ, suc, ◌+◌, ◌-◌, �
 use Rattle.std.specs.Prelude.{Option, Some, None, ◌==◌, nat_lt, slice_get}
 use Rattle.std.specs.List.{cons_option, filter_map, list_any}
 use Rattle.std.specs.Option.{option_map_or}
-use Rattle.std.proofs.lemmas.Bool.Decides.{Decides-eqb, nat_tests}
+use Rattle.std.proofs.lemmas.Bool.Decides.{Decides-eqb}
+use Rattle.std.proofs.lemmas.Bool.{cases_Bool, le-ltb, ltb-true, ltb-false}
 use Rattle.candidate_core.specs.Candidates.{Candidate}
 use Rattle.candidate_core.specs.Options.{IsIn}
-use Rattle.candidate_core.proofs.OptionLists.{bool_cases}
 use Rattle.dep_core.specs.Repositories.{Repository}
 use Rattle.report_core.specs.QueryReports.{repository_line}
 use Rattle.query_core.specs.Policy.{is_of_repository, repository_lines}
 use Rattle.query_core.specs.VersionPlaces.{NeverFall, numbered_line, rising_lines}
 
-pub lt_is : (m n : ℕ) → nat_lt m n ≡ true → m < n
-lt_is m n h = grind (arith, nat_tests)
-
-pub not_lt_is : (m n : ℕ) → nat_lt m n ≡ false → n ≤ m
-not_lt_is m n h = grind (arith, nat_tests)
-
-is_lt_when : (m n : ℕ) → m < n → nat_lt m n ≡ true
-is_lt_when m n h = grind (arith, nat_tests)
-
-is_not_lt_when : (m n : ℕ) → n ≤ m → nat_lt m n ≡ false
-is_not_lt_when m n h = grind (arith, nat_tests)
-
 module _ (all : List Repository) where
   -- past the last repository there is no line
   no_lines : (last : ℕ) (ns : List ℕ) → ((n : ℕ) → last < n → numbered_line all n ≡ []) → rising_lines all last ns ≡ []
   no_lines last [] out = refl
-  no_lines last (n ∷ ns) out = elim (bool_cases (nat_lt last n)) [
-    | inl e ↦ let low = lt_is last n e in rw (e, out n low) (no_lines n ns (λ m h. out m (omega (arith, low, h))))
+  no_lines last (n ∷ ns) out = elim (cases_Bool (nat_lt last n)) [
+    | inl e ↦ let low = ltb-true last n e in rw (e, out n low) (no_lines n ns (λ m h. out m (omega (arith, low, h))))
     | inr e ↦ rw e (no_lines last ns out)
   ]
 
   -- a number that is not among them is passed over
   not_among : (last : ℕ) (ns : List ℕ) → (IsIn (suc last) ns → ⊥) → rising_lines all last ns ≡ rising_lines all (suc last) ns
   not_among last [] out = refl
-  not_among last (n ∷ ns) out = elim (bool_cases (nat_lt last n)) [
-    | inl e ↦ elim (bool_cases (nat_lt (suc last) n)) [
+  not_among last (n ∷ ns) out = elim (cases_Bool (nat_lt last n)) [
+    | inl e ↦ elim (cases_Bool (nat_lt (suc last) n)) [
       | inl f ↦ rw (e, f) refl
       | inr f ↦
-          let low = lt_is last n e in
-          let high = not_lt_is (suc last) n f in
+          let low = ltb-true last n e in
+          let high = ltb-false (suc last) n f in
           absurd (out (inl (omega (arith, low, high))))
     ]
-    | inr e ↦ rw (e, is_not_lt_when (suc last) n (let low = not_lt_is last n e in omega (arith, low))) (not_among last ns (λ h. out (inr h)))
+    | inr e ↦ rw (e, le-ltb (suc last) n (let low = ltb-false last n e in omega (arith, low))) (not_among last ns (λ h. out (inr h)))
   ]
 
   -- the next number has its line first
   among : (last : ℕ) (ns : List ℕ) → NeverFall ns → IsIn (suc last) ns → rising_lines all last ns ≡ numbered_line all (suc last) ++ rising_lines all (suc last) ns
   among last [] up h = absurd h
-  among last (n ∷ ns) up h = elim (bool_cases (nat_lt last n)) [
+  among last (n ∷ ns) up h = elim (cases_Bool (nat_lt last n)) [
     | inl e ↦
-        let low = lt_is last n e in
+        let low = ltb-true last n e in
         let is : n ≡ suc last = first low h in
-        rw (e, is_not_lt_when (suc last) n (omega (arith, is))) (ap (λ (m : ℕ). numbered_line all m ++ rising_lines all m ns) is)
+        rw (e, le-ltb (suc last) n (omega (arith, is))) (ap (λ (m : ℕ). numbered_line all m ++ rising_lines all m ns) is)
     | inr e ↦
-        let high = not_lt_is last n e in
-        rw (e, is_not_lt_when (suc last) n (omega (arith, high))) (among last ns up.1 (later high h))
+        let high = ltb-false last n e in
+        rw (e, le-ltb (suc last) n (omega (arith, high))) (among last ns up.1 (later high h))
   ]
     where
       first : last < n → IsIn (suc last) (n ∷ ns) → n ≡ suc last
@@ -82,7 +70,7 @@ module _ (all : List Repository) (those : List Candidate) (ns : List ℕ) (up : 
       let line : numbered_line all (suc last) ≡ repository_line r.tag r.path =
       ap (λ (o : Option Repository). option_map_or (λ (q : Repository). repository_line q.tag q.path) o []) (ap (slice_get all) less ∙ here) in
       subst (λ (m : ℕ). rising_lines all last ns ≡ repository_lines those m (r ∷ rs)) (sym k)
-      (elim (bool_cases (list_any (is_of_repository (suc last)) those)) [
+      (elim (cases_Bool (list_any (is_of_repository (suc last)) those)) [
         | inl e ↦ rw e (among all last ns up (every (suc last) e) ∙ (ap (λ (z : List ℕ). z ++ rising_lines all (suc last) ns) line ∙ ap (λ (z : List ℕ). repository_line r.tag r.path ++ z) rest))
         | inr e ↦ rw e (not_among all last ns (λ h. let bad : false ≡ true = sym e ∙ each (suc last) h in absurd (cc)) ∙ rest)
       ])
@@ -98,7 +86,7 @@ numbers_of cs = filter_map (λ (c : Candidate). c.repository) cs
 numbered_next : (n : ℕ) (c : Candidate) (cs : List Candidate) (o : Option ℕ) → c.repository ≡ o → (IsIn n (numbers_of cs) → list_any (is_of_repository n) cs ≡ true) → IsIn n (cons_option o (numbers_of cs)) → list_any (is_of_repository n) (c ∷ cs) ≡ true
 numbered_next n c cs None e again m = rw (e, again m) refl
 numbered_next n c cs (Some k) e again (inl is) = rw (e, (Decides-eqb k n).1 (sym is)) refl
-numbered_next n c cs (Some k) e again (inr m) = elim (bool_cases (k == n)) [
+numbered_next n c cs (Some k) e again (inr m) = elim (cases_Bool (k == n)) [
   | inl t ↦ rw (e, t) refl
   | inr t ↦ rw (e, t) (again m)
 ]
@@ -109,7 +97,7 @@ numbered n (c ∷ cs) h = numbered_next n c cs c.repository refl (λ m. numbered
 
 number_next : (n : ℕ) (c : Candidate) (cs : List Candidate) (o : Option ℕ) → c.repository ≡ o → (list_any (is_of_repository n) cs ≡ true → IsIn n (numbers_of cs)) → list_any (is_of_repository n) (c ∷ cs) ≡ true → IsIn n (cons_option o (numbers_of cs))
 number_next n c cs None e again h = again (rw e at h)
-number_next n c cs (Some k) e again h = elim (bool_cases (k == n)) [
+number_next n c cs (Some k) e again h = elim (cases_Bool (k == n)) [
   | inl t ↦ inl (sym ((Decides-eqb k n).0 t))
   | inr t ↦ let rest : list_any (is_of_repository n) cs ≡ true = rw (e, t) at h in inr (again rest)
 ]

@@ -3,9 +3,11 @@ use Rattle.std.proofs.Common.{◌≡◌, inl, inr, ℕ, zero, suc, ◌+◌, ◌<
 use Rattle.std.specs.Prelude.{Option, Some, None, slice_get, ◌&&◌, ◌||◌}
 use Rattle.std.specs.List.{cons_option, filter, filter_map, list_any}
 use Rattle.std.proofs.lemmas.Slice.Eq.{bytes_eq-Decides}
+use Rattle.std.proofs.Math.Bool.{or-true}
+use Rattle.std.proofs.lemmas.Bool.{cases_Bool}
+use Rattle.pool_core.proofs.SamePackage.{same_version}
 use Rattle.candidate_core.specs.Candidates.{is_same_version}
 use Rattle.candidate_core.specs.Options.{IsIn}
-use Rattle.candidate_core.proofs.OptionLists.{bool_cases}
 use Rattle.candidate_core.proofs.LoopTests.{any_at}
 use Rattle.query_core.specs.Policy.{versions_once}
 
@@ -13,10 +15,6 @@ pub bool_same : (a b : Bool) → (a ≡ true → b ≡ true) → (b ≡ true →
 bool_same true b to from = sym (to refl)
 bool_same false true to from = from refl
 bool_same false false to from = refl
-
-pub both_true : (a b : Bool) → (a && b) ≡ true → (a ≡ true) × (b ≡ true)
-both_true true b h = (refl, h)
-both_true false b h = absurd (cc)
 
 -- ---- what is at a place
 
@@ -86,7 +84,7 @@ below_taken (y ∷ xs) (suc n) (suc i) x h = let r = below_taken xs n i x h in o
 
 pub any_filtered : {X : Type 0} (p q : X → Bool) (xs : List X) → list_any q (filter p xs) ≡ list_any (λ (x : X). p x && q x) xs
 any_filtered p q [] = refl
-any_filtered p q (x ∷ xs) = elim (bool_cases (p x)) [
+any_filtered p q (x ∷ xs) = elim (cases_Bool (p x)) [
   | inl e ↦ rw e (ap (λ (b : Bool). q x || b) (any_filtered p q xs))
   | inr e ↦ rw e (any_filtered p q xs)
 ]
@@ -94,18 +92,14 @@ any_filtered p q (x ∷ xs) = elim (bool_cases (p x)) [
 -- one passes, at some place
 pub passes_at : {X : Type 0} (q : X → Bool) (xs : List X) → list_any q xs ≡ true → (i : ℕ) × ((x : X) × ((slice_get xs i ≡ Some x) × (q x ≡ true)))
 passes_at q [] h = absurd (cc)
-passes_at q (x ∷ xs) h = elim (bool_cases (q x)) [
+passes_at q (x ∷ xs) h = elim (cases_Bool (q x)) [
   | inl e ↦ (0, (x, (refl, e)))
   | inr e ↦ let r = passes_at q xs (rw e at h) in (suc r.0, (r.1.0, (r.1.1.0, r.1.1.1)))
 ]
 
-or_true : (b : Bool) → (b || true) ≡ true
-or_true true = refl
-or_true false = refl
-
 any_later : {Y : Type 0} (q : Y → Bool) (o : Option Y) (ys : List Y) → list_any q ys ≡ true → list_any q (cons_option o ys) ≡ true
 any_later q None ys h = h
-any_later q (Some w) ys h = ap (λ (b : Bool). q w || b) h ∙ or_true (q w)
+any_later q (Some w) ys h = ap (λ (b : Bool). q w || b) h ∙ or-true (q w)
 
 module _ {X Y : Type 0} (g : X → Option Y) (q : Y → Bool) where
   pub any_found_at : (xs : List X) (i : ℕ) (x : X) (y : Y) → slice_get xs i ≡ Some x → g x ≡ Some y → q y ≡ true → list_any q (filter_map g xs) ≡ true
@@ -120,7 +114,7 @@ module _ {X Y : Type 0} (g : X → Option Y) (q : Y → Bool) where
 
   found_next : (z : X) (xs : List X) (o : Option Y) → g z ≡ o → (list_any q (filter_map g xs) ≡ true → IsFoundAt xs) → list_any q (cons_option o (filter_map g xs)) ≡ true → IsFoundAt (z ∷ xs)
   found_next z xs None e again m = let r = again m in (suc r.0, r.1)
-  found_next z xs (Some w) e again m = elim (bool_cases (q w)) [
+  found_next z xs (Some w) e again m = elim (cases_Bool (q w)) [
     | inl t ↦ (0, (z, (w, (refl, (e, t)))))
     | inr t ↦ let r = again (rw t at m) in (suc r.0, r.1)
   ]
@@ -131,20 +125,14 @@ module _ {X Y : Type 0} (g : X → Option Y) (q : Y → Bool) where
 
 -- ---- versions
 
-pub one_text : (o p : Option (List ℕ)) → is_same_version o p ≡ true → o ≡ p
-one_text None None h = refl
-one_text None (Some y) h = absurd (cc)
-one_text (Some x) None h = absurd (cc)
-one_text (Some x) (Some y) h = ap Some ((bytes_eq-Decides x y).0 h)
-
 pub same_text : (o : Option (List ℕ)) → is_same_version o o ≡ true
 same_text None = refl
 same_text (Some x) = (bytes_eq-Decides x x).1 refl
 
 none_same : (v : Option (List ℕ)) (vs : List (Option (List ℕ))) → ((m : ℕ) → slice_get vs m ≡ Some v → ⊥) → list_any (is_same_version v) vs ≡ false
 none_same v [] out = refl
-none_same v (w ∷ vs) out = elim (bool_cases (is_same_version v w)) [
-  | inl e ↦ absurd (out 0 (ap Some (sym (one_text v w e))))
+none_same v (w ∷ vs) out = elim (cases_Bool (is_same_version v w)) [
+  | inl e ↦ absurd (out 0 (ap Some (sym (same_version v w e))))
   | inr e ↦ rw e (none_same v vs (λ m h. out (suc m) h))
 ]
 

@@ -1,21 +1,11 @@
 -- Places of candidates, one more at a time, and the candidates there.
 use Rattle.std.proofs.Common.{◌≡◌, inl, inr, ℕ, zero, suc, ◌+◌, ◌<◌, Bool, All, List, [], ◌∷◌, ◌++◌, length, take, refl, sym, ap, subst, ◌∙◌, arith}
 use Rattle.std.specs.Prelude.{Some, slice_get, if◌then◌else◌}
+use Rattle.std.proofs.lemmas.Bool.{cases_Bool}
 use Rattle.candidate_core.specs.Candidates.{Candidate}
 use Rattle.candidate_core.specs.Options.{places_from}
-use Rattle.candidate_core.proofs.OptionLists.{bool_cases}
 use Rattle.candidate_core.proofs.Steps.{take_one_more}
-
-places_snoc : (n : ℕ) (test : Candidate → Bool) (cs : List Candidate) (c : Candidate) → places_from n test (cs ++ c ∷ []) ≡ places_from n test cs ++ (if test c then (n + length cs) ∷ [] else [])
-places_snoc n test [] c = let z : n ≡ n + 0 = omega arith in ap (λ (k : ℕ). if test c then k ∷ [] else []) z
-places_snoc n test (d ∷ cs) c =
-    let z : suc n + length cs ≡ n + length (d ∷ cs) = omega arith in
-    let rest : places_from (suc n) test (cs ++ c ∷ []) ≡ places_from (suc n) test cs ++ (if test c then (n + length (d ∷ cs)) ∷ [] else []) =
-    places_snoc (suc n) test cs c ∙ ap (λ (k : ℕ). places_from (suc n) test cs ++ (if test c then k ∷ [] else [])) z in
-    elim (bool_cases (test d)) [
-      | inl e ↦ rw e (ap (λ (ps : List ℕ). n ∷ ps) rest)
-      | inr e ↦ rw e rest
-    ]
+use Rattle.candidate_core.proofs.OfferLists.{places_more}
 
 length_taken : (cs : List Candidate) (i : ℕ) (c : Candidate) → slice_get cs i ≡ Some c → length (take i cs) ≡ i
 length_taken [] zero c h = absurd (cc)
@@ -28,7 +18,7 @@ pub places_next : (test : Candidate → Bool) (cs : List Candidate) (i : ℕ) (c
 places_next test cs i c before after h was is =
     is ∙ (ap (λ (ps : List ℕ). ps ++ (if test c then i ∷ [] else [])) was
     ∙ (ap (λ (k : ℕ). places_from 0 test (take i cs) ++ (if test c then k ∷ [] else [])) (let z : 0 + length (take i cs) ≡ i = omega (arith, length_taken cs i c h) in sym z)
-    ∙ (sym (places_snoc 0 test (take i cs) c) ∙ ap (places_from 0 test) (sym (take_one_more cs i c h)))))
+    ∙ (sym (places_more 0 test (take i cs) c) ∙ ap (places_from 0 test) (sym (take_one_more cs i c h)))))
 
 -- the places are those of candidates
 all_first : (bound n : ℕ) (ns : List ℕ) → n < bound → All (λ place. place < bound) ns → All (λ place. place < bound) (n ∷ ns)
@@ -39,7 +29,7 @@ below_from : (n : ℕ) (test : Candidate → Bool) (cs : List Candidate) → All
 below_from n test [] = λ i d h. absurd (omega (arith, h))
 below_from n test (c ∷ cs) =
     let rest : All (λ place. place < n + length (c ∷ cs)) (places_from (suc n) test cs) = λ i d h. let r = below_from (suc n) test cs i d h in omega (arith, r) in
-    elim (bool_cases (test c)) [
+    elim (cases_Bool (test c)) [
       | inl e ↦ rw e (all_first (n + length (c ∷ cs)) n (places_from (suc n) test cs) (omega arith) rest)
       | inr e ↦ rw e rest
     ]

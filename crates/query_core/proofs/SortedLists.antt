@@ -8,9 +8,9 @@ use Rattle.std.specs.Ordering.{is_lt, ordering_reverse}
 use Rattle.std.specs.declared.cmp.Ordering.{Ordering}
 use Rattle.std.specs.declared.cmp.Ordering.TheVariants.{Less, Equal, Greater}
 use Rattle.std.proofs.lemmas.List.Sorted.{IsPermutation-sym, IsPermutation-trans}
+use Rattle.std.proofs.lemmas.Bool.{cases_Bool}
 use Rattle.base_core.specs.Sorted.{sorted_by}
 use Rattle.base_core.proofs.Sorting.{one_order, ranks, rises_in_order, rises_sorted, sorted_same}
-use Rattle.candidate_core.proofs.OptionLists.{bool_cases}
 use Rattle.option_ranks.proofs.MovedMembers.{moved_filter}
 
 both_not : (a b : Bool) → (not a && not b) ≡ true → (a ≡ false) × (b ≡ false)
@@ -25,7 +25,7 @@ copies (suc n) x = x ∷ copies n x
 same_elements : {X : Type 0} (p : X → Bool) (z : X) → ((x : X) → p x ≡ true → x ≡ z) → (xs : List X) → filter p xs ≡ copies (length (filter p xs)) z
 unfolding copies
 same_elements p z same [] = refl
-same_elements {X} p z same (x ∷ xs) = elim (bool_cases (p x)) [
+same_elements {X} p z same (x ∷ xs) = elim (cases_Bool (p x)) [
   | inl e ↦ rw e (ap (λ (y : X). y ∷ filter p xs) (same x e) ∙ ap (λ (ys : List X). z ∷ ys) (same_elements p z same xs))
   | inr e ↦ rw e (same_elements p z same xs)
 ]

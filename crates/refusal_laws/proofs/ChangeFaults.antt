@@ -4,7 +4,7 @@ use Rattle.std.specs.Prelude.{if◌then◌else◌}
 use Rattle.std.proofs.lemmas.Bool.{and_parts}
 use Rattle.adb_fields.specs.FirstPair.{IsIn}
 use Rattle.adb_view.specs.Plain.{Plain}
-use Rattle.adb_write.specs.Canonical.{PayloadCounts, canonical, empty_layout, or_overflow, overflow_of, passes, trace, written_of}
+use Rattle.adb_write.specs.Canonical.{PayloadCounts, empty_layout, overflow_of, passes, trace, written_of}
 use Rattle.base_core.specs.Files.{Files}
 use Rattle.change_files.specs.FileChange.{FileChange}
 use Rattle.change_files.specs.PlanLists.{first_reserved}
@@ -20,6 +20,7 @@ use Rattle.db_core.specs.Members.{Member, member_name}
 use Rattle.db_write.specs.NewDatabase.{database_container, database_of, database_value}
 use Rattle.file_owners.specs.Owners.{contested_of, owned_of}
 use Rattle.journal_intent.specs.IntentValue.{intent_of_lists, value_of_intent}
+use Rattle.journal_intent.proofs.Rooted.{payload_large}
 use Rattle.make_info.specs.Reads.{Reads}
 use Rattle.package_files.specs.Folders.{folder_of}
 use Rattle.package_changes.specs.Changes.{Replacement}
@@ -36,14 +37,6 @@ use Rattle.refusal_laws.proofs.Paths.{contested_is, first_reserved_is}
 
 pub too_large : (v : Plain) (counts : PayloadCounts) → overflow_of v ≡ Some counts → IsTooLarge v counts.0 counts.1
 too_large v counts e = (e, (found_in passes (trace v empty_layout) counts e).1)
-
-written_err : (v : Plain) (counts : PayloadCounts) → written_of v ≡ Err counts → overflow_of v ≡ Some counts
-unfolding written_of
-written_err v counts e = by_overflow (overflow_of v) refl e
-  where
-    by_overflow : (o : Option PayloadCounts) → overflow_of v ≡ o → or_overflow (canonical v) o ≡ Err counts → overflow_of v ≡ Some counts
-    by_overflow None is e = absurd (cc (e))
-    by_overflow (Some first) is e = let same : first ≡ counts = cc in is ∙ ap (λ (c : PayloadCounts). Some c) same
 
 database_err : (members : List Member) (flags : List Bool) (counts : PayloadCounts) → database_of members flags ≡ Err counts → written_of (database_value members flags) ≡ Err counts
 unfolding database_of
@@ -141,7 +134,7 @@ module _ (inputs : Inputs) (r : Replacement) (wishes : ChangeWishes) (files : Fi
         | inl first ↦ (let large = large_err (database_of change.members (owned_of change.members)) refusal first in
             result_fault large.0.0 large.0.1 refusal
             (inl (too_large (database_value change.members (owned_of change.members)) large.0
-            (written_err (database_value change.members (owned_of change.members)) large.0 (database_err change.members (owned_of change.members) large.0 large.1)))) large.2)
+            (payload_large (database_value change.members (owned_of change.members)) large.0 (database_err change.members (owned_of change.members) large.0 large.1)))) large.2)
         | inr next ↦ (let intent : Plain = value_of_intent (intent_of_lists (actions_of inputs change files (new_records inputs next.0)).removals (actions_of inputs change files (new_records inputs next.0)).writes) in
             let over = overflow_err (overflow_of intent) (change_done inputs r wishes found files (new_records inputs next.0)) refusal next.2 in
             result_fault over.0.0 over.0.1 refusal

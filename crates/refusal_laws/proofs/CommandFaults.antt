@@ -1,7 +1,7 @@
 -- A command that is refused has its fault.
-use Rattle.std.proofs.Common.{◌≡◌, inl, inr, ◌∙◌, ℕ, ◌+◌, Bool, true, false, List, [], ◌∷◌, length, Option, Some, None, Result, Ok, Err, refl, ap, subst, true≢false}
-use Rattle.std.specs.Prelude.{◌||◌, nat_lt, if◌then◌else◌}
-use Rattle.std.proofs.lemmas.Bool.{ltb-true}
+use Rattle.std.proofs.Common.{◌≡◌, inl, inr, ◌∙◌, ℕ, ◌+◌, Bool, true, false, List, [], ◌∷◌, length, Option, Some, None, Result, Ok, Err, refl, ap, subst}
+use Rattle.std.specs.Prelude.{nat_lt, if◌then◌else◌}
+use Rattle.std.proofs.lemmas.Bool.{ltb-true, or_parts}
 use Rattle.adb_fields.specs.FirstPair.{IsIn}
 use Rattle.base_core.specs.Files.{Files}
 use Rattle.change_inputs.specs.Candidates.{candidates_of, root_pool}
@@ -58,15 +58,11 @@ unknown_in is_known (o ∷ operands) place e = by_test (is_known o.text) refl e 
     by_test true k e more = let other = more e in (other.0, inr other.1, other.2, other.3)
     by_test false k e more = (o, inl refl, (let same : o.place ≡ place = cc in same), k)
 
-neither : (a b : Bool) → (a || b) ≡ false → (a ≡ false) × (b ≡ false)
-neither true b e = absurd (true≢false e)
-neither false b e = (refl, e)
-
 unknown_fault : (applet : Applet) (inputs : Inputs) (operands : List Operand) (place : ℕ) → unknown_operand_place applet inputs operands ≡ Some place
     → (o : Operand) × IsIn o operands × (o.place ≡ place) × IsUnknownTo applet inputs o.text
 unknown_fault Del inputs operands place e =
     let found = unknown_in (is_known_name inputs) operands place e in
-    (found.0, found.1, found.2, neither (has_name found.0.text inputs.root.world) (is_installed_name inputs found.0.text) found.3)
+    (found.0, found.1, found.2, or_parts (has_name found.0.text inputs.root.world) (is_installed_name inputs found.0.text) found.3)
 unknown_fault Upgrade inputs operands place e = unknown_in (is_installed_name inputs) operands place e
 unknown_fault Fix inputs operands place e = unknown_in (is_installed_name inputs) operands place e
 unknown_fault applet inputs operands place e = absurd (cc (e))

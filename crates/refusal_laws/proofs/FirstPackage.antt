@@ -19,9 +19,10 @@ use Rattle.change_outcome.specs.PackageFiles.{AddedPackage, first_script_of, pac
 use Rattle.db_core.specs.Packages.{is_package_named}
 use Rattle.file_owners.specs.Replaces.{version_text}
 use Rattle.base_core.specs.ByteOrder.{precedes}
+use Rattle.base_core.proofs.Orderings.{precedes_one_way}
 use Rattle.make_info.specs.Reads.{Reads}
 use Rattle.package_changes.specs.Changes.{Replacement, change_of_name, is_selected_named, names_on_both_sides, selected_version}
-use Rattle.path_clashes.proofs.PairOrder.{precedes_itself, precedes_one_way}
+use Rattle.path_clashes.proofs.PairOrder.{precedes_itself}
 use Rattle.pkg_core.specs.Whole.{package_fault}
 use Rattle.candidate_core.specs.Candidates.{Candidate, is_same_id}
 use Rattle.report_core.specs.Reports.{Change}

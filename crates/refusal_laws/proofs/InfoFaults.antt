@@ -1,5 +1,6 @@
 -- An `info` that is refused is refused for its fault.
 use Rattle.std.proofs.Common.{◌≡◌, inl, inr, ℕ, Bool, true, false, List, Option, Some, None, Result, Ok, Err, refl, subst}
+use Rattle.outcome.proofs.Lacking.{text_remembers}
 use Rattle.adb_schema.specs.Soundness.{first_fault}
 use Rattle.adb_view.specs.declared.tables.Which.TheVariants.{Idb}
 use Rattle.change_inputs.specs.Database.{payload_database, root_database}
@@ -16,7 +17,7 @@ use Rattle.v2_core.specs.Payload.{payload_of_text}
 use Rattle.v2_core.specs.declared.read.V2Fault.{V2Fault}
 use Rattle.v2_core.specs.declared.read.V2Fault.TheVariants.{Bad, Memory, TooLarge}
 use Rattle.refusal_laws.specs.InfoFaults.{AreOperandsFound, IsFaultOfDatabase, IsFaultOfInfo, IsFaultOfOperand}
-use Rattle.refusal_laws.proofs.InputFaults.{cause_err, text_remembers}
+use Rattle.refusal_laws.proofs.InputFaults.{cause_err}
 use Rattle.refusal_laws.proofs.InfoOperands.{operand_late, operand_refused, operands_told}
 use Rattle.refusal_laws.proofs.Lists.{and_then_err, and_then_ok}
 

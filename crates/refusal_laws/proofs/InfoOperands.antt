@@ -16,6 +16,7 @@ use Rattle.installed_info.specs.Form.{form_of}
 use Rattle.installed_info.specs.Info.{form_info, info_of, info_refusal, info_unless, operands_info}
 use Rattle.installed_info.specs.Packages.{package_asked, package_named, path_owner}
 use Rattle.installed_info.specs.declared.telling.ReportAndRefusal.{ReportAndRefusal}
+use Rattle.installed_info.proofs.Refusing.{unless_err}
 use Rattle.refusal_laws.specs.InfoFaults.{AreFoundInstalled, IsAskedFor, IsFirstNotInstalled, IsFoundInstalled}
 use Rattle.refusal_laws.proofs.Lists.{any_in, found_in, in_any, none_found}
 
@@ -85,10 +86,6 @@ not_there flags false false false true packages text e = none_named_there packag
 not_there flags false false false false packages text e = none_named_there packages text e
 
 -- ---- a report or a refusal
-
-unless_err : (refused : Option Refusal) (report : List ℕ) (refusal : Refusal) → info_unless refused report ≡ Err refusal → refused ≡ Some refusal
-unless_err None report refusal e = absurd (cc (e))
-unless_err (Some r) report refusal e = let same : r ≡ refusal = cc in ap Some same
 
 unless_ok : (refused : Option Refusal) (report : List ℕ) (done : ReportAndRefusal) → info_unless refused report ≡ Ok done → (refused ≡ None) × (done.following_refusal ≡ None)
 unless_ok None report done e = (refl, cc)

@@ -1,9 +1,9 @@
 -- A command that is refused for its input is refused for its fault.
 use Rattle.std.proofs.Common.{◌≡◌, inl, inr, ◌∙◌, ℕ, suc, ◌+◌, Bool, true, false, List, [], ◌∷◌, Option, Some, None, Result, Ok, Err, refl, ap, sym, subst, arith}
 use Rattle.std.specs.Prelude.{slice_get}
-use Rattle.adb_schema.specs.Soundness.{first_fault, payload_fault}
+use Rattle.outcome.proofs.Lacking.{text_remembers}
+use Rattle.adb_schema.specs.Soundness.{first_fault}
 use Rattle.adb_view.specs.declared.tables.Which.TheVariants.{Idb, Index}
-use Rattle.adb_write.specs.Canonical.{PayloadCounts, written_of}
 use Rattle.base_core.specs.declared.cause.Cause.{Cause}
 use Rattle.change_inputs.specs.Chains.{and_then, refused_as, unless_cause}
 use Rattle.change_inputs.specs.Database.{Database, payload_database, root_database}
@@ -19,36 +19,11 @@ use Rattle.make_info.specs.Reads.{Reads}
 use Rattle.report_core.specs.declared.refusal.Refusal.{Refusal}
 use Rattle.report_core.specs.declared.refusal.Refusal.TheVariants.{DatabaseBad, IndexBad, IndexMissing, NoDatabase, RepositoriesBad, ResultTooLarge, Untrusted, WorldBad}
 use Rattle.root_names.specs.RootNames.{database_name, text_database_name, world_name}
-use Rattle.v2_core.specs.Database.{value_of_records}
-use Rattle.v2_core.specs.Payload.{or_too_large, payload_if_sound, payload_of_text, unless_bad, written_payload}
-use Rattle.v2_core.specs.Reading.{records_of}
-use Rattle.v2_core.specs.Records.{Record}
+use Rattle.v2_core.specs.Payload.{payload_of_text}
 use Rattle.v2_core.specs.declared.read.V2Fault.{V2Fault}
 use Rattle.v2_core.specs.declared.read.V2Fault.TheVariants.{Bad, Memory, TooLarge}
 use Rattle.refusal_laws.specs.InputFaults.{IsFaultOfInput, IsIndexRead, repositories_found}
 use Rattle.refusal_laws.proofs.Lists.{and_then_err, and_then_ok}
-
--- ---- a text is never refused for want of memory
-
-bad_remembers : (payload : List ℕ) (cause : Option Cause) → unless_bad payload cause ≡ Err Memory → ⊥
-bad_remembers payload None e = cc (e)
-bad_remembers payload (Some cause) e = cc (e)
-
-large_remembers : (r : Result (List ℕ) PayloadCounts) → or_too_large r ≡ Err Memory → ⊥
-large_remembers (Ok payload) e = cc (e)
-large_remembers (Err counts) e = cc (e)
-
-written_remembers : (r : Result (List Record) ℕ) → written_payload r ≡ Err Memory → ⊥
-written_remembers (Ok records) e = large_remembers (written_of (value_of_records records)) e
-written_remembers (Err line) e = cc (e)
-
-tested_remembers : (r : Result (List ℕ) V2Fault) → (r ≡ Err Memory → ⊥) → payload_if_sound r ≡ Err Memory → ⊥
-tested_remembers (Ok payload) h e = bad_remembers payload (payload_fault Idb payload) e
-tested_remembers (Err fault) h e = h e
-
-pub text_remembers : (text : List ℕ) → payload_of_text text ≡ Err Memory → ⊥
-unfolding payload_of_text
-text_remembers text e = tested_remembers (written_payload (records_of text)) (written_remembers (records_of text)) e
 
 -- ---- chains
 

@@ -1,5 +1,5 @@
 -- The first reserved path, and the first path that no package owns.
-use Rattle.std.proofs.Common.{◌≡◌, inl, inr, ◌∙◌, ℕ, zero, ◌+◌, ◌==◌, ◌⊎◌, Bool, true, false, cond, List, [], ◌∷◌, map, Option, Some, None, refl, ap, ap₂, sym, subst, true≢false, arith}
+use Rattle.std.proofs.Common.{◌≡◌, inl, inr, ◌∙◌, ℕ, zero, ◌+◌, ◌==◌, ◌⊎◌, Bool, true, false, cond, List, [], ◌∷◌, map, Option, Some, None, refl, ap, ap₂, sym, subst, true≢false}
 use Rattle.std.specs.Prelude.{not, ◌||◌, bytes_eq, is_none, is_some, option_and_then, option_map, slice_get}
 use Rattle.std.specs.Option.{option_map_or}
 use Rattle.std.specs.List.{filter, find}
@@ -10,7 +10,7 @@ use Rattle.std.proofs.lemmas.Slice.Eq.{bytes_eq-Decides}
 use Rattle.adb_fields.specs.FirstPair.{IsIn}
 use Rattle.adb_schema.specs.Reserved.{is_reserved}
 use Rattle.base_core.proofs.Rising as Names
-use Rattle.change_files.proofs.InOrder.{from_filter, in_filter}
+use Rattle.change_files.proofs.InOrder.{from_filter, in_filter, in_sorted, from_sorted}
 use Rattle.change_files.specs.NamesAfter.{added_paths}
 use Rattle.change_files.specs.PlanLists.{first_reserved}
 use Rattle.change_outcome.specs.ChangeOutcome.{name_at_place}
@@ -22,8 +22,9 @@ use Rattle.base_core.specs.ByteOrder.{bytes_cmp, precedes, smallest_text}
 use Rattle.base_core.specs.Sorted.{sorted_by}
 use Rattle.base_core.proofs.Smallest.{smallest_first}
 use Rattle.base_core.proofs.Sorting.{Each, Rises, ranks, rises_in_order}
+use Rattle.base_core.proofs.Numbers.{same_number}
 use Rattle.own_core.proofs.Listings.{IsPlaced, each_placed}
-use Rattle.own_core.proofs.NamesOnce.{in_sorted_names, not_below, sorted_names_in}
+use Rattle.own_core.proofs.NamesOnce.{not_below}
 use Rattle.path_claims.specs.Claims.{ContestedPath, claimants, contested_at, contested_by, contested_path, is_of_path, owner_by}
 use Rattle.path_claims.specs.Contest.{beats_each, first_rivals, rivals_of, winner}
 use Rattle.path_claims.specs.declared.contest.Rivals.{Rivals}
@@ -57,8 +58,8 @@ smallest_is xs x e = by_list (sorted_by bytes_cmp xs) refl (sym (smallest_first 
     by_list [] is e up = absurd (cc (e))
     by_list (y ∷ ys) is e up =
         let same : y ≡ x = cc in (
-          in_sorted_names x xs (subst (λ zs. Names.IsIn x zs) (sym is) (inl (sym same))),
-          λ q here. found_is_first (λ z. true) (y ∷ ys) x up e q (subst (λ zs. Names.IsIn q zs) is (sorted_names_in q xs here)) refl,
+          from_sorted x xs (subst (λ zs. Names.IsIn x zs) (sym is) (inl (sym same))),
+          λ q here. found_is_first (λ z. true) (y ∷ ys) x up e q (subst (λ zs. Names.IsIn q zs) is (in_sorted q xs here)) refl,
         )
 
 pub first_reserved_is : (members : List Member) (path : List ℕ) → first_reserved members ≡ Some path → IsFirstReserved members path
@@ -73,7 +74,7 @@ first_reserved_is members path e =
     }
 
 none_smallest : (xs : List (List ℕ)) (q : List ℕ) → smallest_text xs ≡ None → Names.IsIn q xs → ⊥
-none_smallest xs q e here = by_list (sorted_by bytes_cmp xs) (sym (smallest_first xs) ∙ e) (sorted_names_in q xs here)
+none_smallest xs q e here = by_list (sorted_by bytes_cmp xs) (sym (smallest_first xs) ∙ e) (in_sorted q xs here)
   where
     by_list : (ys : List (List ℕ)) → slice_get ys zero ≡ None → Names.IsIn q ys → ⊥
     by_list [] e here = here
@@ -110,9 +111,6 @@ neither true b e = absurd (true≢false (sym e))
 neither false true e = absurd (true≢false (sym e))
 neither false false e = (refl, refl)
 
-eq_itself : (n : ℕ) → (n == n) ≡ true
-eq_itself n = grind arith
-
 record AreRivals (beats : ℕ → ℕ → Bool) (ms : List ℕ) (rivals : Rivals) : Type 0 where
   first : IsIn rivals.first ms
   second : IsIn rivals.second ms
@@ -133,7 +131,7 @@ rivals_are beats (x ∷ ms) rivals e = by_found (find (λ y. not ((x == y) || be
         subst (AreRivals beats (x ∷ ms)) same (record {
           first = inl refl;
           second = found.0;
-          apart = λ is. true≢false (sym (ap (λ z. x == z) (sym is) ∙ eq_itself x) ∙ both.0);
+          apart = λ is. true≢false (sym (ap (λ z. x == z) (sym is) ∙ same_number x) ∙ both.0);
           located = both.1;
         })
 
@@ -182,7 +180,7 @@ module _ (members : List Member) where
       by_test true t =
           let ms : List ℕ = claimants (claims_in members) path in
           let each : beats_each (member_beats members) ms x ≡ true = all_pass (λ z. (x == z) || member_beats members x z) ms (λ z there. elim (two z there) [
-            | inl is ↦ or_left (x == z) (member_beats members x z) (ap (λ w. x == w) is ∙ eq_itself x)
+            | inl is ↦ or_left (x == z) (member_beats members x z) (ap (λ w. x == w) is ∙ same_number x)
             | inr is ↦ or_right (x == z) (member_beats members x z) (ap (member_beats members x) is ∙ t)
           ]) in
           absurd (true≢false (sym each ∙ none_found (beats_each (member_beats members) ms) ms x unowned here))
@@ -200,7 +198,7 @@ module _ (members : List Member) where
         unowned = sym (owner_is members path) ∙ none_is (owner_by_claims path) (found_in test (sorted_by bytes_cmp paths) path found).1;
         first = λ l here before. owned_or_not l.path (λ none.
             true≢false (sym before ∙ found_is_first test (sorted_by bytes_cmp paths) path (rises_in_order bytes_cmp nat_list_cmp_total paths) found l.path
-            (sorted_names_in l.path paths (listing_claimed 0 (member_listings members) l here)) none));
+            (in_sorted l.path paths (listing_claimed 0 (member_listings members) l here)) none));
         by_one = one.0;
         lists_one = record { listed = one.1; of_path = one.2; by = sym (listed_by rivals.first one.0 one.1 one.3) };
         by_other = other.0;
@@ -258,12 +256,12 @@ module _ (members : List Member) where
       by_path : (o : Option (List ℕ)) → contested_path (member_beats members) (claims_in members) ≡ o → option_and_then (contested_at (member_beats members) (claims_in members)) o ≡ None → is_some (owner_of_path members l.path) ≡ true
       by_path None is e =
           let paths : List (List ℕ) = map (λ c. c.path) (claims_in members) in
-          let sorted : Names.IsIn l.path (sorted_by bytes_cmp paths) = sorted_names_in l.path paths (listing_claimed 0 (member_listings members) l here) in
+          let sorted : Names.IsIn l.path (sorted_by bytes_cmp paths) = in_sorted l.path paths (listing_claimed 0 (member_listings members) l here) in
           owned_where l.path (none_found (λ p. is_none (owner_by_claims p)) (sorted_by bytes_cmp paths) l.path is (name_in l.path (sorted_by bytes_cmp paths) sorted))
       by_path (Some path) is e =
           let paths : List (List ℕ) = map (λ c. c.path) (claims_in members) in
           let passes = found_in (λ p. is_none (owner_by_claims p)) (sorted_by bytes_cmp paths) path is in
-          let claimed : Names.IsIn path paths = in_sorted_names path paths (in_names path (sorted_by bytes_cmp paths) passes.0) in
+          let claimed : Names.IsIn path paths = from_sorted path paths (in_names path (sorted_by bytes_cmp paths) passes.0) in
           let some = some_claimant path 0 (member_listings members) claimed in
           absurd (rivals_told (member_beats members) (claimants (claims_in members) path) some.0 some.1 (none_is (owner_by_claims path) passes.1)
           (no_rivals (first_rivals (member_beats members) (claimants (claims_in members) path)) e))

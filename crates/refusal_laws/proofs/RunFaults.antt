@@ -16,13 +16,11 @@ use Rattle.outcome.specs.Given.{IsChosenFor, IsClashBy}
 use Rattle.outcome.specs.Outcome.{Outcome, just_refusal}
 use Rattle.outcome.specs.Work.{fault_of_intent}
 use Rattle.outcome.proofs.Applets.{change_is}
+use Rattle.outcome.proofs.IntentRefusals.{some_same}
 use Rattle.report_core.specs.declared.refusal.Refusal.{Refusal}
 use Rattle.report_core.specs.declared.refusal.Refusal.TheVariants.{IntentBad}
 use Rattle.refusal_laws.specs.RunFaults.{IsFaultOfRun, IsFaultOver}
 use Rattle.refusal_laws.proofs.CommandFaults.{command_fault}
-
-some_same : (a b : Refusal) → Some a ≡ Some b → a ≡ b
-some_same a b e = cc (e)
 
 -- a refused outcome of a change is that of a refusal
 refused_is : (files : Files) (c : Result ChangeDone Refusal) (refusal : Refusal) → (change_outcome files c).refusal ≡ Some refusal → c ≡ Err refusal

@@ -1,6 +1,7 @@
 -- What holds of a change that has passed tests.
 use Rattle.std.proofs.Common.{◌≡◌, inl, inr, ◌∙◌, ℕ, Bool, true, false, List, [], ◌∷◌, map, Option, Some, None, Result, Ok, Err, refl, ap, sym, subst, true≢false}
-use Rattle.std.specs.Prelude.{◌&&◌, if◌then◌else◌}
+use Rattle.std.specs.Prelude.{if◌then◌else◌}
+use Rattle.std.proofs.lemmas.Bool.{and_from}
 use Rattle.adb_fields.specs.FirstPair.{IsIn}
 use Rattle.adb_view.specs.Plain.{Plain}
 use Rattle.base_core.specs.Files.{Files}
@@ -31,16 +32,13 @@ use Rattle.refusal_laws.proofs.Paths.{are_unreserved, have_owners}
 
 -- ---- triggers
 
-both_hold : (a b : Bool) → a ≡ true → b ≡ true → (a && b) ≡ true
-both_hold a b h g = ap (λ x. x && b) h ∙ g
-
 is_due_where : (change : FileChange) (files : Files) (pkg : Plain) → has_script_of pkg TRIGGER_SCRIPT ≡ true → IsWatchedFor change files pkg → has_due_trigger (folders_of_paths (touched_paths change files)) pkg ≡ true
 is_due_where change files pkg has watched =
     let folders : List (List ℕ) = map folder_of (touched_paths change files) in
     let folder : List ℕ = folder_of watched.path in
     in_any (is_due pkg) (folders_of_paths (touched_paths change files)) folder
     (name_in folder (folders_of_paths (touched_paths change files)) (in_order folder folders (in_mapped folder_of (touched_paths change files) watched.path watched.touched)))
-    (both_hold (has_script_of pkg TRIGGER_SCRIPT) (is_watched pkg folder) has (in_any (is_folder_matched folder) (patterns_of pkg) watched.pattern watched.is_pattern watched.matched))
+    (and_from (has_script_of pkg TRIGGER_SCRIPT) (is_watched pkg folder) has (in_any (is_folder_matched folder) (patterns_of pkg) watched.pattern watched.is_pattern watched.matched))
 
 none_due : (paths : List (List ℕ)) (members : List Member) (is_allowed : Bool) → unless_trigger false paths members ≡ Ok is_allowed → (m : Member) → IsIn m members → has_due_trigger (folders_of_paths paths) m.pkg ≡ true → ⊥
 none_due paths [] is_allowed e m here due = here

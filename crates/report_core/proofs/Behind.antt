@@ -3,9 +3,11 @@ use Rattle.std.proofs.Common.{◌≡◌, ◌∙◌, ℕ, List, ◌++◌, Option,
 use Rattle.base_core.specs.Faults.{Counts, CountsOnlyRise, IsNoFault}
 use Rattle.base_core.specs.Sink.{Adds, SinkChange}
 use Rattle.base_core.specs.Write.{Writes}
+use Rattle.base_core.proofs.Counting.{goes_on_twice, no_fault_twice}
+use Rattle.base_core.proofs.Added.{Adds-more}
 use Rattle.report_core.specs.Texts.{package_text}
-use Rattle.report_core.proofs.Counting.{goes_on_twice, no_fault_twice, fails_after}
-use Rattle.report_core.proofs.Fronts.{Adds-then, AddsSome-grows, AddsSome-after}
+use Rattle.report_core.proofs.Counting.{fails_after}
+use Rattle.report_core.proofs.Fronts.{AddsSome-grows, AddsSome-after}
 
 -- what a sink makes of a call, from one moment to another
 abbrev pub Between : Option (List ℕ) → Counts → Option (List ℕ) → Counts → SinkChange
@@ -22,12 +24,12 @@ pub done_by : {T E : Type 0} (text : List ℕ) (sink : SinkChange) (x : T) → W
 done_by text sink x w = record { added = w.ok; goes_on = w.cause.goes_on; kept = w.cause.kept; proper = w.cause.proper }
 
 pub done_then : (a b : List ℕ) (t0 t1 t2 : Option (List ℕ)) (c0 c1 c2 : Counts) → IsDone a (Between t0 c0 t1 c1) → IsDone b (Between t1 c1 t2 c2) → IsDone (a ++ b) (Between t0 c0 t2 c2)
-done_then a b t0 t1 t2 c0 c1 c2 h k = record { added = Adds-then t0 t1 t2 a b h.added k.added; goes_on = goes_on_twice c0 c1 c2 h.goes_on k.goes_on; kept = no_fault_twice c0 c1 c2 h.kept k.kept; proper = k.proper ∙ h.proper }
+done_then a b t0 t1 t2 c0 c1 c2 h k = record { added = Adds-more t0 t1 t2 a b h.added k.added; goes_on = goes_on_twice c0 c1 c2 h.goes_on k.goes_on; kept = no_fault_twice c0 c1 c2 h.kept k.kept; proper = k.proper ∙ h.proper }
 
 pub written_behind : {T E : Type 0} (a b : List ℕ) (t0 t1 t2 : Option (List ℕ)) (c0 c1 c2 : Counts) (result : Result T E)
     → IsDone a (Between t0 c0 t1 c1) → Writes b (Between t1 c1 t2 c2) result → Writes (a ++ b) (Between t0 c0 t2 c2) result
 written_behind a b t0 t1 t2 c0 c1 c2 (Ok x) h k = record {
-  ok = Adds-then t0 t1 t2 a b h.added k.ok;
+  ok = Adds-more t0 t1 t2 a b h.added k.ok;
   err = tt;
   cause = record { goes_on = goes_on_twice c0 c1 c2 h.goes_on k.cause.goes_on; cause = tt; kept = no_fault_twice c0 c1 c2 h.kept k.cause.kept; proper = k.cause.proper ∙ h.proper };
 }

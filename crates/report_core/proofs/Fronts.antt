@@ -1,15 +1,11 @@
 -- A front of several texts.
 use Rattle.std.proofs.Common.{◌≡◌, ◌<◌, ◌+◌, ◌/◌, ◌%◌, ℕ, List, [], ◌∷◌, ◌++◌, length, take, drop, get_or, slice_index, Option, Some, None, refl, sym, ap, ◌∙◌, append_assoc, append-nil, take-append-drop, subst}
 use Rattle.std.proofs.lemmas.List.{take_more}
-use Rattle.std.specs.Option.{option_map}
 use Rattle.base_core.specs.Sink.{Adds, AddsSome}
 use Rattle.hex.specs.Hex.{encode_with, encode_lower, lower_digits}
+use Rattle.base_core.proofs.Added.{Adds-more}
 use Rattle.report_core.specs.Pieces.{piece_text, pieces_text}
 use Rattle.report_core.specs.declared.lines.Piece.{Piece}
-
-pub Adds-then : (old mid new : Option (List ℕ)) (a b : List ℕ) → Adds old mid a → Adds mid new b → Adds old new (a ++ b)
-Adds-then None mid new a b h k = k ∙ ap (option_map (λ x. x ++ b)) h
-Adds-then (Some x) mid new a b h k = k ∙ ap (option_map (λ x. x ++ b)) h ∙ ap Some (append_assoc x a b)
 
 -- more might have followed
 pub AddsSome-grows : (old new : Option (List ℕ)) (bytes more : List ℕ) → AddsSome old new bytes → AddsSome old new (bytes ++ more)
@@ -17,7 +13,7 @@ AddsSome-grows old new bytes more h = record { front = h.front; rest = h.rest ++
 
 -- something came before
 pub AddsSome-after : (old mid new : Option (List ℕ)) (a b : List ℕ) → Adds old mid a → AddsSome mid new b → AddsSome old new (a ++ b)
-AddsSome-after old mid new a b h k = record { front = a ++ k.front; rest = k.rest; whole = ap (λ x. a ++ x) k.whole ∙ sym (append_assoc a k.front k.rest); added = Adds-then old mid new a k.front h k.added }
+AddsSome-after old mid new a b h k = record { front = a ++ k.front; rest = k.rest; whole = ap (λ x. a ++ x) k.whole ∙ sym (append_assoc a k.front k.rest); added = Adds-more old mid new a k.front h k.added }
 
 -- ---- a text of a list, which has the texts of its entries one behind another
 
@@ -33,7 +29,7 @@ text-split text chains xs i = ap text (sym (take-append-drop i xs)) ∙ chains (
 pub added-more : {A : Type 0} (text : List A → List ℕ) → Chains text → (old mid new : Option (List ℕ)) (xs : List A) (i : ℕ) (d : A) (bytes : List ℕ) → bytes ≡ text (get_or xs i d ∷ [])
     → i < length xs → Adds old mid (text (take i xs)) → Adds mid new bytes → Adds old new (text (take (i + 1) xs))
 added-more text chains old mid new xs i d bytes is lt h k =
-    subst (Adds old new) (ap (λ b. text (take i xs) ++ b) is ∙ sym (text-more text chains xs i d lt)) (Adds-then old mid new (text (take i xs)) bytes h k)
+    subst (Adds old new) (ap (λ b. text (take i xs) ++ b) is ∙ sym (text-more text chains xs i d lt)) (Adds-more old mid new (text (take i xs)) bytes h k)
 
 pub front-more : {A : Type 0} (text : List A → List ℕ) → Chains text → (old mid new : Option (List ℕ)) (xs : List A) (i : ℕ) (d : A) (bytes : List ℕ) → bytes ≡ text (get_or xs i d ∷ [])
     → i < length xs → Adds old mid (text (take i xs)) → AddsSome mid new bytes → AddsSome old new (text xs)

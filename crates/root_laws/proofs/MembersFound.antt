@@ -14,6 +14,7 @@ use Rattle.adb_view.specs.declared.tables.Which.TheVariants.{Package}
 use Rattle.adb_view.specs.Plain.{Plain}
 use Rattle.base_core.specs.declared.cause.Cause.{Cause}
 use Rattle.base_core.proofs.Rising as Names
+use Rattle.base_core.proofs.Causes.{first_none}
 use Rattle.change_files.proofs.InOrder.{order_rises}
 use Rattle.change_inputs.specs.Chains.{and_then}
 use Rattle.change_inputs.specs.Inputs.{first_index_read}
@@ -60,10 +61,6 @@ found_in test (y ∷ ys) x e = by_test (test y) refl e (found_in test ys x)
     by_test : (b : Bool) → test y ≡ b → cond b (Some y) (find test ys) ≡ Some x → (find test ys ≡ Some x → IsIn x ys × (test x ≡ true)) → IsIn x (y ∷ ys) × (test x ≡ true)
     by_test true t e more = let same : y ≡ x = cc in (inl (sym same), ap test (sym same) ∙ t)
     by_test false t e more = let behind = more e in (inr behind.0, behind.1)
-
-first_none : (a b : Option Cause) → option_or a b ≡ None → a ≡ None
-first_none None b e = refl
-first_none (Some cause) b e = absurd (cc (e))
 
 some_same : {X : Type 0} (x y : X) → Some x ≡ Some y → x ≡ y
 some_same x y e = (cc)

@@ -1,5 +1,5 @@
 -- The packages that a text database says are of a sound database.
-use Rattle.std.proofs.Common.{◌≡◌, ◌∙◌, ℕ, ◌≤◌, ◌||◌, Bool, true, false, List, Option, Some, None, Result, Ok, Err, refl, sym, ap, subst}
+use Rattle.std.proofs.Common.{◌≡◌, ◌∙◌, ℕ, ◌≤◌, false, List, Option, Some, None, Result, Ok, Err, refl, sym, ap, subst}
 use Rattle.std.specs.Prelude.{is_some, unwrap_or}
 use Rattle.std.proofs.lemmas.Bool.{ltb-false}
 use Rattle.adb_schema.specs.Soundness.{payload_fault, root_value}
@@ -13,6 +13,7 @@ use Rattle.adb_view.specs.Shaped.{HasShape}
 use Rattle.adb_write.specs.Canonical.{MOST_BYTES, PayloadCounts, canonical, or_overflow, overflow_of, passes, written_of}
 use Rattle.adb_write.specs.Size.{size_of, value_count}
 use Rattle.base_core.specs.declared.cause.Cause.{Cause}
+use Rattle.base_core.proofs.Booleans.{neither_first}
 use Rattle.v2_core.specs.Database.{value_of_records}
 use Rattle.v2_core.specs.Payload.{or_too_large, payload_of_text, payload_if_sound, unless_bad, written_payload}
 use Rattle.v2_core.specs.Reading.{records_of}
@@ -29,10 +30,6 @@ abbrev pub Exact : Type 0
 Exact = (v : Plain) → IsNormal v → is_some (overflow_of v) ≡ passes (size_of v, value_count v)
 
 -- ---- a payload that is written
-
-both_false : (a b : Bool) → (a || b) ≡ false → a ≡ false
-both_false false b e = refl
-both_false true b e = (cc)
 
 abbrev kept : List ℕ → Result (List ℕ) V2Fault
 kept payload = Ok payload
@@ -57,7 +54,7 @@ module _ (back : ReadBack) (exact : Exact) where
   unfolding written_of
   written_normal v payload fit e =
       let written = written_ok v (overflow_of v) payload e in
-      let few : size_of v ≤ MOST_BYTES = ltb-false MOST_BYTES (size_of v) (both_false _ _ (sym (exact v fit.0) ∙ written.0)) in
+      let few : size_of v ≤ MOST_BYTES = ltb-false MOST_BYTES (size_of v) (neither_first _ _ (sym (exact v fit.0) ∙ written.0)) in
       subst (λ (p : List ℕ). IsNormal (root_value Tables.Idb p)) written.1
       (subst IsNormal (sym (root_is (canonical v) v (back (shape_of (Obj Tables.Idb)) v fit.0 fit.1 few))) fit.0)
 

@@ -1,7 +1,8 @@
 -- No path that a package which stays lists is reserved.
 use Rattle.std.proofs.Common.{◌≡◌, inl, inr, ◌∙◌, ℕ, ◌+◌, Bool, true, false, cond, List, [], ◌∷◌, ◌++◌, map, refl, ap, sym, subst, true≢false}
-use Rattle.std.specs.Prelude.{not, Option, Some, None, is_some, if◌then◌else◌}
+use Rattle.std.specs.Prelude.{Option, Some, None, is_some, if◌then◌else◌}
 use Rattle.std.specs.List.{filter}
+use Rattle.std.proofs.lemmas.Bool.{not-true}
 use Rattle.adb_view.specs.Plain.{Plain, Plains, none, more}
 use Rattle.adb_view.specs.Shaped.{Each}
 use Rattle.adb_view.specs.Values.{entries_in, entry_in}
@@ -38,17 +39,13 @@ each_in P v none h here = absurd here
 each_in P v (more u us) h (inl is) = subst P (sym is) h.0
 each_in P v (more u us) h (inr here) = each_in P v us h.1 here
 
-not_true : (b : Bool) → not b ≡ true → b ≡ false
-not_true true e = absurd (true≢false (sym e))
-not_true false e = refl
-
 -- ---- of a package in a database
 
 abbrev IsFree : Listing → Type 0
 IsFree l = is_reserved l.path ≡ false
 
 file_free : (folder : List ℕ) (v : Plain) → IsFileOf Idb folder v → is_reserved (path_of folder (name_of v)) ≡ false
-file_free folder v is = not_true (is_reserved (path_of folder (name_of v))) is.listed
+file_free folder v is = not-true (is_reserved (path_of folder (name_of v))) is.listed
 
 folder_free : (m : Member) (place folder i : ℕ) (above : List ℕ) (vs : Plains) → Each (IsFileOf Idb above) vs → EachListing IsFree (listings_in_folder m place folder i above (list_of vs))
 folder_free m place folder i above none h = tt

@@ -142,7 +142,7 @@ impl Unescaped {
         }
     }
 
-    /// Has the last byte stand so many times.
+    /// Repeats the last byte: it then stands `times` times.
     fn repeat(&mut self, times: usize) -> Result<(), AllocError> {
         match self.bytes.pop() {
             Some(byte) => self.add_times(times, byte),

@@ -128,7 +128,7 @@ impl<'a, P: Program> Swept<'a, P> {
         Ok(self.run_over(alloc, tree))
     }
 
-    /// The last run is whole, and a stop before it left the files of behind where these are others.
+    /// The last run is whole. If the command changes files, an earlier stop has left the new ones.
     fn check_end_of_stops(&self, alloc: Global, new_seen: bool, run: &Run) -> Result<(), RowFault> {
         if !new_seen && !self.sides.are_alike(alloc)? {
             let what: &[u8] = b"no stop leaves the files of behind";

@@ -3,12 +3,12 @@ use Rattle.std.proofs.Common.{◌≡◌, ◌∙◌, ℕ, Bool, true, false, List
 use Rattle.std.specs.Prelude.{if◌then◌else◌, IsTrue}
 use Rattle.std.specs.Str.{bytes_eq}
 use Rattle.std.proofs.lemmas.Bool.{false≢true}
-use Rattle.std.proofs.lemmas.Slice.Eq.{bytes_eq-Decides}
 use Rattle.adb_schema.specs.Reserved.{is_reserved}
 use Rattle.adb_schema.specs.Soundness.{first_fault, payload_in, root_value}
 use Rattle.adb_view.specs.declared.tables.Which.TheVariants.{Intent as IntentTable}
 use Rattle.base_core.specs.Files.{Files}
 use Rattle.base_core.specs.declared.cause.Cause.{Cause}
+use Rattle.base_core.proofs.NameParts.{other_bytes}
 use Rattle.change_inputs.specs.Chains.{and_then}
 use Rattle.change_inputs.specs.Inputs.{Inputs}
 use Rattle.change_outcome.specs.ChangeOutcome.{ChangeDone, ChangeWishes, change_or_refusal}
@@ -83,20 +83,13 @@ module _ (gone : BringsNoIntent) where
 
 -- ---- what is made
 
-not_same : (p q : List ℕ) → (p ≡ q → ⊥) → bytes_eq p q ≡ false
-not_same p q other = by (bytes_eq p q) refl
-  where
-    by : (b : Bool) → bytes_eq p q ≡ b → bytes_eq p q ≡ false
-    by true is = absurd (other ((bytes_eq-Decides p q).0 is))
-    by false is = is
-
 not_reserved : (name : List ℕ) → is_reserved name ≡ false → intent_name ≡ name → ⊥
 not_reserved name free is = false≢true (sym free ∙ ap is_reserved (sym is))
 
 with_other : (name bytes : List ℕ) (files : Files) → is_reserved name ≡ false → replaced_files name bytes files intent_name ≡ files intent_name
 with_other name bytes files free =
-    ap (λ (b : Bool). if b then Some bytes else (if bytes_eq intent_name (scratch_of name) then None else files intent_name)) (not_same intent_name name (not_reserved name free))
-    ∙ ap (λ (b : Bool). if b then None else files intent_name) (not_same intent_name (scratch_of name) (no_scratch name))
+    ap (λ (b : Bool). if b then Some bytes else (if bytes_eq intent_name (scratch_of name) then None else files intent_name)) (other_bytes intent_name name (not_reserved name free))
+    ∙ ap (λ (b : Bool). if b then None else files intent_name) (other_bytes intent_name (scratch_of name) (no_scratch name))
 
 made_by : (name bytes report : List ℕ) (files : Files) → files intent_name ≡ None → (b : Bool) → is_reserved name ≡ b
     → Brings (if b then just_refusal files (Reserved name) else commit_report (files_with_output (Some name) bytes files) report)

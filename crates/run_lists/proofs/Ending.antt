@@ -2,10 +2,10 @@
 use Rattle.std.proofs.Common.{◌≡◌, inl, inr, ℕ, Bool, true, false, List, Option, None, Some, refl, sym, ap, subst, ◌∙◌}
 use Rattle.std.specs.Prelude.{is_some, not}
 use Rattle.std.proofs.lemmas.Bool.{false≢true}
-use Rattle.apk_front.specs.Answers.{answer_by}
 use Rattle.apk_front.specs.Moments.{AnswersOutcome, CommitsNothing, IsDurableState, ignored_but}
 use Rattle.apk_front.specs.declared.answer.Answer.{Answer}
 use Rattle.apk_front.specs.declared.answer.Answer.TheVariants.{Ok as Done, Refused, TreeFault, OutFault, Memory}
+use Rattle.apk_front.proofs.Carried.{no_refusal}
 use Rattle.base_core.specs.Calls.{HoldsNow}
 use Rattle.base_core.specs.Undone.{IsDurable}
 use Rattle.base_core.specs.Files.{Files}
@@ -23,12 +23,8 @@ use Rattle.run_lists.proofs.Facts.{AreMore, Facts, Ignored}
 use Rattle.run_lists.proofs.Names.{but_fewer, output_makes}
 use Rattle.run_lists.proofs.OneRun.{Told, answered, idle_end}
 
-not_refused : (refusal : Option Refusal) → Done ≡ answer_by refusal → refusal ≡ None
-not_refused None is = refl
-not_refused (Some r) is = cc
-
 done_not_refused : (o : Outcome) → Told Done o → o.refusal ≡ None
-done_not_refused o (inl is) = not_refused o.refusal is
+done_not_refused o (inl is) = no_refusal o.refusal is
 done_not_refused o (inr is) = cc
 
 -- What is said of ignored names and of a state: it holds at rest, and for more names.

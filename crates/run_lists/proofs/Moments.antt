@@ -2,18 +2,19 @@
 use Rattle.std.proofs.Common.{◌≡◌, ◌⊎◌, inl, inr, ⊎_elim, ℕ, Bool, true, false, ◌||◌, List, [], ◌∷◌, ◌++◌, Option, Some, None, refl, sym, ap, subst, ◌∙◌, arith}
 use Rattle.std.specs.Prelude.{IsSome}
 use Rattle.std.specs.Str.{bytes_eq}
-use Rattle.std.proofs.lemmas.Bool.{false≢true}
-use Rattle.std.proofs.lemmas.Slice.Eq.{bytes_eq-Decides}
+use Rattle.std.proofs.lemmas.Bool.{false≢true, or_from}
 use Rattle.apk_front.specs.Moments.{AreReadDuringRun, IsRecoveringOrNext, IsReadExceptDrafts, IsReadDuringWork, NamesAreDurableWithoutIntentExcept, is_draft_name, output_names}
 use Rattle.base_core.specs.Calls.{HoldsNow}
-use Rattle.base_core.specs.Crash.{CrashMayLeave}
 use Rattle.base_core.specs.Files.{Files, NameMap}
 use Rattle.base_core.specs.Tree.{File, TreeState, bytes_at, files_of}
 use Rattle.base_core.specs.Undone.{IsDurable, IsCrashImage, IsCrashMap}
+use Rattle.base_core.proofs.NameParts.{other_bytes}
+use Rattle.base_core.proofs.Left.{left_as_read as synced_as_read}
 use Rattle.journal_core.specs.Kept.{IsJournalName}
 use Rattle.journal_core.specs.Recovery.{StateDependsOn, intent_at, intent_name, intent_of, is_staged}
 use Rattle.journal_core.specs.Replacing.{scratch_of}
 use Rattle.journal_core.specs.Staged.{unstaged_files}
+use Rattle.journal_core.proofs.Lasting.{some_none}
 use Rattle.journal_intent.specs.FreeNames.{IsNoneOf}
 use Rattle.outcome.specs.Effect.{Effect, Computes, Reads, Tells, Makes, Changes, does_recover, effect_by, output}
 use Rattle.outcome.specs.Outcome.{Outcome}
@@ -31,20 +32,13 @@ use Rattle.run_lists.proofs.Unstaged.{none_found, not_staged, plain_at}
 
 -- ---- drafts
 
-not_equal : (p q : List ℕ) → (p ≡ q → ⊥) → bytes_eq p q ≡ false
-not_equal p q other = by (bytes_eq p q) refl
-  where
-    by : (b : Bool) → bytes_eq p q ≡ b → bytes_eq p q ≡ false
-    by true is = absurd (other ((bytes_eq-Decides p q).0 is))
-    by false is = is
-
 -- the intent is no draft
 intent_no_draft : (effect : Effect) (o : Option (List ℕ)) → is_draft_name effect o intent_name ≡ false
 intent_no_draft Computes o = refl
 intent_no_draft Reads o = refl
 intent_no_draft Tells o = refl
 intent_no_draft Makes None = refl
-intent_no_draft Makes (Some name) = not_equal intent_name (scratch_of name) (no_scratch name)
+intent_no_draft Makes (Some name) = other_bytes intent_name (scratch_of name) (no_scratch name)
 intent_no_draft Changes o = refl
 
 -- ---- a moment
@@ -187,14 +181,6 @@ seen_true no_intent test q stays first w (event ∷ earlier) at (v, seen, leaves
 
 -- ---- what an intent said
 
-synced_as_read : (files : ℕ → File) (o : Option ℕ) (bytes : Option (List ℕ)) → ((n : ℕ) → o ≡ Some n → (files n).synced ≡ true) → CrashMayLeave files o bytes → bytes ≡ bytes_at files o
-synced_as_read files None bytes synced left = left
-synced_as_read files (Some n) None synced left = absurd left
-synced_as_read files (Some n) (Some bytes) synced left = ap (λ (b : List ℕ). Some b) (left (synced n refl))
-
-neither : (a b : Bool) → a ≡ false → b ≡ false → (a || b) ≡ false
-neither a b first second = ap (λ (x : Bool). x || b) first ∙ second
-
 -- neither the output's name nor its scratch name is one of these
 second_of : (a b c : Bool) → (a || (b || c)) ≡ false → b ≡ false
 second_of true b c is = absurd (false≢true (sym is))
@@ -206,7 +192,7 @@ no_scratch_name name q none = second_of (bytes_eq q name) (bytes_eq q (scratch_o
 
 counts_in : (o : Option (List ℕ)) (ignored : Ignored) (q : List ℕ) → IsNoneOf q (output_names o) → ignored q ≡ false → with_scratch o ignored q ≡ false
 counts_in None ignored q none counts = counts
-counts_in (Some name) ignored q none counts = neither (bytes_eq q (scratch_of name)) (ignored q) (no_scratch_name name q none) counts
+counts_in (Some name) ignored q none counts = or_from (bytes_eq q (scratch_of name)) (ignored q) (no_scratch_name name q none) counts
 
 no_draft_by : (effect : Effect) (o : Option (List ℕ)) (q : List ℕ) → IsNoneOf q (output_names o) → is_staged q ≡ false → is_draft_name effect o q ≡ false
 no_draft_by Computes o q none unstaged = refl
@@ -215,10 +201,6 @@ no_draft_by Tells o q none unstaged = refl
 no_draft_by Makes None q none unstaged = refl
 no_draft_by Makes (Some name) q none unstaged = no_scratch_name name q none
 no_draft_by Changes o q none unstaged = unstaged
-
-none_there : (o : Option ℕ) → o ≡ None → IsSome o → ⊥
-none_there None is some = cc
-none_there (Some n) is some = cc
 
 bytes_there : (files : ℕ → File) (o : Option ℕ) → IsSome o → bytes_at files o ≡ None → ⊥
 bytes_there files None some is = cc
@@ -235,7 +217,7 @@ module _ (v : TreeState) (run : Run) (m : TreeState) (there : IsSome (v.names in
   stood is = bytes_there v.files (v.names intent_name) there (sym is ∙ gone)
 
   not_first : m ≡ v → ⊥
-  not_first is = none_there (v.names intent_name) (sym (ap (λ (u : TreeState). u.names intent_name) is) ∙ unread) there
+  not_first is = some_none (v.names intent_name) (sym (ap (λ (u : TreeState). u.names intent_name) is) ∙ unread) there
 
   module _ (q : List ℕ) (shown : is_staged q ≡ false) where
     abbrev Done : Type 0
@@ -260,7 +242,7 @@ module _ (v : TreeState) (run : Run) (m : TreeState) (there : IsSome (v.names in
     done_here no_draft (inr (inl (inr is))) = work_here (effect_by (command_of run.words)) (ap (λ (f : Files). f intent_name) is) (ap (λ (f : Files). f q) is)
     done_here no_draft (inr (inr (o, one, commits, inl (recovers, r)))) = recovered_here r.reads
     done_here no_draft (inr (inr (o, one, commits, inr (inl drafting)))) = draft_here (effect_by (command_of run.words)) (output run.words) no_draft drafting
-    done_here no_draft (inr (inr (o, one, commits, inr (inr (inl p))))) = absurd (none_there (m.names intent_name) unread p.intent)
+    done_here no_draft (inr (inr (o, one, commits, inr (inr (inl p))))) = absurd (some_none (m.names intent_name) unread p.intent)
     done_here no_draft (inr (inr (o, one, commits, inr (inr (inr is))))) = inr (o, one, commits, ap (λ (f : Files). f q) is)
 
   -- ---- behind a list
@@ -275,7 +257,7 @@ module _ (v : TreeState) (run : Run) (m : TreeState) (there : IsSome (v.names in
     left_as_read : IsRunFrom v run → IsMomentOf run m → (q : List ℕ) → IsOrdinaryName ignored run q → (image : Files) → IsCrashImage m image → image q ≡ files_of m q
     left_as_read is_run moment q name image (map, is_map, left) =
         let here = durable_at facts ignored v run is_run hidden is_durable (is_run.crash (ignored_in run ignored) (now_durable facts ignored v run is_run hidden is_durable) (now_hides facts ignored v run is_run hidden is_durable)) m moment in
-        let counts = neither (is_staged q) (ignored_in run ignored q) (not_staged q name.waits) (counts_in (output run.words) ignored q name.other name.counts) in
+        let counts = or_from (is_staged q) (ignored_in run ignored q) (not_staged q name.waits) (counts_in (output run.words) ignored q name.other name.counts) in
         synced_as_read m.files (map q) (image q) (λ n at. here.each map is_map q n (inr (inl counts)) at) (left q)
         ∙ ap (bytes_at m.files) (names_last is_run moment map is_map q name.waits name.other)
 

@@ -2,7 +2,7 @@
 use Rattle.std.proofs.Common.{◌≡◌, ℕ, Bool, true, false, ◌||◌, List, [], ◌∷◌, ◌++◌, codes, Option, Some, None, Result, Ok, Err, refl, sym, ap, subst, ◌∙◌, arith}
 use Rattle.std.specs.Prelude.{IsTrue, if◌then◌else◌}
 use Rattle.std.specs.Str.{bytes_eq}
-use Rattle.std.proofs.lemmas.Bool.{false≢true}
+use Rattle.std.proofs.lemmas.Bool.{false≢true, or_right, or_left}
 use Rattle.std.proofs.lemmas.Slice.Eq.{bytes_eq-Decides}
 use Rattle.apk_front.specs.Moments.{IgnoresScratchOf, ignored_but}
 use Rattle.apk_front.specs.declared.answer.Answer.{Answer}
@@ -45,14 +45,10 @@ scratch_hides None ignored off = off
 scratch_hides (Some name) ignored off =
     neither (bytes_eq intent_name (scratch_of name)) (ignored intent_name) (λ is. no_scratch name ((bytes_eq-Decides intent_name (scratch_of name)).0 is)) off
 
-first_true : (a b : Bool) → a ≡ true → (a || b) ≡ true
-first_true true b is = refl
-first_true false b is = absurd (false≢true is)
-
 pub hides : (o : Option (List ℕ)) (ignored : Ignored) → ignored intent_name ≡ false → IgnoresScratchOf o (with_scratch o ignored)
 hides None ignored off = tt
 hides (Some name) ignored off = record {
-  scratch = first_true (bytes_eq (scratch_of name) (scratch_of name)) (ignored (scratch_of name)) ((bytes_eq-Decides (scratch_of name) (scratch_of name)).1 refl);
+  scratch = or_left (bytes_eq (scratch_of name) (scratch_of name)) (ignored (scratch_of name)) ((bytes_eq-Decides (scratch_of name) (scratch_of name)).1 refl);
   intent = scratch_hides (Some name) ignored off;
 }
 
@@ -92,12 +88,8 @@ after_hides ignored off (Touches theirs ∷ earlier) = touched_hides theirs (ign
 
 -- ---- more and fewer
 
-second_true : (a b : Bool) → b ≡ true → (a || b) ≡ true
-second_true true b is = refl
-second_true false b is = is
-
 pub touched_more : (theirs ignored : Ignored) → AreMore ignored (with_touched theirs ignored)
-touched_more theirs ignored q is = second_true (names_of_others theirs q) (ignored q) is
+touched_more theirs ignored q is = or_right (names_of_others theirs q) (ignored q) is
 
 pub all_touched_more : (events : List Event) (ignored : Ignored) → AreMore ignored (with_all_touched events ignored)
 all_touched_more [] ignored q is = is
@@ -109,7 +101,7 @@ all_touched_more (Touches theirs ∷ earlier) ignored q is = touched_more theirs
 
 pub scratch_more : (o : Option (List ℕ)) (ignored : Ignored) → AreMore ignored (with_scratch o ignored)
 scratch_more None ignored q is = is
-scratch_more (Some name) ignored q is = second_true (bytes_eq q (scratch_of name)) (ignored q) is
+scratch_more (Some name) ignored q is = or_right (bytes_eq q (scratch_of name)) (ignored q) is
 
 less : (a b : Bool) → (if a then false else b) ≡ true → b ≡ true
 less true b is = absurd (false≢true is)

@@ -1,5 +1,5 @@
 -- What a run leaves that recovers and commits nothing.
-use Rattle.std.proofs.Common.{◌≡◌, ℕ, true, false, List, Option, None, Result, Ok, Err, refl, ap, subst, ◌∙◌}
+use Rattle.std.proofs.Common.{◌≡◌, ℕ, true, false, List, Option, None, Result, Ok, Err, ap, subst, ◌∙◌}
 use Rattle.apk_front.specs.Moments.{AnswersOutcome, HasOutcomeWithoutCommit}
 use Rattle.base_core.specs.Calls.{HoldsNow}
 use Rattle.base_core.specs.Files.{Files}
@@ -10,21 +10,15 @@ use Rattle.command_core.specs.declared.command.Applet.{Applet}
 use Rattle.command_core.specs.declared.command.Applet.TheVariants.{Demo}
 use Rattle.journal_core.specs.Staged.{unstaged_files}
 use Rattle.outcome.specs.Commands.{IsOutcomeOf, IsOutcomeOn, IsOutcomeUnlessBadIntent}
-use Rattle.outcome.specs.Effect.{Effect, Computes, Reads, Tells, Makes, Changes, does_recover, effect_by, effect_of}
+use Rattle.outcome.specs.Effect.{does_recover, effect_by, effect_of}
 use Rattle.outcome.specs.Outcome.{Outcome}
 use Rattle.outcome.specs.Words.{IsOutcome, IsOutcomeFor}
 use Rattle.outcome.specs.Work.{recovery_fault, work_files}
+use Rattle.outcome.proofs.Recovering.{work_is}
 use Rattle.words_core.specs.Grammar.{command_of}
 use Rattle.run_lists.specs.Events.{IsOutcomeFrom, IsRunFrom, Run}
 use Rattle.run_lists.proofs.AtMoments.{now_map}
 use Rattle.run_lists.proofs.OneRun.{told}
-
-work_recovers : (effect : Effect) (files : Files) → does_recover effect ≡ true → work_files effect files ≡ unstaged_files files
-work_recovers Computes files is = cc
-work_recovers Reads files is = cc
-work_recovers Tells files is = refl
-work_recovers Makes files is = refl
-work_recovers Changes files is = refl
 
 -- `demo` does not recover
 other_than_demo : (applet : Applet) (command : CommandLine) (files : Files) (o : Outcome) → does_recover (effect_of applet) ≡ true → IsOutcomeFor applet command files o → IsOutcomeOf (Ok command) files o
@@ -36,7 +30,7 @@ module _ (idle_leaves : (command : CommandLine) (files : Files) (o : Outcome) �
   recovers_by (Err place) files o is recovers none idle = cc
   recovers_by (Ok command) files o is recovers none idle =
       let over : IsOutcomeOn command (work_files (effect_of command.applet) files) o = subst (λ (c : Option Cause). IsOutcomeUnlessBadIntent c command files o) none (other_than_demo command.applet command files o recovers is) in
-      idle_leaves command (work_files (effect_of command.applet) files) o over idle ∙ work_recovers (effect_of command.applet) files recovers
+      idle_leaves command (work_files (effect_of command.applet) files) o over idle ∙ work_is (effect_of command.applet) files recovers
 
   pub recovered : (v : TreeState) (run : Run) → IsRunFrom v run → does_recover (effect_by (command_of run.words)) ≡ true → recovery_fault (effect_by (command_of run.words)) (files_of v) ≡ None
       → AnswersOutcome run.answer → HasOutcomeWithoutCommit (IsOutcomeFrom v run) → HoldsNow run.now (λ w. files_of w ≡ unstaged_files (files_of v))

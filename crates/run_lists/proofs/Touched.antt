@@ -8,6 +8,7 @@ use Rattle.base_core.specs.Crash.{CrashMayLeave}
 use Rattle.base_core.specs.Undone.{IsDurable}
 use Rattle.base_core.specs.Files.{Files, NameMap}
 use Rattle.base_core.specs.Tree.{File, TreeState, bytes_at, files_by}
+use Rattle.base_core.proofs.Left.{may_leave_as_read}
 use Rattle.journal_intent.proofs.StageNames.{stage_name_staged}
 use Rattle.journal_core.specs.Quiet.{EachCrashLeavesOld}
 use Rattle.journal_core.specs.Recovery.{Intent, IsStagedNameOf, StateDependsOn, intent_at, intent_name, intent_of, is_staged}
@@ -48,10 +49,6 @@ same_left f g None bytes same is = is
 same_left f g (Some n) None same is = is
 same_left f g (Some n) (Some bytes) same is = subst (λ (file : File). (file.synced ≡ true → bytes ≡ file.bytes)) (same n refl) is
 
-read_left : (f : ℕ → File) (o : Option ℕ) → CrashMayLeave f o (bytes_at f o)
-read_left f None = refl
-read_left f (Some n) = λ synced. refl
-
 same_bytes : (f g : ℕ → File) (o : Option ℕ) → ((n : ℕ) → o ≡ Some n → g n ≡ f n) → bytes_at g o ≡ bytes_at f o
 same_bytes f g None same = refl
 same_bytes f g (Some n) same = ap (λ (file : File). Some file.bytes) (same n refl)
@@ -73,7 +70,7 @@ module _ (theirs : Ignored) (v w : TreeState) (touch : IsTouchOf theirs v w) (ig
   old_left was map image same by q = at (names_of_others theirs q) refl
     where
       at : (b : Bool) → names_of_others theirs q ≡ b → CrashMayLeave v.files (was q) (if b then bytes_at v.files (was q) else image q)
-      at true is = read_left v.files (was q)
+      at true is = may_leave_as_read v.files (was q)
       at false is =
           let both = same q is in
           same_left v.files w.files (was q) (image q) both.1 (subst (λ (o : Option ℕ). CrashMayLeave w.files o (image q)) both.0 (by q))

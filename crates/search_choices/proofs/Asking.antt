@@ -9,21 +9,22 @@ use Rattle.std.specs.Ordering.{is_eq, is_lt, ordering_reverse}
 use Rattle.std.specs.declared.cmp.Ordering.{Ordering}
 use Rattle.std.specs.declared.cmp.Ordering.TheVariants.{Less, Equal, Greater}
 use Rattle.std.specs.Cmp.Lexicographic.{bytes_decides, nat_list_cmp_total}
-use Rattle.std.proofs.lemmas.Bool.{cases_lt}
+use Rattle.std.proofs.lemmas.Bool.{cases_lt, and_parts, or_cases, cases_Bool}
 use Rattle.std.proofs.lemmas.Map.Text.{is_eq-slice_cmp}
+use Rattle.pool_core.proofs.Filtered.{meeting_offers}
 use Rattle.dep_core.specs.Dependency.{Dependency}
 use Rattle.candidate_core.specs.Candidates.{Candidate, Need, entry, has_usable_install_if, named, offers_name, meets_dependency}
 use Rattle.candidate_core.specs.Rank.{SealedPool, bytes_cmp, candidate_at, meets_at}
 use Rattle.candidate_core.specs.Options.{IsIn, options_for}
+use Rattle.candidate_core.proofs.Places.{place_of}
 use Rattle.search_tables.specs.Selection.{AreMembers, is_met, is_unmet, names_by_install_if, install_if_applies, least_name, lesser_name, needs, next_need, raised_needs}
 use Rattle.search_tables.specs.Reasons.{FrameValue, IsFrameOf}
 use Rattle.search_tables.specs.InstallIf.{AreInstallIfs, AreUnasked, IsLeastAsking, IsNoneAsking, all_met, asks_at, asks_for_name, has_lesser_name, install_if_at, is_usable_at, name_at, rank_asks}
 use Rattle.search_tables.specs.NameTable.{items_of}
 use Rattle.search_tables.specs.Queue.{is_unmet_dep, queue_of}
 use Rattle.search_tables.proofs.Theory.{in_append, in_right, none_or_some}
-use Rattle.search_tables.proofs.PoolFacts.{bool_cases, any_in, filter_in, in_filter, in_map, map_in, least_in}
-use Rattle.search_tables.proofs.Satisfying.{and_true, any_one, one_any, or_true}
-use Rattle.search_tables.proofs.Offered.{meets_offers}
+use Rattle.search_tables.proofs.PoolFacts.{any_in, filter_in, in_filter, in_map, map_in, least_in}
+use Rattle.search_tables.proofs.Satisfying.{any_one, one_any}
 use Rattle.search_tables.proofs.Queued.{any_append}
 use Rattle.search_tables.proofs.Places.{there_is}
 use Rattle.search_choices.proofs.Consistency.{passing_is_within, none_raised}
@@ -55,11 +56,6 @@ past_of : (xs : List ℕ) (r : ℕ) → slice_get xs r ≡ None → length xs �
 past_of [] r h = omega arith
 past_of (x ∷ xs) zero h = absurd (cc)
 past_of (x ∷ xs) (suc r) h = let g = past_of xs r h in omega (arith, g)
-
-place_of : (cs : List Candidate) (c : Candidate) → IsIn c cs → (k : ℕ) × (slice_get cs k ≡ Some c)
-place_of [] c h = absurd h
-place_of (x ∷ cs) c (inl e) = (0, ap Some (sym e))
-place_of (x ∷ cs) c (inr h) = let r = place_of cs c h in (suc r.0, r.1)
 
 -- ---- the first rank that asks
 
@@ -109,12 +105,12 @@ front_past pool t by_name waiting cursor are free none = rw none (none_ask pool 
 
 all_in : {X : Type 0} (p : X → Bool) (xs : List X) (x : X) → list_all p xs ≡ true → IsIn x xs → p x ≡ true
 all_in p [] x h m = absurd m
-all_in p (y ∷ xs) x h (inl e) = let a = and_true (p y) (list_all p xs) h in ap p e ∙ a.0
-all_in p (y ∷ xs) x h (inr m) = let a = and_true (p y) (list_all p xs) h in all_in p xs x a.1 m
+all_in p (y ∷ xs) x h (inl e) = let a = and_parts (p y) (list_all p xs) h in ap p e ∙ a.0
+all_in p (y ∷ xs) x h (inr m) = let a = and_parts (p y) (list_all p xs) h in all_in p xs x a.1 m
 
 not_all : {X : Type 0} (p : X → Bool) (xs : List X) → list_all p xs ≡ false → (x : X) × IsIn x xs × (p x ≡ false)
 not_all p [] h = absurd (cc)
-not_all p (y ∷ xs) h = elim (bool_cases (p y)) [
+not_all p (y ∷ xs) h = elim (cases_Bool (p y)) [
   | inr e ↦ (y, inl refl, e)
   | inl e ↦ let r = not_all p xs (rw e at h) in (r.0, inr r.1, r.2)
 ]
@@ -128,21 +124,21 @@ met_by_last pool t c q h none =
     ]
 
 unmet_less : (pool : SealedPool) (t : List ℕ) (c : ℕ) (q : Need) → is_unmet pool (t ++ c ∷ []) q ≡ true → is_unmet pool t q ≡ true
-unmet_less pool t c q h = elim (bool_cases (is_met pool t q)) [
+unmet_less pool t c q h = elim (cases_Bool (is_met pool t q)) [
   | inr e ↦ ap not e
   | inl e ↦ let m : is_met pool (t ++ c ∷ []) q ≡ true = any_append (λ k. meets_at pool k q) t (c ∷ []) e in absurd (not_both (is_unmet pool (t ++ c ∷ []) q) h (ap not m))
 ]
 
 -- the ranks in front of the cursor stay unasked where it does not pass one that the choice makes ask
 pub unasked_more : (pool : SealedPool) (t : List ℕ) (c : ℕ) (details : Candidate) (by_name : List ℕ) (waiting : List (List ℕ × List ℕ)) (old new : ℕ) → AreInstallIfs pool by_name waiting → candidate_at pool c ≡ Some details → AreUnasked pool t by_name old → new ≤ old → ((name : List ℕ) (rank : ℕ) → offers_name name details ≡ true → IsIn rank (items_of waiting name) → rank < new → rank_asks pool (t ++ c ∷ []) by_name rank ≡ false) → AreUnasked pool (t ++ c ∷ []) by_name new
-unasked_more pool t c details by_name waiting old new are here was less now = λ rank low. elim (bool_cases (rank_asks pool (t ++ c ∷ []) by_name rank)) [
+unasked_more pool t c details by_name waiting old new are here was less now = λ rank low. elim (cases_Bool (rank_asks pool (t ++ c ∷ []) by_name rank)) [
   | inr e ↦ e
   | inl e ↦
       let k = at_some (λ (j : ℕ). asks_at pool (t ++ c ∷ []) j) (slice_get by_name rank) e in
       let one = at_some (asks_for_name pool (t ++ c ∷ [])) (candidate_at pool k.0) k.2 in
-      let both = and_true (all_met pool (t ++ c ∷ []) one.0.install_if) (is_unmet pool (t ++ c ∷ []) (named one.0.name)) one.2 in
+      let both = and_parts (all_met pool (t ++ c ∷ []) one.0.install_if) (is_unmet pool (t ++ c ∷ []) (named one.0.name)) one.2 in
       let low_old : rank < old = omega (arith, low, less) in
-      elim (bool_cases (all_met pool t one.0.install_if)) [
+      elim (cases_Bool (all_met pool t one.0.install_if)) [
         | inl all ↦
             let asks : asks_for_name pool t one.0 ≡ true = rw all (unmet_less pool t c (named one.0.name) both.1) in
             let at : asks_at pool t k.0 ≡ true = some_at (asks_for_name pool t) (candidate_at pool k.0) one.0 one.1 ∙ asks in
@@ -151,7 +147,7 @@ unasked_more pool t c details by_name waiting old new are here was less now = λ
             let d = not_all (λ (d : Dependency). is_met pool t (entry d)) one.0.install_if some in
             let met = all_in (λ (d : Dependency). is_met pool (t ++ c ∷ []) (entry d)) one.0.install_if d.0 both.0 d.1 in
             let meets = met_by_last pool t c (entry d.0) met d.2 in
-            let offers : offers_name d.0.name details ≡ true = meets_offers d.0 details (sym (some_at (meets_dependency d.0) (candidate_at pool c) details here) ∙ meets) in
+            let offers : offers_name d.0.name details ≡ true = meeting_offers d.0 details (sym (some_at (meets_dependency d.0) (candidate_at pool c) details here) ∙ meets) in
             let entries : install_if_at pool k.0 ≡ one.0.install_if = ap (λ (o : Option Candidate). option_map_or (λ (x : Candidate). x.install_if) o []) one.1 in
             now d.0.name rank offers (are.entries rank k.0 d.0 k.1 (subst (λ (z : List Dependency). IsIn d.0 z) (sym entries) d.1)) low
       ]
@@ -159,11 +155,11 @@ unasked_more pool t c details by_name waiting old new are here was less now = λ
 
 -- what a candidate offers is its own name, or one that it provides
 pub offered_names : (name : List ℕ) (c : Candidate) → offers_name name c ≡ true → (name ≡ c.name) ⊎ ((p : Dependency) × IsIn p c.provides × (name ≡ p.name))
-offered_names name c h = elim (or_true (bytes_eq name c.name) (list_any (λ (p : Dependency). not p.conflict && bytes_eq name p.name) c.provides) h) [
+offered_names name c h = elim (or_cases (bytes_eq name c.name) (list_any (λ (p : Dependency). not p.conflict && bytes_eq name p.name) c.provides) h) [
   | inl e ↦ inl ((bytes_decides name c.name).0 e)
   | inr e ↦
       let a = any_one (λ (p : Dependency). not p.conflict && bytes_eq name p.name) c.provides e in
-      inr (a.0, a.1, (bytes_decides name a.0.name).0 (and_true (not a.0.conflict) (bytes_eq name a.0.name) a.2).1)
+      inr (a.0, a.1, (bytes_decides name a.0.name).0 (and_parts (not a.0.conflict) (bytes_eq name a.0.name) a.2).1)
 ]
 
 -- ---- the least name
@@ -176,7 +172,7 @@ asked_by pool t name h =
     let f = filter_in (λ (n : List ℕ). is_unmet pool t (named n)) name (names_by_install_if pool t) h in
     let m = map_in (λ (c : Candidate). c.name) name (filter (install_if_applies pool t) pool.candidates) f.0 in
     let g = filter_in (install_if_applies pool t) m.0 pool.candidates m.1 in
-    let both = and_true (has_usable_install_if pool.world m.0) (all_met pool t m.0.install_if) g.1 in
+    let both = and_parts (has_usable_install_if pool.world m.0) (all_met pool t m.0.install_if) g.1 in
     let k = place_of pool.candidates m.0 g.0 in
     let unmet : is_unmet pool t (named m.0.name) ≡ true = subst (λ (n : List ℕ). is_unmet pool t (named n) ≡ true) m.2 f.1 in (
       k.0,
@@ -188,7 +184,7 @@ asked_by pool t name h =
 asked_there : (pool : SealedPool) (t : List ℕ) (o : ℕ) → is_usable_at pool o ≡ true → asks_at pool t o ≡ true → IsIn (name_at pool o) (asked_names pool t)
 asked_there pool t o usable asks =
     let one = at_some (has_usable_install_if pool.world) (candidate_at pool o) usable in
-    let both = and_true (all_met pool t one.0.install_if) (is_unmet pool t (named one.0.name)) (sym (some_at (asks_for_name pool t) (candidate_at pool o) one.0 one.1) ∙ asks) in
+    let both = and_parts (all_met pool t one.0.install_if) (is_unmet pool t (named one.0.name)) (sym (some_at (asks_for_name pool t) (candidate_at pool o) one.0 one.1) ∙ asks) in
     let applies : install_if_applies pool t one.0 ≡ true = rw one.2 both.0 in
     let name : name_at pool o ≡ one.0.name = ap (λ (z : Option Candidate). option_map_or (λ (c : Candidate). c.name) z []) one.1 in
     subst (λ (n : List ℕ). IsIn n (asked_names pool t)) (sym name)
@@ -218,7 +214,7 @@ least_is x (y ∷ ys) (inr h) least =
     rw rest (ap Some (taken (least y (inl refl))))
   where
     taken : is_lt (bytes_cmp y x) ≡ false → (if is_lt (bytes_cmp x y) then x else y) ≡ x
-    taken above = elim (bool_cases (is_lt (bytes_cmp x y))) [
+    taken above = elim (cases_Bool (is_lt (bytes_cmp x y))) [
       | inl e ↦ rw e refl
       | inr e ↦ rw e (same_name y x above e)
     ]
@@ -245,7 +241,7 @@ least_within pool t k is = passing_is_within pool (has_usable_install_if pool.wo
 -- the entries of the asking candidate's install-if are met
 pub asks_all : (pool : SealedPool) (t : List ℕ) (k : ℕ) (c : Candidate) → IsLeastAsking pool t k → candidate_at pool k ≡ Some c → all_met pool t c.install_if ≡ true
 asks_all pool t k c is here =
-    (and_true (all_met pool t c.install_if) (is_unmet pool t (named c.name)) (sym (some_at (asks_for_name pool t) (candidate_at pool k) c here) ∙ is.asks)).0
+    (and_parts (all_met pool t c.install_if) (is_unmet pool t (named c.name)) (sym (some_at (asks_for_name pool t) (candidate_at pool k) c here) ∙ is.asks)).0
 
 -- the frame of the least name
 pub open_asked : (pool : SealedPool) (t : List ℕ) (k : ℕ) (c : Candidate) (by : List ℕ) (frame : FrameValue) → find (is_unmet_dep pool t) (queue_of pool t) ≡ None → IsLeastAsking pool t k → candidate_at pool k ≡ Some c → AreMembers by t → all_met pool by c.install_if ≡ true → frame ≡ ([], options_for pool (named c.name), by) → IsFrameOf pool t frame

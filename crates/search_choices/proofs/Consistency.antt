@@ -9,7 +9,7 @@ use Rattle.candidate_core.specs.Candidates.{Candidate, Need, entry, named}
 use Rattle.candidate_core.specs.Rank.{SealedPool, is_at}
 use Rattle.candidate_core.specs.Candidates.{is_eligible}
 use Rattle.search_tables.specs.Reasons.{IsFrameTaking, options_in}
-use Rattle.std.proofs.Common.{get_or}
+use Rattle.std.proofs.lemmas.Bool.{cases_Bool}
 use Rattle.candidate_core.specs.Options.{IsIn, options_for}
 use Rattle.search_tables.specs.Selection.{AreMembers, names_by_install_if, depends_at, is_met, is_unmet, needs, positive_needs, next_need, raised_needs}
 use Rattle.search_tables.specs.Reasons.{FrameValue, IsFrameOf}
@@ -25,7 +25,7 @@ use Rattle.search_tables.specs.declared.install_ifs.InstallIfs.{InstallIfs}
 use Rattle.search_choices.specs.declared.choices.Choices.{Choices}
 use Rattle.search_tables.specs.declared.queue.Checkpoint.{Checkpoint}
 use Rattle.search_tables.proofs.Theory.{in_left, in_right, in_append}
-use Rattle.search_tables.proofs.PoolFacts.{bool_cases, find_in, pool_facts}
+use Rattle.search_tables.proofs.PoolFacts.{find_in, pool_facts}
 use Rattle.search_tables.proofs.ConflictTables.{listed_more}
 use Rattle.search_tables.proofs.Queued.{find_here, past_end, met_more, met_next, queue_more}
 
@@ -218,7 +218,7 @@ raised_queue pool t =
 find_map : (p : Need → Bool) (xs : List RaisedDepValue) (o : Option RaisedDepValue) → find (λ r. p (need_in r)) xs ≡ o → MatchOption o (find p (map need_in xs) ≡ None) (λ r. find p (map need_in xs) ≡ Some (need_in r))
 find_map p [] None h = refl
 find_map p [] (Some r) h = absurd (cc)
-find_map p (x ∷ xs) o h = elim (bool_cases (p (need_in x))) [
+find_map p (x ∷ xs) o h = elim (cases_Bool (p (need_in x))) [
   | inl e ↦ rw e (here o (rw e at h))
   | inr e ↦ rw e (find_map p xs o (rw e at h))
 ]
@@ -333,8 +333,3 @@ pub taken_once : (pool : SealedPool) → ((need : Need) → HasOptions pool need
 taken_once pool has t f id taken h =
     let there : IsIn id (options_for pool taken.0) = subst (λ (z : List ℕ). IsIn id z) (sym taken.2) (in_right id (options_in f.0) (id ∷ f.1) (inl refl)) in
     ((pool_facts pool has).next_some t taken.0 taken.1).1 (id, h, ((has taken.0).those id there).1)
-
-pub item_in : (xs : List ℕ) (i x : ℕ) → i < length xs → x ≡ get_or xs i x → IsIn x xs
-item_in [] i x h e = absurd (omega arith)
-item_in (y ∷ xs) zero x h e = inl e
-item_in (y ∷ xs) (suc i) x h e = inr (item_in xs i x (omega arith) e)

@@ -14,9 +14,8 @@ use Rattle.candidate_core.specs.Rank.{SealedPool}
 use Rattle.candidate_core.specs.Options.{AreMembers, IsIn, places_from}
 use Rattle.search_tables.specs.InstallIf.{has_lesser_name, install_if_at, is_usable_at, name_at}
 use Rattle.search_tables.specs.NameTable.{items_of}
-use Rattle.candidate_core.proofs.OptionLists.{in_places}
+use Rattle.candidate_core.proofs.OptionLists.{in_places, places_in}
 use Rattle.search_tables.proofs.Satisfying.{any_one, one_any}
-use Rattle.search_tables.proofs.Places.{places_pass}
 
 self_eq : (x : ℕ) → (x == x) ≡ true
 self_eq x = elim (eqb_tells x x) [ inl e ↦ e.0 | inr n ↦ absurd (n.1 refl) ]
@@ -42,7 +41,7 @@ sorted_in xs ys same k h = moved ys xs k (sym (list_any-IsPermutation (λ x. k =
 module _ (pool : SealedPool) where
   pub usable_there : (k : ℕ) → IsIn k (places_from 0 (has_usable_install_if pool.world) pool.candidates) → is_usable_at pool k ≡ true
   usable_there k h =
-      let r = places_pass 0 (has_usable_install_if pool.world) pool.candidates k h in
+      let r = places_in 0 (has_usable_install_if pool.world) pool.candidates k h in
       let z : r.0 ≡ k = omega (arith, r.1) in
       subst (λ (j : ℕ). is_usable_at pool j ≡ true) z r.2
 

@@ -4,6 +4,7 @@ use Rattle.std.specs.Prelude.{Some, None, find, slice_get, ◌&&◌, if◌then�
 use Rattle.std.specs.List.{filter}
 use Rattle.std.proofs.lemmas.List.{length-map, map-append, take_all}
 use Rattle.std.specs.Str.{bytes_eq}
+use Rattle.std.proofs.lemmas.Bool.{cases_Bool}
 use Rattle.dep_core.specs.Dependency.{Dependency}
 use Rattle.candidate_core.specs.Candidates.{Candidate}
 use Rattle.candidate_core.specs.Options.{IsIn}
@@ -14,7 +15,6 @@ use Rattle.search_tables.specs.Excluders.{AreListed}
 use Rattle.search_tables.specs.NameTable.{items_of, without_last}
 use Rattle.search_tables.specs.Selection.{depends_at}
 use Rattle.search_tables.specs.declared.conflicts.Conflicts.{Conflicts}
-use Rattle.search_tables.proofs.PoolFacts.{bool_cases}
 use Rattle.search_tables.proofs.Queued.{filtered, flat_more, mapped, take_front}
 use Rattle.search_tables.proofs.Theory.{in_append}
 
@@ -32,7 +32,7 @@ none_named name by d e = rw e refl
 
 -- one that is a conflict
 pub one_named : (name : List ℕ) (by : ℕ) (d : Dependency) → d.conflict ≡ true → conflicts_named name by (d ∷ []) ≡ (if bytes_eq name d.name then (by, d) ∷ [] else [])
-one_named name by d e = elim (bool_cases (bytes_eq name d.name)) [ inl t ↦ rw (e, t) refl | inr t ↦ rw (e, t) refl ]
+one_named name by d e = elim (cases_Bool (bytes_eq name d.name)) [ inl t ↦ rw (e, t) refl | inr t ↦ rw (e, t) refl ]
 
 -- a step of a loop that adds the conflicts of some dependencies
 pub listed_on : (name : List ℕ) (by : ℕ) (deps : List Dependency) (i : ℕ) (d : Dependency) (start before after : List Listed) → slice_get deps i ≡ Some d → before ≡ start ++ conflicts_named name by (take i deps) → after ≡ before ++ conflicts_named name by (d ∷ []) → after ≡ start ++ conflicts_named name by (take (i + 1) deps)
@@ -98,7 +98,7 @@ module _ (candidates : List Candidate) (old new : List (List ℕ × List ListedV
 pub taken_away : (d : Dependency) (by : ℕ) (front : List ℕ → List Listed) (old new : List (List ℕ × List ListedValue)) → d.conflict ≡ true → ((name : List ℕ) → conflicts_in old name ≡ front name ++ conflicts_named name by (d ∷ [])) → ((other : List ℕ) → items_of new other ≡ (if bytes_eq other d.name then without_last (items_of old other) else items_of old other)) → (name : List ℕ) → conflicts_in new name ≡ front name
 taken_away d by front old new conflict was is name =
     let found = is name in
-    elim (bool_cases (bytes_eq name d.name)) [
+    elim (cases_Bool (bytes_eq name d.name)) [
       | inl t ↦
           let there : items_of new name ≡ without_last (items_of old name) = rw t at found in
           let here : conflicts_in new name ≡ without_last (conflicts_in old name) = ap (map without_index) there ∙ without_last_map without_index (items_of old name) in
@@ -155,7 +155,7 @@ module _ {X Y : Type 0} (p : Y → Bool) (f : X → Y) where
       let s : y ≡ x = cc in
       let t : p (f y) ≡ true = ap (λ (z : X). p (f z)) s ∙ passes in
       rw t (ap (λ (z : X). Some (f z)) s)
-  first_at (y ∷ xs) (suc i) x h none passes = elim (bool_cases (p (f y))) [
+  first_at (y ∷ xs) (suc i) x h none passes = elim (cases_Bool (p (f y))) [
     | inl t ↦ let bad : Some (f y) ≡ None = rw t at none in absurd (cc)
     | inr t ↦ rw t (first_at xs i x h (rw t at none) passes)
   ]
@@ -168,7 +168,7 @@ module _ {X Y : Type 0} (p : Y → Bool) (f : X → Y) where
     where
       behind : (ys : List Y) → find p ys ≡ None → find p (ys ++ f x ∷ []) ≡ None
       behind [] h = rw fails refl
-      behind (y ∷ ys) h = elim (bool_cases (p y)) [
+      behind (y ∷ ys) h = elim (cases_Bool (p y)) [
         | inl t ↦ let bad : Some y ≡ None = rw t at h in absurd (cc)
         | inr t ↦ rw t (behind ys (rw t at h))
       ]

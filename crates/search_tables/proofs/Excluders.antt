@@ -7,6 +7,8 @@ use Rattle.std.specs.List.{filter, flat_map, list_any}
 use Rattle.std.specs.Str.{bytes_eq}
 use Rattle.std.specs.Cmp.Lexicographic.{bytes_decides}
 use Rattle.std.proofs.lemmas.Bool.Decides.{eqb_tells}
+use Rattle.std.proofs.lemmas.Bool.{and_parts, or_cases, cases_Bool, both_ways}
+use Rattle.pool_core.proofs.Filtered.{meeting_offers}
 use Rattle.dep_core.specs.Dependency.{Dependency}
 use Rattle.candidate_core.specs.Candidates.{Candidate, entry, meets_dependency, occupies_name, offers_name}
 use Rattle.candidate_core.specs.Rank.{SealedPool, candidate_at, is_at, meets_at}
@@ -16,27 +18,22 @@ use Rattle.search_tables.specs.Conflicts.{conflicts_in, conflicts_named}
 use Rattle.search_tables.specs.Excluders.{AreListed, IsExcluder, IsFreeAt}
 use Rattle.search_tables.specs.declared.conflicts.Conflicts.{Conflicts}
 use Rattle.search_tables.proofs.Theory.{in_append, in_left, in_right}
-use Rattle.search_tables.proofs.PoolFacts.{bool_cases, filter_in, in_filter, in_map, map_in}
-use Rattle.search_tables.proofs.Satisfying.{and_true, any_one, listed_is_occupied_at, occupied_is_listed_at, one_any, or_true, true_or}
-use Rattle.search_tables.proofs.Offered.{meets_offers}
+use Rattle.search_tables.proofs.PoolFacts.{filter_in, in_filter, in_map, map_in}
+use Rattle.search_tables.proofs.Satisfying.{any_one, listed_is_occupied_at, occupied_is_listed_at, one_any, true_or}
 
 abbrev Listed : Type 0
 Listed = ℕ × Dependency
 
-not_both : (b : Bool) → b ≡ false → b ≡ true → ⊥
-not_both true e h = cc
-not_both false e h = cc
-
 find_in : {X : Type 0} (p : X → Bool) (xs : List X) (x : X) → find p xs ≡ Some x → IsIn x xs × (p x ≡ true)
 find_in p [] x h = absurd (cc)
-find_in {X} p (y ∷ xs) x h = elim (bool_cases (p y)) [
+find_in {X} p (y ∷ xs) x h = elim (cases_Bool (p y)) [
   | inl t ↦ let s : Some y ≡ Some x = rw t at h in let e : y ≡ x = cc in (inl (sym e), subst (λ (z : X). p z ≡ true) e t)
   | inr t ↦ let r = find_in p xs x (rw t at h) in (inr r.0, r.1)
 ]
 
 none_in : {X : Type 0} (p : X → Bool) (xs : List X) (x : X) → find p xs ≡ None → IsIn x xs → p x ≡ false
 none_in p [] x h there = absurd there
-none_in {X} p (y ∷ xs) x h there = elim (bool_cases (p y)) [
+none_in {X} p (y ∷ xs) x h there = elim (cases_Bool (p y)) [
   | inl t ↦ let bad : Some y ≡ None = rw t at h in absurd (cc)
   | inr t ↦ elim there [
     | inl e ↦ subst (λ (z : X). p z ≡ false) (sym e) t
@@ -93,7 +90,7 @@ module _ (pool : SealedPool) (t : List ℕ) (id : ℕ) (details : Candidate) whe
       let g = flat_in (λ c. conflicts_named name c (depends_at pool c)) one.0 t (subst (λ (z : List Listed). IsIn one.0 z) (listed name) f.0) in
       let m = map_in (λ (d : Dependency). (g.0, d)) one.0 (filter (λ (d : Dependency). d.conflict && bytes_eq name d.name) (depends_at pool g.0)) g.2 in
       let h = filter_in (λ (d : Dependency). d.conflict && bytes_eq name d.name) m.0 (depends_at pool g.0) m.1 in
-      let conflict = (and_true m.0.conflict (bytes_eq name m.0.name) h.1).0 in
+      let conflict = (and_parts m.0.conflict (bytes_eq name m.0.name) h.1).0 in
       let who : g.0 ≡ k = sym (ap (λ (c : Listed). c.0) m.2) ∙ one.2 in
       let meets : meets_dependency m.0 details ≡ true = subst (λ (c : Listed). meets_dependency c.1 details ≡ true) m.2 f.1 in
       let meets_there : is_at pool (meets_dependency m.0) id ≡ true = at_id here (meets_dependency m.0) ∙ meets in
@@ -138,39 +135,39 @@ module _ (pool : SealedPool) (t : List ℕ) (id : ℕ) (details : Candidate) whe
       → ((p : Dependency) → IsIn p details.provides → p.conflict ≡ false → IsFreeAt pool t details p.name (is_some p.version))
       → ((d : Dependency) → IsIn d details.depends → d.conflict ≡ true → is_met pool t (entry d) ≡ false)
       → (k : ℕ) → IsIn k t → exclude_each_other pool k id ≡ false
-  no_excluder here own provides conflicts k there = elim (bool_cases (exclude_each_other pool k id)) [
+  no_excluder here own provides conflicts k there = elim (cases_Bool (exclude_each_other pool k id)) [
     | inr e ↦ e
     | inl apart ↦
-        let both = and_true (not (k == id)) (keeps_out pool k id || keeps_out pool id k) apart in
+        let both = and_parts (not (k == id)) (keeps_out pool k id || keeps_out pool id k) apart in
         let shared : (name : List ℕ) → IsIn name (occupied_names_at pool id) → is_at pool (occupies_name name) k ≡ true → ⊥ = λ name h occupies.
         elim (subst (λ (z : List (List ℕ)). IsIn name z) (names_of_id here) h) [
-          | inl e ↦ not_both (is_at pool (occupies_name name) k) (subst (λ (n : List ℕ). is_at pool (occupies_name n) k ≡ false) (sym e) (own.1 refl k there)) occupies
+          | inl e ↦ both_ways (is_at pool (occupies_name name) k) (subst (λ (n : List ℕ). is_at pool (occupies_name n) k ≡ false) (sym e) (own.1 refl k there)) occupies
           | inr r ↦
               let m = map_in (λ (p : Dependency). p.name) name (filter (λ (p : Dependency). not p.conflict && is_some p.version) details.provides) r in
               let f = filter_in (λ (p : Dependency). not p.conflict && is_some p.version) m.0 details.provides m.1 in
-              let two = and_true (not m.0.conflict) (is_some m.0.version) f.1 in
-              not_both (is_at pool (occupies_name name) k) (subst (λ (n : List ℕ). is_at pool (occupies_name n) k ≡ false) (sym m.2) ((provides m.0 f.0 (not_true m.0.conflict two.0)).1 two.1 k there)) occupies
+              let two = and_parts (not m.0.conflict) (is_some m.0.version) f.1 in
+              both_ways (is_at pool (occupies_name name) k) (subst (λ (n : List ℕ). is_at pool (occupies_name n) k ≡ false) (sym m.2) ((provides m.0 f.0 (not_true m.0.conflict two.0)).1 two.1 k there)) occupies
         ] in
-        absurd (elim (or_true (keeps_out pool k id) (keeps_out pool id k) both.1) [
-          | inl a ↦ elim (or_true (conflicts_with pool k id) (share_a_name pool k id) a) [
+        absurd (elim (or_cases (keeps_out pool k id) (keeps_out pool id k) both.1) [
+          | inl a ↦ elim (or_cases (conflicts_with pool k id) (share_a_name pool k id) a) [
             | inl x ↦
                 let one = any_one (λ (d : Dependency). d.conflict && is_at pool (meets_dependency d) id) (depends_at pool k) x in
-                let two = and_true one.0.conflict (is_at pool (meets_dependency one.0) id) one.2 in
+                let two = and_parts one.0.conflict (is_at pool (meets_dependency one.0) id) one.2 in
                 let meets : meets_dependency one.0 details ≡ true = sym (at_id here (meets_dependency one.0)) ∙ two.1 in
-                elim (offered_by one.0.name details (meets_offers one.0 details meets)) [
-                  | inl e ↦ not_both (meets_dependency one.0 details) (own.0 k one.0 there one.1 two.0 e) meets
-                  | inr p ↦ not_both (meets_dependency one.0 details) ((provides p.0 p.1 p.3).0 k one.0 there one.1 two.0 p.2) meets
+                elim (offered_by one.0.name details (meeting_offers one.0 details meets)) [
+                  | inl e ↦ both_ways (meets_dependency one.0 details) (own.0 k one.0 there one.1 two.0 e) meets
+                  | inr p ↦ both_ways (meets_dependency one.0 details) ((provides p.0 p.1 p.3).0 k one.0 there one.1 two.0 p.2) meets
                 ]
             | inr x ↦
                 let one = any_one (λ name. is_at pool (occupies_name name) id) (occupied_names_at pool k) x in
                 shared one.0 (occupied_is_listed_at pool id one.0 one.2) (listed_is_occupied_at pool k one.0 one.1)
           ]
-          | inr b ↦ elim (or_true (conflicts_with pool id k) (share_a_name pool id k) b) [
+          | inr b ↦ elim (or_cases (conflicts_with pool id k) (share_a_name pool id k) b) [
             | inl x ↦
                 let one = any_one (λ (d : Dependency). d.conflict && is_at pool (meets_dependency d) k) (depends_at pool id) x in
-                let two = and_true one.0.conflict (is_at pool (meets_dependency one.0) k) one.2 in
+                let two = and_parts one.0.conflict (is_at pool (meets_dependency one.0) k) one.2 in
                 let mine : IsIn one.0 details.depends = subst (λ (z : List Dependency). IsIn one.0 z) (deps_of_id here) one.1 in
-                not_both (is_met pool t (entry one.0)) (conflicts one.0 mine two.0) (one_any (λ c. meets_at pool c (entry one.0)) t k there two.1)
+                both_ways (is_met pool t (entry one.0)) (conflicts one.0 mine two.0) (one_any (λ c. meets_at pool c (entry one.0)) t k there two.1)
             | inr x ↦
                 let one = any_one (λ name. is_at pool (occupies_name name) k) (occupied_names_at pool id) x in
                 shared one.0 one.1 one.2
@@ -183,11 +180,11 @@ module _ (pool : SealedPool) (t : List ℕ) (id : ℕ) (details : Candidate) whe
       not_true false h = refl
 
       offered_by : (name : List ℕ) (c : Candidate) → offers_name name c ≡ true → (name ≡ c.name) ⊎ ((p : Dependency) × IsIn p c.provides × (name ≡ p.name) × (p.conflict ≡ false))
-      offered_by name c h = elim (or_true (bytes_eq name c.name) (list_any (λ (p : Dependency). not p.conflict && bytes_eq name p.name) c.provides) h) [
+      offered_by name c h = elim (or_cases (bytes_eq name c.name) (list_any (λ (p : Dependency). not p.conflict && bytes_eq name p.name) c.provides) h) [
         | inl e ↦ inl ((bytes_decides name c.name).0 e)
         | inr e ↦
             let a = any_one (λ (p : Dependency). not p.conflict && bytes_eq name p.name) c.provides e in
-            let b = and_true (not a.0.conflict) (bytes_eq name a.0.name) a.2 in
+            let b = and_parts (not a.0.conflict) (bytes_eq name a.0.name) a.2 in
             inr (a.0, a.1, (bytes_decides name a.0.name).0 b.1, not_true a.0.conflict b.0)
       ]
 

@@ -1,5 +1,5 @@
 -- What a look-up in a table of names finds, before and after an item is added.
-use Rattle.std.proofs.Common.{◌≡◌, inl, inr, ℕ, Bool, true, false, List, [], ◌∷◌, ◌++◌, refl, sym, subst, ap, ◌∙◌, append-nil}
+use Rattle.std.proofs.Common.{◌≡◌, inl, inr, ℕ, Bool, List, [], ◌∷◌, ◌++◌, refl, sym, subst, ap, ◌∙◌, append-nil}
 use Rattle.std.specs.Prelude.{Option, Some, None, Vec, if◌then◌else◌}
 use Rattle.std.specs.Global.{Global}
 use Rattle.std.specs.Borrow.{Bor}
@@ -8,9 +8,10 @@ use Rattle.std.specs.Cmp.Lexicographic.{bytes_decides}
 use Rattle.std.specs.Option.{option_map_or}
 use Rattle.std.specs.Str.{bytes_eq}
 use Rattle.indexmap.specs.IndexMap.{insert_entry}
+use Rattle.std.proofs.lemmas.Bool.{cases_Bool}
 use Rattle.candidate_core.specs.Options.{AreMembers, IsIn}
+use Rattle.candidate_core.proofs.TableLookup.{same_name, other_name}
 use Rattle.search_tables.specs.NameTable.{items_of, names_and_items, without_last}
-use Rattle.search_tables.proofs.PoolFacts.{bool_cases}
 use Rattle.search_tables.proofs.Theory.{in_left, in_right}
 
 abbrev pub Entries : Type 0 → Type 0
@@ -24,31 +25,22 @@ items_or_none {X} o = option_map_or (λ (v : Vec X Global). v.items) o []
 
 pub looked_up : {X : Type 0} (name : List ℕ) (entries : Entries X) → items_or_none (lookup (is_key name) entries) ≡ items_of (names_and_items entries) name
 looked_up name [] = refl
-looked_up name (e ∷ es) = elim (bool_cases (bytes_eq name e.0.now)) [
+looked_up name (e ∷ es) = elim (cases_Bool (bytes_eq name e.0.now)) [
   | inl t ↦ rw t refl
   | inr t ↦ rw t (looked_up name es)
-]
-
-same_name : (a b c : List ℕ) → bytes_eq a b ≡ true → bytes_eq c a ≡ bytes_eq c b
-same_name a b c h = ap (bytes_eq c) ((bytes_decides a b).0 h)
-
-other_name : (a b c : List ℕ) → bytes_eq a b ≡ false → bytes_eq c b ≡ true → bytes_eq c a ≡ false
-other_name a b c h e = elim (bool_cases (bytes_eq c a)) [
-  | inl g ↦ let bad : bytes_eq a b ≡ true = (bytes_decides a b).1 (sym ((bytes_decides c a).0 g) ∙ (bytes_decides c b).0 e) in let no : true ≡ false = sym bad ∙ h in absurd (cc)
-  | inr g ↦ g
 ]
 
 -- where the items of a name are replaced
 pub items_of-set_value : {X : Type 0} (name other : List ℕ) (v old : Vec X Global) (es : Entries X) → lookup (is_key name) es ≡ Some old → items_of (names_and_items (set_value (is_key name) es v)) other ≡ (if bytes_eq other name then v.items else items_of (names_and_items es) other)
 items_of-set_value name other v old [] h = absurd (cc)
-items_of-set_value name other v old (e ∷ es) h = elim (bool_cases (bytes_eq name e.0.now)) [
-  | inl t ↦ elim (bool_cases (bytes_eq other e.0.now)) [
+items_of-set_value name other v old (e ∷ es) h = elim (cases_Bool (bytes_eq name e.0.now)) [
+  | inl t ↦ elim (cases_Bool (bytes_eq other e.0.now)) [
     | inl g ↦ rw (t, g, same_name name e.0.now other t ∙ g) refl
     | inr g ↦ rw (t, g, same_name name e.0.now other t ∙ g) refl
   ]
   | inr t ↦
       let rest = items_of-set_value name other v old es (rw t at h) in
-      elim (bool_cases (bytes_eq other e.0.now)) [
+      elim (cases_Bool (bytes_eq other e.0.now)) [
         | inl g ↦ rw (t, g, other_name name e.0.now other t g) refl
         | inr g ↦ rw (t, g) rest
       ]
@@ -57,11 +49,11 @@ items_of-set_value name other v old (e ∷ es) h = elim (bool_cases (bytes_eq na
 -- where a name is new
 pub items_of-insert_entry : {X : Type 0} (key : Bor (List ℕ)) (other : List ℕ) (v : Vec X Global) (es : Entries X) → lookup (is_key key.now) es ≡ None → items_of (names_and_items (insert_entry (λ (a b : Bor (List ℕ)). bytes_eq a.now b.now) es key v)) other ≡ (if bytes_eq other key.now then v.items else items_of (names_and_items es) other)
 items_of-insert_entry key other v [] h = refl
-items_of-insert_entry key other v (e ∷ es) h = elim (bool_cases (bytes_eq key.now e.0.now)) [
+items_of-insert_entry key other v (e ∷ es) h = elim (cases_Bool (bytes_eq key.now e.0.now)) [
   | inl t ↦ let bad : Some e.1 ≡ None = rw t at h in absurd (cc)
   | inr t ↦
       let rest = items_of-insert_entry key other v es (rw t at h) in
-      elim (bool_cases (bytes_eq other e.0.now)) [
+      elim (cases_Bool (bytes_eq other e.0.now)) [
         | inl g ↦ rw (t, g, other_name key.now e.0.now other t g) refl
         | inr g ↦ rw (t, g) rest
       ]
@@ -69,7 +61,7 @@ items_of-insert_entry key other v (e ∷ es) h = elim (bool_cases (bytes_eq key.
 
 -- the items of a name with one more
 pub one_more_item : {X : Type 0} (name other : List ℕ) (item : X) (table : List (List ℕ × List X)) (old new result : List X) → items_of table name ≡ old → new ≡ old ++ item ∷ [] → result ≡ (if bytes_eq other name then new else items_of table other) → result ≡ items_of table other ++ (if bytes_eq other name then item ∷ [] else [])
-one_more_item {X} name other item table old new result was is found = elim (bool_cases (bytes_eq other name)) [
+one_more_item {X} name other item table old new result was is found = elim (cases_Bool (bytes_eq other name)) [
   | inl e ↦
       let same : items_of table other ≡ old = ap (items_of table) ((bytes_decides other name).0 e) ∙ was in
       let here : result ≡ new = rw e at found in
@@ -94,7 +86,7 @@ members_on old mid new first second name k h = second name k (first name k h)
 
 -- the items of a name without the last
 pub popped_item : {X : Type 0} (name other : List ℕ) (table : List (List ℕ × List X)) (new result : List X) → new ≡ without_last (items_of table name) → result ≡ (if bytes_eq other name then new else items_of table other) → result ≡ (if bytes_eq other name then without_last (items_of table other) else items_of table other)
-popped_item {X} name other table new result is found = elim (bool_cases (bytes_eq other name)) [
+popped_item {X} name other table new result is found = elim (cases_Bool (bytes_eq other name)) [
   | inl e ↦
       let same : items_of table other ≡ items_of table name = ap (items_of table) ((bytes_decides other name).0 e) in
       let here : result ≡ new = rw e at found in
@@ -103,7 +95,7 @@ popped_item {X} name other table new result is found = elim (bool_cases (bytes_e
 ]
 
 pub popped_none : {X : Type 0} (name other : List ℕ) (table : List (List ℕ × List X)) (result : List X) → items_of table name ≡ [] → result ≡ items_of table other → result ≡ (if bytes_eq other name then without_last (items_of table other) else items_of table other)
-popped_none {X} name other table result none is = elim (bool_cases (bytes_eq other name)) [
+popped_none {X} name other table result none is = elim (cases_Bool (bytes_eq other name)) [
   | inl e ↦
       let same : items_of table other ≡ [] = ap (items_of table) ((bytes_decides other name).0 e) ∙ none in
       rw e (is ∙ (same ∙ ap without_last (sym same)))

@@ -1,42 +1,27 @@
 -- What meets a need offers its name.
-use Rattle.std.proofs.Common.{◌≡◌, ◌≤◌, inl, inr, ℕ, ◌+◌, Bool, true, false, List, [], ◌∷◌, ◌++◌, length, take, sym, subst, arith}
+use Rattle.std.proofs.Common.{◌≡◌, ◌≤◌, inl, inr, ℕ, ◌+◌, true, false, List, [], ◌∷◌, ◌++◌, length, take, sym, subst, arith}
 use Rattle.std.proofs.lemmas.List.{take_all}
 use Rattle.candidate_core.proofs.Steps.{take_one_more}
-use Rattle.std.specs.Prelude.{Option, Some, None, slice_get, not, ◌&&◌, is_some}
-use Rattle.std.specs.Option.{option_map_or}
+use Rattle.std.specs.Prelude.{Some, slice_get, not, ◌&&◌, is_some}
 use Rattle.std.specs.List.{list_any}
 use Rattle.std.specs.Str.{bytes_eq}
+use Rattle.std.proofs.lemmas.Bool.{and_parts, or_cases, cases_Bool, both_ways}
+use Rattle.pool_core.proofs.Filtered.{meeting_offers, at_weaker}
 use Rattle.dep_core.specs.Dependency.{Dependency}
-use Rattle.dep_core.specs.Meets.{is_wanted}
-use Rattle.candidate_core.specs.Candidates.{Candidate, Need, entry, entry_occupies, is_met_by_entry, named, need_name, meets_dependency, meets_by_own_name, occupies_name, offers_name}
+use Rattle.candidate_core.specs.Candidates.{Candidate, Need, entry, entry_occupies, named, need_name, meets_dependency, occupies_name, offers_name}
 use Rattle.candidate_core.specs.Rank.{SealedPool, is_at, meets_at}
 use Rattle.candidate_core.specs.Options.{IsIn, places_offering}
 use Rattle.search_tables.specs.Selection.{is_met}
 use Rattle.candidate_core.proofs.OptionLists.{in_places}
-use Rattle.search_tables.proofs.PoolFacts.{bool_cases, any_in}
-use Rattle.search_tables.proofs.Satisfying.{and_true, or_true, true_or, any_one, one_any}
+use Rattle.search_tables.proofs.PoolFacts.{any_in}
+use Rattle.search_tables.proofs.Satisfying.{true_or, any_one, one_any}
 use Rattle.search_tables.proofs.Theory.{in_append}
-
-pub meets_offers : (d : Dependency) (c : Candidate) → meets_dependency d c ≡ true → offers_name d.name c ≡ true
-meets_offers d c h = elim (or_true (meets_by_own_name d c) (list_any (is_met_by_entry d) c.provides) h) [
-  | inl e ↦ true_or (bytes_eq d.name c.name) _ (inl (and_true (bytes_eq d.name c.name) (is_wanted d.version d.bits c.version) e).0)
-  | inr e ↦
-      let a = any_one (is_met_by_entry d) c.provides e in
-      let b = and_true (not a.0.conflict) (bytes_eq d.name a.0.name && is_wanted d.version d.bits a.0.version) a.2 in
-      let n = and_true (bytes_eq d.name a.0.name) (is_wanted d.version d.bits a.0.version) b.1 in
-      true_or (bytes_eq d.name c.name) (list_any (λ (p : Dependency). not p.conflict && bytes_eq d.name p.name) c.provides)
-      (inr (one_any (λ (p : Dependency). not p.conflict && bytes_eq d.name p.name) c.provides a.0 a.1 (rw b.0 n.0)))
-]
-
-pub mono_at : (p q : Candidate → Bool) (o : Option Candidate) → ((c : Candidate) → p c ≡ true → q c ≡ true) → option_map_or p o false ≡ true → option_map_or q o false ≡ true
-mono_at p q None to h = h
-mono_at p q (Some c) to h = to c h
 
 pub meets_offered : (pool : SealedPool) (d : Dependency) (m : ℕ) → meets_at pool m (entry d) ≡ true → IsIn m (places_offering d.name pool.candidates)
 meets_offered pool d m h =
     let z : 0 + m ≡ m = omega arith in
     subst (λ (o : ℕ). IsIn o (places_offering d.name pool.candidates)) z
-    (in_places 0 (offers_name d.name) pool.candidates m (mono_at (meets_dependency d) (offers_name d.name) (slice_get pool.candidates m) (meets_offers d) h))
+    (in_places 0 (offers_name d.name) pool.candidates m (at_weaker (meets_dependency d) (offers_name d.name) (slice_get pool.candidates m) (meeting_offers d) h))
 
 pub in_more : (P : ℕ → Type 0) (xs : List ℕ) (x : ℕ) → ((k : ℕ) → IsIn k xs → P k) → P x → (k : ℕ) → IsIn k (xs ++ x ∷ []) → P k
 in_more P xs x all here k h = elim (in_append k xs (x ∷ []) h) [
@@ -48,27 +33,23 @@ named_offered : (pool : SealedPool) (name : List ℕ) (m : ℕ) → meets_at poo
 named_offered pool name m h =
     let z : 0 + m ≡ m = omega arith in
     subst (λ (o : ℕ). IsIn o (places_offering name pool.candidates)) z
-    (in_places 0 (offers_name name) pool.candidates m (mono_at (λ (c : Candidate). bytes_eq name c.name) (offers_name name) (slice_get pool.candidates m) (λ c e. true_or (bytes_eq name c.name) _ (inl e)) h))
+    (in_places 0 (offers_name name) pool.candidates m (at_weaker (λ (c : Candidate). bytes_eq name c.name) (offers_name name) (slice_get pool.candidates m) (λ c e. true_or (bytes_eq name c.name) _ (inl e)) h))
 
 need_offered : (pool : SealedPool) (need : Need) (m : ℕ) → meets_at pool m need ≡ true → IsIn m (places_offering (need_name need) pool.candidates)
 need_offered pool (entry d) m h = meets_offered pool d m h
 need_offered pool (named name) m h = named_offered pool name m h
 
-not_both : (b : Bool) → b ≡ false → b ≡ true → ⊥
-not_both true e h = cc
-not_both false e h = cc
-
 -- no choice meets the need, looked for among all choices
 pub unmet_among_all : (pool : SealedPool) (chosen : List ℕ) (need : Need) → ((k : ℕ) → IsIn k chosen → meets_at pool k need ≡ false) → is_met pool chosen need ≡ false
-unmet_among_all pool chosen need none = elim (bool_cases (is_met pool chosen need)) [
-  | inl e ↦ let r = any_in (λ c. meets_at pool c need) chosen e in absurd (not_both (meets_at pool r.0 need) (none r.0 r.1) r.2)
+unmet_among_all pool chosen need none = elim (cases_Bool (is_met pool chosen need)) [
+  | inl e ↦ let r = any_in (λ c. meets_at pool c need) chosen e in absurd (both_ways (meets_at pool r.0 need) (none r.0 r.1) r.2)
   | inr e ↦ e
 ]
 
 -- the same, among those that offer its name
 pub unmet_among_offers : (pool : SealedPool) (chosen : List ℕ) (need : Need) → ((k : ℕ) → IsIn k (places_offering (need_name need) pool.candidates) → IsIn k chosen → meets_at pool k need ≡ false) → is_met pool chosen need ≡ false
-unmet_among_offers pool chosen need none = elim (bool_cases (is_met pool chosen need)) [
-  | inl e ↦ let r = any_in (λ c. meets_at pool c need) chosen e in absurd (not_both (meets_at pool r.0 need) (none r.0 (need_offered pool need r.0 r.2) r.1) r.2)
+unmet_among_offers pool chosen need none = elim (cases_Bool (is_met pool chosen need)) [
+  | inl e ↦ let r = any_in (λ c. meets_at pool c need) chosen e in absurd (both_ways (meets_at pool r.0 need) (none r.0 (need_offered pool need r.0 r.2) r.1) r.2)
   | inr e ↦ e
 ]
 
@@ -84,23 +65,23 @@ each_all {X} P xs i past done y h = done y (subst (λ (z : List X). IsIn y z) (s
 
 -- a candidate that occupies a name offers it
 occupied_offers : (name : List ℕ) (c : Candidate) → occupies_name name c ≡ true → offers_name name c ≡ true
-occupied_offers name c h = elim (or_true (bytes_eq name c.name) (list_any (entry_occupies name) c.provides) h) [
+occupied_offers name c h = elim (or_cases (bytes_eq name c.name) (list_any (entry_occupies name) c.provides) h) [
   | inl e ↦ true_or (bytes_eq name c.name) _ (inl e)
   | inr e ↦
       let a = any_one (entry_occupies name) c.provides e in
-      let b = and_true (not a.0.conflict) (is_some a.0.version && bytes_eq name a.0.name) a.2 in
-      let n = and_true (is_some a.0.version) (bytes_eq name a.0.name) b.1 in
+      let b = and_parts (not a.0.conflict) (is_some a.0.version && bytes_eq name a.0.name) a.2 in
+      let n = and_parts (is_some a.0.version) (bytes_eq name a.0.name) b.1 in
       true_or (bytes_eq name c.name) (list_any (λ (p : Dependency). not p.conflict && bytes_eq name p.name) c.provides)
       (inr (one_any (λ (p : Dependency). not p.conflict && bytes_eq name p.name) c.provides a.0 a.1 (rw b.0 n.1)))
 ]
 
 -- no choice occupies the name, looked for among those that offer it
 pub occupied_among_offers : (pool : SealedPool) (chosen : List ℕ) (name : List ℕ) → ((k : ℕ) → IsIn k (places_offering name pool.candidates) → IsIn k chosen → is_at pool (occupies_name name) k ≡ false) → (k : ℕ) → IsIn k chosen → is_at pool (occupies_name name) k ≡ false
-occupied_among_offers pool chosen name none k there = elim (bool_cases (is_at pool (occupies_name name) k)) [
+occupied_among_offers pool chosen name none k there = elim (cases_Bool (is_at pool (occupies_name name) k)) [
   | inr e ↦ e
   | inl e ↦
       let z : 0 + k ≡ k = omega arith in
       let offered : IsIn k (places_offering name pool.candidates) = subst (λ (o : ℕ). IsIn o (places_offering name pool.candidates)) z
-      (in_places 0 (offers_name name) pool.candidates k (mono_at (occupies_name name) (offers_name name) (slice_get pool.candidates k) (occupied_offers name) e)) in
+      (in_places 0 (offers_name name) pool.candidates k (at_weaker (occupies_name name) (offers_name name) (slice_get pool.candidates k) (occupied_offers name) e)) in
       none k offered there
 ]

@@ -5,6 +5,7 @@ use Rattle.std.specs.Option.{option_map}
 use Rattle.std.specs.Ordering.{is_lt}
 use Rattle.std.specs.Cmp.{nat_eq_equiv}
 use Rattle.std.specs.List.{filter, find, flat_map, list_all, list_any}
+use Rattle.std.proofs.lemmas.Bool.{cases_Bool}
 use Rattle.dep_core.specs.Dependency.{Dependency}
 use Rattle.candidate_core.specs.Candidates.{Candidate, Need, entry, has_usable_install_if, named}
 use Rattle.candidate_core.specs.Rank.{SealedPool, bytes_cmp, is_eligible_at, is_better, meets_at}
@@ -14,10 +15,6 @@ use Rattle.search_tables.specs.Reasons.{AreCompatible}
 use Rattle.search_tables.specs.Reasons.{HasOptions}
 use Rattle.search_tables.proofs.Theory.{Sorted, sorted_split, in_left, in_right, in_append}
 use Rattle.search_tables.proofs.Turns.{PoolFacts}
-
-pub bool_cases : (b : Bool) → (b ≡ true) ⊎ (b ≡ false)
-bool_cases true = inl refl
-bool_cases false = inr refl
 
 none_true : false ≡ true → ⊥
 none_true e = cc
@@ -36,7 +33,7 @@ map_in f y (x ∷ xs) (inr h) = let r = map_in f y xs h in (r.0, inr r.1, r.2)
 
 pub filter_in : {X : Type 0} (p : X → Bool) (x : X) (xs : List X) → IsIn x (filter p xs) → IsIn x xs × (p x ≡ true)
 filter_in p x [] h = absurd h
-filter_in {X} p x (y ∷ xs) h = elim (bool_cases (p y)) [
+filter_in {X} p x (y ∷ xs) h = elim (cases_Bool (p y)) [
   | inl e ↦ elim (rw e at h) [
     | inl s ↦ (inl s, subst (λ (z : X). p z ≡ true) (sym s) e)
     | inr r ↦ let q = filter_in p x xs r in (inr q.0, q.1)
@@ -47,33 +44,33 @@ filter_in {X} p x (y ∷ xs) h = elim (bool_cases (p y)) [
 pub in_filter : {X : Type 0} (p : X → Bool) (x : X) (xs : List X) → IsIn x xs → p x ≡ true → IsIn x (filter p xs)
 in_filter p x [] h e = absurd h
 in_filter {X} p x (y ∷ xs) (inl s) e = rw (subst (λ (z : X). p z ≡ true) s e) (inl s)
-in_filter p x (y ∷ xs) (inr h) e = elim (bool_cases (p y)) [
+in_filter p x (y ∷ xs) (inr h) e = elim (cases_Bool (p y)) [
   | inl t ↦ rw t (inr (in_filter p x xs h e))
   | inr t ↦ rw t (in_filter p x xs h e)
 ]
 
 pub any_in : (p : ℕ → Bool) (xs : List ℕ) → list_any p xs ≡ true → (m : ℕ) × IsIn m xs × (p m ≡ true)
 any_in p [] h = absurd (none_true h)
-any_in p (x ∷ xs) h = elim (bool_cases (p x)) [
+any_in p (x ∷ xs) h = elim (cases_Bool (p x)) [
   | inl e ↦ (x, inl refl, e)
   | inr e ↦ let r = any_in p xs (rw e at h) in (r.0, inr r.1, r.2)
 ]
 
-in_any : (p : ℕ → Bool) (xs : List ℕ) (m : ℕ) → IsIn m xs → p m ≡ true → list_any p xs ≡ true
+pub in_any : (p : ℕ → Bool) (xs : List ℕ) (m : ℕ) → IsIn m xs → p m ≡ true → list_any p xs ≡ true
 in_any p [] m h e = absurd h
 in_any p (x ∷ xs) m (inl s) e = rw (subst (λ (z : ℕ). p z ≡ true) s e) refl
-in_any p (x ∷ xs) m (inr h) e = elim (bool_cases (p x)) [ inl t ↦ rw t refl | inr t ↦ rw t (in_any p xs m h e) ]
+in_any p (x ∷ xs) m (inr h) e = elim (cases_Bool (p x)) [ inl t ↦ rw t refl | inr t ↦ rw t (in_any p xs m h e) ]
 
 all_mono : {X : Type 0} (p q : X → Bool) (xs : List X) → ((x : X) → p x ≡ true → q x ≡ true) → list_all p xs ≡ true → list_all q xs ≡ true
 all_mono p q [] to h = refl
-all_mono p q (x ∷ xs) to h = elim (bool_cases (p x)) [
+all_mono p q (x ∷ xs) to h = elim (cases_Bool (p x)) [
   | inl e ↦ rw (to x e) (all_mono p q xs to (rw e at h))
   | inr e ↦ let bad : false ≡ true = rw e at h in absurd (none_true bad)
 ]
 
 pub find_in : {X : Type 0} (p : X → Bool) (xs : List X) (x : X) → find p xs ≡ Some x → IsIn x xs × (p x ≡ true)
 find_in p [] x h = absurd (cc)
-find_in {X} p (y ∷ xs) x h = elim (bool_cases (p y)) [
+find_in {X} p (y ∷ xs) x h = elim (cases_Bool (p y)) [
   | inl e ↦
       let g : Some y ≡ Some x = rw e at h in
       let s : x ≡ y = cc in
@@ -83,7 +80,7 @@ find_in {X} p (y ∷ xs) x h = elim (bool_cases (p y)) [
 
 find_none : {X : Type 0} (p : X → Bool) (xs : List X) (x : X) → find p xs ≡ None → IsIn x xs → p x ≡ false
 find_none p [] x h g = absurd g
-find_none {X} p (y ∷ xs) x h g = elim (bool_cases (p y)) [
+find_none {X} p (y ∷ xs) x h g = elim (cases_Bool (p y)) [
   | inl e ↦ let k : Some y ≡ None = rw e at h in absurd (cc)
   | inr e ↦ elim g [
     | inl s ↦ subst (λ (z : X). p z ≡ false) (sym s) e
@@ -93,7 +90,7 @@ find_none {X} p (y ∷ xs) x h g = elim (bool_cases (p y)) [
 
 lesser_in : (x : List ℕ) (o : Option (List ℕ)) (xs : List (List ℕ)) → ((y : List ℕ) → o ≡ Some y → IsIn y xs) → IsIn (lesser_name x o) (x ∷ xs)
 lesser_in x None xs h = inl refl
-lesser_in x (Some y) xs h = elim (bool_cases (is_lt (bytes_cmp y x))) [
+lesser_in x (Some y) xs h = elim (cases_Bool (is_lt (bytes_cmp y x))) [
   | inl e ↦ let is : lesser_name x (Some y) ≡ y = rw e refl in inr (subst (λ (z : List ℕ). IsIn z xs) (sym is) (h y refl))
   | inr e ↦ let is : lesser_name x (Some y) ≡ x = rw e refl in inl is
 ]
@@ -137,7 +134,7 @@ module _ (pool : SealedPool) where
       ]
 
   asks_mono : (t u : List ℕ) (c : Candidate) → AreMembers t u → install_if_applies pool t c ≡ true → install_if_applies pool u c ≡ true
-  asks_mono t u c sub h = elim (bool_cases (has_usable_install_if pool.world c)) [
+  asks_mono t u c sub h = elim (cases_Bool (has_usable_install_if pool.world c)) [
     | inl e ↦ rw e (all_mono (λ (d : Dependency). is_met pool t (entry d)) (λ (d : Dependency). is_met pool u (entry d)) c.install_if (λ d. met_mono (entry d) t u sub) (rw e at h))
     | inr e ↦ let bad : false ≡ true = rw e at h in absurd (none_true bad)
   ]
@@ -212,7 +209,7 @@ module _ (pool : SealedPool) where
                 | inl e ↦ least_none names e
                 | inr some ↦ let k : Some (named some.0) ≡ None = subst (λ (o : Option (List ℕ)). option_map named o ≡ None) some.1 g in absurd (cc)
               ] in
-              elim (bool_cases (is_met pool t (named m.0))) [
+              elim (cases_Bool (is_met pool t (named m.0))) [
                 | inl e ↦ subst (λ (z : Need). is_met pool t z ≡ true) (sym m.2) e
                 | inr e ↦ absurd (subst (λ (z : List (List ℕ)). IsIn m.0 z) no_names (in_filter (λ (x : List ℕ). is_unmet pool t (named x)) m.0 (names_by_install_if pool t) m.1 (ap not e)))
               ]

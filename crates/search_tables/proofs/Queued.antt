@@ -2,12 +2,12 @@
 use Rattle.std.proofs.Common.{◌≡◌, inl, inr, ℕ, zero, suc, ◌+◌, ◌≤◌, ◌<◌, Bool, true, false, List, [], ◌∷◌, ◌++◌, length, take, map, refl, sym, subst, ap, ◌∙◌, arith, append_assoc, append-nil, length-append}
 use Rattle.std.specs.Prelude.{Option, Some, None, not, ◌||◌, if◌then◌else◌, slice_get}
 use Rattle.std.specs.List.{filter, find, flat_map, list_any}
+use Rattle.std.proofs.lemmas.Bool.{not-false, cases_Bool}
 use Rattle.dep_core.specs.Dependency.{Dependency}
 use Rattle.candidate_core.specs.Candidates.{entry}
 use Rattle.candidate_core.specs.Rank.{SealedPool, meets_at}
 use Rattle.search_tables.specs.Selection.{is_met}
 use Rattle.search_tables.specs.Queue.{AreMet, RaisedDepValue, is_unmet_dep, queue_of, raised_deps_at, raised_deps, raised_from}
-use Rattle.search_tables.proofs.PoolFacts.{bool_cases}
 
 pub any_map : {X Y : Type 0} (p : Y → Bool) (f : X → Y) (xs : List X) → list_any p (map f xs) ≡ list_any (λ x. p (f x)) xs
 any_map p f [] = refl
@@ -15,11 +15,11 @@ any_map p f (x ∷ xs) = ap (λ b. p (f x) || b) (any_map p f xs)
 
 pub any_append : {X : Type 0} (p : X → Bool) (xs ys : List X) → list_any p xs ≡ true → list_any p (xs ++ ys) ≡ true
 any_append p [] ys h = absurd (cc)
-any_append p (x ∷ xs) ys h = elim (bool_cases (p x)) [ inl t ↦ rw t refl | inr t ↦ rw t (any_append p xs ys (rw t at h)) ]
+any_append p (x ∷ xs) ys h = elim (cases_Bool (p x)) [ inl t ↦ rw t refl | inr t ↦ rw t (any_append p xs ys (rw t at h)) ]
 
 pub filtered : {X : Type 0} (p : X → Bool) (xs ys : List X) → filter p (xs ++ ys) ≡ filter p xs ++ filter p ys
 filtered p [] ys = refl
-filtered {X} p (x ∷ xs) ys = elim (bool_cases (p x)) [ inl t ↦ rw t (ap (λ (z : List X). x ∷ z) (filtered p xs ys)) | inr t ↦ rw t (filtered p xs ys) ]
+filtered {X} p (x ∷ xs) ys = elim (cases_Bool (p x)) [ inl t ↦ rw t (ap (λ (z : List X). x ∷ z) (filtered p xs ys)) | inr t ↦ rw t (filtered p xs ys) ]
 
 pub mapped : {X Y : Type 0} (f : X → Y) (xs ys : List X) → map f (xs ++ ys) ≡ map f xs ++ map f ys
 mapped f [] ys = refl
@@ -77,17 +77,13 @@ take_within {X} (x ∷ xs) ys (suc n) h = ap (λ (z : List X). x ∷ z) (take_wi
 
 none_still : {X : Type 0} (p q : X → Bool) (xs : List X) → ((x : X) → p x ≡ false → q x ≡ false) → find p xs ≡ None → find q xs ≡ None
 none_still p q [] to h = refl
-none_still {X} p q (x ∷ xs) to h = elim (bool_cases (p x)) [
+none_still {X} p q (x ∷ xs) to h = elim (cases_Bool (p x)) [
   | inl t ↦ let bad : Some x ≡ None = rw t at h in absurd (cc)
   | inr t ↦ rw (to x t) (none_still p q xs to (rw t at h))
 ]
 
-not_false : (b : Bool) → not b ≡ false → b ≡ true
-not_false true h = refl
-not_false false h = absurd (cc)
-
 still_met : (pool : SealedPool) (t us : List ℕ) (r : RaisedDepValue) → is_unmet_dep pool t r ≡ false → is_unmet_dep pool (t ++ us) r ≡ false
-still_met pool t us r h = ap not (any_append (λ c. meets_at pool c (entry r.0)) t us (not_false (is_met pool t (entry r.0)) h))
+still_met pool t us r h = ap not (any_append (λ c. meets_at pool c (entry r.0)) t us (not-false (is_met pool t (entry r.0)) h))
 
 pub met_more : (pool : SealedPool) (t : List ℕ) (c at : ℕ) → AreMet pool t at → AreMet pool (t ++ c ∷ []) at
 met_more pool t c at met =
@@ -106,7 +102,7 @@ find_at p [] (suc i) x n h e = absurd (cc)
 find_at {X} p (y ∷ xs) zero x n h e =
     let s : x ≡ y = cc in
     rw (subst (λ (z : X). p z ≡ true) s e) (ap Some (sym s))
-find_at p (y ∷ xs) (suc i) x n h e = elim (bool_cases (p y)) [
+find_at p (y ∷ xs) (suc i) x n h e = elim (cases_Bool (p y)) [
   | inl t ↦ let bad : Some y ≡ None = rw t at n in absurd (cc)
   | inr t ↦ rw t (find_at p xs i x (rw t at n) h e)
 ]
@@ -120,7 +116,7 @@ none_at p [] (suc i) x n h e = absurd (cc)
 none_at {X} p (y ∷ xs) zero x n h e =
     let s : x ≡ y = cc in
     rw (subst (λ (z : X). p z ≡ false) s e) refl
-none_at p (y ∷ xs) (suc i) x n h e = elim (bool_cases (p y)) [
+none_at p (y ∷ xs) (suc i) x n h e = elim (cases_Bool (p y)) [
   | inl t ↦ let bad : Some y ≡ None = rw t at n in absurd (cc)
   | inr t ↦ rw t (none_at p xs i x (rw t at n) h e)
 ]
@@ -129,7 +125,7 @@ pub past_end : {X : Type 0} (p : X → Bool) (xs : List X) (i : ℕ) → length 
 past_end p [] zero h n = refl
 past_end p [] (suc i) h n = refl
 past_end p (x ∷ xs) zero h n = absurd (omega arith)
-past_end p (x ∷ xs) (suc i) h n = elim (bool_cases (p x)) [
+past_end p (x ∷ xs) (suc i) h n = elim (cases_Bool (p x)) [
   | inl t ↦ let bad : Some x ≡ None = rw t at n in absurd (cc)
   | inr t ↦ rw t (past_end p xs i (omega arith) (rw t at n))
 ]

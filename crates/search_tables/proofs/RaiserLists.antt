@@ -1,6 +1,7 @@
 -- Choices that meet the entries of an install-if.
 use Rattle.std.proofs.Common.{◌≡◌, inl, inr, ℕ, zero, suc, ◌+◌, true, false, List, [], ◌∷◌, ◌++◌, take, refl, sym, subst, ap, ◌∙◌}
 use Rattle.std.specs.Prelude.{Option, Some, None, is_some, slice_get, MatchOption}
+use Rattle.std.proofs.lemmas.Bool.{and_parts, cases_Bool}
 use Rattle.candidate_core.proofs.Steps.{take_one_more}
 use Rattle.dep_core.specs.Dependency.{Dependency}
 use Rattle.candidate_core.specs.Candidates.{Need, entry}
@@ -9,8 +10,8 @@ use Rattle.candidate_core.specs.Options.{IsIn}
 use Rattle.search_tables.specs.Selection.{AreMembers, is_met}
 use Rattle.search_tables.specs.InstallIf.{all_met}
 use Rattle.search_tables.proofs.Theory.{in_left, in_right, in_append}
-use Rattle.search_tables.proofs.PoolFacts.{bool_cases, met_mono}
-use Rattle.search_tables.proofs.Satisfying.{and_true, one_any}
+use Rattle.search_tables.proofs.PoolFacts.{met_mono}
+use Rattle.search_tables.proofs.Satisfying.{one_any}
 
 module _ (pool : SealedPool) where
   pub is_met_by : (t : List ℕ) (need : Need) (o : Option ℕ) → MatchOption o (is_met pool t need ≡ false) (λ id. IsIn id t × (meets_at pool id need ≡ true)) → is_some o ≡ is_met pool t need
@@ -20,20 +21,20 @@ module _ (pool : SealedPool) where
   all_split : (t : List ℕ) (xs ys : List Dependency) → all_met pool t (xs ++ ys) ≡ true → (all_met pool t xs ≡ true) × (all_met pool t ys ≡ true)
   all_split t [] ys h = (refl, h)
   all_split t (x ∷ xs) ys h =
-      let b = and_true (is_met pool t (entry x)) (all_met pool t (xs ++ ys)) h in
+      let b = and_parts (is_met pool t (entry x)) (all_met pool t (xs ++ ys)) h in
       let r = all_split t xs ys b.1 in
       (rw b.0 r.0, r.1)
 
   all_join : (t : List ℕ) (xs ys : List Dependency) → all_met pool t xs ≡ true → all_met pool t ys ≡ true → all_met pool t (xs ++ ys) ≡ true
   all_join t [] ys h g = g
   all_join t (x ∷ xs) ys h g =
-      let b = and_true (is_met pool t (entry x)) (all_met pool t xs) h in
+      let b = and_parts (is_met pool t (entry x)) (all_met pool t xs) h in
       rw b.0 (all_join t xs ys b.1 g)
 
   all_mono : (t u : List ℕ) (xs : List Dependency) → AreMembers t u → all_met pool t xs ≡ true → all_met pool u xs ≡ true
   all_mono t u [] sub h = refl
   all_mono t u (x ∷ xs) sub h =
-      let b = and_true (is_met pool t (entry x)) (all_met pool t xs) h in
+      let b = and_parts (is_met pool t (entry x)) (all_met pool t xs) h in
       rw (met_mono pool (entry x) t u sub b.0) (all_mono t u xs sub b.1)
 
   -- one more entry is met by those chosen of the choices
@@ -41,7 +42,7 @@ module _ (pool : SealedPool) where
   raisers_more t before after deps i d here was sub one h =
       let e : take (i + 1) deps ≡ take i deps ++ d ∷ [] = take_one_more deps i d here in
       let s = all_split t (take i deps) (d ∷ []) (ap (all_met pool t) (sym e) ∙ h) in
-      let last = and_true (is_met pool t (entry d)) true s.1 in
+      let last = and_parts (is_met pool t (entry d)) true s.1 in
       ap (all_met pool after) e ∙ all_join after (take i deps) (d ∷ []) (all_mono before after (take i deps) sub (was s.0)) (rw (one last.0) refl)
 
   -- a step of a loop in which each is met, and one that is not
@@ -55,7 +56,7 @@ module _ (pool : SealedPool) where
       let e : x ≡ d = cc in
       let n : is_met pool t (entry x) ≡ false = subst (λ (z : Dependency). is_met pool t (entry z) ≡ false) (sym e) unmet in
       rw n refl
-  one_not_met t (x ∷ xs) (suc i) d here unmet = elim (bool_cases (is_met pool t (entry x))) [
+  one_not_met t (x ∷ xs) (suc i) d here unmet = elim (cases_Bool (is_met pool t (entry x))) [
     | inl e ↦ rw e (one_not_met t xs i d here unmet)
     | inr e ↦ rw e refl
   ]

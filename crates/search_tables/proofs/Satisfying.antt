@@ -6,6 +6,7 @@ use Rattle.std.specs.List.{filter, find, flat_map, list_any}
 use Rattle.std.specs.Str.{bytes_eq}
 use Rattle.std.proofs.lemmas.Bool.Decides.{eqb_tells}
 use Rattle.std.specs.Cmp.Lexicographic.{bytes_decides}
+use Rattle.std.proofs.lemmas.Bool.{and_parts, or_cases, cases_Bool}
 use Rattle.dep_core.specs.Dependency.{Dependency}
 use Rattle.candidate_core.specs.Candidates.{Candidate, Need, named, occupies_name}
 use Rattle.candidate_core.specs.Rank.{SealedPool, candidate_at, is_at}
@@ -13,15 +14,7 @@ use Rattle.candidate_core.specs.Options.{IsIn}
 use Rattle.search_tables.specs.Selection.{IsSatisfying, exclude_each_other, names_by_install_if, depends_at, conflicts_with, occupied_names_at, occupied_names, is_unmet, keeps_out, least_name, needs, positive_needs, next_need, raised_needs, share_a_name}
 use Rattle.search_tables.specs.Reasons.{IsSolution}
 use Rattle.search_tables.proofs.Theory.{in_left, in_right, in_append}
-use Rattle.search_tables.proofs.PoolFacts.{bool_cases, filter_in, in_filter, in_map, map_in, flat_in, in_flat, next_none}
-
-pub and_true : (p q : Bool) → (p && q) ≡ true → (p ≡ true) × (q ≡ true)
-and_true true q h = (refl, h)
-and_true false q h = absurd (cc)
-
-pub or_true : (p q : Bool) → (p || q) ≡ true → (p ≡ true) ⊎ (q ≡ true)
-or_true true q h = inl refl
-or_true false q h = inr h
+use Rattle.search_tables.proofs.PoolFacts.{filter_in, in_filter, in_map, map_in, flat_in, in_flat, next_none}
 
 pub true_or : (p q : Bool) → (p ≡ true) ⊎ (q ≡ true) → (p || q) ≡ true
 true_or true q h = refl
@@ -30,7 +23,7 @@ true_or false q (inr e) = e
 
 pub any_one : {X : Type 0} (p : X → Bool) (xs : List X) → list_any p xs ≡ true → (x : X) × IsIn x xs × (p x ≡ true)
 any_one p [] h = absurd (cc)
-any_one p (x ∷ xs) h = elim (bool_cases (p x)) [
+any_one p (x ∷ xs) h = elim (cases_Bool (p x)) [
   | inl e ↦ (x, inl refl, e)
   | inr e ↦ let r = any_one p xs (rw e at h) in (r.0, inr r.1, r.2)
 ]
@@ -38,7 +31,7 @@ any_one p (x ∷ xs) h = elim (bool_cases (p x)) [
 pub one_any : {X : Type 0} (p : X → Bool) (xs : List X) (x : X) → IsIn x xs → p x ≡ true → list_any p xs ≡ true
 one_any p [] x h e = absurd h
 one_any {X} p (y ∷ xs) x (inl s) e = rw (subst (λ (z : X). p z ≡ true) s e) refl
-one_any p (y ∷ xs) x (inr h) e = elim (bool_cases (p y)) [ inl t ↦ rw t refl | inr t ↦ rw t (one_any p xs x h e) ]
+one_any p (y ∷ xs) x (inr h) e = elim (cases_Bool (p y)) [ inl t ↦ rw t refl | inr t ↦ rw t (one_any p xs x h e) ]
 
 same_bytes : (a b : List ℕ) → bytes_eq a b ≡ true → a ≡ b
 same_bytes a b h = (bytes_decides a b).0 h
@@ -56,19 +49,19 @@ listed_is_occupied k name (inr h) =
     let alone : Dependency → Bool = λ (p : Dependency). not p.conflict && is_some p.version in
     let m = map_in of name (filter alone k.provides) h in
     let f = filter_in alone m.0 k.provides m.1 in
-    let both = and_true (not m.0.conflict) (is_some m.0.version) f.1 in
+    let both = and_parts (not m.0.conflict) (is_some m.0.version) f.1 in
     true_or (bytes_eq name k.name) (list_any (λ (p : Dependency). not p.conflict && (is_some p.version && bytes_eq name p.name)) k.provides)
     (inr (one_any (λ (p : Dependency). not p.conflict && (is_some p.version && bytes_eq name p.name)) k.provides m.0 f.0 (rw both.0 (rw both.1 (bytes_same name m.0.name m.2)))))
 
 occupied_is_listed : (k : Candidate) (name : List ℕ) → occupies_name name k ≡ true → IsIn name (occupied_names k)
-occupied_is_listed k name h = elim (or_true (bytes_eq name k.name) (list_any (λ (p : Dependency). not p.conflict && (is_some p.version && bytes_eq name p.name)) k.provides) h) [
+occupied_is_listed k name h = elim (or_cases (bytes_eq name k.name) (list_any (λ (p : Dependency). not p.conflict && (is_some p.version && bytes_eq name p.name)) k.provides) h) [
   | inl e ↦ inl (same_bytes name k.name e)
   | inr e ↦
       let of : Dependency → List ℕ = λ (p : Dependency). p.name in
       let alone : Dependency → Bool = λ (p : Dependency). not p.conflict && is_some p.version in
       let a = any_one (λ (p : Dependency). not p.conflict && (is_some p.version && bytes_eq name p.name)) k.provides e in
-      let one = and_true (not a.0.conflict) (is_some a.0.version && bytes_eq name a.0.name) a.2 in
-      let two = and_true (is_some a.0.version) (bytes_eq name a.0.name) one.1 in
+      let one = and_parts (not a.0.conflict) (is_some a.0.version && bytes_eq name a.0.name) a.2 in
+      let two = and_parts (is_some a.0.version) (bytes_eq name a.0.name) one.1 in
       let f : IsIn a.0 (filter alone k.provides) = in_filter alone a.0 k.provides a.1 (rw one.0 two.0) in
       inr (subst (λ (z : List ℕ). IsIn z (map of (filter alone k.provides))) (sym (same_bytes name a.0.name two.1)) (in_map of a.0 (filter alone k.provides) f))
 ]
@@ -90,7 +83,7 @@ module _ (pool : SealedPool) where
 
   module _ (S : List ℕ) where
     kept_out : IsSatisfying pool S → (a b : ℕ) → IsIn a S → IsIn b S → a ≢ b → keeps_out pool a b ≡ true → ⊥
-    kept_out s a b ha hb n h = elim (or_true (conflicts_with pool a b) (share_a_name pool a b) h) [
+    kept_out s a b ha hb n h = elim (or_cases (conflicts_with pool a b) (share_a_name pool a b) h) [
       | inl e ↦ let no_way : true ≡ false = sym e ∙ s.no_conflict a b ha hb n in absurd (cc)
       | inr e ↦
           let one = any_one (λ name. is_at pool (occupies_name name) b) (occupied_names_at pool a) e in
@@ -122,10 +115,10 @@ module _ (pool : SealedPool) where
         s.once,
         s.eligible,
         λ a b ha hb h.
-            let both = and_true (not (a == b)) (keeps_out pool a b || keeps_out pool b a) h in
+            let both = and_parts (not (a == b)) (keeps_out pool a b || keeps_out pool b a) h in
             elim (eqb_tells a b) [
               | inl e ↦ let bad : not (a == b) ≡ false = ap not e.0 in let k : true ≡ false = sym both.0 ∙ bad in absurd (cc)
-              | inr n ↦ elim (or_true (keeps_out pool a b) (keeps_out pool b a) both.1) [
+              | inr n ↦ elim (or_cases (keeps_out pool a b) (keeps_out pool b a) both.1) [
                 | inl k ↦ kept_out s a b ha hb n.1 k
                 | inr k ↦ kept_out s b a hb ha (λ e. n.1 (sym e)) k
               ]
@@ -150,7 +143,7 @@ module _ (pool : SealedPool) where
           eligible = clean.1;
           world_met = λ q h. all q (in_left q (raised_needs pool S) (map named (names_by_install_if pool S)) (in_left q (positive_needs pool.world) (flat_map of S) h));
           depends_met = λ k q hk h. all q (in_left q (raised_needs pool S) (map named (names_by_install_if pool S)) (in_right q (positive_needs pool.world) (flat_map of S) (in_flat of q k S hk h)));
-          no_conflict = λ a b ha hb n. elim (bool_cases (conflicts_with pool a b)) [
+          no_conflict = λ a b ha hb n. elim (cases_Bool (conflicts_with pool a b)) [
             | inl e ↦ absurd (clean.2 a b ha hb (apart_of a b n (true_or (conflicts_with pool a b) (share_a_name pool a b) (inl e))))
             | inr e ↦ e
           ];

@@ -20,7 +20,8 @@ raised_from by n [] = []
 raised_from by n (d ∷ ds) =
     if d.conflict then raised_from by (suc n) ds else (d, by, n) ∷ raised_from by (suc n) ds
 
--- the same, if the first has the index 0
+-- the dependencies of a whole list that are no conflicts, each with the choice that raised it, or with
+-- none for world, and with its index from 0
 abbrev pub raised_deps : Option ℕ → List Dependency → List RaisedDepValue
 raised_deps by deps = raised_from by 0 deps
 

@@ -2,6 +2,7 @@
 -- or with a reason that holds for every selection.
 use Rattle.std.proofs.Common.{◌≡◌, ◌⊎◌, inl, inr, ℕ, zero, suc, ◌≤◌, true, false, List, [], ◌∷◌, ◌++◌, length, refl, sym, subst, ◌∙◌, arith, append_assoc}
 use Rattle.std.specs.Prelude.{Some}
+use Rattle.std.proofs.lemmas.Bool.{cases_Bool}
 use Rattle.candidate_core.specs.Candidates.{Need}
 use Rattle.candidate_core.specs.Rank.{SealedPool, is_eligible_at}
 use Rattle.candidate_core.specs.Options.{IsIn, options_for}
@@ -10,7 +11,6 @@ use Rattle.search_tables.specs.Reasons.{AreCompatible}
 use Rattle.search_tables.proofs.Theory as law
 use Rattle.search_tables.proofs.Theory.{in_left, in_right, in_append, none_or_some, removed}
 use Rattle.search_tables.proofs.Turns.{PoolFacts}
-use Rattle.search_tables.proofs.PoolFacts.{bool_cases}
 
 module _ (pool : SealedPool) (facts : PoolFacts pool) where
   abbrev pub Found : Type 0
@@ -19,7 +19,7 @@ module _ (pool : SealedPool) (facts : PoolFacts pool) where
   -- whether a candidate goes with all choices
   goes_with : (t : List ℕ) (y : ℕ) → ((m : ℕ) → IsIn m t → exclude_each_other pool m y ≡ true → ⊥) ⊎ ((m : ℕ) × IsIn m t × (exclude_each_other pool m y ≡ true))
   goes_with [] y = inl (λ m h e. h)
-  goes_with (x ∷ t) y = elim (bool_cases (exclude_each_other pool x y)) [
+  goes_with (x ∷ t) y = elim (cases_Bool (exclude_each_other pool x y)) [
     | inl e ↦ inr (x, inl refl, e)
     | inr e ↦ elim (goes_with t y) [
       | inl free ↦ inl (λ m h bad. elim h [

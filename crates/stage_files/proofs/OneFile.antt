@@ -1,10 +1,9 @@
 -- A file is staged piece by piece.
-use Rattle.std.proofs.Common.{◌≡◌, ◌⊎◌, inl, inr, ℕ, Bool, true, false, List, [], ◌∷◌, ◌++◌, Option, Some, None, Result, Ok, Err, refl, sym, ap, subst, ◌∙◌, append_assoc, arith}
+use Rattle.std.proofs.Common.{◌≡◌, ◌⊎◌, inl, inr, ℕ, Bool, true, false, List, [], ◌∷◌, ◌++◌, Option, Some, None, Result, Ok, Err, refl, sym, ap, subst, ◌∙◌, append_assoc}
 use Rattle.std.proofs.lemmas.List.{append-nil}
 use Rattle.std.specs.Prelude.{OnErr, OnOk, IfErr}
 use Rattle.std.specs.Result.{IsErrAnd}
 use Rattle.base_core.specs.Calls.{HoldsNow, IfObservable}
-use Rattle.base_core.specs.Faults.{Counts, CountsOnlyRise, IsNoFault}
 use Rattle.base_core.specs.Files.{Files}
 use Rattle.base_core.specs.Tree.{TreeState, files_of}
 use Rattle.base_core.specs.declared.cause.Cause.{Cause}
@@ -266,14 +265,3 @@ not_ok P (Err e) Q is = tt
 pub on_err : {A E : Type 0} (r : Result A E) (Q : Type 0) → Q → OnErr r Q
 on_err (Ok a) Q is = tt
 on_err (Err e) Q is = is
-
-pub goes_through : (a b c : Counts) → CountsOnlyRise a b → CountsOnlyRise b c → CountsOnlyRise a c
-goes_through a b c one two = record {
-  faults = (let p = one.faults in let q = two.faults in omega (arith, p, q));
-  misuses = (let p = one.misuses in let q = two.misuses in omega (arith, p, q));
-  memory_faults = (let p = one.memory_faults in let q = two.memory_faults in omega (arith, p, q));
-  fallible = λ t. one.fallible (two.fallible t);
-}
-
-pub kept_through : (a b c : Counts) → IsNoFault a b → IsNoFault b c → IsNoFault a c
-kept_through a b c one two = record { faults = two.faults ∙ one.faults; memory_faults = two.memory_faults ∙ one.memory_faults }

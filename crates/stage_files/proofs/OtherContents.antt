@@ -18,19 +18,18 @@ use Rattle.adb_block.specs.declared.block.BlockKind.{BlockKind}
 use Rattle.adb_block.specs.declared.block.BlockKind.TheVariants as Kinds
 use Rattle.adb_block.proofs.WholeFiles.{read_is_spelled, spelled_is_read, whole_from}
 use Rattle.adb_schema.specs.Soundness.{blocks_fault, file_fault, file_pair, first_payload, payload_after_header, payload_fault, payload_in, root_value, schema_fault}
-use Rattle.adb_view.specs.Schema.{shape_of}
-use Rattle.adb_view.specs.Values.{value_at}
 use Rattle.std.specs.Option.{option_or}
 use Rattle.adb_view.specs.declared.tables.Which.TheVariants.{Package}
-use Rattle.adb_view.specs.Plain.{plain_of}
 use Rattle.base_core.specs.declared.cause.Cause.{Cause}
 use Rattle.base_core.specs.declared.cause.Cause.TheVariants.{DataOrder, DataSize, HashDiffers, Truncated}
 use Rattle.base_core.specs.declared.cause.Digest.{Digest}
 use Rattle.base_core.specs.declared.cause.Digest.TheVariants.{Sha1, Sha256, Sha512}
+use Rattle.base_core.proofs.Causes.{both_none}
 use Rattle.pkg_core.proofs.Opened.{pair_alike}
 use Rattle.pkg_core.specs.Contents.{Expected, FilesRead, contents_block_fault, contents_bytes, contents_by, contents_fault, digest_fault, expected_contents, fault_in, files_at_block, files_by_blocks, given, has_positions_of, hash_fault, next_fault, no_more, unless_fault}
 use Rattle.pkg_core.specs.Opened.{expected_with_positions, has_positions}
 use Rattle.pkg_core.specs.Whole.{fault_after_first, package_fault, whole_fault}
+use Rattle.pkg_core.proofs.Given.{nothing_expected, size_right}
 use Rattle.stage_files.specs.Spoiled.{IsSpoiledFile}
 
 -- ---- one block gets another payload of the same length
@@ -153,10 +152,6 @@ is_enough : (few : Bool) (c : Cause) (o : Option Cause) → (if few then Some c 
 is_enough true c o h = absurd (cc (h))
 is_enough false c o h = (refl, h)
 
-is_right : (b : Bool) (c : Cause) (o : Option Cause) → (if not b then Some c else o) ≡ None → (b ≡ true) × (o ≡ None)
-is_right true c o h = (refl, h)
-is_right false c o h = absurd (cc (h))
-
 -- the first block of contents that is due
 record PassesBlock (payload : List ℕ) (e : Expected) : Type 0 where
   enough : nat_lt (length payload) 8 ≡ false
@@ -167,8 +162,8 @@ record PassesBlock (payload : List ℕ) (e : Expected) : Type 0 where
 passes_block : (payload : List ℕ) (at : ℕ) (e : Expected) (es : List Expected) → contents_block_fault payload at (e ∷ es) ≡ None → PassesBlock payload e
 passes_block payload at e es h =
     let (enough, first) = is_enough (nat_lt (length payload) 8) (Truncated at) _ h in
-    let (positions, second) = is_right (has_positions_of payload e) (DataOrder (e.folder, e.file) (file_pair payload)) _ first in
-    let (size, digest) = is_right (length (contents_bytes payload) == e.size) (DataSize e.size (length (contents_bytes payload))) _ second in
+    let (positions, second) = size_right (has_positions_of payload e) (DataOrder (e.folder, e.file) (file_pair payload)) _ first in
+    let (size, digest) = size_right (length (contents_bytes payload) == e.size) (DataSize e.size (length (contents_bytes payload))) _ second in
     record { enough = enough; positions = positions; size = eqb-true (length (contents_bytes payload)) e.size size; digest = digest }
 
 -- and what such a block comes to, wherever it stands
@@ -318,16 +313,8 @@ differs hash bytes c e = by_first (length hash == 20) (length hash == 32) (lengt
 
 -- ---- the whole package
 
-both_pass : (o u : Option Cause) → option_or o u ≡ None → (o ≡ None) × (u ≡ None)
-both_pass None u h = (refl, h)
-both_pass (Some c) u h = absurd (cc (h))
-
 first_then : (o u : Option Cause) (c : Cause) → o ≡ None → u ≡ Some c → option_or o u ≡ Some c
 first_then o u c none is = ap (λ (x : Option Cause). option_or x u) none ∙ is
-
-nothing_expected : expected_contents (root_value Package []) ≡ []
-unfolding value_at plain_of shape_of
-nothing_expected = refl
 
 -- its header, its first block, and the tests behind it
 record IsGoodPackage (file : List ℕ) : Type 0 where
@@ -354,13 +341,13 @@ good_by_reading file schema done header wanted reading h =
     inr (ap (λ (p : List ℕ). expected_contents (root_value Package p)) (payload_by file schema done header reading) ∙ nothing_expected)
 good_by_reading file schema (fault c) header wanted reading h = absurd (cc (h))
 good_by_reading file schema (more b at r) header wanted reading h =
-    let (values, contents) = both_pass (payload_fault Package b.payload) _ h in
+    let (values, contents) = both_none (payload_fault Package b.payload) _ h in
     inl (record { schema = schema; header = header; wanted = wanted; block = b; at = at; further = r; reading = reading; values = values; contents = contents })
 
 good_by_header : (file : List ℕ) (header : Result ℕ Cause) → header_of file ≡ header → file_fault (fault_after_first Package) Package file header ≡ None → IsGood file
 good_by_header file (Err c) is h = absurd (cc (h))
 good_by_header file (Ok schema) is h =
-    let (wanted, blocks) = both_pass (schema_fault Package schema) _ h in
+    let (wanted, blocks) = both_none (schema_fault Package schema) _ h in
     good_by_reading file schema (reading_of (start_of schema file)) is wanted refl blocks
 
 good : (file : List ℕ) → package_fault file ≡ None → IsGood file

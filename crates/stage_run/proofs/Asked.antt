@@ -1,19 +1,20 @@
 -- A change gives other bytes only to names that the tree accepts.
-use Rattle.std.proofs.Common.{◌≡◌, ◌≢◌, inl, inr, ⊎_elim, ◌||◌, ℕ, suc, ◌+◌, Bool, true, false, cond, List, ◌∷◌, [], Option, None, Some, refl, sym, ap, subst, ◌∙◌, slice_get}
+use Rattle.std.proofs.Common.{◌≡◌, ◌≢◌, inl, inr, ◌||◌, ℕ, ◌+◌, Bool, true, false, cond, List, ◌∷◌, [], Option, None, Some, refl, sym, ap, subst, ◌∙◌}
 use Rattle.std.specs.List.{list_any}
 use Rattle.std.specs.Str.{bytes_eq}
 use Rattle.base_core.specs.Crash.{Since}
 use Rattle.base_core.specs.Files.{Files}
 use Rattle.base_core.specs.Tree.{TreeState, bytes_at, files_of}
+use Rattle.base_core.proofs.AtName.{other_name}
 use Rattle.journal_core.specs.Recovery.{Intent, after_actions, intent_at, intent_name, is_staged, recovered_files, recovered_files_by, stage_name}
 use Rattle.journal_core.specs.Staged.{IsEmptyStage, unstaged_files, with_staged}
 use Rattle.journal_core.specs.Targets.{AreAccepted}
 use Rattle.journal_core.proofs.Between.{staged_off}
 use Rattle.journal_core.proofs.Contents.{untouched_others}
 use Rattle.journal_core.proofs.History.{History, none_since, since_weaker}
-use Rattle.journal_intent.proofs.AtName.{name_cases, other_name}
+use Rattle.journal_core.proofs.Acts.{among_index}
 use Rattle.journal_intent.proofs.StageNames.{stage_name_staged}
-use Rattle.journal_intent.specs.FreeNames.{AreFreeNames, HasFreeNames, IsNoneOf, IsOneOf}
+use Rattle.journal_intent.specs.FreeNames.{AreFreeNames, HasFreeNames, IsNoneOf}
 use Rattle.stage_run.specs.Asked.{IsAccepted, TargetsAreAccepted, HasAcceptedTargets}
 use Rattle.stage_run.specs.StageRun.{IsReadExceptStaged, IsReadDuringChange, IsStageRun, IsStagingRun}
 use Rattle.stage_run.proofs.Waits.{shown_off}
@@ -22,13 +23,6 @@ true_false : true ≡ false → ⊥
 true_false e = cc
 
 -- ---- lists of names
-
-among_index : (names : List (List ℕ)) (q : List ℕ) → IsOneOf q names → (i : ℕ) × (slice_get names i ≡ Some q)
-among_index [] q among = absurd (true_false (sym among))
-among_index (n ∷ ns) q among = ⊎_elim
-    (λ is. (0, ap Some (sym is)))
-    (λ off. let rest = among_index ns q (sym (ap (λ b. b || list_any (bytes_eq q) ns) off) ∙ among) in (suc rest.0, rest.1))
-    (name_cases q n)
 
 intent_not_among : (names : List (List ℕ)) → AreFreeNames names → IsNoneOf intent_name names
 intent_not_among [] free = refl

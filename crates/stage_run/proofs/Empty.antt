@@ -3,10 +3,11 @@ use Rattle.std.proofs.Common.{◌≡◌, ◌≢◌, ◌⊎◌, inl, inr, ⊎_eli
 use Rattle.std.specs.List.{list_any}
 use Rattle.std.specs.Str.{bytes_eq}
 use Rattle.base_core.specs.Files.{Files, drop_name, put_name}
+use Rattle.base_core.proofs.AtName.{name_cases, off_name}
 use Rattle.journal_core.specs.Recovery.{Intent, after_actions, after_moves, is_staged, move_if, stage_name, without_names}
 use Rattle.journal_core.specs.Staged.{IsEmptyStage, with_staged}
 use Rattle.journal_core.proofs.Replayed.{move_if-off}
-use Rattle.journal_intent.proofs.AtName.{drop_name-at, name_cases, off_name, put_name-off}
+use Rattle.journal_intent.proofs.AtName.{drop_name-at, put_name-off}
 use Rattle.journal_intent.specs.FreeNames.{AreFreeNames, HasFreeNames}
 use Rattle.stage_run.proofs.Waits.{shown_off}
 

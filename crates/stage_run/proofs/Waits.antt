@@ -4,9 +4,9 @@ use Rattle.std.specs.List.{list_any}
 use Rattle.std.specs.Str.{bytes_eq}
 use Rattle.base_core.specs.Tree.{TreeState, files_of}
 use Rattle.base_core.proofs.Undone.{read_may_be_left}
+use Rattle.base_core.proofs.AtName.{other_name}
 use Rattle.journal_core.specs.Kept.{KeepsFilesExcept, KeepsMapsExcept, ShownNamesAreDurable}
 use Rattle.journal_core.specs.Recovery.{intent_name, is_staged, stage_name}
-use Rattle.journal_intent.proofs.AtName.{other_name}
 use Rattle.journal_intent.specs.FreeNames.{IsNoneOf}
 use Rattle.stage_run.specs.StageRun.{IsReadExceptStaged}
 

@@ -7,16 +7,17 @@ use Rattle.base_core.specs.Undone.{IsDurable}
 use Rattle.base_core.specs.Files.{Files}
 use Rattle.base_core.specs.Restart.{EachMoment, SinceBy}
 use Rattle.base_core.specs.Tree.{TreeState, bytes_at, files_of}
+use Rattle.base_core.proofs.AtName.{name_cases, off_name}
 use Rattle.journal_core.specs.Kept.{HasOldOrNewBytes, IsJournalName, KeepsFilesExcept, RecoversTo, ShownNamesAreDurable}
 use Rattle.journal_core.specs.Quiet.{StateIsUnchanged}
-use Rattle.journal_core.specs.Recovery.{StateDependsOn, after_actions, intent_at, intent_name, is_staged, recovered_files, recovered_files_by, stage_name}
+use Rattle.journal_core.specs.Recovery.{StateDependsOn, after_actions, intent_name, is_staged, recovered_files, stage_name}
 use Rattle.journal_core.specs.Staged.{IsEmptyStage, IsOldUntilCommit, IsStaged, Staging, unstaged_files, with_staged}
 use Rattle.journal_core.proofs.Chain.{by_now, now_both}
 use Rattle.journal_core.proofs.History.{History, observable_map, since_on, since_weaker}
 use Rattle.journal_core.proofs.OnTheWay.{way_before}
 use Rattle.journal_core.proofs.Published.{since_by, still_on_the_way}
 use Rattle.journal_core.proofs.Waiting.{still_self}
-use Rattle.journal_intent.proofs.AtName.{name_cases, off_name}
+use Rattle.journal_core.proofs.Cleaned.{none_recovered}
 use Rattle.journal_intent.proofs.StageNames.{stage_name_staged}
 use Rattle.stage_run.specs.StageRun.{IsReadExceptStaged, IsReadDuringChange, IsStageRun, IsStaging, IsStagingRun, NamesAreDurableWithoutIntent}
 use Rattle.stage_run.proofs.Joins.{so_far_now}
@@ -56,15 +57,12 @@ emptied_at G empty w recovers i q = by (is_staged q) refl i
     by true is = ap (λ b. cond b None (recovered_files (files_of w) q)) is ∙ sym (empty q is)
     by false is = ap (λ b. cond b None (recovered_files (files_of w) q)) is ∙ ap (λ (F : Files). F q) recovers
 
-recovered_unread : (w : TreeState) → w.names intent_name ≡ None → recovered_files (files_of w) ≡ files_of w
-recovered_unread w none = ap (λ o. recovered_files_by o (files_of w)) (ap intent_at (ap (bytes_at w.files) none))
-
 -- the intent is read and leads to the files, or they are read
 pub append_file_to : (G old : Files) → IsEmptyStage G → (w : TreeState) → RecoversTo G w → HasOldOrNewBytes old G w → IsReadDuringChange G old w
 append_file_to G old empty w recovers bytes = by (w.names intent_name) refl
   where
     by : (o : Option ℕ) → w.names intent_name ≡ o → IsReadDuringChange G old w
-    by None none = inr (inr (sym (recovered_unread w none) ∙ recovers))
+    by None none = inr (inr (sym (none_recovered w none) ∙ recovers))
     by (Some n) some = inr (inl (record { intent = subst IsSome (sym some) refl; leads = emptied_at G empty w recovers; bytes = bytes }))
 
 Committing : List ℕ → Type 0

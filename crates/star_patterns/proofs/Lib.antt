@@ -1,5 +1,5 @@
 mod Filled
 mod FirstStar
-mod Pieces
+pub mod Pieces
 mod Places
 mod Worked

@@ -3,17 +3,11 @@ use Rattle.std.proofs.Common.{◌≡◌, ◌⊎◌, ◌≢◌, inl, inr, ⊎_eli
 use Rattle.std.specs.Str.{bytes_eq}
 use Rattle.std.proofs.lemmas.Slice.Eq.{bytes_eq-Decides}
 use Rattle.base_core.specs.Files.{put_name, drop_name}
+use Rattle.base_core.proofs.AtName.{other_name, same_name, name_cases, off_name}
 
 by_test : (b : Bool) (P : Type 0) → (b ≡ true → P) × (P → b ≡ true) → P ⊎ (b ≡ false)
 by_test true P d = inl (d.0 refl)
 by_test false P d = inr refl
-
--- a name is another one, or their test fails
-pub name_cases : (q name : List ℕ) → (q ≡ name) ⊎ (bytes_eq q name ≡ false)
-name_cases q name = by_test (bytes_eq q name) (q ≡ name) (bytes_eq-Decides q name)
-
-pub same_name : (q name : List ℕ) → q ≡ name → bytes_eq q name ≡ true
-same_name q name = (bytes_eq-Decides q name).1
 
 pub is_name : (q name : List ℕ) → bytes_eq q name ≡ true → q ≡ name
 is_name q name = (bytes_eq-Decides q name).0
@@ -21,12 +15,6 @@ is_name q name = (bytes_eq-Decides q name).0
 off_by_test : (b : Bool) (P : Type 0) → (b ≡ true → P) → (P → ⊥) → b ≡ false
 off_by_test true P d = λ off. absurd (off (d refl))
 off_by_test false P d = λ off. refl
-
-pub other_name : (q name : List ℕ) → q ≢ name → bytes_eq q name ≡ false
-other_name q name = off_by_test (bytes_eq q name) (q ≡ name) (bytes_eq-Decides q name).0
-
-pub off_name : (q name : List ℕ) → bytes_eq q name ≡ false → q ≢ name
-off_name q name off is = let same = same_name q name is in absurd (cc (same, off))
 
 pub put-at : {X : Type 0} (map : List ℕ → Option X) (name : List ℕ) (x : X) (q : List ℕ) → q ≡ name → put_name map name x q ≡ Some x
 put-at map name x q is = ap (λ b. cond b (Some x) (map q)) (same_name q name is)

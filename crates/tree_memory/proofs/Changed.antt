@@ -8,10 +8,11 @@ use Rattle.std.proofs.lemmas.List.{map-set, set-get_or, get_or-set_same, length-
 use Rattle.base_core.specs.Files.{IsFile, put_name, drop_name, move_name}
 use Rattle.base_core.specs.Name.{IsName}
 use Rattle.base_core.specs.Tree.{TreeState, File, CanRename, HasName, set_file, change_at, after_append, after_sync, move_at, after_rename, remove_at, after_remove, after_sync_names}
+use Rattle.base_core.proofs.AtName.{name_cases, off_name}
 use Rattle.tree_memory.specs.Table.{lookup}
 use Rattle.tree_memory.specs.Changes.{empty_state, step, state_on, earlier_on, contents_of, can_step, is_record}
 use Rattle.tree_memory.specs.Kept.{IsKept, IsSoundState, IsStore}
-use Rattle.tree_memory.proofs.AtName.{name_cases, off_name, drop_name-off, put-at, put-off}
+use Rattle.tree_memory.proofs.AtName.{drop_name-off, put-at, put-off}
 use Rattle.tree_memory.proofs.Folders.{folder_like_fewer, folder_like_number, fewer_dropped}
 use Rattle.tree_memory.proofs.Growing.{front_is, Grows, grows_not, grows_set, IsPushed}
 use Rattle.tree_memory.proofs.Keeping.{length-contents, kept_set, named_drop, named_put, sound_changed, sound_one, sound_with, store_pushed, store_sound, history_pushed, leads_within}

@@ -3,9 +3,11 @@ use Rattle.std.proofs.Common.{◌≡◌, ◌⊎◌, inl, inr, ⊎_elim, ℕ, ◌
 use Rattle.std.specs.List.{list_any}
 use Rattle.std.specs.Option.{option_map}
 use Rattle.std.proofs.lemmas.Bool.Decides.{nat_tests}
+use Rattle.std.proofs.lemmas.Bool.{both_ways}
 use Rattle.base_core.specs.Tree.{TreeState}
 use Rattle.base_core.specs.Calls.{IsCounted}
 use Rattle.base_core.specs.Faults.{CountsOnlyRise, HasCause}
+use Rattle.base_core.proofs.Booleans.{or_weaker}
 use Rattle.tree_memory.specs.Plans.{PlanState, is_listed, is_stopped, is_next, has_more, listed_on, one_on}
 use Rattle.tree_memory.specs.Tallies.{with_call, with_fault, with_misuse, with_memory_fault, with_begun_call, goes_on, HasGrown}
 use Rattle.tree_memory.specs.Memory.{counts_by}
@@ -13,12 +15,6 @@ use Rattle.tree_memory.specs.declared.calls.Calls.{Calls}
 use Rattle.tree_memory.specs.declared.calls.Tally.{Tally}
 
 -- ---- plans
-
-either : (a b c d : Bool) → (a ≡ true → c ≡ true) → (b ≡ true → d ≡ true) → (a || b) ≡ true → (c || d) ≡ true
-either true b true d one other is = refl
-either true b false d one other is = absurd (let e = one refl in cc (e, e))
-either false b true d one other is = refl
-either false b false d one other is = other is
 
 above_one : (n : ℕ) → eqb n 1 ≡ true → ltb 0 n ≡ true
 above_one n one = grind (arith, nat_tests)
@@ -29,7 +25,7 @@ is_ahead listed = list_any (λ n. ltb 0 n) listed
 
 listed_ahead : (listed : List ℕ) → is_listed listed ≡ true → is_ahead listed ≡ true
 listed_ahead [] is = absurd (cc)
-listed_ahead (n ∷ listed) is = either (eqb n 1) (is_listed listed) (ltb 0 n) (is_ahead listed) (above_one n) (listed_ahead listed) is
+listed_ahead (n ∷ listed) is = or_weaker (eqb n 1) (is_listed listed) (ltb 0 n) (is_ahead listed) (above_one n) (listed_ahead listed) is
 
 stopped_some : (stop : Option ℕ) → is_stopped stop ≡ true → is_some stop ≡ true
 stopped_some None is = absurd (cc)
@@ -37,14 +33,14 @@ stopped_some (Some n) is = refl
 
 -- a failure of the next call is one still to come
 pub next_is_more : (plan : PlanState) → is_next plan ≡ true → has_more plan ≡ true
-next_is_more plan is = either (is_listed plan.listed) (is_stopped plan.stop) (is_ahead plan.listed) (is_some plan.stop) (listed_ahead plan.listed) (stopped_some plan.stop) is
+next_is_more plan is = or_weaker (is_listed plan.listed) (is_stopped plan.stop) (is_ahead plan.listed) (is_some plan.stop) (listed_ahead plan.listed) (stopped_some plan.stop) is
 
 above : (n : ℕ) → ltb 0 (n - 1) ≡ true → ltb 0 n ≡ true
 above n one = grind (arith, nat_tests)
 
 by : (n : ℕ) (old : Bool) (rest : List ℕ) (b : Bool) → ltb 0 (n - 1) ≡ b → (is_ahead rest ≡ true → old ≡ true) → is_ahead (cond b ((n - 1) ∷ rest) rest) ≡ true → (ltb 0 n || old) ≡ true
 by n old rest true at more is = ap (λ b. b || old) (above n at)
-by n old rest false at more is = either false (is_ahead rest) (ltb 0 n) old (λ none. absurd (cc)) more is
+by n old rest false at more is = or_weaker false (is_ahead rest) (ltb 0 n) old (λ none. absurd (cc)) more is
 
 ahead_is_ahead : (listed : List ℕ) → is_ahead (listed_on listed) ≡ true → is_ahead listed ≡ true
 ahead_is_ahead [] is = absurd (cc)
@@ -56,7 +52,7 @@ some_is_some (Some n) is = refl
 
 -- and so is one behind the next call
 pub more_is_more : (plan : PlanState) → has_more (one_on plan) ≡ true → has_more plan ≡ true
-more_is_more plan is = either (is_ahead (listed_on plan.listed)) (is_some (option_map (λ n. n - 1) plan.stop)) (is_ahead plan.listed) (is_some plan.stop) (ahead_is_ahead plan.listed) (some_is_some plan.stop) is
+more_is_more plan is = or_weaker (is_ahead (listed_on plan.listed)) (is_some (option_map (λ n. n - 1) plan.stop)) (is_ahead plan.listed) (is_some plan.stop) (ahead_is_ahead plan.listed) (some_is_some plan.stop) is
 
 -- ---- a call that begins
 
@@ -119,12 +115,9 @@ module _ (b : Bool) (writes : ℕ) (old new : Calls) (h : IsBegun b writes old n
   pub begun_on : CountsOnlyRise (counts_by old) (counts_by new)
   begun_on = on old new h.grown h.plan
 
-no_true : (b : Bool) → b ≡ false → b ≡ true → ⊥
-no_true b off at = cc (off, at)
-
 -- a call that is never a misuse fails if that is planned
 pub planned_cause : (writes : ℕ) (old new : Calls) → IsBegun true writes old new → goes_on true (is_next old.plan) ≡ false → HasCause (counts_by old) (counts_by new)
-planned_cause writes old new h stays = ⊎_elim (λ m. absurd (no_true true m.cannot refl))
+planned_cause writes old new h stays = ⊎_elim (λ m. absurd (both_ways true m.cannot refl))
     (λ p. record { fault = omega (arith, ap (λ (u : Tally). u.faults) p.tally); reason = inl (next_is_more old.plan p.next) })
     (has_failed true writes old new h stays)
 
@@ -136,7 +129,7 @@ module _ (can : TreeState → Type 0) (v : TreeState) (earlier : List TreeState)
   refused_counts (Err e) is stays = ⊎_elim misuse planned (has_failed b writes old new h stays)
     where
       misuse : IsMisused b writes old new h → IsCounted {T = T} can (v ∷ earlier) (counts_by old) (counts_by new) (Err e)
-      misuse m = let cannot : can v → ⊥ = λ can_do. no_true b m.cannot (s.back can_do) in record {
+      misuse m = let cannot : can v → ⊥ = λ can_do. both_ways b m.cannot (s.back can_do) in record {
         goes_on = on old new h.grown h.plan;
         cause = record { fault = omega (arith, ap (λ (u : Tally). u.faults) m.tally); reason = inr (inl (omega (arith, ap (λ (u : Tally). u.misuses) m.tally))) };
         kept = tt;

@@ -1,8 +1,8 @@
 -- Names below folders, and where a table has them.
-use Rattle.std.proofs.Common.{◌≡◌, ◌≢◌, ⊎_elim, ℕ, ◌+◌, ◌-◌, ◌<◌, ◌≤◌, leb, Bool, true, false, cond, List, [], ◌∷◌, ◌++◌, length, get_or, take, drop, Option, None, Some, IsSome, refl, sym, ap, subst, ◌∙◌, arith, append_assoc, length-append, take-append-drop}
+use Rattle.std.proofs.Common.{◌≡◌, ◌≢◌, ⊎_elim, ℕ, ◌+◌, ◌-◌, ◌<◌, ◌≤◌, leb, Bool, true, false, cond, List, [], ◌∷◌, ◌++◌, length, get_or, Option, None, Some, IsSome, refl, sym, ap, subst, ◌∙◌, arith, append_assoc, length-append}
 use Rattle.std.proofs.Math.ListN.{get_or-append}
-use Rattle.std.proofs.Math.Seq.{get_or-append_seam, take-append_seam}
-use Rattle.std.proofs.lemmas.List.{drop_more, get_or_default}
+use Rattle.std.proofs.Math.Seq.{get_or-append_seam}
+use Rattle.std.proofs.lemmas.List.{get_or_default}
 use Rattle.std.specs.List.{AllPairs, Contains}
 use Rattle.std.specs.Str.{bytes_eq}
 use Rattle.std.specs.Ordering.{nat_cmp, ordering_then, ordering_index, is_lt}
@@ -15,16 +15,16 @@ use Rattle.std.proofs.lemmas.Cmp.{nat_cmp_total, tied_itself}
 use Rattle.std.proofs.lemmas.Map.Lookups.{exact_bytes, exact_unsigned}
 use Rattle.std.proofs.lemmas.Bool.{cases_lt, cases_eq}
 use Rattle.base_core.specs.Files.{IsFolderOf, HasNoFileAsFolder, NameMap, put_name, drop_name}
+use Rattle.base_core.proofs.Orderings.{is_less, tied_then}
+use Rattle.base_core.proofs.AtName.{other_name, name_cases, off_name}
+use Rattle.base_core.proofs.Folders.{at_folder}
 use Rattle.tree_memory.specs.Table.{IsTable, lookup, IsStart, IsFit, IsBelow, HasBelowBut}
-use Rattle.tree_memory.proofs.AtName.{name_cases, other_name, off_name, put-at, put-off, drop_name-at, drop_name-off}
+use Rattle.tree_memory.proofs.AtName.{put-at, put-off, drop_name-at, drop_name-off}
 use Rattle.tree_memory.proofs.Placed.{searchable, located, looked_up}
 use Rattle.tree_memory.specs.declared.table.NameAndFile.{NameAndFile}
 
 abbrev cmp : List ℕ → List ℕ → Ordering
 cmp = slice_cmp nat_cmp
-
-tied_then : (o r : Ordering) → o ≡ Equal → ordering_then o r ≡ r
-tied_then o r is = ap (λ p. ordering_then p r) is
 
 -- what a list begins is not below it
 not_below : (p rest : List ℕ) → cmp (p ++ rest) p ≢ Less
@@ -45,18 +45,6 @@ begins_between (a ∷ p) rest (b ∷ x) above upto = by (nat_cmp b a) refl above
     by Greater is above upto rest_of = absurd (upto refl)
 
 -- ---- a folder and a name
-
--- a folder of a name is the name up to a slash
-pub folder_at : (name : List ℕ) (k : ℕ) → k < length name → get_or name k 0 ≡ 47 → IsFolderOf (take k name) name
-folder_at name k within slash =
-    (drop (k + 1) name, sym (take-append-drop k name) ∙ ap (λ (l : List ℕ). take k name ++ l) (drop_more name k 0 within ∙ ap (λ x. x ∷ drop (k + 1) name) slash))
-
-pub at_folder : (folder name : List ℕ) → IsFolderOf folder name → (length folder < length name) × (get_or name (length folder) 0 ≡ 47) × (take (length folder) name ≡ folder)
-at_folder folder name (rest, is) = (
-  omega (arith, ap length is, length-append folder (47 ∷ rest)),
-  ap (λ (l : List ℕ). get_or l (length folder) 0) is ∙ get_or-append_seam folder 47 rest 0,
-  ap (take (length folder)) is ∙ take-append_seam folder (47 ∷ rest),
-)
 
 pub not_itself : (name : List ℕ) → IsFolderOf name name → ⊥
 not_itself name folder = omega (arith, (at_folder name name folder).0)
@@ -81,11 +69,6 @@ pub parted : (es : List NameAndFile) (folder : List ℕ) → IsTable es → IsPa
 parted es folder table i j d upto within at =
     let by = IsPartitionedBy-leb (λ (e : NameAndFile). ordering_index (cmp e.name (slashed folder))) es 0 (searchable es (slashed folder) table) i j d upto within in
     less_index (cmp (get_or es i d).name (slashed folder)) ∙ by (sym (less_index (cmp (get_or es j d).name (slashed folder))) ∙ at)
-
-is_less : (o : Ordering) → is_lt o ≡ true → o ≡ Less
-is_less Less is = refl
-is_less Equal is = absurd (cc)
-is_less Greater is = absurd (cc)
 
 not_less : (o : Ordering) → is_lt o ≡ false → o ≢ Less
 not_less Less is = absurd (cc)

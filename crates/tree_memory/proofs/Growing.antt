@@ -1,33 +1,12 @@
 -- A record, one change on, while the files only grow.
-use Rattle.std.proofs.Common.{◌≡◌, ⊎_elim, ℕ, ◌<◌, ◌≤◌, ◌&&◌, Bool, true, false, ltb, leb, List, [], ◌∷◌, ◌++◌, length, set, get_or, take, Some, refl, sym, ap, subst, ◌∙◌, arith, length-append}
+use Rattle.std.proofs.Common.{◌≡◌, ⊎_elim, ℕ, ◌<◌, ◌≤◌, true, false, ltb, leb, List, [], ◌∷◌, ◌++◌, length, set, get_or, take, Some, refl, sym, ap, subst, ◌∙◌, arith, length-append}
 use Rattle.std.proofs.Math.ListN.{get_or-append}
 use Rattle.std.proofs.lemmas.List.{length-set, get_or-set_same, get_or-set_other, take-append-le}
-use Rattle.std.proofs.lemmas.Bool.{cases_eq}
-use Rattle.std.proofs.lemmas.Bool.Decides.{nat_tests}
+use Rattle.std.proofs.lemmas.Bool.{cases_eq, and_from, and_parts, ltb-true, lt-ltb, leb-true, le-leb}
 use Rattle.base_core.specs.Tree.{TreeState, File, change_at}
 use Rattle.tree_memory.specs.Changes.{empty_state, after_put, front_of, step, state_on, earlier_on, is_front, can_step, is_record}
 use Rattle.tree_memory.specs.declared.store.Change.{Change}
 use Rattle.tree_memory.specs.declared.store.Change.TheVariants.{Put, Create, Append, Sync, Rename, Remove, SyncNames, Stay}
-
-pub both : (a b : Bool) → (a && b) ≡ true → (a ≡ true) × (b ≡ true)
-both true b is = (refl, is)
-both false b is = absurd (cc)
-
-pub each : (a b : Bool) → a ≡ true → b ≡ true → (a && b) ≡ true
-each true b one other = other
-each false b one other = absurd (cc)
-
-test_lt : (m n : ℕ) → ltb m n ≡ true → m < n
-test_lt m n h = grind (arith, nat_tests)
-
-test_le : (m n : ℕ) → leb m n ≡ true → m ≤ n
-test_le m n h = grind (arith, nat_tests)
-
-lt_test : (m n : ℕ) → m < n → ltb m n ≡ true
-lt_test m n h = grind (arith, nat_tests)
-
-le_test : (m n : ℕ) → m ≤ n → leb m n ≡ true
-le_test m n h = grind (arith, nat_tests)
 
 -- ---- fronts
 
@@ -37,11 +16,11 @@ pub record IsFront (contents : List (List ℕ)) (file len : ℕ) : Type 0 where
 
 front_from : (contents : List (List ℕ)) (file len : ℕ) → is_front contents file len ≡ true → IsFront contents file len
 front_from contents file len is =
-    let parts = both (ltb file (length contents)) (leb len (length (get_or contents file []))) is in
-    record { within = test_lt file (length contents) parts.0; fits = test_le len (length (get_or contents file [])) parts.1 }
+    let parts = and_parts (ltb file (length contents)) (leb len (length (get_or contents file []))) is in
+    record { within = ltb-true file (length contents) parts.0; fits = leb-true len (length (get_or contents file [])) parts.1 }
 
 pub front_is : (contents : List (List ℕ)) (file len : ℕ) → IsFront contents file len → is_front contents file len ≡ true
-front_is contents file len front = each (ltb file (length contents)) (leb len (length (get_or contents file []))) (lt_test file (length contents) front.within) (le_test len (length (get_or contents file [])) front.fits)
+front_is contents file len front = and_from (ltb file (length contents)) (leb len (length (get_or contents file []))) (lt-ltb file (length contents) front.within) (le-leb len (length (get_or contents file [])) front.fits)
 
 -- the files have more bytes at their ends, or there are more of them
 pub record Grows (contents more : List (List ℕ)) : Type 0 where
@@ -103,20 +82,20 @@ can_more contents more grows Stay v can = refl
 state_more : (contents more : List (List ℕ)) → Grows contents more → (v : TreeState) (cs : List Change) → is_record contents v cs ≡ true → state_on more v cs ≡ state_on contents v cs
 state_more contents more grows v [] is = refl
 state_more contents more grows v (c ∷ cs) is =
-    let parts = both (can_step contents c v) (is_record contents (step contents c v) cs) is in
+    let parts = and_parts (can_step contents c v) (is_record contents (step contents c v) cs) is in
     ap (λ (w : TreeState). state_on more w cs) (step_more contents more grows c v parts.0) ∙ state_more contents more grows (step contents c v) cs parts.1
 
 earlier_more : (contents more : List (List ℕ)) → Grows contents more → (v : TreeState) (earlier : List TreeState) (cs : List Change) → is_record contents v cs ≡ true → earlier_on more v earlier cs ≡ earlier_on contents v earlier cs
 earlier_more contents more grows v earlier [] is = refl
 earlier_more contents more grows v earlier (c ∷ cs) is =
-    let parts = both (can_step contents c v) (is_record contents (step contents c v) cs) is in
+    let parts = and_parts (can_step contents c v) (is_record contents (step contents c v) cs) is in
     ap (λ (w : TreeState). earlier_on more w (v ∷ earlier) cs) (step_more contents more grows c v parts.0) ∙ earlier_more contents more grows (step contents c v) (v ∷ earlier) cs parts.1
 
 record_more : (contents more : List (List ℕ)) → Grows contents more → (v : TreeState) (cs : List Change) → is_record contents v cs ≡ true → is_record more v cs ≡ true
 record_more contents more grows v [] is = refl
 record_more contents more grows v (c ∷ cs) is =
-    let parts = both (can_step contents c v) (is_record contents (step contents c v) cs) is in
-    each (can_step more c v) (is_record more (step more c v) cs) (can_more contents more grows c v parts.0)
+    let parts = and_parts (can_step contents c v) (is_record contents (step contents c v) cs) is in
+    and_from (can_step more c v) (is_record more (step more c v) cs) (can_more contents more grows c v parts.0)
     (ap (λ (w : TreeState). is_record more w cs) (step_more contents more grows c v parts.0) ∙ record_more contents more grows (step contents c v) cs parts.1)
 
 -- ---- one change on
@@ -131,15 +110,15 @@ earlier_on-push contents v earlier [] c = refl
 earlier_on-push contents v earlier (d ∷ cs) c = earlier_on-push contents (step contents d v) (v ∷ earlier) cs c
 
 record_push : (contents : List (List ℕ)) (v : TreeState) (cs : List Change) (c : Change) → is_record contents v cs ≡ true → can_step contents c (state_on contents v cs) ≡ true → is_record contents v (cs ++ c ∷ []) ≡ true
-record_push contents v [] c is can = each (can_step contents c v) true can refl
+record_push contents v [] c is can = and_from (can_step contents c v) true can refl
 record_push contents v (d ∷ cs) c is can =
-    let parts = both (can_step contents d v) (is_record contents (step contents d v) cs) is in
-    each (can_step contents d v) (is_record contents (step contents d v) (cs ++ c ∷ [])) parts.0 (record_push contents (step contents d v) cs c parts.1 can)
+    let parts = and_parts (can_step contents d v) (is_record contents (step contents d v) cs) is in
+    and_from (can_step contents d v) (is_record contents (step contents d v) (cs ++ c ∷ [])) parts.0 (record_push contents (step contents d v) cs c parts.1 can)
 
 -- a front of a record is one, and the change behind it may be recorded
 pub record_front : (contents : List (List ℕ)) (v : TreeState) (cs ds : List Change) (c : Change) → is_record contents v (cs ++ c ∷ ds) ≡ true → can_step contents c (state_on contents v cs) ≡ true
-record_front contents v [] ds c is = (both (can_step contents c v) (is_record contents (step contents c v) ds) is).0
-record_front contents v (d ∷ cs) ds c is = record_front contents (step contents d v) cs ds c (both (can_step contents d v) (is_record contents (step contents d v) (cs ++ c ∷ ds)) is).1
+record_front contents v [] ds c is = (and_parts (can_step contents c v) (is_record contents (step contents c v) ds) is).0
+record_front contents v (d ∷ cs) ds c is = record_front contents (step contents d v) cs ds c (and_parts (can_step contents d v) (is_record contents (step contents d v) (cs ++ c ∷ ds)) is).1
 
 -- a record got one change more, which may be recorded, while the files grew
 pub record IsPushed (c : Change) (cs ds : List Change) (contents more : List (List ℕ)) : Type 0 where

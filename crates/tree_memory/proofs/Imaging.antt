@@ -9,12 +9,13 @@ use Rattle.base_core.specs.Restart.{IsAfterCrashInOrder}
 use Rattle.base_core.specs.Files.{Files, NameMap, no_names, put_name, HasNoFileAsFolder}
 use Rattle.base_core.specs.Tree.{TreeState, IsMapOf, bytes_at, files_of, set_file}
 use Rattle.std.proofs.lemmas.Nat.{mod_below}
+use Rattle.base_core.proofs.AtName.{name_cases, off_name}
 use Rattle.tree_memory.specs.Changes.{empty_state, after_put, state_on, is_record}
 use Rattle.tree_memory.specs.Images.{maps_of, newest_first, picked_map, crash_bytes, image_of, stored_file}
 use Rattle.tree_memory.specs.Kept.{IsKept, CanPut}
 use Rattle.tree_memory.specs.Table.{IsTable, lookup}
 use Rattle.tree_memory.specs.WellFormedLaw.{AreBounded}
-use Rattle.tree_memory.proofs.AtName.{name_cases, off_name, put-at, put-off}
+use Rattle.tree_memory.proofs.AtName.{put-at, put-off}
 use Rattle.tree_memory.proofs.Keeping.{read-after_put, stored_bytes}
 use Rattle.tree_memory.proofs.Picking.{among_at}
 use Rattle.tree_memory.proofs.Placed.{apart, lookup_named, lookup_off, lookup_insert, looked_up}

@@ -14,11 +14,12 @@ use Rattle.base_core.specs.Files.{NameMap, AreNames, IsFile, HasNoFileAsFolder, 
 use Rattle.base_core.specs.Name.{IsName}
 use Rattle.base_core.specs.Listed.{IsNamesOf}
 use Rattle.base_core.specs.Tree.{TreeState, File, IsMapOf, CanCreate, bytes_at, files_of, set_file, change_at, with_names, after_create}
+use Rattle.base_core.proofs.AtName.{name_cases, off_name}
 use Rattle.tree_memory.specs.Table.{IsTable, lookup, names_of}
 use Rattle.tree_memory.specs.Changes.{empty_state, after_put, step, state_on, earlier_on, contents_of, synced_flags}
 use Rattle.tree_memory.specs.Kept.{IsKept, IsSoundState, IsStore, CanPut}
 use Rattle.tree_memory.specs.WellFormedLaw.{AreBounded, bounded_state}
-use Rattle.tree_memory.proofs.AtName.{name_cases, off_name, put-at, put-off}
+use Rattle.tree_memory.proofs.AtName.{put-at, put-off}
 use Rattle.tree_memory.proofs.Growing.{front_is, Grows, grows_push, IsPushed, pushed_state, pushed_record, pushed_history}
 use Rattle.tree_memory.proofs.Placed.{located, looked_up}
 use Rattle.tree_memory.specs.declared.store.Change.{Change}

@@ -14,8 +14,10 @@ use Rattle.std.proofs.lemmas.List.Quantifiers.{all_pairs_remove}
 use Rattle.std.proofs.lemmas.List.Edits.{length-insert, get_or-insert_below, get_or-insert_at, get_or-insert_above}
 use Rattle.std.proofs.lemmas.Bool.{cases_lt, cases_eq}
 use Rattle.base_core.specs.Files.{put_name, drop_name}
+use Rattle.base_core.proofs.AtName.{other_name, same_name, name_cases}
+use Rattle.base_core.proofs.Options.{none_at}
 use Rattle.tree_memory.specs.Table.{IsTable, lookup, IsNamed, IsPlace}
-use Rattle.tree_memory.proofs.AtName.{name_cases, same_name, is_name, other_name}
+use Rattle.tree_memory.proofs.AtName.{is_name}
 use Rattle.tree_memory.specs.declared.table.NameAndFile.{NameAndFile}
 
 flipped : (p q : List ℕ) (o : Ordering) → slice_cmp nat_cmp p q ≡ o → slice_cmp nat_cmp q p ≡ ordering_reverse o
@@ -114,10 +116,6 @@ lookup_set (f ∷ es) (suc i) e d within here others q =
 -- another number at a name that stands
 pub lookup-set : (es : List NameAndFile) (i : ℕ) (e d : NameAndFile) → IsTable es → IsNamed es i e.name → (q : List ℕ) → lookup (set es i e) q ≡ put_name (lookup es) e.name e.file q
 lookup-set es i e d table named = lookup_set es i e d named.within (named.here d) (λ j below is. apart es table j i d below named.within (is ∙ sym (named.here d)))
-
-none_at : (b : Bool) (x : ℕ) (r : Option ℕ) → cond b (Some x) r ≡ None → (b ≡ false) × (r ≡ None)
-none_at true x r none = absurd (cc)
-none_at false x r none = (refl, none)
 
 pub lookup_insert : (es : List NameAndFile) (i : ℕ) (e : NameAndFile) → lookup es e.name ≡ None → (q : List ℕ) → lookup (take i es ++ e ∷ drop i es) q ≡ put_name (lookup es) e.name e.file q
 lookup_insert [] zero e none q = refl

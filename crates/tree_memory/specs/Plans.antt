@@ -51,7 +51,7 @@ plan_after (suc k) plan = plan_after k (one_on plan)
 
 -- ---- as it was made
 
--- whether call k, counted from 1, is after the next so many; never without a number
+-- whether call k, counted from 1, is after the planned stop, which follows n more calls; false without one
 abbrev pub is_behind : Option ℕ → ℕ → Bool
 is_behind None k = false
 is_behind (Some n) k = nat_lt n k

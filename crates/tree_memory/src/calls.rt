@@ -75,7 +75,8 @@ impl Plan {
     }
 }
 
-// Whether the next call is one of these numbers, which are one call nearer afterwards.
+// Whether the next call is listed to fail. The call is then counted: each number is one less, and 0
+// is dropped.
 fn pass(plan: &mut Vec<u64>) -> bool
     ensures planned { result ≡ is_listed plan.old.items }
     ensures nearer { plan.new.items ≡ listed_on plan.old.items }

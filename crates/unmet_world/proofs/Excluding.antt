@@ -3,16 +3,16 @@ use Rattle.std.proofs.Common.{◌≡◌, inl, inr, ℕ, Bool, Bor, true, false, 
 use Rattle.std.specs.Prelude.{Option, Some, None, is_some, not, ◌&&◌, ◌||◌, ◌==◌}
 use Rattle.std.specs.Option.{option_and_then, option_copied, option_map, option_map_or}
 use Rattle.std.specs.List.{filter, find, list_any}
+use Rattle.std.proofs.lemmas.Bool.{cases_Bool}
 use Rattle.dep_core.specs.Dependency.{Dependency}
 use Rattle.candidate_core.specs.Candidates.{Candidate, meets_dependency, occupies_name}
 use Rattle.candidate_core.specs.Rank.{SealedPool, candidate_at}
 use Rattle.search_tables.specs.Selection.{conflicts_with, exclude_each_other, keeps_out, occupied_names, share_a_name}
-use Rattle.search_tables.proofs.PoolFacts.{bool_cases}
 use Rattle.unmet_world.specs.Exclusion.{conflict_between, conflict_with, is_conflict_met_by, name_of_both, occupied_among, shared_name}
 
 found_any : {X : Type 0} (p : X → Bool) (xs : List X) (x : X) → find p xs ≡ Some x → list_any p xs ≡ true
 found_any p [] x e = absurd (cc)
-found_any p (y ∷ xs) x e = elim (bool_cases (p y)) [
+found_any p (y ∷ xs) x e = elim (cases_Bool (p y)) [
   | inl t ↦ rw t refl
   | inr t ↦ rw t (found_any p xs x (rw t at e))
 ]
@@ -49,7 +49,7 @@ name_provided other (p ∷ ps) name e = by p.conflict (is_some p.version) (occup
 name_held : (oa ob : Option Candidate) (name : List ℕ) → option_and_then (λ one. option_and_then (shared_name one) ob) oa ≡ Some name → list_any (λ n. option_map_or (occupies_name n) ob false) (option_map_or occupied_names oa []) ≡ true
 name_held None ob name e = absurd (cc)
 name_held (Some one) None name e = absurd (cc)
-name_held (Some one) (Some other) name e = elim (bool_cases (occupies_name one.name other)) [
+name_held (Some one) (Some other) name e = elim (cases_Bool (occupies_name one.name other)) [
   | inl t ↦ rw t refl
   | inr t ↦ rw t (name_provided other one.provides name (rw t at e))
 ]

@@ -12,6 +12,7 @@ use Rattle.std.proofs.lemmas.Slice.Eq.{bytes_eq-Decides}
 use Rattle.std.proofs.lemmas.List.{append_assoc, drop-append-le, drop-drop, drop_more, length-drop, length-take, take-append-drop, take_all}
 use Rattle.std.proofs.Math.Seq.{take-add}
 use Rattle.std.proofs.lemmas.List.Sums.{take_while-cons}
+use Rattle.std.proofs.Math.Bool.{and-false}
 use Rattle.version_core.specs.declared.token.Class.{Class}
 use Rattle.version_core.specs.declared.token.Class.TheVariants.{Revision, Hash, SuffixNumber, Letter, Component}
 use Rattle.version_core.specs.Token.{Token, Lexeme, number_token, text_token, lexeme, stray_lexeme, is_component, is_suffix, is_before_hash, is_before_revision, is_hex_digit, leading_digits, leading_hex_digits, leading_letters, number_lexeme, component_lexeme, suffix_lexeme, hash_lexeme, revision_lexeme, next_lexeme, lexeme_at}
@@ -169,10 +170,6 @@ good_front last zero (b ∷ a) m x mark room good =
 
 -- ---- within the hash of both
 
-and_false : (b : Bool) → (b && false) ≡ false
-and_false true = refl
-and_false false = refl
-
 pub and_left : (a b : Bool) → (a && b) ≡ true → a ≡ true
 and_left true b h = refl
 and_left false b h = absurd (false≢true h)
@@ -189,11 +186,11 @@ or_right false false h = refl
 no_hash_byte : (b : ℕ) (rest : List ℕ) → not (is_token_mark b) ≡ true → next_lexeme Hash (b ∷ rest) ≡ stray_lexeme
 unfolding next_lexeme
 no_hash_byte b rest h = λ i.
-    cond (and_false (eqb b 46) i) (component_lexeme (leading_digits rest))
-    (cond (and_false (is_ascii_lowercase b) i) (lexeme (number_token Letter b) 1)
-    (cond (and_false (eqb b 95) i) (suffix_lexeme (leading_letters rest))
-    (cond (and_false (is_ascii_digit b) i) (number_lexeme SuffixNumber 0 (leading_digits (b ∷ rest)))
-    (cond (and_false (eqb b 126) i) (hash_lexeme (leading_hex_digits rest))
+    cond (and-false (eqb b 46) i) (component_lexeme (leading_digits rest))
+    (cond (and-false (is_ascii_lowercase b) i) (lexeme (number_token Letter b) 1)
+    (cond (and-false (eqb b 95) i) (suffix_lexeme (leading_letters rest))
+    (cond (and-false (is_ascii_digit b) i) (number_lexeme SuffixNumber 0 (leading_digits (b ∷ rest)))
+    (cond (and-false (eqb b 126) i) (hash_lexeme (leading_hex_digits rest))
     (cond (or_right (eqb b 46 || eqb b 95 || eqb b 126) (eqb b 45) h i && true) (revision_lexeme rest) stray_lexeme)))))
 
 -- the digits of a hash up to a place within it

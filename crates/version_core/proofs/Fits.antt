@@ -31,7 +31,7 @@ first_equal Less p h = absurd (false≢true h)
 first_equal Equal p h = refl
 first_equal Greater p h = absurd (false≢true h)
 
-nat_cmp-Equal : (m n : ℕ) → nat_cmp m n ≡ Equal → m ≡ n
+pub nat_cmp-Equal : (m n : ℕ) → nat_cmp m n ≡ Equal → m ≡ n
 nat_cmp-Equal m n h = ranked m n Equal (sym h)
 
 equal_tokens : (f w : Token) → is_eq (token_cmp f w) ≡ true → is_last f.class ≡ is_last w.class

@@ -6,8 +6,8 @@ use Rattle.std.specs.Cmp.Lexicographic.{slice_cmp}
 use Rattle.std.specs.Ordering.{nat_cmp, ordering_then, is_lt, is_eq, is_gt}
 use Rattle.std.specs.declared.cmp.Ordering.{Ordering}
 use Rattle.std.specs.declared.cmp.Ordering.TheVariants.{Less, Equal, Greater}
-use Rattle.std.proofs.lemmas.Bool.{false≢true}
-use Rattle.std.proofs.lemmas.Cmp.{ranked, on_total, then_total, lists_total, nat_cmp_total, nat_list_cmp_total, tied_itself}
+use Rattle.std.proofs.lemmas.Bool.{false≢true, or_right}
+use Rattle.std.proofs.lemmas.Cmp.{on_total, then_total, lists_total, nat_cmp_total, nat_list_cmp_total, tied_itself}
 use Rattle.std.proofs.lemmas.List.{take_all}
 use Rattle.std.proofs.lemmas.Slice.Eq.{bytes_eq-Decides}
 use Rattle.version_core.specs.declared.token.Class.{Class}
@@ -15,6 +15,7 @@ use Rattle.version_core.specs.declared.token.Class.TheVariants.{Stray, PreReleas
 use Rattle.version_core.specs.Token.{Token}
 use Rattle.version_core.specs.Order.{class_rank, is_last, token_cmp, tokens, version_cmp}
 use Rattle.version_core.specs.Matching.{all_fit, begins_with, fits, is_fuzzy_match, is_zero_component, matches, has_bit}
+use Rattle.version_core.proofs.Fits.{nat_cmp-Equal}
 
 -- each part of the comparison of two tokens is a total order
 pub token_cmp-total : IsTotalOrder token_cmp
@@ -32,9 +33,6 @@ both_equal : (o p : Ordering) → ordering_then o p ≡ Equal → (o ≡ Equal) 
 both_equal Less p h = absurd (false≢true (ap is_eq h))
 both_equal Equal p h = (refl, h)
 both_equal Greater p h = absurd (false≢true (ap is_eq h))
-
-nat_cmp-Equal : (m n : ℕ) → nat_cmp m n ≡ Equal → m ≡ n
-nat_cmp-Equal m n h = ranked m n Equal (sym h)
 
 lists-Equal : {A : Type 0} (R : A → A → Ordering) → ((x y : A) → R x y ≡ Equal → x ≡ y) → (xs ys : List A) → slice_cmp R xs ys ≡ Equal → xs ≡ ys
 lists-Equal R same [] [] h = refl
@@ -111,13 +109,9 @@ fits-itself t =
     fits_by (is_zero_component t.class && is_zero_component t.class) (begins_with t.text t.text) (is_eq (token_cmp t t))
     ((bytes_eq-Decides t.text (take (length t.text) t.text)).1 (sym (take_all (length t.text) t.text (omega arith)))) (is_eq-itself t)
 
-or_true : (a b : Bool) → b ≡ true → (a || b) ≡ true
-or_true true b h = refl
-or_true false b h = h
-
 all_fit-itself : (ts : List Token) → all_fit ts ts ≡ true
 all_fit-itself [] = refl
-all_fit-itself (t ∷ ts) = or_true (is_last t.class) (fits t t && all_fit ts ts) (rw (fits-itself t) (all_fit-itself ts))
+all_fit-itself (t ∷ ts) = or_right (is_last t.class) (fits t t && all_fit ts ts) (rw (fits-itself t) (all_fit-itself ts))
 
 pub fuzzy_by_tokens : (found wanted : List ℕ) → version_cmp found wanted ≡ Equal → is_fuzzy_match found wanted ≡ true
 unfolding is_fuzzy_match

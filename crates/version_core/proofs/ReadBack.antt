@@ -4,7 +4,7 @@ use Rattle.std.specs.Prelude.{is_some, not}
 use Rattle.std.specs.Char.{is_ascii_digit, is_ascii_lowercase}
 use Rattle.std.specs.List.{list_all, prefix_len, take_while}
 use Rattle.std.specs.Str.Parse.{digits_value}
-use Rattle.std.proofs.lemmas.Bool.{false≢true}
+use Rattle.std.proofs.lemmas.Bool.{false≢true, and_from}
 use Rattle.std.proofs.lemmas.Bool.Decides.{nat_tests}
 use Rattle.std.proofs.lemmas.List.{take-append-drop, length-drop}
 use Rattle.std.proofs.lemmas.List.Sums.{take_while-cons}
@@ -30,9 +30,6 @@ take_while_passes : (q : ℕ → Bool) (xs : List ℕ) → list_all q (take_whil
 take_while_passes q [] = refl
 take_while_passes q (x ∷ xs) =
     ap (list_all q) (take_while-cons q x xs) ∙ passes_by q (q x) x (take_while q xs) refl (take_while_passes q xs)
-
-and_true : (a b : Bool) → a ≡ true → b ≡ true → (a && b) ≡ true
-and_true a b h k = rw (h, k) refl
 
 -- ---- what a sound lexeme shows
 
@@ -135,7 +132,7 @@ with_component last class ds behind h plain numeral end = record {
   suffixes = end.suffixes;
   hash = end.hash;
   revision = end.revision;
-  later_ok = and_true (is_numeral ds) (list_all is_numeral end.later) numeral end.later_ok;
+  later_ok = and_from (is_numeral ds) (list_all is_numeral end.later) numeral end.later_ok;
   letter_ok = end.letter_ok;
   number_ok = refl;
   suffixes_ok = end.suffixes_ok;
@@ -190,8 +187,8 @@ with_suffix last class name behind h plain known end = record {
   later_ok = refl;
   letter_ok = refl;
   number_ok = refl;
-  suffixes_ok = and_true (is_some (suffix_rank name) && if_some is_numeral end.number) (list_all is_suffix_part end.suffixes)
-      (and_true (is_some (suffix_rank name)) (if_some is_numeral end.number) known end.number_ok) end.suffixes_ok;
+  suffixes_ok = and_from (is_some (suffix_rank name) && if_some is_numeral end.number) (list_all is_suffix_part end.suffixes)
+      (and_from (is_some (suffix_rank name)) (if_some is_numeral end.number) known end.number_ok) end.suffixes_ok;
   hash_ok = end.hash_ok;
   revision_ok = end.revision_ok;
   no_later = λ _. refl;
@@ -297,7 +294,7 @@ cond_case P true x y f g = f refl
 cond_case P false x y f g = g
 
 digits_numeral : (rest : List ℕ) → is_number (leading_digits rest) ≡ true → is_numeral (leading_digits rest) ≡ true
-digits_numeral rest h = and_true (is_number (leading_digits rest)) (list_all is_ascii_digit (leading_digits rest)) h (take_while_passes is_ascii_digit rest)
+digits_numeral rest h = and_from (is_number (leading_digits rest)) (list_all is_ascii_digit (leading_digits rest)) h (take_while_passes is_ascii_digit rest)
 
 same_byte : (b c : ℕ) → eqb b c ≡ true → c ≡ b
 same_byte b c h = grind (arith, nat_tests)
@@ -378,7 +375,7 @@ hash_case : (n : ℕ) → Shorter n → (last : Class) (b : ℕ) (rest : List �
 hash_case n shorter last b rest few guard sound =
     let ds : List ℕ = leading_hex_digits rest in
     let behind : List ℕ = drop (length ds) rest in
-    let hash = and_true (ltb 0 (length ds)) (list_all is_hex_digit ds) (hash_goes_on (b ∷ rest) ds sound) (take_while_passes is_hex_digit rest) in
+    let hash = and_from (ltb 0 (length ds)) (list_all is_hex_digit ds) (hash_goes_on (b ∷ rest) ds sound) (take_while_passes is_hex_digit rest) in
     let short : length behind ≤ n = omega (arith, length-drop (length ds) rest) in
     let end = shorter Hash behind short
     (sound_after (b ∷ rest) behind (hash_lexeme ds) (text_token Hash ds) (1 + length ds) (hash_read ds hash) refl (drop_one (length ds) b rest) sound) in
@@ -442,9 +439,9 @@ spelled text h =
     record {
       parts = parts;
       sound =
-          and_true (is_numeral ds) _ numeral (and_true (list_all is_numeral end.later) _ end.later_ok
-          (and_true (if_some is_ascii_lowercase end.letter) _ end.letter_ok (and_true (list_all is_suffix_part end.suffixes) _ end.suffixes_ok
-          (and_true (if_some is_hash_text end.hash) (if_some is_numeral end.revision) end.hash_ok end.revision_ok))));
+          and_from (is_numeral ds) _ numeral (and_from (list_all is_numeral end.later) _ end.later_ok
+          (and_from (if_some is_ascii_lowercase end.letter) _ end.letter_ok (and_from (list_all is_suffix_part end.suffixes) _ end.suffixes_ok
+          (and_from (if_some is_hash_text end.hash) (if_some is_numeral end.revision) end.hash_ok end.revision_ok))));
       whole =
           ap (λ t. ds ++ t) (sym (end.whole ∙ ap (λ number. tail_text end.later end.letter number end.suffixes end.hash end.revision) (end.no_number refl)))
           ∙ sym (split_run is_ascii_digit text);

@@ -17,11 +17,11 @@ use Rattle.version_core.specs.Token.{is_hex_digit, leading_hex_digits, leading_d
 use Rattle.version_core.specs.Reading.{AreDigits, hex_digit_at}
 use Rattle.std.specs.Char.{is_ascii_digit}
 
-twice_not : (b : Bool) → not (not b) ≡ b
+pub twice_not : (b : Bool) → not (not b) ≡ b
 twice_not true = refl
 twice_not false = refl
 
-prefix_len-twice_not : (q : ℕ → Bool) (xs : List ℕ) → prefix_len (λ x. not (not (q x))) xs ≡ prefix_len q xs
+pub prefix_len-twice_not : (q : ℕ → Bool) (xs : List ℕ) → prefix_len (λ x. not (not (q x))) xs ≡ prefix_len q xs
 prefix_len-twice_not q [] = refl
 prefix_len-twice_not q (x ∷ xs) = λ i. cond (twice_not (q x) i) (1 + prefix_len-twice_not q xs i) 0
 

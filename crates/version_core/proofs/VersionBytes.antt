@@ -13,13 +13,13 @@ use Rattle.version_core.specs.Token.{is_hex_digit, is_number, suffix_rank}
 use Rattle.version_core.specs.Grammar.{IsSpelled, Parts, SuffixPart, are_parts, hash_text, if_some, is_hash_text, is_numeral, is_suffix_part, later_text, letter_text, number_text, revision_text, spelling, suffixes_text, begins_with_digit, is_version_byte}
 use Rattle.version_core.proofs.ReadBack.{spelled}
 
-all-imp : (P Q : ℕ → Bool) → ((b : ℕ) → P b ≡ true → Q b ≡ true) → (xs : List ℕ) → list_all P xs ≡ true → list_all Q xs ≡ true
+pub all-imp : (P Q : ℕ → Bool) → ((b : ℕ) → P b ≡ true → Q b ≡ true) → (xs : List ℕ) → list_all P xs ≡ true → list_all Q xs ≡ true
 all-imp P Q imp [] h = refl
 all-imp P Q imp (x ∷ xs) h =
     let parts : (P x ≡ true) × (list_all P xs ≡ true) = and_parts (P x) (list_all P xs) h in
     and_from (Q x) (list_all Q xs) (imp x parts.0) (all-imp P Q imp xs parts.1)
 
-all-append : (P : ℕ → Bool) (xs ys : List ℕ) → list_all P xs ≡ true → list_all P ys ≡ true → list_all P (xs ++ ys) ≡ true
+pub all-append : (P : ℕ → Bool) (xs ys : List ℕ) → list_all P xs ≡ true → list_all P ys ≡ true → list_all P (xs ++ ys) ≡ true
 all-append P xs ys hx hy = list_all-append P xs ys ∙ and_from (list_all P xs) (list_all P ys) hx hy
 
 digit-byte : (b : ℕ) → is_ascii_digit b ≡ true → is_version_byte b ≡ true

@@ -2,7 +2,7 @@
 use Rattle.std.proofs.Common.{Bool, Err, List, None, Ok, Option, Result, Some, [], ap, append-nil, arith, codes, drop, false, inl, inr, is_ok, length, length-append, not, option_and_then, refl, subst, suc, sym, take, true, ℕ, ◌++◌, ◌+◌, ◌-◌, ◌∙◌, ◌∷◌, ◌≡◌, ◌⊎◌, ◌≤◌, if◌then◌else◌}
 use Rattle.std.specs.List.{list_all, list_any}
 use Rattle.std.specs.Prelude.{◌||◌}
-use Rattle.std.proofs.lemmas.Bool.{and_parts, cases_lt, false≢true}
+use Rattle.std.proofs.lemmas.Bool.{and_parts, cases_lt, false≢true, not-true}
 use Rattle.std.proofs.lemmas.List.{length-take-le, take-append-drop}
 use Rattle.std.proofs.lemmas.Option.{none-some}
 use Rattle.command_core.specs.declared.command.Applet.{Applet}
@@ -20,7 +20,6 @@ use Rattle.words_core.specs.Grammar.{applet_site, command_from, line_command, co
 use Rattle.words_core.specs.Kinds.{can_get_kind}
 use Rattle.words_core.specs.Options.{OptionSpec, applets, common_options, early_words, is_early, option_spelled, options_of}
 use Rattle.words_core.specs.Stuck.{is_stuck_by, are_options_of}
-use Rattle.words_core.proofs.GoneOn.{is_not}
 use Rattle.words_core.proofs.LinesRead.{by_early}
 use Rattle.words_core.proofs.KindCompleted.{kind_completes}
 use Rattle.words_core.proofs.OffendingWords.{usage_between}
@@ -274,5 +273,5 @@ usage_is_first words place n c =
     by_place : (at : ℕ) → line_command (take (place - 1) words) ≡ Err at → (1 ≤ at) × (at ≤ length (take (place - 1) words) + 1) → CanBeCompleted (take (place - 1) words)
     by_place at e between = elim (cases_lt at (length (take (place - 1) words) + 1)) as (λ _. CanBeCompleted (take (place - 1) words)) [
       | inl less ↦ by_kind at e (omega arith)
-      | inr more ↦ (let same : at ≡ length (take (place - 1) words) + 1 = omega (arith, between.1) in completed_unless (take (place - 1) words) (is_not (line_stuck (take (place - 1) words)) n) (e ∙ ap Err same))
+      | inr more ↦ (let same : at ≡ length (take (place - 1) words) + 1 = omega (arith, between.1) in completed_unless (take (place - 1) words) (not-true (line_stuck (take (place - 1) words)) n) (e ∙ ap Err same))
     ]

@@ -3,7 +3,7 @@ use Rattle.std.proofs.Common.{Bool, Err, List, None, Ok, Option, Some, [], ap, a
 use Rattle.std.specs.List.{slice_get}
 use Rattle.std.specs.Prelude.{is_some, not, ◌&&◌, ◌||◌}
 use Rattle.std.specs.Str.{bytes_eq}
-use Rattle.std.proofs.lemmas.Bool.{and_parts, false≢true, or_cases, or_parts}
+use Rattle.std.proofs.lemmas.Bool.{and_parts, false≢true, or_cases, or_parts, not-true}
 use Rattle.std.proofs.lemmas.List.{take-append-drop}
 use Rattle.std.proofs.lemmas.Option.{none-some, option_and_then_some, same_Some}
 use Rattle.std.proofs.lemmas.Slice.Eq.{bytes_eq-Decides}
@@ -18,7 +18,7 @@ use Rattle.words_core.specs.declared.reading.OptionState.{OptionState}
 use Rattle.words_core.specs.Grammar.{applet_site, attached_value, is_double_dash, is_option, is_option_or_value, next_by_applet, next_by_rule, next_word, next_words, operands_of, option_name, option_reading, or_at, or_unread, reading_by, awaited_rule, rule_unless, site_at, site_after_end, site_by, takes_option, with_meaning_at, with_operand, with_word, with_word_by}
 use Rattle.words_core.specs.Options.{OptionSpec, applet_of, asked_by, common_options, early_words, is_early, option_spelled, options_of}
 use Rattle.words_core.specs.Stuck.{have_ended}
-use Rattle.words_core.proofs.GoneOn.{is_not, none_is, not_option}
+use Rattle.words_core.proofs.GoneOn.{none_is, not_option}
 use Rattle.words_core.proofs.LinesRead.{Says, meaning_says, option_taken, rule_at_is, step_taken, value_says}
 use Rattle.words_core.proofs.OneMore.{left_at}
 use Rattle.words_core.proofs.Sites.{err_here, seek_early, seek_end, seek_here, seek_late}
@@ -243,7 +243,7 @@ next_taken applet state more place word t w = by_rule state.awaiting refl t w
         option_and_then_some (λ (e : OptionSpec). with_meaning_at state place (attached_value word) e.meaning) (option_spelled options (option_name word)) more h
         (λ found is made.
         (let says : Says state place (attached_value word) found.meaning more = meaning_says state more place (attached_value word) found.meaning a made in
-        next_option applet word (is_not (is_double_dash word) parts.1) parts.0
+        next_option applet word (not-true (is_double_dash word) parts.1) parts.0
         ∙ ap (next_by_rule applet) (ap (rule_unless (attached_value word)) (rule_at_is options word found is) ∙ says.awaiting)))
 
 -- where a value is awaited, no option can follow

@@ -3,7 +3,7 @@ use Rattle.std.proofs.Common.{Bool, Err, List, None, Ok, Option, Result, Some, [
 use Rattle.std.specs.List.{list_any}
 use Rattle.std.specs.Option.{option_map, option_or}
 use Rattle.std.specs.Prelude.{◌&&◌, ◌||◌}
-use Rattle.std.proofs.lemmas.Bool.{and_parts, cases_lt, false≢true, or_cases}
+use Rattle.std.proofs.lemmas.Bool.{and_parts, cases_lt, false≢true, or_cases, not-true}
 use Rattle.std.proofs.lemmas.List.{length-take-le, take-append-drop}
 use Rattle.command_core.specs.declared.command.Applet.{Applet}
 use Rattle.command_core.specs.declared.command.Applet.TheVariants.{Help}
@@ -23,7 +23,7 @@ use Rattle.words_core.proofs.AppletCompleted.{line_stuck, line_stuck_by, usage_i
 use Rattle.words_core.proofs.Asked.{alone_stays, asking, next_append, next_early, next_end, operand_stays}
 use Rattle.words_core.proofs.AskedLaws.{asked_command_is, asked_made, asked_stays, line_is, offends_unasked, same_fault, unasked_is}
 use Rattle.words_core.proofs.AskedLines.{HasAsked, asked_parts, awaited_after, ended_next, first_near, next_of_start}
-use Rattle.words_core.proofs.GoneOn.{IsRemovedPackage, from_going, is_not}
+use Rattle.words_core.proofs.GoneOn.{IsRemovedPackage, from_going}
 use Rattle.words_core.proofs.KindsKept.{IsPlain, start_known}
 use Rattle.words_core.proofs.OffendingWords.{AllBetween, IsBetween, IsSearched, from_placed, judged_bad, site_searched, usage_between}
 use Rattle.words_core.proofs.OneMore.{behind}
@@ -83,7 +83,7 @@ unfolding are_stuck line_stuck line_command
 completed_words words place n c =
     elim (command_of before) as (λ r. command_of before ≡ r → not (not (is_ok r) && are_stuck_by before (applet_site 1 before)) ≡ true → CanBeCommand before) [
       | Ok command ↦ λ e n. ([], command, ap command_of (append-nil before) ∙ e)
-      | Err at ↦ λ e n. by_line (line_stuck before) refl (is_not (are_stuck_by before (applet_site 1 before)) n)
+      | Err at ↦ λ e n. by_line (line_stuck before) refl (not-true (are_stuck_by before (applet_site 1 before)) n)
     ] refl n
   where
     before : List (List ℕ)

@@ -2,7 +2,7 @@
 use Rattle.std.proofs.Common.{Bool, List, None, Option, Some, [], ap, arith, drop, false, inl, inr, length, length-drop, not, refl, subst, sym, true, ℕ, ◌++◌, ◌+◌, ◌<◌, ◌∙◌, ◌∷◌, ◌≡◌, ◌≤◌, ◌⊎◌, if◌then◌else◌}
 use Rattle.std.specs.Option.{option_map}
 use Rattle.std.specs.Prelude.{is_some, ◌&&◌, ◌||◌}
-use Rattle.std.proofs.lemmas.Bool.{and_parts, or_parts, true≢false}
+use Rattle.std.proofs.lemmas.Bool.{and_parts, or_parts, true≢false, not-true}
 use Rattle.std.proofs.lemmas.Option.{option_and_then_some}
 use Rattle.command_core.specs.declared.operands.Operand.{Operand}
 use Rattle.command_core.specs.declared.values.ValueRule.{ValueRule}
@@ -16,10 +16,6 @@ use Rattle.words_core.specs.Stuck.{have_ended}
 use Rattle.words_core.proofs.LinesRead.{Says, meaning_says, rule_at_is, value_says}
 use Rattle.words_core.proofs.MoreWords.{drop_append, operands_append}
 use Rattle.words_core.proofs.OneMore.{behind}
-
-pub is_not : (b : Bool) → not b ≡ true → b ≡ false
-is_not true h = sym h
-is_not false h = refl
 
 -- a word cannot be read, and what follows changes nothing
 abbrev pub IsStopped : ℕ → Reading → (List (List ℕ) → Reading) → Type 0
@@ -83,7 +79,7 @@ ended_taken options state more place word words t w = by_rule state.awaiting ref
         option_and_then_some (λ (e : OptionSpec). with_meaning_at state place (attached_value word) e.meaning) (option_spelled options (option_name word)) more h
         (λ found is made.
         (let says : Says state place (attached_value word) found.meaning more = meaning_says state more place (attached_value word) found.meaning a made in
-        ended_option options word words (is_not (is_double_dash word) parts.1) parts.0
+        ended_option options word words (not-true (is_double_dash word) parts.1) parts.0
         ∙ ap (λ o. have_ended options o words) (ap (rule_unless (attached_value word)) (rule_at_is options word found is) ∙ says.awaiting)))
 
 -- what is said of a word that is not taken

@@ -4,6 +4,7 @@ use Rattle.std.specs.Option.{option_or}
 use Rattle.std.specs.Prelude.{is_some, nat_lt, ◌&&◌, ◌||◌}
 use Rattle.std.proofs.lemmas.Bool.{false≢true, le-ltb}
 use Rattle.std.proofs.lemmas.Option.{none-some, same_Some}
+use Rattle.base_core.proofs.Options.{is_none}
 use Rattle.command_core.specs.declared.command.Applet.{Applet}
 use Rattle.command_core.specs.declared.command.Applet.TheVariants.{Info}
 use Rattle.command_core.specs.declared.command.Flag.TheVariants.{WhoOwns}
@@ -43,10 +44,6 @@ four false kind unread over h = absurd (false≢true h)
 four true true unread over h = absurd (false≢true h)
 four true false true over h = absurd (false≢true h)
 four true false false true h = absurd (false≢true h)
-
-none_unread : (unread : Option ℕ) → is_some unread ≡ false → unread ≡ None
-none_unread None h = refl
-none_unread (Some at) h = absurd (false≢true (sym h))
 
 -- ---- rules of the operands of `info`
 
@@ -132,7 +129,7 @@ module _ (words rest : List (List ℕ)) (start : Start) (at place : ℕ) (known 
   is = info_is start.applet parts.0
 
   unread : reading.unread ≡ None
-  unread = none_unread reading.unread parts.2
+  unread = is_none reading.unread parts.2
 
   low : start.read ≤ length words
   low = omega (arith, known.read)

@@ -6,6 +6,7 @@ use Rattle.std.specs.Str.{bytes_eq}
 use Rattle.std.proofs.lemmas.Bool.{and_from, and_parts, false≢true, true≢false}
 use Rattle.std.proofs.lemmas.Option.{none-some, option_and_then_some, same_Some}
 use Rattle.std.proofs.lemmas.Result.{IfOk-at_ok}
+use Rattle.base_core.proofs.Booleans.{implied, implies}
 use Rattle.command_core.specs.declared.command.Applet.{Applet}
 use Rattle.command_core.specs.declared.command.Applet.TheVariants.{Add}
 use Rattle.command_core.specs.declared.command.Flag.{Flag}
@@ -59,14 +60,6 @@ all_listed p Depends h = passes_at p all_flags 7 Depends h refl
 all_listed p WhoOwns h = passes_at p all_flags 8 WhoOwns h refl
 all_listed p Test h = passes_at p all_flags 9 Test h refl
 all_listed p Check h = passes_at p all_flags 10 Check h refl
-
-implied : (b c : Bool) → (not b || c) ≡ true → b ≡ true → c ≡ true
-implied true c h e = h
-implied false c h e = absurd (false≢true e)
-
-implies : (b c : Bool) → (b ≡ true → c ≡ true) → (not b || c) ≡ true
-implies true c h = h refl
-implies false c h = refl
 
 pub within_at : (allowed flags : Flags) (f : Flag) → are_within allowed flags ≡ true → has_flag f flags ≡ true → has_flag f allowed ≡ true
 within_at allowed flags f w h =

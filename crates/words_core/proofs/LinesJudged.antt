@@ -1,8 +1,8 @@
 -- A command is judged good.
-use Rattle.std.proofs.Common.{Bool, List, None, Ok, Option, Some, [], ap, arith, false, length, not, refl, sym, true, ℕ, ◌+◌, ◌∙◌, ◌∷◌, ◌≡◌, ◌≤◌}
+use Rattle.std.proofs.Common.{List, None, Ok, Option, Some, [], ap, arith, false, length, not, refl, sym, true, ℕ, ◌+◌, ◌∙◌, ◌∷◌, ◌≡◌, ◌≤◌}
 use Rattle.std.specs.List.{list_all}
 use Rattle.std.specs.Prelude.{nat_le, ◌&&◌}
-use Rattle.std.proofs.lemmas.Bool.{and_parts, false≢true, le-ltb, leb-true, lt-ltb}
+use Rattle.std.proofs.lemmas.Bool.{and_parts, false≢true, le-ltb, leb-true, lt-ltb, not-true}
 use Rattle.command_core.specs.declared.command.Applet.{Applet}
 use Rattle.command_core.specs.declared.operands.Operand.{Operand}
 use Rattle.command_core.specs.declared.operands.OperandRule.{OperandRule}
@@ -59,13 +59,9 @@ operands_taken (Some rule) operands h =
       enough = le-ltb (length operands) rule.least (leb-true rule.least (length operands) count.0);
     }
 
-not_lacking : (b : Bool) → not b ≡ true → b ≡ false
-not_lacking true h = sym h
-not_lacking false h = refl
-
 pub sound_judged : (behind : ℕ) (applet : Applet) (reading : Reading) → reading.unread ≡ None → is_command (command_read behind applet reading) ≡ true → verdict behind applet reading ≡ Ok (command_read behind applet reading)
 unfolding verdict
 sound_judged behind applet reading u s =
     let parts = has_parts (command_read behind applet reading) s in
     let taken = operands_taken (operand_rule applet reading.state.flags) reading.operands parts.operands in
-    rw taken.taken (rw u (rw taken.enough (rw (not_lacking (lacks_value (needed_option applet) reading.state.values) parts.needed) refl)))
+    rw taken.taken (rw u (rw taken.enough (rw (not-true (lacks_value (needed_option applet) reading.state.values) parts.needed) refl)))

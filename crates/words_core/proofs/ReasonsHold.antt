@@ -4,7 +4,7 @@ use Rattle.std.specs.List.{slice_get}
 use Rattle.std.specs.Option.{option_or}
 use Rattle.std.specs.Prelude.{nat_lt, ◌&&◌, ◌||◌, ◌==◌}
 use Rattle.std.proofs.lemmas.Bool.{and_parts, false≢true, le-ltb, ltb-false, ltb-true, or_cases, or_right, true≢false}
-use Rattle.std.proofs.lemmas.List.{length-take-le, take-append-drop}
+use Rattle.std.proofs.lemmas.List.{length-take-le, take-append-drop, take_all}
 use Rattle.std.proofs.lemmas.Option.{none-some, same_Some}
 use Rattle.command_core.specs.declared.command.Applet.{Applet}
 use Rattle.command_core.specs.declared.command.Applet.TheVariants.{Mkndx}
@@ -41,12 +41,6 @@ use Rattle.words_core.proofs.ReasonsEarly.{command_why, foreign_word, get_none, 
 use Rattle.words_core.proofs.Sites.{no_start}
 
 -- ---- places
-
-take_whole : (words : List (List ℕ)) (i : ℕ) → length words ≤ i → take i words ≡ words
-take_whole [] zero l = refl
-take_whole [] (suc i) l = refl
-take_whole (word ∷ words) zero l = absurd (omega (arith, l))
-take_whole (word ∷ words) (suc i) l = ap (λ ws. word ∷ ws) (take_whole words i (omega (arith, l)))
 
 get_taken : (count i : ℕ) (words : List (List ℕ)) (word : List ℕ) → slice_get (take count words) i ≡ Some word → slice_get words i ≡ Some word
 get_taken zero i words word h = absurd (none-some word h)
@@ -178,7 +172,7 @@ module _ (words : List (List ℕ)) (start : Start) (s : line_start words ≡ Ok 
       let far : length words ≤ place - 1 = omega (arith, e) in
       reason_is place
       ∙ (ap (line_reason start.applet (line_rule words start) (next_after (take (place - 1) words))) (get_none words (place - 1) far)
-      ∙ ap (end_reason start.applet (line_rule words start)) (ap next_after (take_whole words (place - 1) far) ∙ n))
+      ∙ ap (end_reason start.applet (line_rule words start)) (ap next_after (take_all words (place - 1) far) ∙ n))
 
   holds : (place : ℕ) (reason : UsageReason) → usage_reason words place ≡ reason → IsUsageReason reason words place → IsUsageReason (usage_reason words place) words place
   holds place reason e h = subst (λ r. IsUsageReason r words place) (sym e) h

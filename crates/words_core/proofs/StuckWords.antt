@@ -4,7 +4,7 @@ use Rattle.std.specs.List.{find, list_all, list_any}
 use Rattle.std.specs.Option.{option_map, option_or}
 use Rattle.std.specs.Prelude.{is_some, ◌&&◌, ◌||◌}
 use Rattle.std.specs.Str.{bytes_eq}
-use Rattle.std.proofs.lemmas.Bool.{and_parts, and_right, cases_lt, false≢true, not_from_true, or_cases, or_parts, or_right, true≢false}
+use Rattle.std.proofs.lemmas.Bool.{and_parts, and_right, cases_lt, false≢true, not_from_true, or_cases, or_parts, or_right, true≢false, not-true}
 use Rattle.std.proofs.lemmas.Option.{none-some, same_Some}
 use Rattle.std.proofs.lemmas.Result.{IfOk-weaker}
 use Rattle.std.proofs.lemmas.Slice.Eq.{bytes_eq-Decides}
@@ -26,7 +26,7 @@ use Rattle.words_core.specs.declared.reading.Start.{Start}
 use Rattle.words_core.specs.Grammar.{applet_site, command_from, line_command, command_read, early_flags, is_double_dash, is_option, lacks_operand, lacks_word, line_start, option_reading, or_at, reading_after_applet, reading_by, refused_operand, site_at, site_after_end, site_by, start_from, start_with, state_by, unless_at, verdict, with_word_by}
 use Rattle.words_core.specs.Options.{OptionSpec, applet_of, applet_word, applets, is_early, options_of}
 use Rattle.words_core.specs.Stuck.{are_stuck_by, awaits_none, has_script, have_ended, is_full, is_stuck, is_stuck_by, lacks_option, are_options_of}
-use Rattle.words_core.proofs.GoneOn.{IsRemovedPackage, from_going, is_not}
+use Rattle.words_core.proofs.GoneOn.{IsRemovedPackage, from_going}
 use Rattle.words_core.proofs.KindsKept.{IsPlain, start_known}
 use Rattle.words_core.proofs.LinesRead.{awaited_taken, step_taken}
 use Rattle.words_core.proofs.OffendingWords.{IsBetween, IsSearched, site_searched}
@@ -141,7 +141,7 @@ stuck_bad words more start s k = by_going (from_going start words low)
 not_any : {A : Type 0} (p : A → Bool) (xs : List A) (q : A → Bool) (x : A) → not (list_any p xs) ≡ true → find q xs ≡ Some x → p x ≡ false
 not_any p [] q x n f = absurd (none-some x f)
 not_any p (y ∷ ys) q x n f =
-    let parts = or_parts (p y) (list_any p ys) (is_not (p y || list_any p ys) n) in
+    let parts = or_parts (p y) (list_any p ys) (not-true (p y || list_any p ys) n) in
     elim (q y) as (λ b. cond b (Some y) (find q ys) ≡ Some x → p x ≡ false) [
       | true ↦ λ (same : Some y ≡ Some x). subst (λ z. p z ≡ false) (same_Some y x same) parts.0
       | false ↦ λ (later : find q ys ≡ Some x). not_any p ys q x (ap not parts.1) later

@@ -6,7 +6,7 @@ use Rattle.std.specs.List.{list_all, list_any}
 use Rattle.std.specs.Option.{option_or}
 use Rattle.std.specs.Prelude.{nat_lt, ◌&&◌, ◌==◌, ◌||◌}
 use Rattle.std.specs.Str.{bytes_eq, chars, is_utf8}
-use Rattle.std.proofs.lemmas.Bool.{and_from, and_parts, and_right, false≢true, le-leb, le-ltb, leb-true, not_from_false, not_from_true, or_from, or_parts, or_right, true≢false}
+use Rattle.std.proofs.lemmas.Bool.{and_from, and_parts, and_right, false≢true, le-leb, le-ltb, leb-true, not_from_false, not_from_true, or_from, or_parts, or_right, true≢false, not-true}
 use Rattle.std.proofs.lemmas.Option.{none-some, same_Some}
 use Rattle.std.proofs.lemmas.Slice.Eq.{bytes_eq-Decides}
 use lib.Utf8.{encode}
@@ -37,7 +37,7 @@ use Rattle.words_core.specs.Grammar.{command_from, line_command, command_read, a
 use Rattle.words_core.specs.Options.{OptionSpec, common_options, options_of}
 use Rattle.words_core.specs.Stuck.{awaits_none, has_script, have_ended, is_full, is_stuck, lacks_option}
 use Rattle.words_core.proofs.GivenKept.{from_kept}
-use Rattle.words_core.proofs.GoneOn.{IsRemovedPackage, from_going, is_not}
+use Rattle.words_core.proofs.GoneOn.{IsRemovedPackage, from_going}
 use Rattle.words_core.proofs.KindsKept.{IsPlain, start_known, within_at}
 use Rattle.words_core.proofs.LinesJudged.{room_by}
 use Rattle.words_core.proofs.LinesRead.{awaited_taken, step_taken}
@@ -319,7 +319,7 @@ pub options_follow : (applet : Applet) (flags : Flags) (values : List OptionValu
 unfolding common_options options_of option_name attached_value
 options_follow Mkndx flags values os at m k h =
     let more : List OptionValue = values ++ (option_value (at + 1) OUTPUT (codes "a") ∷ []) in
-    (codes "-o" ∷ (codes "a" ∷ []), subst (λ r. IsJudgedGood Mkndx (behind os r)) (sym (output_read flags values at (is_not (is_given OUTPUT values) k))) (index_good (state_by flags more None) os h (given_last (at + 1) OUTPUT (codes "a") values refl)))
+    (codes "-o" ∷ (codes "a" ∷ []), subst (λ r. IsJudgedGood Mkndx (behind os r)) (sym (output_read flags values at (not-true (is_given OUTPUT values) k))) (index_good (state_by flags more None) os h (given_last (at + 1) OUTPUT (codes "a") values refl)))
 options_follow Version flags values os at m k h =
     let none = no_kind flags (lacks_kind flags k) in
     let now : Flags = with_flag Check flags in

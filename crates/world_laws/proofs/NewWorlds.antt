@@ -13,18 +13,16 @@ use Rattle.command_core.specs.declared.command.Applet.{Applet}
 use Rattle.command_core.specs.declared.command.Applet.TheVariants as Applets
 use Rattle.command_core.specs.declared.operands.Operand.{Operand}
 use Rattle.dep_core.specs.Dependency.{Dependency}
-use Rattle.dep_core.specs.DependencyText.{is_dependency}
 use Rattle.dep_core.specs.Reading.{dependency_of}
 use Rattle.dep_core.specs.World.{IsWorld, is_in_order, with_entry, without_name}
 use Rattle.dep_core.proofs.ReadOut.{read-out}
-use Rattle.dep_core.proofs.Worlds.{IsWorld-with_entry, IsWorld-without, cmp-equal, is_behind, lt-less, names_total}
+use Rattle.dep_core.proofs.Worlds.{IsWorld-with_entry, IsWorld-without, cmp-equal, is_behind}
+use Rattle.dep_core.proofs.Places.{in_order}
 use Rattle.base_core.specs.ByteOrder.{bytes_cmp}
+use Rattle.base_core.proofs.Orderings.{is_less, names_total}
 use Rattle.world_laws.specs.NewWorld.{HasAddedEntries, HasOtherEntries, HasRequestedEntries, IsAdded, IsAddedByNone, IsNoOperand}
 
 -- ---- order
-
-pub in_order : (w : List Dependency) → IsWorld w → is_in_order w ≡ true
-in_order w h = (and_parts (list_all is_dependency w) (is_in_order w) h).1
 
 all_in : (P : Dependency → Bool) (w : List Dependency) (x : Dependency) → list_all P w ≡ true → IsIn x w → P x ≡ true
 all_in P [] x h here = absurd here
@@ -49,7 +47,7 @@ other_greater a b greater same = let e : Greater ≡ Equal = sym greater ∙ (ap
 pub after_other : (e : Dependency) (rest : List Dependency) (x : Dependency) → is_in_order (e ∷ rest) ≡ true → IsIn x rest → bytes_cmp e.name x.name ≡ Less
 after_other e rest x h here =
     let parts = and_parts (list_all (is_behind e.name) rest) (is_in_order rest) h in
-    lt-less (bytes_cmp e.name x.name) (all_in (is_behind e.name) rest x parts.0 here)
+    is_less (bytes_cmp e.name x.name) (all_in (is_behind e.name) rest x parts.0 here)
 
 -- of two entries, one behind the other, only the second comes behind
 pub behind_first : (x y : Dependency) (a : List Dependency) → is_in_order (x ∷ a) ≡ true → IsIn y a → bytes_cmp y.name x.name ≡ Less → ⊥

@@ -3,16 +3,16 @@ use Rattle.std.proofs.Common.{◌≡◌, ◌⊎◌, ℕ, Bool, true, false, true
 use Rattle.std.specs.Option.{option_map, option_or}
 use Rattle.std.specs.Ordering.{is_lt, ordering_reverse}
 use Rattle.std.specs.declared.cmp.Ordering.TheVariants.{Less, Equal, Greater}
-use Rattle.std.specs.List.{filter, find, flat_map, list_all, list_any}
-use Rattle.std.proofs.lemmas.Bool.{and_from, and_parts, or_left, or_right}
+use Rattle.std.specs.List.{filter, find, flat_map, list_all}
+use Rattle.std.proofs.lemmas.Bool.{and_from, and_parts, not-true}
 use Rattle.dep_core.specs.Dependency.{Dependency}
-use Rattle.dep_core.proofs.Worlds.{names_total}
 use Rattle.base_core.specs.ByteOrder.{bytes_cmp, precedes}
+use Rattle.base_core.proofs.Orderings.{names_total}
 use Rattle.candidate_core.specs.Candidates.{Candidate, Need, entry, named, has_usable_install_if}
 use Rattle.candidate_core.specs.Options.{IsIn}
 use Rattle.candidate_core.specs.Rank.{SealedPool, meets_at}
 use Rattle.search_tables.specs.Selection.{depends_at, install_if_applies, is_met, is_unmet, least_name, lesser_name, names_by_install_if, next_need, positive_needs, raised_needs}
-use Rattle.search_tables.proofs.PoolFacts.{any_in, filter_in, in_filter, in_map, least_in, least_none, map_in}
+use Rattle.search_tables.proofs.PoolFacts.{any_in, filter_in, in_filter, in_map, least_in, least_none, map_in, in_any}
 use Rattle.world_laws.specs.NextNeed.{AreMetByChoices, AreMetOfEach, IsAskedByInstallIf, IsFirstOfChoices, IsFirstUnmet, IsMetByChoice, IsNextOrNone}
 
 -- ---- the least name
@@ -69,11 +69,6 @@ least_first (n ∷ xs) x e y here = by (least_name xs) refl e here (λ m f. leas
 
 -- ---- needs that are met
 
-in_any : (test : ℕ → Bool) (xs : List ℕ) (x : ℕ) → IsIn x xs → test x ≡ true → list_any test xs ≡ true
-in_any test [] x here t = absurd here
-in_any test (y ∷ ys) x (inl is) t = or_left (test y) (list_any test ys) (ap test (sym is) ∙ t)
-in_any test (y ∷ ys) x (inr more) t = or_right (test y) (list_any test ys) (in_any test ys x more t)
-
 all_pass : (test : Dependency → Bool) (xs : List Dependency) → ((x : Dependency) → IsIn x xs → test x ≡ true) → list_all test xs ≡ true
 all_pass test [] h = refl
 all_pass test (y ∷ ys) h = and_from (test y) (list_all test ys) (h y (inl refl)) (all_pass test ys (λ x here. h x (inr here)))
@@ -82,10 +77,6 @@ pub all_in : (test : Dependency → Bool) (xs : List Dependency) (x : Dependency
 all_in test [] x h here = absurd here
 all_in test (y ∷ ys) x h (inl is) = ap test is ∙ (and_parts (test y) (list_all test ys) h).0
 all_in test (y ∷ ys) x h (inr more) = all_in test ys x (and_parts (test y) (list_all test ys) h).1 more
-
-not_true : (b : Bool) → not b ≡ true → b ≡ false
-not_true true e = absurd (cc (e))
-not_true false e = refl
 
 module _ (pool : SealedPool) (chosen : List ℕ) where
   met : (need : Need) → is_met pool chosen need ≡ true → IsMetByChoice pool chosen need
@@ -231,7 +222,7 @@ module _ (pool : SealedPool) (chosen : List ℕ) where
         is_named = sym from.2;
         usable = parts.0;
         applies = λ d at. met (entry d) (all_in (λ (e : Dependency). is_met pool chosen (entry e)) from.0.install_if d parts.1 at);
-        unmet = unmet (named name) (not_true (is_met pool chosen (named name)) kept.1);
+        unmet = unmet (named name) (not-true (is_met pool chosen (named name)) kept.1);
       }
 
   by_names : AreMetByChoices pool chosen pool.world → AreMetOfEach pool chosen chosen → (r : Option (List ℕ)) → least_name unmet_names ≡ r → IsNextOrNone pool chosen (option_map named r)

@@ -3,8 +3,9 @@ use Rattle.std.proofs.Common.{◌≡◌, ℕ, false, List, [], ◌∷◌, ◌++�
 use Rattle.std.specs.Ordering.{is_lt, ordering_reverse}
 use Rattle.std.specs.declared.cmp.Ordering.TheVariants.{Less, Equal, Greater}
 use Rattle.dep_core.specs.Dependency.{Dependency}
-use Rattle.dep_core.proofs.Worlds.{cmp-equal, names_total}
+use Rattle.dep_core.proofs.Worlds.{cmp-equal}
 use Rattle.base_core.specs.ByteOrder.{bytes_cmp}
+use Rattle.base_core.proofs.Orderings.{names_total}
 use Rattle.candidate_core.specs.Candidates.{Need, entry, named}
 use Rattle.candidate_core.specs.Options.{IsIn}
 use Rattle.candidate_core.specs.Rank.{SealedPool}

@@ -6,8 +6,9 @@ use Rattle.command_core.specs.declared.command.Applet.TheVariants as Applets
 use Rattle.command_core.specs.declared.operands.Operand.{Operand}
 use Rattle.dep_core.specs.Dependency.{Dependency}
 use Rattle.dep_core.specs.World.{IsWorld, is_in_order}
+use Rattle.dep_core.proofs.Places.{in_order}
 use Rattle.world_laws.specs.NewWorld.{HasRequestedEntries}
-use Rattle.world_laws.proofs.NewWorlds.{after_other, in_order, other_less, tail_in_order, behind_first}
+use Rattle.world_laws.proofs.NewWorlds.{after_other, other_less, tail_in_order, behind_first}
 
 AllOf : List Dependency → List Dependency → Type 0
 AllOf a b = (d : Dependency) → IsIn d a → IsIn d b

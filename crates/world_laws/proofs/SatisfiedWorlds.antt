@@ -3,7 +3,7 @@ use Rattle.std.proofs.Common.{◌≡◌, inl, inr, ℕ, zero, suc, Bool, true, f
 use Rattle.std.specs.Prelude.{◌&&◌, slice_get}
 use Rattle.std.specs.Option.{option_map_or}
 use Rattle.std.specs.List.{filter, filter_map, list_all}
-use Rattle.std.proofs.lemmas.Bool.{and_from, and_parts, eqb-false, eqb-true}
+use Rattle.std.proofs.lemmas.Bool.{and_from, and_parts, eqb-false, eqb-true, not_from_false}
 use Rattle.std.proofs.lemmas.Slice.Eq.{bytes_eq-Decides}
 use Rattle.dep_core.specs.Dependency.{Dependency}
 use Rattle.candidate_core.specs.Candidates.{Candidate, Need, entry, named, has_usable_install_if, is_allowed, is_barred_by, is_eligible, meets_dependency, meets_need, occupies_name}
@@ -56,10 +56,6 @@ at_test pool test place e = by (candidate_at pool place) refl
 
 -- ---- a satisfying selection
 
-not_of : (b : Bool) → b ≡ false → not b ≡ true
-not_of true e = absurd (true≢false e)
-not_of false e = refl
-
 module _ (pool : SealedPool) (trace : List ℕ) (are : IsSatisfying pool trace) where
   abbrev packages : List Candidate
   packages = candidates_at pool trace
@@ -77,7 +73,7 @@ module _ (pool : SealedPool) (trace : List ℕ) (are : IsSatisfying pool trace) 
 
   as_need : (d : Dependency) (deps : List Dependency) → IsIn d deps → d.conflict ≡ false → IsIn (entry d) (positive_needs deps)
   as_need d deps here off =
-      in_map entry d (filter (λ (x : Dependency). not x.conflict) deps) (in_filter (λ (x : Dependency). not x.conflict) d deps here (not_of d.conflict off))
+      in_map entry d (filter (λ (x : Dependency). not x.conflict) deps) (in_filter (λ (x : Dependency). not x.conflict) d deps here (not_from_false d.conflict off))
 
   depends_of : (place : ℕ) (c : Candidate) → candidate_at pool place ≡ Some c → depends_at pool place ≡ c.depends
   depends_of place c e = ap (λ o. option_map_or (λ (k : Candidate). k.depends) o []) e

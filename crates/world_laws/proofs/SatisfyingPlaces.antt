@@ -1,13 +1,15 @@
 -- Packages that satisfy world are those of a satisfying selection.
-use Rattle.std.proofs.Common.{◌≡◌, ◌≢◌, inl, inr, ℕ, zero, suc, Bool, true, false, true≢false, not, List, [], ◌∷◌, Some, refl, ap, sym, subst, ◌∙◌}
-use Rattle.std.specs.Prelude.{◌&&◌, slice_get, bytes_eq}
+use Rattle.std.proofs.Common.{◌≡◌, ◌≢◌, inl, inr, ℕ, Bool, true, false, true≢false, not, List, [], ◌∷◌, Some, refl, ap, sym, subst, ◌∙◌}
+use Rattle.std.specs.Prelude.{◌&&◌, bytes_eq}
 use Rattle.std.specs.List.{filter, list_all, list_any}
-use Rattle.std.proofs.lemmas.Bool.{and_from, and_parts, or_left}
+use Rattle.std.proofs.lemmas.Bool.{and_from, and_parts, or_left, not-true, not_from_false}
 use Rattle.std.proofs.lemmas.Slice.Eq.{bytes_eq-Decides}
+use Rattle.base_core.proofs.AtName.{own_name}
 use Rattle.dep_core.specs.Dependency.{Dependency}
 use Rattle.candidate_core.specs.Candidates.{Candidate, Need, entry, entry_occupies, named, has_usable_install_if, is_allowed, is_barred_by, is_eligible, meets_dependency, meets_need, occupies_name}
 use Rattle.candidate_core.specs.Options.{IsIn}
 use Rattle.candidate_core.specs.Rank.{SealedPool, candidate_at, is_at, is_eligible_at, meets_at}
+use Rattle.candidate_core.proofs.Places.{place_of}
 use Rattle.package_changes.specs.Placed.{candidates_at}
 use Rattle.search_tables.specs.Selection.{AreDistinct, IsSatisfying, conflicts_with, depends_at, install_if_applies, is_met, names_by_install_if, positive_needs}
 use Rattle.search_tables.proofs.PoolFacts.{any_in, filter_in, map_in}
@@ -16,24 +18,6 @@ use Rattle.world_laws.proofs.InstalledCounted.{in_any, no_any}
 use Rattle.world_laws.proofs.InstalledCounted as Lists
 use Rattle.world_laws.proofs.NextNeeds.{all_in}
 use Rattle.world_laws.proofs.SatisfiedWorlds.{IsLedTo, at_in, in_at, test_at}
-
--- the place of a candidate in a list
-place_in : (cs : List Candidate) (c : Candidate) → IsIn c cs → (place : ℕ) × (slice_get cs place ≡ Some c)
-place_in [] c here = absurd here
-place_in (x ∷ cs) c (inl is) = (zero, ap Some (sym is))
-place_in (x ∷ cs) c (inr more) = let behind = place_in cs c more in (suc behind.0, behind.1)
-
--- a name is its own
-own_name : (name : List ℕ) → bytes_eq name name ≡ true
-own_name name = (bytes_eq-Decides name name).1 refl
-
-off_of : (b : Bool) → not b ≡ true → b ≡ false
-off_of true e = absurd (true≢false (sym e))
-off_of false e = refl
-
-on_of : (b : Bool) → b ≡ false → not b ≡ true
-on_of true e = absurd (true≢false e)
-on_of false e = refl
 
 occupies : (name : List ℕ) (c : Candidate) → bytes_eq name c.name ≡ true → occupies_name name c ≡ true
 occupies name c e = or_left (bytes_eq name c.name) (list_any (entry_occupies name) c.provides) e
@@ -110,7 +94,7 @@ module _ (pool : SealedPool) (packages : List Candidate) (are : SatisfyWorld poo
           let same : found.0 ≡ c = are.names_alone c found.0 c.name (among c (inl refl)) (among found.0 (inr found.1)) (occupies c.name c (own_name c.name)) (occupies c.name found.0 found.2) in
           with_known c some (subst (λ (y : Candidate). IsIn y some) same found.1) rest
       by false e rest =
-          let place = place_in pool.candidates c (are.are_candidates c (among c (inl refl))) in
+          let place = place_of pool.candidates c (are.are_candidates c (among c (inl refl))) in
           with_new c some place.0 (λ at. true≢false (sym (in_any (is_of_name c) some c at (own_name c.name)) ∙ e)) place.1 rest
 
   -- ---- these places satisfy world
@@ -131,7 +115,7 @@ module _ (pool : SealedPool) (packages : List Candidate) (are : SatisfyWorld poo
     need_met deps need met_of at =
         let mapped = map_in entry need (filter (λ (x : Dependency). not x.conflict) deps) at in
         let kept = filter_in (λ (x : Dependency). not x.conflict) mapped.0 deps mapped.1 in
-        subst (λ (n : Need). is_met pool places n ≡ true) (sym mapped.2) (met mapped.0 (met_of mapped.0 kept.0 (off_of mapped.0.conflict kept.1)))
+        subst (λ (n : Need). is_met pool places n ≡ true) (sym mapped.2) (met mapped.0 (met_of mapped.0 kept.0 (not-true mapped.0.conflict kept.1)))
 
     depends_of : (place : ℕ) (c : Candidate) → candidate_at pool place ≡ Some c → depends_at pool place ≡ c.depends
     depends_of place c e = rw e refl
@@ -151,7 +135,7 @@ module _ (pool : SealedPool) (packages : List Candidate) (are : SatisfyWorld poo
     eligible : (place : ℕ) → IsIn place places → is_eligible_at pool place ≡ true
     eligible place here =
         let q = p.each place here in
-        test_at pool (is_eligible pool.world) place q.0 q.2 ∙ and_from (is_allowed pool.world q.0) (not (is_barred_by pool.world q.0)) (are.allowed q.0 q.1) (on_of (is_barred_by pool.world q.0) (barred_by_none q.0 q.1))
+        test_at pool (is_eligible pool.world) place q.0 q.2 ∙ and_from (is_allowed pool.world q.0) (not (is_barred_by pool.world q.0)) (are.allowed q.0 q.1) (not_from_false (is_barred_by pool.world q.0) (barred_by_none q.0 q.1))
 
     same_place : (a b : ℕ) (c other : Candidate) → IsIn a places → IsIn b places → candidate_at pool a ≡ Some c → candidate_at pool b ≡ Some other → other ≡ c → a ≡ b
     same_place a b c other here there e f same = p.one a b c here there e (f ∙ ap Some same)

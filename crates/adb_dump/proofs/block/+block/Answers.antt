@@ -1,5 +1,6 @@
 use Rattle.std.proofs.Common.{ℕ, ◌+◌, ◌≡◌, ◌<◌, Bool, true, false, get_or, [], length, arith, ap, sym, ◌∙◌}
 use Rattle.std.specs.Prelude.{◌&&◌}
+use Rattle.std.proofs.lemmas.Bool.{and_right}
 use Rattle.adb_view.specs.Schema.{shape_of}
 use Rattle.adb_view.specs.declared.tables.Field.{Field}
 use Rattle.adb_view.specs.declared.tables.FieldName.TheVariants.{Name}
@@ -13,7 +14,7 @@ use Rattle.adb_view.specs.Entries.{array_entries}
 use Rattle.adb_dump.proofs.Puts.{on_ok_then, puts_on, puts_told, so_far_all, so_far_more, so_far_none}
 use Rattle.adb_dump.proofs.Turns.{entries_end, entries_later, entry_turn, field_after, field_below, field_turn, fields_end, null_put, null_turn, object_entry_null, object_entry_some, some_put, words_end}
 use Rattle.adb_dump.proofs.Left.{fields_later, null_done, null_next, null_over, null_stop}
-use Rattle.adb_dump.proofs.Booleans.{and_stop, and_go}
+use Rattle.adb_dump.proofs.Booleans.{and_go}
 use Rattle.adb_dump.proofs.block.+block.Goals as goal
 
 pub write_fields-returns-after-loop-i-clause-null : goal.write_fields-returns-after-loop-i-clause-null
@@ -72,7 +73,7 @@ write_fields-loop-i-preserved g t c =
     let some : is_null (value_at payload (get_or fields c.loop-i.i first).kind c.entry_word-word.result) ≡ false = sym c.in_ok-write_field.ensures.null ∙ c.if-branch.false in
     record {
       sound = fields_later payload fields words c.loop-i.i first c.loop-i-test.true within c.loop-i.invariant.sound;
-      null = c.loop-i.invariant.null ∙ and_stop c.loop-i.all_null _ (null_stop payload fields words c.loop-i.i first c.loop-i-test.true within c.loop-i.invariant.sound (word_is ∙ some));
+      null = c.loop-i.invariant.null ∙ and_right c.loop-i.all_null _ (null_stop payload fields words c.loop-i.i first c.loop-i-test.true within c.loop-i.invariant.sound (word_is ∙ some));
       so_far =
           so_far_more (g.O.Out.holds (payload_of c.args.adb)) _ _ _ _ _ _ _ (field_turn c.args.start.depth c.loop-i.begun payload fields words c.loop-i.i c.entry_word-word.result first c.loop-i-test.true within c.entry_word-word.ensures c.loop-i.invariant.sound some)
           (puts_told (g.O.Out.holds (payload_of c.args.adb)) _ _ _ _ (some_put c.args.start.depth c.loop-i.begun _ _ some) c.in_ok-write_field.ensures.put) c.loop-i.invariant.so_far;

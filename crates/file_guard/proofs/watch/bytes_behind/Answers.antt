@@ -1,19 +1,15 @@
 -- What is due behind some bytes.
-use Rattle.std.proofs.Common.{◌≡◌, ◌++◌, ◌-◌, ℕ, Bool, true, false, List, length, take, drop, take_all, subst, arith}
+use Rattle.std.proofs.Common.{◌≡◌, ◌++◌, ◌-◌, ℕ, Bool, true, false, List, length, take, drop, subst}
 use Rattle.std.specs.Str.{bytes_eq}
-use Rattle.std.proofs.lemmas.List.{length-drop}
+use Rattle.base_core.proofs.Added.{take-behind}
 use Rattle.file_guard.proofs.Due.{due_further, due_left, due_missed, first_differs, second_differs}
 use Rattle.file_guard.proofs.watch.bytes_behind.Goals as goal
 
--- what stands behind the first bytes, as a range
-range_is : (n : ℕ) (bytes : List ℕ) → take (length bytes - n) (drop n bytes) ≡ drop n bytes
-range_is n bytes = let left = length-drop n bytes in take_all (length bytes - n) (drop n bytes) (omega arith)
-
 compared_rest : (n : ℕ) (bytes second : List ℕ) (b : Bool) → bytes_eq (take (length (take (length bytes - n) (drop n bytes))) second) (take (length bytes - n) (drop n bytes)) ≡ b → bytes_eq (take (length (drop n bytes)) second) (drop n bytes) ≡ b
-compared_rest n bytes second b h = subst (λ (rest : List ℕ). bytes_eq (take (length rest) second) rest ≡ b) (range_is n bytes) h
+compared_rest n bytes second b h = subst (λ (rest : List ℕ). bytes_eq (take (length rest) second) rest ≡ b) (take-behind n bytes) h
 
 left_rest : (n : ℕ) (bytes second left : List ℕ) → left ≡ drop (length (take (length bytes - n) (drop n bytes))) second → left ≡ drop (length (drop n bytes)) second
-left_rest n bytes second left h = subst (λ (rest : List ℕ). left ≡ drop (length rest) second) (range_is n bytes) h
+left_rest n bytes second left h = subst (λ (rest : List ℕ). left ≡ drop (length rest) second) (take-behind n bytes) h
 
 pub returns-in_default : goal.returns-in_default
 returns-in_default c = λ test so_far due.

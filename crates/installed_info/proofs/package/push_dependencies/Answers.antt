@@ -2,11 +2,12 @@ use Rattle.std.proofs.Common.{◌≡◌, ◌∙◌, ◌+◌, ◌-◌, ◌++◌, 
 use Rattle.std.specs.Option.{option_map_or}
 use Rattle.adb_fields.specs.ListValue.{list_value}
 use Rattle.adb_fields.specs.Repeated.{list_of}
+use Rattle.adb_fields.proofs.Listed.{none_listed}
 use Rattle.adb_view.specs.Values.{entries_in, entry_in, nth}
 use Rattle.dep_core.specs.DependencyText.{dep_text}
 use Rattle.candidate_core.specs.Candidates.{dependency_in}
 use Rattle.report_core.specs.Reports.{report_line, report_lines}
-use Rattle.installed_info.proofs.LineSteps.{all_told, dependencies_listed, dependency_left, dependency_lines, no_entry_left, told}
+use Rattle.installed_info.proofs.LineSteps.{all_told, dependencies_listed, dependency_left, dependency_lines, told}
 use Rattle.installed_info.proofs.package.push_dependencies.Goals as goal
 
 pub loop-i-preserved : goal.loop-i-preserved
@@ -21,5 +22,5 @@ loop-i-preserved c =
 pub returns : goal.returns
 returns c =
     let vs = entries_in (list_value c.args.depends.now) in
-    all_told _ _ _ (ap dependency_lines (no_entry_left vs c.loop-i.i (omega (arith, c.len-i-end.ensures.value, c.loop-i-test.false, c.loop-i.auto.i-end)))) c.loop-i.invariant
+    all_told _ _ _ (ap dependency_lines (none_listed vs c.loop-i.i (omega (arith, c.len-i-end.ensures.value, c.loop-i-test.false, c.loop-i.auto.i-end)))) c.loop-i.invariant
     ∙ ap (λ ds. c.args.report.now.items ++ report_lines (map dep_text ds)) (dependencies_listed vs)

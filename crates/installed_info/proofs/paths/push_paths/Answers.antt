@@ -2,9 +2,10 @@ use Rattle.std.proofs.Common.{◌+◌, drop, ap, arith}
 use Rattle.std.specs.List.{flat_map}
 use Rattle.adb_fields.specs.ListValue.{list_value}
 use Rattle.adb_fields.specs.Repeated.{list_of, paths_under}
+use Rattle.adb_fields.proofs.Listed.{none_listed}
 use Rattle.adb_view.specs.Values.{entries_in, nth}
 use Rattle.report_core.specs.Reports.{report_lines}
-use Rattle.installed_info.proofs.LineSteps.{all_told, folder_left, no_entry_left, told}
+use Rattle.installed_info.proofs.LineSteps.{all_told, folder_left, told}
 use Rattle.installed_info.proofs.paths.push_paths.Goals as goal
 
 pub loop-i-preserved : goal.loop-i-preserved
@@ -16,4 +17,4 @@ loop-i-preserved c =
 pub returns : goal.returns
 returns c =
     let vs = entries_in (list_value c.args.folders.now) in
-    all_told _ _ _ (ap (λ z. report_lines (flat_map paths_under z)) (no_entry_left vs c.loop-i.i (omega (arith, c.len-i-end.ensures.value, c.loop-i-test.false, c.loop-i.auto.i-end)))) c.loop-i.invariant
+    all_told _ _ _ (ap (λ z. report_lines (flat_map paths_under z)) (none_listed vs c.loop-i.i (omega (arith, c.len-i-end.ensures.value, c.loop-i-test.false, c.loop-i.auto.i-end)))) c.loop-i.invariant

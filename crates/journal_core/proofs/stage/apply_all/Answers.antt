@@ -1,10 +1,11 @@
+use Rattle.base_core.proofs.Counting.{goes_on_twice, no_fault_twice, goes_on_same, no_fault_same}
 use Rattle.journal_core.proofs.OldOrNew.{bytes_called, bytes_start}
 use Rattle.journal_core.proofs.Leaving.{intent_on, intent_start}
-use Rattle.journal_core.proofs.Rowing.{acts_done, acts_start, goes_same, goes_through, left_of, none_same, none_through, proper_done, proper_start, published_next, reads_called, reads_start, rowed_called, rowed_done, rowed_ends, rowed_start, within_next}
+use Rattle.journal_core.proofs.Rowing.{acts_done, acts_start, left_of, proper_done, proper_start, published_next, reads_called, reads_start, rowed_called, rowed_done, rowed_ends, rowed_start, within_next}
 use Rattle.journal_core.proofs.stage.apply_all.Goals as goal
 
 pub loop-stage-init : goal.loop-stage-init
-loop-stage-init g c = (c.requires.published, c.requires.within, rowed_start _ _, acts_start _ _, proper_start _ _ _, goes_same _, none_same _, reads_start _ _, intent_start _, bytes_start _ _)
+loop-stage-init g c = (c.requires.published, c.requires.within, rowed_start _ _, acts_start _ _, proper_start _ _ _, goes_on_same _, no_fault_same _, reads_start _ _, intent_start _, bytes_start _ _)
 
 pub loop-stage-preserved : goal.loop-stage-preserved
 loop-stage-preserved g c =
@@ -15,8 +16,8 @@ loop-stage-preserved g c =
       rowed_done _ _ _ _ _ _ c.in_ok-apply_one.ensures.acting rowed c.in_ok-apply_one.ensures.moments,
       acts_done _ _ _ _ _ _ c.in_ok-apply_one.ensures.acting acts,
       proper_done _ _ _ _ _ _ _ acts proper c.in_ok-apply_one.ensures.proper,
-      goes_through _ _ _ goes c.in_ok-apply_one.ensures.goes_on,
-      none_through _ _ _ none c.in_ok-apply_one.ensures.kept,
+      goes_on_twice _ _ _ goes c.in_ok-apply_one.ensures.goes_on,
+      no_fault_twice _ _ _ none c.in_ok-apply_one.ensures.kept,
       reads_called _ _ _ _ _ acts reads c.in_ok-apply_one.ensures.reads,
       intent_on _ _ _ waiting c.in_ok-apply_one.ensures.waiting,
       bytes_called _ _ _ _ _ acts bytes c.in_ok-apply_one.ensures.bytes,

@@ -1,4 +1,5 @@
-use Rattle.std.proofs.Common.{◌≡◌, ℕ, List, [], Result, Ok, Err, ap, sym, subst}
+use Rattle.std.proofs.Common.{◌≡◌, ℕ, List, [], ap, sym, subst}
+use Rattle.make_core.proofs.SoundPackage.{info_ok}
 use Rattle.adb_view.specs.Values.{entry_in}
 use Rattle.adb_view.specs.declared.tables.Which.TheVariants.{PkgInfo}
 use Rattle.adb_view.specs.Plain.{Plain}
@@ -9,7 +10,6 @@ use Rattle.make_info.specs.FieldTexts.{is_too_long, values_of_info}
 use Rattle.make_info.specs.Fields.{field_word}
 use Rattle.make_info.specs.Information.{InfoItem, information}
 use Rattle.make_info.specs.Reads.{Reads}
-use Rattle.make_package.specs.Making.{or_info_bad}
 use Rattle.package_files.specs.Package.{installed_size}
 use Rattle.make_laws.proofs.MadeFrom.{IsMadeFrom, info_is, made_from, priority_is}
 use Rattle.make_laws.proofs.ToldFields.{items_of, say_of_field, told_info, told_priority, values_for}
@@ -17,10 +17,6 @@ use Rattle.make_laws.specs.MadePackages.{contained_package}
 use Rattle.make_laws.specs.NamedFields.{field_named}
 use Rattle.make_laws.specs.SaidOfFields.{SayOfField, HasValuesOfField, field_value_in_package}
 use Rattle.make_laws.proofs.packages.a_made_package_has_the_values_of_its_options.Goals as goal
-
-info_ok : (r : Result (List InfoItem) ℕ) (items : List InfoItem) → or_info_bad r ≡ Ok items → r ≡ Ok items
-info_ok (Ok x) items e = let same : x ≡ items = cc (e) in ap Ok same
-info_ok (Err place) items e = absurd (cc (e))
 
 module _ (command : CommandLine) (names : List (List ℕ)) (read : Reads) (pkg : Plain) (m : IsMadeFrom command names read pkg) where
   abbrev Tells : Field → Plain → Type 0

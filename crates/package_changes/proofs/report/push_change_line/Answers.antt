@@ -1,9 +1,9 @@
 use Rattle.std.proofs.Common.{◌+◌, ◌++◌}
 use Rattle.std.specs.Prelude.{codes}
 use Rattle.std.specs.Fmt.{decimal}
+use Rattle.base_core.proofs.Texts.{joined}
 use Rattle.package_changes.specs.Seen.{change_seen}
 use Rattle.report_core.specs.Reports.{change_text, numbered_change}
-use Rattle.package_changes.proofs.ReportLines.{joined}
 use Rattle.package_changes.proofs.report.push_change_line.Goals as goal
 
 pub returns : goal.returns

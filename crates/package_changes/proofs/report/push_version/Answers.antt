@@ -1,5 +1,6 @@
 use Rattle.std.specs.Prelude.{codes}
-use Rattle.package_changes.proofs.ReportLines.{four, joined}
+use Rattle.base_core.proofs.Texts.{joined}
+use Rattle.package_changes.proofs.ReportLines.{four}
 use Rattle.package_changes.proofs.report.push_version.Goals as goal
 
 pub returns : goal.returns

@@ -1,5 +1,6 @@
 use Rattle.std.specs.Prelude.{codes}
-use Rattle.package_changes.proofs.ReportLines.{joined, six}
+use Rattle.base_core.proofs.Texts.{joined}
+use Rattle.package_changes.proofs.ReportLines.{six}
 use Rattle.package_changes.proofs.report.push_versions.Goals as goal
 
 pub returns : goal.returns

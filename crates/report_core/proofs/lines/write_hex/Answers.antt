@@ -1,8 +1,9 @@
 use Rattle.std.proofs.Common.{◌∙◌, refl, arith}
 use Rattle.std.proofs.lemmas.Result.{err_from_is_err_and}
 use Rattle.hex.specs.Hex.{encode_lower}
+use Rattle.base_core.proofs.Counting.{goes_on_twice, no_fault_twice}
 use Rattle.report_core.proofs.Fronts.{added-more, front-more, digits_chain, no_digits}
-use Rattle.report_core.proofs.Counting.{goes_on_twice, no_fault_twice, fails_after}
+use Rattle.report_core.proofs.Counting.{fails_after}
 use Rattle.report_core.proofs.lines.write_hex.Goals as goal
 
 pub loop-byte-init : goal.loop-byte-init

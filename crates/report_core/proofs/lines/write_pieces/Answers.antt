@@ -1,8 +1,9 @@
 use Rattle.std.proofs.Common.{◌∙◌, sym, append-nil}
 use Rattle.std.proofs.lemmas.Result.{err_from_is_err_and}
+use Rattle.base_core.proofs.Counting.{goes_on_twice, no_fault_twice}
 use Rattle.report_core.specs.Pieces.{pieces_text}
 use Rattle.report_core.proofs.Fronts.{added-more, front-more, pieces_chain}
-use Rattle.report_core.proofs.Counting.{goes_on_twice, no_fault_twice, fails_after}
+use Rattle.report_core.proofs.Counting.{fails_after}
 use Rattle.report_core.proofs.lines.write_pieces.Goals as goal
 
 pub returns-in_err-write_piece : goal.returns-in_err-write_piece

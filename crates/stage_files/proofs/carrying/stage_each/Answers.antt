@@ -1,7 +1,8 @@
 use Rattle.std.proofs.Common.{◌+◌, Err, ap, ◌∙◌, arith}
+use Rattle.base_core.proofs.Counting.{goes_on_twice, no_fault_twice}
 use Rattle.journal_core.specs.Staged.{Staging}
 use Rattle.stage_files.proofs.Each.{all_listed, all_staged, each_good, each_more, each_proper, item_at, listed_next, listed_run}
-use Rattle.stage_files.proofs.OneFile.{same_fault, goes_through, if_disk, kept_through}
+use Rattle.stage_files.proofs.OneFile.{same_fault, if_disk}
 use Rattle.stage_files.proofs.carrying.stage_each.Goals as goal
 
 pub returns-in_err-stage_write-clause-run : goal.returns-in_err-stage_write-clause-run
@@ -37,8 +38,8 @@ loop-write-preserved g c = record {
       listed_next c.args.stage.now c.loop-write.stage c.stage_write.new.stage c.args.writes.now c.loop-write.write-index c.write-item.result
       (g.T.Tree.history c.args.tree.now) (g.T.Tree.history c.loop-write.tree) (g.T.Tree.history c.stage_write.new.tree) (item_at c.args.writes.now c.loop-write.write-index c.write-item.result (omega arith) c.write-item.is)
       c.loop-write.invariant.listed c.in_ok-stage_write.ensures.listed;
-  goes_on = goes_through _ _ _ c.loop-write.invariant.goes_on c.in_ok-stage_write.ensures.goes_on;
-  kept = kept_through _ _ _ c.loop-write.invariant.kept c.in_ok-stage_write.ensures.kept;
+  goes_on = goes_on_twice _ _ _ c.loop-write.invariant.goes_on c.in_ok-stage_write.ensures.goes_on;
+  kept = no_fault_twice _ _ _ c.loop-write.invariant.kept c.in_ok-stage_write.ensures.kept;
   proper =
       each_proper c.args.stage.now c.loop-write.stage c.stage_write.new.stage c.args.writes.now c.loop-write.write-index c.write-item.result (item_at c.args.writes.now c.loop-write.write-index c.write-item.result (omega arith) c.write-item.is)
       (g.T.Tree.history c.args.tree.now) (g.T.Tree.history c.loop-write.tree) (g.T.Tree.history c.stage_write.new.tree) c.loop-write.invariant.staged _ _ _ c.loop-write.invariant.proper c.in_ok-stage_write.ensures.proper;

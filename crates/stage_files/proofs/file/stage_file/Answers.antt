@@ -1,6 +1,7 @@
 use Rattle.std.proofs.Common.{ap, refl, sym, ◌∙◌, Ok, Err}
+use Rattle.base_core.proofs.Counting.{goes_on_twice, no_fault_twice}
 use Rattle.piece_reader.specs.declared.piece.PieceFault.TheVariants.{Bad}
-use Rattle.stage_files.proofs.OneFile.{begun_first, begun_listed, begun_more, begun_read, begun_run, come_bad, come_first, come_more, goes_through, half_proper, if_disk, kept_through, listed_more, listed_whole, read_fails, read_more, read_proper, read_whole, same_bytes, same_fault, same_history}
+use Rattle.stage_files.proofs.OneFile.{begun_first, begun_listed, begun_more, begun_read, begun_run, come_bad, come_first, come_more, half_proper, if_disk, listed_more, listed_whole, read_fails, read_more, read_proper, read_whole, same_bytes, same_fault, same_history}
 use Rattle.stage_files.proofs.file.stage_file.Goals as goal
 
 pub pieces-init : goal.pieces-init
@@ -50,8 +51,8 @@ pieces-preserved g c = record {
       (c.in_ok-append_piece.ensures.staging contents so_far v first (same_history _ _ _ _ _ _ _ c.in_ok-next_piece.ensures.tree.same staging)));
   come = come_more c.args.file c.pieces.file c.next_piece.new.self c.next_piece.new.piece c.next_piece.result c.pieces.invariant.come c.next_piece.ensures.tested (c.in_ok-next_piece.was ∙ ap Ok c.if-branch.true);
   due = c.next_piece.ensures.due ∙ c.pieces.invariant.due;
-  goes_on = goes_through _ _ _ (goes_through _ _ _ c.pieces.invariant.goes_on c.in_ok-next_piece.ensures.tree.goes_on) c.in_ok-append_piece.ensures.goes_on;
-  kept = kept_through _ _ _ (kept_through _ _ _ c.pieces.invariant.kept c.in_ok-next_piece.ensures.tree.kept) c.in_ok-append_piece.ensures.kept;
+  goes_on = goes_on_twice _ _ _ (goes_on_twice _ _ _ c.pieces.invariant.goes_on c.in_ok-next_piece.ensures.tree.goes_on) c.in_ok-append_piece.ensures.goes_on;
+  kept = no_fault_twice _ _ _ (no_fault_twice _ _ _ c.pieces.invariant.kept c.in_ok-next_piece.ensures.tree.kept) c.in_ok-append_piece.ensures.kept;
   proper = half_proper _ _ _ _ _ _ (g.T.Tree.history c.args.tree.now) c.pieces.invariant.read _ _ _
       (read_proper _ _ _ _ _ _ (g.T.Tree.history c.args.tree.now) c.pieces.invariant.read _ _ _ c.pieces.invariant.proper c.in_ok-next_piece.ensures.tree.proper)
       (λ contents so_far v first staging. c.in_ok-append_piece.ensures.proper contents so_far v first (same_history _ _ _ _ _ _ _ c.in_ok-next_piece.ensures.tree.same staging));

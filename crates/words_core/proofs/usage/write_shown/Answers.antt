@@ -1,7 +1,8 @@
 use Rattle.std.proofs.Common.{◌∙◌, sym, append-nil}
 use Rattle.std.proofs.lemmas.Result.{err_from_is_err_and}
+use Rattle.base_core.proofs.Counting.{goes_on_twice, no_fault_twice}
 use Rattle.report_core.proofs.Fronts.{added-more, front-more}
-use Rattle.report_core.proofs.Counting.{goes_on_twice, no_fault_twice, fails_after}
+use Rattle.report_core.proofs.Counting.{fails_after}
 use Rattle.words_core.specs.Usage.{shown_bytes}
 use Rattle.words_core.proofs.Hints.{shown_chain}
 use Rattle.words_core.proofs.usage.write_shown.Goals as goal

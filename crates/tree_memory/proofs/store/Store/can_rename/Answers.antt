@@ -1,8 +1,8 @@
 use Rattle.std.proofs.Common.{List, ℕ, inl, refl, sym, subst, ◌∙◌}
 use Rattle.std.specs.Str.{bytes_eq}
+use Rattle.base_core.proofs.AtName.{off_name}
 use Rattle.tree_memory.specs.Table.{IsFit}
 use Rattle.tree_memory.specs.Stores.{store_state}
-use Rattle.tree_memory.proofs.AtName.{off_name}
 use Rattle.tree_memory.proofs.Folders.{fits_moved, moved_fits}
 use Rattle.tree_memory.proofs.Keeping.{store_sound}
 use Rattle.tree_memory.proofs.store.Store.can_rename.Goals as goal

@@ -1,7 +1,7 @@
 use Rattle.std.proofs.Common.{◌≡◌, false, ℕ, List, length, take, IsSome, refl, sym, subst, arith, below_more}
 use Rattle.std.specs.Str.{bytes_eq}
+use Rattle.base_core.proofs.Folders.{folder_at, at_folder}
 use Rattle.tree_memory.specs.Table.{lookup}
-use Rattle.tree_memory.proofs.Folders.{folder_at, at_folder}
 use Rattle.tree_memory.proofs.table.NameTable.has_folder_of.Goals as goal
 use Rattle.tree_memory.proofs.table.NameTable.has_folder_of.Goals.{else-byte-eq47-via-then-byte-eq47+else-has_other, else-byte-eq47-via-else-byte-eq47}
 
