@@ -2,21 +2,21 @@
 use Rattle.std.proofs.Common.{◌≡◌, ℕ, suc, zero, false, List, refl, ap, sym, subst, ◌∙◌, ◌+◌, arith, inl, inr}
 use Rattle.std.specs.Prelude.{◌==◌, if◌then◌else◌}
 use Rattle.std.proofs.lemmas.Bool.Decides.{eqb_tells}
-use Rattle.adb_view.specs.Plain.{Plain, null, int, blob, Plains, none, more, Shape, number, text, hash, array, object, Fields, no_fields, field, blob_value, obj_of, obj_value}
+use Rattle.adb_view.specs.Plain.{Plain, null, int, blob, Plains, none, more, Shape, number, text, hash, array, object, Fields, no_fields, field, blob_or_null, obj_of, obj_value}
 use Rattle.adb_view.specs.Shaped.{HasShape, HaveShapes}
 use Rattle.adb_view.specs.Schema.{shape_of, shapes_of, table}
 use Rattle.adb_view.specs.Values.{nth, entries_in, entry_in, int_in, text_in}
 use Rattle.adb_view.specs.declared.tables.Which.TheVariants as Tables
 use Rattle.adb_view.specs.declared.tables.Kind.TheVariants as Kinds
-use Rattle.adb_copy.specs.Zeros.{int_value, without_zeros, all_without_zeros, with_at, info_with}
+use Rattle.adb_copy.specs.Zeros.{int_or_null, without_zeros, all_without_zeros, with_at, info_with}
 use Rattle.adb_copy.proofs.Shapes.{shape_at, behind, nth_shape, nth_behind, entries_shape}
 use Rattle.adb_copy.proofs.Zeros.{zeros_text, zeros_number, zeros_object, nth_zeros, trimmed_same, at_same, at_other}
 
 -- a field by what it holds
 abbrev pub written_by : Shape → Plain → Plain
-written_by number v = int_value (int_in v)
-written_by text v = blob_value (text_in v)
-written_by hash v = blob_value (text_in v)
+written_by number v = int_or_null (int_in v)
+written_by text v = blob_or_null (text_in v)
+written_by hash v = blob_or_null (text_in v)
 written_by (array s) v = without_zeros v
 written_by (object n fs) v = without_zeros v
 
@@ -53,11 +53,11 @@ object_written n fs v h =
 -- ---- a dependency
 
 pub dep_written : (v : Plain) (name version : List ℕ) (matching : ℕ) → HasShape (shape_of (Kinds.Obj Tables.Dep)) v → name ≡ text_in (entry_in v 0) → version ≡ text_in (entry_in v 1) → matching ≡ int_in (entry_in v 2)
-    → without_zeros v ≡ obj_value (more (blob_value name) (more (blob_value version) (more (int_value matching) none)))
+    → without_zeros v ≡ obj_value (more (blob_or_null name) (more (blob_or_null version) (more (int_or_null matching) none)))
 unfolding shape_of
 dep_written v name version matching h e0 e1 e2 =
     sym (object_written 1 (shapes_of (table Tables.Dep)) v h)
-    ∙ sym (λ j. obj_value (more (blob_value (e0 j)) (more (blob_value (e1 j)) (more (int_value (e2 j)) none))))
+    ∙ sym (λ j. obj_value (more (blob_or_null (e0 j)) (more (blob_or_null (e1 j)) (more (int_or_null (e2 j)) none))))
 
 -- ---- an info
 
@@ -135,11 +135,11 @@ entry_by_fields info id len h =
 -- the 22 values that are written
 abbrev pub info_fields : (id : List ℕ) (len : ℕ) (t0 t1 t3 t4 t5 t6 t7 t8 t9 : List ℕ) (n10 n11 n13 : ℕ) (l14 l15 l16 l17 l18 : Plain) (n19 : ℕ) (l20 : Plain) (n21 : ℕ) → Plains
 info_fields id len t0 t1 t3 t4 t5 t6 t7 t8 t9 n10 n11 n13 l14 l15 l16 l17 l18 n19 l20 n21 =
-    more (blob_value t0) (more (blob_value t1) (more (blob_value id) (more (blob_value t3) (more (blob_value t4)
-    (more (blob_value t5) (more (blob_value t6) (more (blob_value t7) (more (blob_value t8) (more (blob_value t9)
-    (more (int_value n10) (more (int_value n11) (more (int_value len) (more (int_value n13)
+    more (blob_or_null t0) (more (blob_or_null t1) (more (blob_or_null id) (more (blob_or_null t3) (more (blob_or_null t4)
+    (more (blob_or_null t5) (more (blob_or_null t6) (more (blob_or_null t7) (more (blob_or_null t8) (more (blob_or_null t9)
+    (more (int_or_null n10) (more (int_or_null n11) (more (int_or_null len) (more (int_or_null n13)
     (more (without_zeros l14) (more (without_zeros l15) (more (without_zeros l16) (more (without_zeros l17) (more (without_zeros l18)
-    (more (int_value n19) (more (without_zeros l20) (more (int_value n21) none)))))))))))))))))))))
+    (more (int_or_null n19) (more (without_zeros l20) (more (int_or_null n21) none)))))))))))))))))))))
 
 -- they are those of the entry
 pub info_written : (info : Plain) (id : List ℕ) (len : ℕ) → HasShape (shape_of (Kinds.Obj Tables.PkgInfo)) info
@@ -153,8 +153,8 @@ pub info_written : (info : Plain) (id : List ℕ) (len : ℕ) → HasShape (shap
 unfolding shape_of
 info_written info id len h t0 t1 t3 t4 t5 t6 t7 t8 t9 n10 n11 n13 l14 l15 l16 l17 l18 n19 l20 n21 e0 e1 e3 e4 e5 e6 e7 e8 e9 e10 e11 e13 e14 e15 e16 e17 e18 e19 e20 e21 =
     sym (entry_by_fields info id len (entries_shape 3 INFO info h))
-    ∙ sym (λ j. obj_value (more (blob_value (e0 j)) (more (blob_value (e1 j)) (more (blob_value id) (more (blob_value (e3 j)) (more (blob_value (e4 j))
-    (more (blob_value (e5 j)) (more (blob_value (e6 j)) (more (blob_value (e7 j)) (more (blob_value (e8 j)) (more (blob_value (e9 j))
-    (more (int_value (e10 j)) (more (int_value (e11 j)) (more (int_value len) (more (int_value (e13 j))
+    ∙ sym (λ j. obj_value (more (blob_or_null (e0 j)) (more (blob_or_null (e1 j)) (more (blob_or_null id) (more (blob_or_null (e3 j)) (more (blob_or_null (e4 j))
+    (more (blob_or_null (e5 j)) (more (blob_or_null (e6 j)) (more (blob_or_null (e7 j)) (more (blob_or_null (e8 j)) (more (blob_or_null (e9 j))
+    (more (int_or_null (e10 j)) (more (int_or_null (e11 j)) (more (int_or_null len) (more (int_or_null (e13 j))
     (more (without_zeros (e14 j)) (more (without_zeros (e15 j)) (more (without_zeros (e16 j)) (more (without_zeros (e17 j)) (more (without_zeros (e18 j))
-    (more (int_value (e19 j)) (more (without_zeros (e20 j)) (more (int_value (e21 j)) none)))))))))))))))))))))))
+    (more (int_or_null (e19 j)) (more (without_zeros (e20 j)) (more (int_or_null (e21 j)) none)))))))))))))))))))))))

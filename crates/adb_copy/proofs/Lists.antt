@@ -1,12 +1,12 @@
 -- The values of a list are given one after another.
 use Rattle.std.proofs.Common.{◌≡◌, ℕ, suc, zero, ◌+◌, ◌<◌, ◌≤◌, List, [], ◌∷◌, drop, length, get_or, refl, ap, sym, ◌∙◌, arith}
 use Rattle.std.proofs.lemmas.Option.{slice_get-get_or}
-use Rattle.adb_view.specs.Plain.{Plain, Plains, none, more, blob_value}
+use Rattle.adb_view.specs.Plain.{Plain, Plains, none, more, blob_or_null}
 use Rattle.adb_view.specs.Values.{nth, count_of}
 use Rattle.adb_values.specs.Drafts.{DraftState, draft_with_open_list, draft_with, draft_with_all}
 use Rattle.adb_values.proofs.Lists.{left_more, left_none}
 use Rattle.adb_copy.specs.Fields.{int_plains}
-use Rattle.adb_copy.specs.Zeros.{int_value, without_zeros, all_without_zeros}
+use Rattle.adb_copy.specs.Zeros.{int_or_null, without_zeros, all_without_zeros}
 
 -- ---- the values from a place on
 
@@ -43,16 +43,16 @@ zeros_given i vs d opened before e left is =
     sym (ap (λ (k : ℕ). draft_with_all (all_without_zeros (rest k vs)) d) e ∙ ap (λ (us : Plains). draft_with_all (all_without_zeros us) d) (rest_none vs))
     ∙ left ∙ ap (λ (x : DraftState). draft_with_all (all_without_zeros vs) x) is
 
-pub blob_zeros : (b : List ℕ) → without_zeros (blob_value b) ≡ blob_value b
+pub blob_zeros : (b : List ℕ) → without_zeros (blob_or_null b) ≡ blob_or_null b
 unfolding without_zeros
 blob_zeros [] = refl
 blob_zeros (x ∷ xs) = refl
 
 -- ---- integers
 
-pub ints_left : (ns : List ℕ) (i : ℕ) (old new whole : DraftState) → i < length ns → draft_with_all (int_plains (drop i ns)) old ≡ whole → new ≡ draft_with (int_value (get_or ns i 0)) old
+pub ints_left : (ns : List ℕ) (i : ℕ) (old new whole : DraftState) → i < length ns → draft_with_all (int_plains (drop i ns)) old ≡ whole → new ≡ draft_with (int_or_null (get_or ns i 0)) old
     → draft_with_all (int_plains (drop (i + 1) ns)) new ≡ whole
-ints_left ns i old new whole h left one = left_more int_plains int_value ns whole (λ n ms. refl) i (get_or ns i 0) old new (slice_get-get_or ns i 0 h) left one
+ints_left ns i old new whole h left one = left_more int_plains int_or_null ns whole (λ n ms. refl) i (get_or ns i 0) old new (slice_get-get_or ns i 0 h) left one
 
 pub ints_given : (ns : List ℕ) (i : ℕ) (d whole : DraftState) → length ns ≤ i → draft_with_all (int_plains (drop i ns)) d ≡ whole → d ≡ whole
-ints_given ns i d whole h left = left_none int_plains int_value ns whole refl i d h left
+ints_given ns i d whole h left = left_none int_plains int_or_null ns whole refl i d h left

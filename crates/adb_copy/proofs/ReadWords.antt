@@ -1,7 +1,7 @@
 -- The words of an array represent its entries, and a text is written as it is.
 use Rattle.std.proofs.Common.{◌≡◌, ◌∙◌, ℕ, ◌<◌, true, List, length, ap, sym, subst}
 use Rattle.std.specs.Prelude.{slice_index}
-use Rattle.adb_view.specs.Plain.{blob_value}
+use Rattle.adb_view.specs.Plain.{blob_or_null}
 use Rattle.adb_view.specs.Shaped.{HasShape}
 use Rattle.adb_view.specs.Schema.{shape_of}
 use Rattle.adb_view.specs.Values.{count_of, entries_in, is_sound, nth, text_in, value_at}
@@ -23,6 +23,6 @@ module _ (p : List ℕ) (k : Kind) (ws : List ℕ) (i word : ℕ) (sound : are_a
   pub word_within : i < count_of (entries_in (array_at p k ws))
   word_within = subst (λ (n : ℕ). i < n) (entry_count p k ws sound) within
 
-pub text_value : FoundShapes → (p : List ℕ) (w : ℕ) → without_zeros (value_at p Kinds.Text w) ≡ blob_value (text_in (value_at p Kinds.Text w))
+pub text_value : FoundShapes → (p : List ℕ) (w : ℕ) → without_zeros (value_at p Kinds.Text w) ≡ blob_or_null (text_in (value_at p Kinds.Text w))
 unfolding shape_of HasShape
 text_value law p w = zeros_text (value_at p Kinds.Text w) (value_shape law p Kinds.Text w)

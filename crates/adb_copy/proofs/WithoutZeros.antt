@@ -3,12 +3,12 @@ use Rattle.std.proofs.Common.{◌≡◌, ℕ, zero, suc, ◌^◌, ◌<◌, [], �
 use Rattle.adb_view.specs.Plain.{Plain, null, int, blob, arr, obj, Plains, none, more, Shape, number, text, hash, array, object, Fields, no_fields, field, obj_of, without_last_nulls, IsNormal, AreNormal}
 use Rattle.adb_view.specs.Shaped.{Each, HasShape, HaveShapes}
 use Rattle.adb_view.specs.Values.{nth, entries_in, int_in, text_in}
-use Rattle.adb_copy.specs.Zeros.{int_value, with_at, without_zeros, all_without_zeros}
+use Rattle.adb_copy.specs.Zeros.{int_or_null, with_at, without_zeros, all_without_zeros}
 use Rattle.adb_view.proofs.FoundShapes.{arr_value_shape, blob_value_hash, blob_value_text, obj_value_shape, shape_null, shapes_none}
 use Rattle.adb_view.proofs.Normal.{arr_normal, blob_value_normal, obj_normal}
 use Rattle.adb_copy.proofs.Shapes.{shape_at}
 
-pub int_normal : (n : ℕ) → n < 2 ^ 64 → IsNormal (int_value n)
+pub int_normal : (n : ℕ) → n < 2 ^ 64 → IsNormal (int_or_null n)
 unfolding IsNormal
 int_normal zero h = tt
 int_normal (suc n) h = h
@@ -97,7 +97,7 @@ placed_normal i j u v vs a b h = zeros_normal (obj (with_at i u (with_at j v vs)
 
 -- ---- of the same shape
 
-pub int_shape : (n : ℕ) → HasShape number (int_value n)
+pub int_shape : (n : ℕ) → HasShape number (int_or_null n)
 unfolding HasShape
 int_shape zero = tt
 int_shape (suc n) = tt

@@ -1,14 +1,14 @@
 -- Values without zeros, field by field.
 use Rattle.std.proofs.Common.{◌≡◌, ℕ, suc, zero, List, [], ◌∷◌, refl, ap, sym, ◌∙◌}
-use Rattle.adb_view.specs.Plain.{Plain, null, int, blob, arr, obj, Plains, none, more, blob_value, arr_value, obj_of, obj_value, keep, without_last_nulls}
+use Rattle.adb_view.specs.Plain.{Plain, null, int, blob, arr, obj, Plains, none, more, blob_or_null, arr_value, obj_of, obj_value, put_first_without_last_null, without_last_nulls}
 use Rattle.adb_view.specs.Shaped.{IsNumber, IsBlob, IsArrayOf, IsObjectOf}
 use Rattle.adb_view.specs.Values.{nth, entries_in, int_in, text_in}
 use Rattle.adb_view.proofs.ValueEntries.{nth_trimmed}
-use Rattle.adb_copy.specs.Zeros.{int_value, without_zeros, all_without_zeros, with_at}
+use Rattle.adb_copy.specs.Zeros.{int_or_null, without_zeros, all_without_zeros, with_at}
 
 -- ---- by shape
 
-pub zeros_text : (v : Plain) → IsBlob v → without_zeros v ≡ blob_value (text_in v)
+pub zeros_text : (v : Plain) → IsBlob v → without_zeros v ≡ blob_or_null (text_in v)
 unfolding without_zeros
 zeros_text null h = refl
 zeros_text (int n) h = absurd h
@@ -16,7 +16,7 @@ zeros_text (blob b) h = refl
 zeros_text (arr vs) h = absurd h
 zeros_text (obj vs) h = absurd h
 
-pub zeros_number : (v : Plain) → IsNumber v → without_zeros v ≡ int_value (int_in v)
+pub zeros_number : (v : Plain) → IsNumber v → without_zeros v ≡ int_or_null (int_in v)
 unfolding without_zeros
 zeros_number null h = refl
 zeros_number (int n) h = refl
@@ -50,13 +50,13 @@ nth_zeros (more v vs) (suc i) = nth_zeros vs i
 
 null_trimmed : (vs : Plains) → ((i : ℕ) → nth vs i ≡ null) → without_last_nulls vs ≡ none
 null_trimmed none h = refl
-null_trimmed (more v vs) h = (λ j. keep (h zero j) (null_trimmed vs (λ i. h (suc i)) j))
+null_trimmed (more v vs) h = (λ j. put_first_without_last_null (h zero j) (null_trimmed vs (λ i. h (suc i)) j))
 
 -- two lists with the same entries, Nulls after them, are one without the Nulls that are last
 pub trimmed_same : (us vs : Plains) → ((i : ℕ) → nth us i ≡ nth vs i) → without_last_nulls us ≡ without_last_nulls vs
 trimmed_same none vs h = sym (null_trimmed vs (λ i. sym (h i)))
 trimmed_same (more u us) none h = null_trimmed (more u us) h
-trimmed_same (more u us) (more v vs) h = (λ j. keep (h zero j) (trimmed_same us vs (λ i. h (suc i)) j))
+trimmed_same (more u us) (more v vs) h = (λ j. put_first_without_last_null (h zero j) (trimmed_same us vs (λ i. h (suc i)) j))
 
 -- ---- an entry in the place of another
 
@@ -77,12 +77,12 @@ at_other (suc k) (suc i) v (more u us) h = at_other k i v us (λ e. h (ap suc e)
 
 -- ---- twice is once
 
-zeros_int : (n : ℕ) → without_zeros (int_value n) ≡ int_value n
+zeros_int : (n : ℕ) → without_zeros (int_or_null n) ≡ int_or_null n
 unfolding without_zeros
 zeros_int zero = refl
 zeros_int (suc n) = refl
 
-zeros_blob : (b : List ℕ) → without_zeros (blob_value b) ≡ blob_value b
+zeros_blob : (b : List ℕ) → without_zeros (blob_or_null b) ≡ blob_or_null b
 unfolding without_zeros
 zeros_blob [] = refl
 zeros_blob (x ∷ xs) = refl

@@ -5,12 +5,12 @@ use Rattle.std.specs.Prelude.{ℕ, List, [], ◌∷◌}
 use Rattle.adb_view.specs.Plain.{Plain, Plains, none, more}
 use Rattle.adb_view.specs.FieldIndexes.{INFO_ARCH, INFO_DESCRIPTION, INFO_LICENSE, INFO_MAINTAINER, INFO_NAME, INFO_ORIGIN, INFO_REPO_COMMIT, INFO_URL, INFO_VERSION}
 use Rattle.adb_view.specs.Values.{entry_in, text_in}
-use Rattle.adb_copy.specs.Zeros.{int_value}
+use Rattle.adb_copy.specs.Zeros.{int_or_null}
 
 -- the values of some integers, in their order: each is an integer, or Null for 0
 abbrev pub int_plains : List ℕ → Plains
 int_plains [] = none
-int_plains (n ∷ ns) = more (int_value n) (int_plains ns)
+int_plains (n ∷ ns) = more (int_or_null n) (int_plains ns)
 
 -- the texts and hashes with which an information begins: its first ten fields, with `id` as its
 -- hash

@@ -2,21 +2,21 @@
 -- are in `docs/formats.md`, "The database after a change": "An integer 0 is NULL, at every depth", and
 -- the information of an added package.
 use Rattle.std.specs.Prelude.{ℕ, zero, suc, List}
-use Rattle.adb_view.specs.Plain.{Plain, null, int, blob, arr, obj, Plains, none, more, blob_value, arr_value, obj_value}
+use Rattle.adb_view.specs.Plain.{Plain, null, int, blob, arr, obj, Plains, none, more, blob_or_null, arr_value, obj_value}
 use Rattle.adb_view.specs.Values.{entries_in}
 
 -- an integer as it is written: 0 is Null
-abbrev pub int_value : ℕ → Plain
-int_value zero = null
-int_value (suc n) = int (suc n)
+abbrev pub int_or_null : ℕ → Plain
+int_or_null zero = null
+int_or_null (suc n) = int (suc n)
 
 unfoldable mutual
   -- a value without zeros: an integer 0 in it is Null at every depth, and so is a list that then has no
   -- values
   pub without_zeros : Plain → Plain
   without_zeros null = null
-  without_zeros (int n) = int_value n
-  without_zeros (blob b) = blob_value b
+  without_zeros (int n) = int_or_null n
+  without_zeros (blob b) = blob_or_null b
   without_zeros (arr vs) = arr_value (all_without_zeros vs)
   without_zeros (obj vs) = obj_value (all_without_zeros vs)
 

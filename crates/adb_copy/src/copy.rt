@@ -7,7 +7,7 @@ ghost use Rattle.adb_view.specs.Values.{entry_in, is_sound, kind_at, value_at};
 ghost use Rattle.adb_view.specs.declared.tables.Kind.TheVariants as Kinds;
 ghost use Rattle.adb_view.specs.declared.tables.Which.TheVariants as Tables;
 ghost use Rattle.adb_values.specs.Drafts.{draft_with, draft_with_all};
-ghost use Rattle.adb_copy.specs.Zeros.{int_value, without_zeros, info_with};
+ghost use Rattle.adb_copy.specs.Zeros.{int_or_null, without_zeros, info_with};
 ghost use Rattle.adb_copy.specs.Fields.{info_texts, int_plains};
 ghost use Rattle.adb_copy.specs.Known.{AreBlobsOf};
 ghost use Rattle.adb_view.specs.Adb.{payload_of};
@@ -108,7 +108,7 @@ fn write_ints(draft: &mut Draft, ints: &[u64]) -> Result<(), AllocError>
 
 /// Writes an integer; 0 is NULL.
 pub fn write_int(draft: &mut Draft, n: u64) -> Result<(), AllocError>
-    ensures { OnOk result (draft.new ≡ draft_with (int_value n) draft.old) }
+    ensures { OnOk result (draft.new ≡ draft_with (int_or_null n) draft.old) }
 {
     if n == 0 {
         return draft.null();

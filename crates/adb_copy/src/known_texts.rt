@@ -6,7 +6,7 @@
 
 ghost use Rattle.std.specs.Prelude.{◌≡◌, ℕ, List, true, Some, All, IfOk, IfSome, OnOk};
 ghost use Rattle.adb_view.specs.Adb.{payload_of};
-ghost use Rattle.adb_view.specs.Plain.{blob_value};
+ghost use Rattle.adb_view.specs.Plain.{blob_or_null};
 ghost use Rattle.adb_view.specs.Values.{entry_in, is_sound, kind_at, text_in, value_at};
 ghost use Rattle.adb_view.specs.declared.tables.Kind.TheVariants as Kinds;
 ghost use Rattle.adb_values.specs.Drafts.{DraftState, draft_with};
@@ -58,7 +58,7 @@ impl KnownTexts {
         requires sound { is_sound (payload_of adb) Kinds.Text word ≡ true }
         requires known { AreBlobsOf (payload_of adb) draft.old self.old }
         ensures text { OnOk result (draft.new ≡ draft_with
-            (blob_value (text_in (value_at (payload_of adb.entry) Kinds.Text word))) draft.old) }
+            (blob_or_null (text_in (value_at (payload_of adb.entry) Kinds.Text word))) draft.old) }
         ensures known { OnOk result (AreBlobsOf (payload_of adb.entry) draft.new self.new) }
     {
         let text = text_word(adb, word);
@@ -83,7 +83,7 @@ impl KnownTexts {
         requires sound { is_sound (payload_of adb) (Kinds.Obj which) object ≡ true }
         requires kind { kind_at which field ≡ Some Kinds.Text }
         requires known { AreBlobsOf (payload_of adb) draft.old self.old }
-        ensures text { OnOk result (draft.new ≡ draft_with (blob_value (text_in (entry_in
+        ensures text { OnOk result (draft.new ≡ draft_with (blob_or_null (text_in (entry_in
             (value_at (payload_of adb.entry) (Kinds.Obj which) object) field))) draft.old) }
         ensures known { OnOk result (AreBlobsOf (payload_of adb.entry) draft.new self.new) }
     {
@@ -136,7 +136,7 @@ impl KnownTexts {
         requires sound { is_sound (payload_of adb) Kinds.Text word ≡ true }
         requires known { AreBlobsOf (payload_of adb) draft.old self.old }
         ensures text { OnOk result (draft.new ≡ draft_with
-            (blob_value (text_in (value_at (payload_of adb.entry) Kinds.Text word))) draft.old) }
+            (blob_or_null (text_in (value_at (payload_of adb.entry) Kinds.Text word))) draft.old) }
         ensures known { OnOk result (AreBlobsOf (payload_of adb.entry) draft.new self.new) }
     {
         match self.word_of_equal(adb, word)? {
@@ -153,7 +153,7 @@ impl KnownTexts {
         requires sound { is_sound (payload_of adb) Kinds.Text word ≡ true }
         requires known { AreBlobsOf (payload_of adb) draft.old self.old }
         ensures text { OnOk result (draft.new ≡ draft_with
-            (blob_value (text_in (value_at (payload_of adb.entry) Kinds.Text word))) draft.old) }
+            (blob_or_null (text_in (value_at (payload_of adb.entry) Kinds.Text word))) draft.old) }
         ensures known { OnOk result (AreBlobsOf (payload_of adb.entry) draft.new self.new) }
     {
         let known = draft.blob_word(text_word(adb, word))?;

@@ -3,7 +3,7 @@ use Rattle.std.proofs.Common.{◌≡◌, ℕ, Bool, true, false, cond, eqb, List
 use Rattle.std.specs.Prelude.{◌&&◌, is_some, codes}
 use Rattle.std.specs.Fmt.{decimal}
 use Rattle.hex.specs.Hex.{encode_lower}
-use Rattle.adb_view.specs.Plain.{Plain, null, int, blob, arr, obj, Plains, none, more, Shape, number, text, hash, array, object, Fields, no_fields, field, keep, without_last_nulls, blob_value, arr_value, obj_value, unless_null, from_answer, each_plain, plain_of, plains_of}
+use Rattle.adb_view.specs.Plain.{Plain, null, int, blob, arr, obj, Plains, none, more, Shape, number, text, hash, array, object, Fields, no_fields, field, put_first_without_last_null, without_last_nulls, blob_or_null, arr_value, obj_value, unless_null, from_answer, each_plain, plain_of, plains_of}
 use Rattle.adb_view.specs.Readers.{run_of, ARRAY, OBJECT}
 use Rattle.base_core.specs.declared.cause.Cause.{Cause}
 use Rattle.adb_fields.specs.Fields.{values_at}
@@ -24,23 +24,23 @@ pub int_lines : (p : List ℕ) (w n : ℕ) → n ≡ int_in (value_at p Int w) �
 unfolding block_lines shape_of
 int_lines p w n e some = ap (λ (v : Plain). block_lines number v) (int_plain p w some) ∙ ap (λ (k : ℕ). decimal k ∷ []) (sym e)
 
-text_line_of : (v : Plain) (b : List ℕ) → v ≡ blob_value b → is_null v ≡ false → block_lines text v ≡ text_form b ∷ []
+text_line_of : (v : Plain) (b : List ℕ) → v ≡ blob_or_null b → is_null v ≡ false → block_lines text v ≡ text_form b ∷ []
 unfolding block_lines
 text_line_of v [] e some = let no : is_null null ≡ false = (rw e at some) in absurd cc
 text_line_of v (c ∷ cs) e some = rw e refl
 
-hash_line_of : (v : Plain) (b : List ℕ) → v ≡ blob_value b → is_null v ≡ false → block_lines hash v ≡ encode_lower b ∷ []
+hash_line_of : (v : Plain) (b : List ℕ) → v ≡ blob_or_null b → is_null v ≡ false → block_lines hash v ≡ encode_lower b ∷ []
 unfolding block_lines
 hash_line_of v [] e some = let no : is_null null ≡ false = (rw e at some) in absurd cc
 hash_line_of v (c ∷ cs) e some = rw e refl
 
 pub text_lines : (p : List ℕ) (w : ℕ) (b : List ℕ) → b ≡ text_in (value_at p Text w) → is_null (value_at p Text w) ≡ false → block_lines (shape_of Text) (value_at p Text w) ≡ text_form b ∷ []
 unfolding shape_of
-text_lines p w b e some = text_line_of (value_at p Text w) b (text_plain p w ∙ ap blob_value (sym e)) some
+text_lines p w b e some = text_line_of (value_at p Text w) b (text_plain p w ∙ ap blob_or_null (sym e)) some
 
 pub hash_lines : (p : List ℕ) (w : ℕ) (b : List ℕ) → b ≡ text_in (value_at p Hash w) → is_null (value_at p Hash w) ≡ false → block_lines (shape_of Hash) (value_at p Hash w) ≡ encode_lower b ∷ []
 unfolding shape_of
-hash_lines p w b e some = hash_line_of (value_at p Hash w) b (hash_plain p w ∙ ap blob_value (sym e)) some
+hash_lines p w b e some = hash_line_of (value_at p Hash w) b (hash_plain p w ∙ ap blob_or_null (sym e)) some
 
 pub texts_lines : (p : List ℕ) (w : ℕ) (ws : List ℕ) → arr_value (values_at p Text ws) ≡ value_at p TextArr w → block_lines (shape_of TextArr) (value_at p TextArr w) ≡ array_lines (block_lines (shape_of Text)) (values_at p Text ws)
 unfolding block_lines shape_of
@@ -57,7 +57,7 @@ unfolding fields_lines
 no_lines no_fields = refl
 no_lines (field name s fs) = refl
 
-kept_lines : (name : List ℕ) (s : Shape) (fs : Fields) (v : Plain) (vs : Plains) → fields_lines (field name s fs) (keep v vs) ≡ unless_absent v (named_lines s name v) ++ fields_lines fs vs
+kept_lines : (name : List ℕ) (s : Shape) (fs : Fields) (v : Plain) (vs : Plains) → fields_lines (field name s fs) (put_first_without_last_null v vs) ≡ unless_absent v (named_lines s name v) ++ fields_lines fs vs
 unfolding fields_lines
 kept_lines name s fs null none = sym (no_lines fs)
 kept_lines name s fs null (more v vs) = refl

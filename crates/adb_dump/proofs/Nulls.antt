@@ -2,7 +2,7 @@
 use Rattle.std.proofs.Common.{◌≡◌, ℕ, Bool, true, false, cond, eqb, List, [], ◌∷◌, length, Option, Some, None, Result, Ok, Err, refl, sym, ap, arith, ◌∙◌}
 use Rattle.std.specs.Prelude.{◌==◌, ◌&&◌, is_some, unwrap_or, IsTrue, ◌↔◌}
 use Rattle.std.proofs.lemmas.Bool.{ne_eqb}
-use Rattle.adb_view.specs.Plain.{Plain, null, int, blob, arr, obj, Plains, none, more, keep, without_last_nulls, blob_value, arr_value, obj_of, obj_value, from_answer, then_more, each_plain, plain_of}
+use Rattle.adb_view.specs.Plain.{Plain, null, int, blob, arr, obj, Plains, none, more, put_first_without_last_null, without_last_nulls, blob_or_null, arr_value, obj_of, obj_value, from_answer, then_more, each_plain, plain_of}
 use Rattle.adb_fields.specs.Fields.{are_all_sound, values_at}
 use Rattle.adb_view.specs.Schema.{shape_of}
 use Rattle.adb_view.specs.Readers.{int_of}
@@ -31,17 +31,17 @@ int_is_null p w h = go (eqb w 0) (int_of p w) h
     go false (Ok n) e = refl
     go false (Err c) e = absurd cc
 
-pub blob_null : (b : List ℕ) → is_null (blob_value b) ≡ (length b == 0)
+pub blob_null : (b : List ℕ) → is_null (blob_or_null b) ≡ (length b == 0)
 blob_null [] = refl
 blob_null (c ∷ cs) = sym (some_length c cs)
 
 pub text_null : (p : List ℕ) (w : ℕ) (b : List ℕ) → b ≡ text_in (value_at p Text w) → is_null (value_at p Text w) ≡ (length b == 0)
-text_null p w b e = ap is_null (text_plain p w ∙ ap blob_value (sym e)) ∙ blob_null b
+text_null p w b e = ap is_null (text_plain p w ∙ ap blob_or_null (sym e)) ∙ blob_null b
 
 pub hash_null : (p : List ℕ) (w : ℕ) (b : List ℕ) → b ≡ text_in (value_at p Hash w) → is_null (value_at p Hash w) ≡ (length b == 0)
-hash_null p w b e = ap is_null (hash_plain p w ∙ ap blob_value (sym e)) ∙ blob_null b
+hash_null p w b e = ap is_null (hash_plain p w ∙ ap blob_or_null (sym e)) ∙ blob_null b
 
-obj_of_keep : (v : Plain) (vs : Plains) → is_null (obj_of (keep v vs)) ≡ (is_null v && is_null (obj_of vs))
+obj_of_keep : (v : Plain) (vs : Plains) → is_null (obj_of (put_first_without_last_null v vs)) ≡ (is_null v && is_null (obj_of vs))
 obj_of_keep null none = refl
 obj_of_keep null (more v vs) = refl
 obj_of_keep (int n) vs = refl

@@ -4,7 +4,7 @@ use Rattle.std.specs.Prelude.{codes, bytes_eq}
 use Rattle.std.specs.Str.Parse.{digits_value}
 use Rattle.std.proofs.lemmas.Bool.{eqb-true, ltb-true}
 use Rattle.std.proofs.lemmas.List.{length-append}
-use Rattle.adb_view.specs.Plain.{Plain, null, int, blob, arr, obj, Plains, none, more, keep, without_last_nulls, Shape, number, text, hash, array, object, Fields, no_fields, field, IsNormal, AreNormal}
+use Rattle.adb_view.specs.Plain.{Plain, null, int, blob, arr, obj, Plains, none, more, put_first_without_last_null, without_last_nulls, Shape, number, text, hash, array, object, Fields, no_fields, field, IsNormal, AreNormal}
 use Rattle.adb_view.specs.Shaped.{Each, HasShape, HaveShapes}
 use Rattle.adb_view.proofs.FoundShapes.{shape_null}
 use Rattle.adb_dump.specs.Dump.{Line, begins_with_byte, int_line, text_line, hash_line, indent, with_dash, or_null, array_lines, named_line, named_block, unless_absent, block_lines, named_lines, fields_lines}
@@ -123,7 +123,7 @@ entries_only f r Q h (suc n) (l ∷ ls) vs le e =
 abbrev pub BlockOnly : Shape → Type 0
 BlockOnly s = (ls : List Line) (v : Plain) → block_read s ls ≡ Ok v → (block_lines s v ≡ ls) × Fits1 s v
 
-pub keeps : (v : Plain) (us : Plains) → v ≢ null → keep v us ≡ more v us
+pub keeps : (v : Plain) (us : Plains) → v ≢ null → put_first_without_last_null v us ≡ more v us
 keeps null us ne = absurd (ne refl)
 keeps (int n) us ne = refl
 keeps (blob b) us ne = refl
@@ -270,9 +270,9 @@ one_field s fs name h k l ls vs None i e =
     let (us, some, is) = behind_ok 0 (more null) (fields_read fs (l ∷ ls)) vs e in
     let r = k (l ∷ ls) us some in
     let ne : us ≢ none = λ f. some_line fs l ls (subst (λ (x : Plains). fields_lines fs x ≡ l ∷ ls) f r.lines) in
-    subst (FieldsOnly (field name s fs) (l ∷ ls)) is (record { lines = r.lines; trim = ap (keep null) r.trim ∙ keep_null us ne; normal = (tt, r.normal); shapes = (shape_null s, r.shapes) })
+    subst (FieldsOnly (field name s fs) (l ∷ ls)) is (record { lines = r.lines; trim = ap (put_first_without_last_null null) r.trim ∙ keep_null us ne; normal = (tt, r.normal); shapes = (shape_null s, r.shapes) })
   where
-    keep_null : (us : Plains) → us ≢ none → keep null us ≡ more null us
+    keep_null : (us : Plains) → us ≢ none → put_first_without_last_null null us ≡ more null us
     keep_null none ne = absurd (ne refl)
     keep_null (more u us) ne = refl
 one_field s fs name h k l ls vs (Some rest) i e =
@@ -281,7 +281,7 @@ one_field s fs name h k l ls vs (Some rest) i e =
     let line : l ≡ name ++ 58 ∷ rest = strip_prefix_some (name ++ 58 ∷ []) l rest i ∙ append_assoc name (58 ∷ []) rest in
     let lines : unless_absent n.v (named_lines s name n.v) ++ fields_lines fs n.us ≡ l ∷ ls =
     ap (λ (x : List Line). x ++ fields_lines fs n.us) (unless_absent-is n.v (named_lines s name n.v) n.fits.0) ∙ ap (λ (x : List Line). named_lines s name n.v ++ x) r.lines ∙ n.lines ∙ ap (λ (x : Line). x ∷ ls) (sym line) in
-    subst (FieldsOnly (field name s fs) (l ∷ ls)) (sym n.is) (record { lines = lines; trim = ap (keep n.v) r.trim ∙ keeps n.v n.us n.fits.0; normal = (n.fits.1, r.normal); shapes = (n.fits.2, r.shapes) })
+    subst (FieldsOnly (field name s fs) (l ∷ ls)) (sym n.is) (record { lines = lines; trim = ap (put_first_without_last_null n.v) r.trim ∙ keeps n.v n.us n.fits.0; normal = (n.fits.1, r.normal); shapes = (n.fits.2, r.shapes) })
 
 no_fields_only : (ls : List Line) (vs : Plains) → fields_read no_fields ls ≡ Ok vs → FieldsOnly no_fields ls vs
 unfolding fields_read fields_lines IsNormal HasShape

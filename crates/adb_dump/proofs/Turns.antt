@@ -10,7 +10,7 @@ use Rattle.adb_view.specs.declared.tables.Kind.{Kind}
 use Rattle.adb_view.specs.declared.tables.Kind.TheVariants.{Int, Text, Hash, Obj, TextArr, ObjArr}
 use Rattle.adb_view.specs.declared.tables.Field.{Field}
 use Rattle.adb_dump.specs.Dump.{Line, block_lines, fields_lines, with_dash, named_lines, or_null, text_form, unless_absent}
-use Rattle.adb_dump.specs.Margin.{lead, lines_at}
+use Rattle.adb_dump.specs.Margin.{lines_at, margin_unless_begun}
 use Rattle.adb_dump.specs.Words.{are_null, fields_at, is_null, fields_sound, has_one_line}
 use Rattle.adb_dump.proofs.BlockLines.{HasLine, block_line, or_null_line, named_line, object_lines, text_lines}
 use Rattle.adb_dump.proofs.Nulls.{obj_null}
@@ -25,21 +25,21 @@ entry_here p k words i lt h = (entry_step p k words i lt h).here
 pub entries_later : (p : List ℕ) (k : Kind) (words : List ℕ) (i : ℕ) → i < length words → are_all_sound p k (drop i words) ≡ true → are_all_sound p k (drop (i + 1) words) ≡ true
 entries_later p k words i lt h = (entry_step p k words i lt h).later
 
-dashed_laid : (d : ℕ) (b : Bool) (ls rest : List Line) → HasLine ls → lines_at d b (with_dash ls ++ rest) ≡ (lead d b ++ codes "- ") ++ (lines_at (d + 1) true ls ++ lines_at d false rest)
+dashed_laid : (d : ℕ) (b : Bool) (ls rest : List Line) → HasLine ls → lines_at d b (with_dash ls ++ rest) ≡ (margin_unless_begun d b ++ codes "- ") ++ (lines_at (d + 1) true ls ++ lines_at d false rest)
 dashed_laid d b ls rest h =
     let e : d + 1 ≡ suc d = omega arith in
     rw (e, h.is) (laid_dashed d b h.first h.others rest)
 
 -- the lines of the next entry, and of those after it
 pub entry_turn : (d : ℕ) (b : Bool) (p : List ℕ) (k : Kind) (words : List ℕ) (i : ℕ) → i < length words → are_all_sound p k (drop i words) ≡ true
-    → lines_at d b (entries_left p k words i) ≡ ((lead d b ++ codes "- ") ++ lines_at (d + 1) true (or_null (value_at p k (get_or words i 0)) (block_lines (shape_of k) (value_at p k (get_or words i 0))))) ++ lines_at d false (entries_left p k words (i + 1))
+    → lines_at d b (entries_left p k words i) ≡ ((margin_unless_begun d b ++ codes "- ") ++ lines_at (d + 1) true (or_null (value_at p k (get_or words i 0)) (block_lines (shape_of k) (value_at p k (get_or words i 0))))) ++ lines_at d false (entries_left p k words (i + 1))
 entry_turn d b p k words i lt h =
     let v = value_at p k (get_or words i 0) in
     let ls = or_null v (block_lines (shape_of k) v) in
     let some : HasLine ls = or_null_line v (block_lines (shape_of k) v) (block_line p k (get_or words i 0) (entry_here p k words i lt h)) in
     ap (λ (x : List Line). lines_at d b x) (entries_more p k words i lt h)
     ∙ dashed_laid d b ls (entries_left p k words (i + 1)) some
-    ∙ sym (append_assoc (lead d b ++ codes "- ") (lines_at (d + 1) true ls) (lines_at d false (entries_left p k words (i + 1))))
+    ∙ sym (append_assoc (margin_unless_begun d b ++ codes "- ") (lines_at (d + 1) true ls) (lines_at d false (entries_left p k words (i + 1))))
 
 pub entries_end : (d : ℕ) (b : Bool) (p : List ℕ) (k : Kind) (words : List ℕ) (i : ℕ) → length words ≤ i → lines_at d b (entries_left p k words i) ≡ []
 entries_end d b p k words i le = ap (λ (x : List Line). lines_at d b x) (entries_done p k words i le)
@@ -91,7 +91,7 @@ object_entry_some d p which w ws fields e value some =
 
 -- ---- fields
 
-one_line : (k : Kind) (d : ℕ) (b : Bool) (name : Line) (v : Plain) → has_one_line k ≡ true → lines_at d b (named_lines (shape_of k) name v) ≡ (((lead d b ++ name) ++ codes ":") ++ codes " ") ++ lines_at d true (block_lines (shape_of k) v)
+one_line : (k : Kind) (d : ℕ) (b : Bool) (name : Line) (v : Plain) → has_one_line k ≡ true → lines_at d b (named_lines (shape_of k) name v) ≡ (((margin_unless_begun d b ++ name) ++ codes ":") ++ codes " ") ++ lines_at d true (block_lines (shape_of k) v)
 unfolding shape_of named_lines block_lines
 one_line Int d b name v h = laid_on_line d b name _
 one_line Text d b name v h = laid_on_line d b name _
@@ -100,7 +100,7 @@ one_line (Obj w) d b name v h = absurd cc
 one_line TextArr d b name v h = absurd cc
 one_line (ObjArr w) d b name v h = absurd cc
 
-several_lines : (k : Kind) (d : ℕ) (b : Bool) (name : Line) (v : Plain) → has_one_line k ≡ false → lines_at d b (named_lines (shape_of k) name v) ≡ (((lead d b ++ name) ++ codes ":") ++ codes "\n") ++ lines_at (suc d) false (block_lines (shape_of k) v)
+several_lines : (k : Kind) (d : ℕ) (b : Bool) (name : Line) (v : Plain) → has_one_line k ≡ false → lines_at d b (named_lines (shape_of k) name v) ≡ (((margin_unless_begun d b ++ name) ++ codes ":") ++ codes "\n") ++ lines_at (suc d) false (block_lines (shape_of k) v)
 unfolding shape_of named_lines block_lines
 several_lines Int d b name v h = absurd cc
 several_lines Text d b name v h = absurd cc
@@ -109,13 +109,13 @@ several_lines (Obj w) d b name v h = laid_below d b name _
 several_lines TextArr d b name v h = laid_below d b name _
 several_lines (ObjArr w) d b name v h = laid_below d b name _
 
-pub field_after : (k : Kind) (d : ℕ) (b : Bool) (name : Line) (v : Plain) → has_one_line k ≡ true → ((lead d b ++ name) ++ codes ": ") ++ lines_at d true (block_lines (shape_of k) v) ≡ lines_at d b (named_lines (shape_of k) name v)
-field_after k d b name v h = ap (λ (t : List ℕ). t ++ lines_at d true (block_lines (shape_of k) v)) (sym (append_assoc (lead d b ++ name) (codes ":") (codes " "))) ∙ sym (one_line k d b name v h)
+pub field_after : (k : Kind) (d : ℕ) (b : Bool) (name : Line) (v : Plain) → has_one_line k ≡ true → ((margin_unless_begun d b ++ name) ++ codes ": ") ++ lines_at d true (block_lines (shape_of k) v) ≡ lines_at d b (named_lines (shape_of k) name v)
+field_after k d b name v h = ap (λ (t : List ℕ). t ++ lines_at d true (block_lines (shape_of k) v)) (sym (append_assoc (margin_unless_begun d b ++ name) (codes ":") (codes " "))) ∙ sym (one_line k d b name v h)
 
-pub field_below : (k : Kind) (d : ℕ) (b : Bool) (name : Line) (v : Plain) → has_one_line k ≡ false → ((lead d b ++ name) ++ codes ":\n") ++ lines_at (d + 1) false (block_lines (shape_of k) v) ≡ lines_at d b (named_lines (shape_of k) name v)
+pub field_below : (k : Kind) (d : ℕ) (b : Bool) (name : Line) (v : Plain) → has_one_line k ≡ false → ((margin_unless_begun d b ++ name) ++ codes ":\n") ++ lines_at (d + 1) false (block_lines (shape_of k) v) ≡ lines_at d b (named_lines (shape_of k) name v)
 field_below k d b name v h =
     let e : d + 1 ≡ suc d = omega arith in
-    rw e (ap (λ (t : List ℕ). t ++ lines_at (suc d) false (block_lines (shape_of k) v)) (sym (append_assoc (lead d b ++ name) (codes ":") (codes "\n"))) ∙ sym (several_lines k d b name v h))
+    rw e (ap (λ (t : List ℕ). t ++ lines_at (suc d) false (block_lines (shape_of k) v)) (sym (append_assoc (margin_unless_begun d b ++ name) (codes ":") (codes "\n"))) ∙ sym (several_lines k d b name v h))
 
 behind_named : (d : ℕ) (b : Bool) (xs ys : List Line) → HasLine xs → lines_at d b (xs ++ ys) ≡ lines_at d b xs ++ lines_at d false ys
 behind_named d b xs ys h = rw h.is (laid_after d b h.first h.others ys)
@@ -143,9 +143,9 @@ some_put d b v ls e = ap (λ (x : List Line). lines_at d b x) (unless_absent-fal
 
 -- the line of a text after its name
 pub text_put : (d : ℕ) (b : Bool) (name : Line) (p : List ℕ) (w : ℕ) (bytes : List ℕ) → bytes ≡ text_in (value_at p Text w) → is_null (value_at p Text w) ≡ false
-    → ((lead d b ++ name) ++ codes ": ") ++ lines_at d true (text_form bytes ∷ []) ≡ lines_at d b (unless_absent (value_at p Text w) (named_lines (shape_of Text) name (value_at p Text w)))
+    → ((margin_unless_begun d b ++ name) ++ codes ": ") ++ lines_at d true (text_form bytes ∷ []) ≡ lines_at d b (unless_absent (value_at p Text w) (named_lines (shape_of Text) name (value_at p Text w)))
 text_put d b name p w bytes e some =
-    ap (λ (ls : List Line). ((lead d b ++ name) ++ codes ": ") ++ lines_at d true ls) (sym (text_lines p w bytes e some))
+    ap (λ (ls : List Line). ((margin_unless_begun d b ++ name) ++ codes ": ") ++ lines_at d true ls) (sym (text_lines p w bytes e some))
     ∙ field_after Text d b name (value_at p Text w) refl ∙ sym (some_put d b (value_at p Text w) _ some)
 
 pub null_turn : (d : ℕ) (b : Bool) (p : List ℕ) (fields : List Field) (words : List ℕ) (i : ℕ) (f : Field) → i < length fields → i < length words → fields_sound p (drop i fields) (drop i words) ≡ true → is_null (value_at p (get_or fields i f).kind (get_or words i 0)) ≡ true

@@ -5,8 +5,8 @@ use Rattle.std.specs.Int.{Width, w8, w16, w32, byte_len}
 use Rattle.std.specs.List.{AllByRecursion}
 use Rattle.std.proofs.lemmas.List.Elements.{All-head, All-tail, All-take, All-drop}
 use Rattle.adb_view.specs.Bytes.{number_at, range_at}
-use Rattle.adb_view.specs.Plain.{Plain, null, int, blob, arr, obj, Plains, none, more, Shape, number, text, hash, array, object, Fields, no_fields, field, blob_value, arr_value, obj_of, keep, without_last_nulls, obj_value, from_answer, then_more, each_plain, plain_of, plains_of}
-use Rattle.adb_view.specs.Readers.{counted_at, inside, int_of, blob_of, run_of, kind_of, low_of, ARRAY, OBJECT}
+use Rattle.adb_view.specs.Plain.{Plain, null, int, blob, arr, obj, Plains, none, more, Shape, number, text, hash, array, object, Fields, no_fields, field, blob_or_null, arr_value, obj_of, put_first_without_last_null, without_last_nulls, obj_value, from_answer, then_more, each_plain, plain_of, plains_of}
+use Rattle.adb_view.specs.Readers.{counted_at, or_outside, int_of, blob_of, run_of, kind_of, low_of, ARRAY, OBJECT}
 use Rattle.adb_view.proofs.FoundShapes.{unless_null-all, mapped, run_found}
 use Rattle.base_core.specs.declared.cause.Cause.{Cause}
 use Rattle.adb_dump.specs.Values.{IsOfBytes, AreOfBytes}
@@ -39,7 +39,7 @@ abbrev OkBytes : Result (List ℕ) Cause → Type 0
 OkBytes (Ok b) = AreBytes b
 OkBytes (Err c) = Unit {0}
 
-inside_bytes : (w : ℕ) (o : Option (List ℕ)) → IfSome o AreBytes → OkBytes (inside w o)
+inside_bytes : (w : ℕ) (o : Option (List ℕ)) → IfSome o AreBytes → OkBytes (or_outside w o)
 inside_bytes w (Some b) h = h
 inside_bytes w None h = tt
 
@@ -60,7 +60,7 @@ unfolding IsOfBytes
 int_is_bytes (Ok n) = tt
 int_is_bytes (Err c) = tt
 
-blob_is_bytes : (r : Result (List ℕ) Cause) → OkBytes r → IfSome (from_answer (λ b. Some (blob_value b)) r) IsOfBytes
+blob_is_bytes : (r : Result (List ℕ) Cause) → OkBytes r → IfSome (from_answer (λ b. Some (blob_or_null b)) r) IsOfBytes
 unfolding IsOfBytes
 blob_is_bytes (Ok []) h = tt
 blob_is_bytes (Ok (c ∷ cs)) h = h
@@ -75,7 +75,7 @@ unfolding IsOfBytes
 arr_bytes none h = tt
 arr_bytes (more v vs) h = h
 
-keep_bytes : (v : Plain) (vs : Plains) → IsOfBytes v → AreOfBytes vs → AreOfBytes (keep v vs)
+keep_bytes : (v : Plain) (vs : Plains) → IsOfBytes v → AreOfBytes vs → AreOfBytes (put_first_without_last_null v vs)
 unfolding IsOfBytes
 keep_bytes null none h hs = tt
 keep_bytes null (more v vs) h hs = (h, hs)

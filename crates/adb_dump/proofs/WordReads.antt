@@ -2,7 +2,7 @@
 use Rattle.std.proofs.Common.{◌≡◌, ℕ, Bool, true, false, cond, eqb, List, [], ◌∷◌, Option, Some, None, option_map, Result, Ok, Err, refl, sym, ap, ◌∙◌, inl, inr}
 use Rattle.std.specs.Prelude.{is_some, unwrap_or}
 use Rattle.adb_fields.proofs.FieldReads.{null_or_not}
-use Rattle.adb_view.specs.Plain.{Plain, null, int, Plains, none, Fields, no_fields, field, blob_value, obj_value, unless_null, from_answer, plain_of, plains_of}
+use Rattle.adb_view.specs.Plain.{Plain, null, int, Plains, none, Fields, no_fields, field, blob_or_null, obj_value, unless_null, from_answer, plain_of, plains_of}
 use Rattle.adb_view.specs.Readers.{int_of, blob_of, run_of, OBJECT}
 use Rattle.adb_view.specs.Schema.{table, shape_of, shapes_of}
 use Rattle.adb_view.specs.Shapes.{object_shape}
@@ -32,18 +32,18 @@ int_plain p w some = go (eqb w 0) (int_of p w) some
     go false (Ok n) e = refl
     go false (Err c) e = absurd cc
 
-blob_found : (b : Bool) (r : Result (List ℕ) Cause) → unwrap_or (cond b (Some null) (from_answer (λ b. Some (blob_value b)) r)) null ≡ blob_value (text_in (unwrap_or (cond b (Some null) (from_answer (λ b. Some (blob_value b)) r)) null))
+blob_found : (b : Bool) (r : Result (List ℕ) Cause) → unwrap_or (cond b (Some null) (from_answer (λ b. Some (blob_or_null b)) r)) null ≡ blob_or_null (text_in (unwrap_or (cond b (Some null) (from_answer (λ b. Some (blob_or_null b)) r)) null))
 blob_found true r = refl
 blob_found false (Ok []) = refl
 blob_found false (Ok (c ∷ cs)) = refl
 blob_found false (Err c) = refl
 
 -- a value that is found as a text or a hash is a blob of its bytes
-pub text_plain : (p : List ℕ) (w : ℕ) → value_at p Text w ≡ blob_value (text_in (value_at p Text w))
+pub text_plain : (p : List ℕ) (w : ℕ) → value_at p Text w ≡ blob_or_null (text_in (value_at p Text w))
 unfolding value_at shape_of plain_of
 text_plain p w = blob_found (eqb w 0) (blob_of p w)
 
-pub hash_plain : (p : List ℕ) (w : ℕ) → value_at p Hash w ≡ blob_value (text_in (value_at p Hash w))
+pub hash_plain : (p : List ℕ) (w : ℕ) → value_at p Hash w ≡ blob_or_null (text_in (value_at p Hash w))
 unfolding value_at shape_of plain_of
 hash_plain p w = blob_found (eqb w 0) (blob_of p w)
 

@@ -10,14 +10,14 @@ margin zero = []
 margin (suc depth) = codes "  " ++ margin depth
 
 -- the spaces still to be written before the next line: none if its front is written already
-abbrev pub lead : ℕ → Bool → List ℕ
-lead depth true = []
-lead depth false = margin depth
+abbrev pub margin_unless_begun : ℕ → Bool → List ℕ
+margin_unless_begun depth true = []
+margin_unless_begun depth false = margin depth
 
 -- the bytes of lines at a depth, of which the first may have begun
 abbrev pub lines_at : ℕ → Bool → List Line → List ℕ
 lines_at depth begun [] = []
-lines_at depth begun (l ∷ ls) = lead depth begun ++ (l ++ (codes "\n" ++ lines_at depth false ls))
+lines_at depth begun (l ∷ ls) = margin_unless_begun depth begun ++ (l ++ (codes "\n" ++ lines_at depth false ls))
 
 -- a depth that all lines are below. Tables are nested a few levels deep (`docs/formats.md`, "Schemas"),
 -- so any such number serves; it keeps the depth of a line within 32 bits

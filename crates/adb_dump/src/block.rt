@@ -48,16 +48,16 @@ pub fn dump(alloc: Global, shaped: &Shaped<'_>) -> Result<Text, AllocError>
 /// The longest text that is written without counting it first, in multiples of its payload's bytes.
 /// Any number is correct: with a greater one more memory is allocated, with a smaller one more
 /// texts are written twice.
-const MOST_TIMES: usize = 4;
+const MOST_TEXT_PER_PAYLOAD_BYTE: usize = 4;
 
-/// The text of a payload, if it has at most `MOST_TIMES` as many bytes as the payload, and there is
-/// memory for that.
+/// The text of a payload, if it has at most `MOST_TEXT_PER_PAYLOAD_BYTE` as many bytes as the
+/// payload, and there is memory for that.
 fn short_dump(alloc: Global, shaped: &Shaped<'_>) -> Result<Text, AllocError>
     requires { is_some (schema_word (table_of shaped.now)) ≡ true }
     ensures { IfOk result
         (λ text. text ≡ dump_text (table_of shaped.now) (shaped_value shaped.now)) }
 {
-    let room = shaped.adb().payload().len().saturating_mul(MOST_TIMES);
+    let room = shaped.adb().payload().len().saturating_mul(MOST_TEXT_PER_PAYLOAD_BYTE);
     let mut out = Room::new(alloc, room)?;
     write_dump(&mut out, shaped)?;
     Ok(Text::from_vec(out.bytes))

@@ -7,7 +7,7 @@ ghost use Rattle.std.specs.Fmt.{decimal};
 ghost use Rattle.std.specs.List.{flat_map, list_all};
 ghost use Rattle.hex.specs.Hex.{encode_lower};
 ghost use Rattle.adb_dump.specs.Dump.{begins_with_byte, ends_with_byte, escape_of, is_bare, is_printable, quoted_text, text_form};
-ghost use Rattle.adb_dump.specs.Margin.{lines_at, lead, margin};
+ghost use Rattle.adb_dump.specs.Margin.{lines_at, margin_unless_begun, margin};
 ghost use Rattle.adb_dump.specs.Out.{Puts, PutsForAny};
 ghost use Rattle.adb_view.specs.Values.{text_in, value_at};
 ghost use Rattle.adb_view.specs.declared.tables.Kind.TheVariants as Kinds;
@@ -285,7 +285,7 @@ pub(crate) struct LineStart {
 impl LineStart {
     /// How many levels of two spaces are still to be written in front of the line.
     fn levels(self) -> u32
-        ensures { margin result ≡ lead self.depth self.begun }
+        ensures { margin result ≡ margin_unless_begun self.depth self.begun }
     {
         if self.begun { 0 } else { self.depth }
     }
@@ -299,7 +299,7 @@ fn write_front<O: Out>(out: &mut O, start: LineStart, front: &[u8]) -> Result<()
     requires spaces { front.now ≡ margin 8 ++ drop 16 front.now }
     requires len { 16 ≤ length front.now }
     ensures { OnOk result (PutsForAny O.holds out.old out.new
-        (lead start.depth start.begun ++ drop 16 front.now)) }
+        (margin_unless_begun start.depth start.begun ++ drop 16 front.now)) }
 {
     let levels = start.levels();
     if levels <= FRONT_LEVELS {
@@ -326,7 +326,8 @@ fn write_levels<O: Out>(out: &mut O, levels: u32) -> Result<(), AllocError>
 /// Writes the missing spaces before an entry of an array, and its dash and a space.
 #[inline(always)]
 pub(crate) fn write_dash<O: Out>(out: &mut O, depth: u32, begun: bool) -> Result<(), AllocError>
-    ensures { OnOk result (PutsForAny O.holds out.old out.new (lead depth begun ++ codes "- ")) }
+    ensures { OnOk result (PutsForAny O.holds out.old out.new
+        (margin_unless_begun depth begun ++ codes "- ")) }
 {
     write_front(out, LineStart { depth, begun }, dash_front())
 }
@@ -340,7 +341,7 @@ pub(crate) fn write_name<O: Out>(
     name: FieldName,
 ) -> Result<(), AllocError>
     ensures { OnOk result (PutsForAny O.holds out.old out.new
-        (lead start.depth start.begun ++ field_name_text name ++ codes ": ")) }
+        (margin_unless_begun start.depth start.begun ++ field_name_text name ++ codes ": ")) }
 {
     write_front(out, start, name_front(name))
 }
@@ -353,7 +354,7 @@ pub(crate) fn write_name_line<O: Out>(
     name: FieldName,
 ) -> Result<(), AllocError>
     ensures { OnOk result (PutsForAny O.holds out.old out.new
-        (lead start.depth start.begun ++ field_name_text name ++ codes ":\n")) }
+        (margin_unless_begun start.depth start.begun ++ field_name_text name ++ codes ":\n")) }
 {
     write_lead(out, start)?;
     out.put(name.text().as_bytes())?;
@@ -363,7 +364,8 @@ pub(crate) fn write_name_line<O: Out>(
 
 /// Writes the missing front of the next line: its spaces, or nothing if the line has begun.
 fn write_lead<O: Out>(out: &mut O, start: LineStart) -> Result<(), AllocError>
-    ensures { OnOk result (PutsForAny O.holds out.old out.new (lead start.depth start.begun)) }
+    ensures { OnOk result (PutsForAny O.holds out.old out.new
+        (margin_unless_begun start.depth start.begun)) }
 {
     if start.begun {
         return Ok(());

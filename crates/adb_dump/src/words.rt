@@ -5,7 +5,7 @@
 ghost use Rattle.std.specs.Prelude.{◌≡◌, ◌<◌, ◌^◌, true, length, slice_index, ◌==◌, if◌then◌else◌};
 ghost use Rattle.adb_view.specs.Adb.{payload_of};
 ghost use Rattle.adb_view.specs.Entries.{array_entries};
-ghost use Rattle.adb_view.specs.Plain.{null, int, blob_value, arr_value, obj_value};
+ghost use Rattle.adb_view.specs.Plain.{null, int, blob_or_null, arr_value, obj_value};
 ghost use Rattle.adb_fields.specs.Fields.{are_all_sound, values_at};
 ghost use Rattle.adb_view.specs.Schema.{table};
 ghost use Rattle.adb_view.specs.Values.{is_sound, value_at};

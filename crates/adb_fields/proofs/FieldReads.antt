@@ -3,9 +3,9 @@ use Rattle.std.proofs.Common.{◌≡◌, ℕ, zero, suc, ◌<◌, Bool, true, fa
 use Rattle.std.specs.Prelude.{is_some, slice_get}
 use Rattle.std.specs.Result.{result_ok}
 use Rattle.std.proofs.lemmas.Bool.{eqb-true}
-use Rattle.adb_view.specs.Plain.{Plain, null, int, Plains, none, more, without_last_nulls, Shape, number, text, hash, array, object, blob_value, obj_of, obj_value, arr_value, unless_null, from_answer, then_more, each_plain, plain_of, plains_of}
+use Rattle.adb_view.specs.Plain.{Plain, null, int, Plains, none, more, without_last_nulls, Shape, number, text, hash, array, object, blob_or_null, obj_of, obj_value, arr_value, unless_null, from_answer, then_more, each_plain, plain_of, plains_of}
 use Rattle.adb_view.specs.Readers.{int_of, blob_of, run_of, ARRAY, OBJECT}
-use Rattle.adb_view.specs.Schema.{table, shape_of, shapes_of, schema_number}
+use Rattle.adb_view.specs.Schema.{table, shape_of, shapes_of, table_number}
 use Rattle.adb_fields.specs.Fields.{AreFieldsOf, are_all_sound, values_at, array_at}
 use Rattle.adb_view.specs.Values.{is_sound, value_at, kind_at, nth, count_of, entries_in, entry_in, int_in, text_in}
 use Rattle.adb_view.proofs.ValueEntries.{entries_arr, nth_trimmed, text_blob}
@@ -55,17 +55,17 @@ number_value p w v e =
           rw same ok
     ]
 
-blob_shape_value : (p : List ℕ) (w : ℕ) (v : Plain) → unless_null w (from_answer (λ b. Some (blob_value b)) (blob_of p w)) ≡ Some v → blob_of p w ≡ Ok (text_in v)
+blob_shape_value : (p : List ℕ) (w : ℕ) (v : Plain) → unless_null w (from_answer (λ b. Some (blob_or_null b)) (blob_of p w)) ≡ Some v → blob_of p w ≡ Ok (text_in v)
 blob_shape_value p w v e =
     elim (null_or_not w) [
       | inl z ↦
-          let null_is : unless_null w (from_answer (λ b. Some (blob_value b)) (blob_of p w)) ≡ Some null = rw z refl in
+          let null_is : unless_null w (from_answer (λ b. Some (blob_or_null b)) (blob_of p w)) ≡ Some null = rw z refl in
           let same : v ≡ null = cc in
           rw (z, same) (blob_of-null p)
       | inr t ↦
-          let g : unless_null w (from_answer (λ b. Some (blob_value b)) (blob_of p w)) ≡ from_answer (λ b. Some (blob_value b)) (blob_of p w) = rw t refl in
-          let (b, ok, is) = found_is (λ b. Some (blob_value b)) (blob_of p w) v (sym g ∙ e) in
-          let same : v ≡ blob_value b = cc in
+          let g : unless_null w (from_answer (λ b. Some (blob_or_null b)) (blob_of p w)) ≡ from_answer (λ b. Some (blob_or_null b)) (blob_of p w) = rw t refl in
+          let (b, ok, is) = found_is (λ b. Some (blob_or_null b)) (blob_of p w) v (sym g ∙ e) in
+          let same : v ≡ blob_or_null b = cc in
           rw (same, text_blob b) ok
     ]
 
@@ -125,12 +125,12 @@ pub record ObjectRead (p : List ℕ) (which : Which) (w : ℕ) (ws : List ℕ) :
   pub run : run_of OBJECT p w ≡ Ok ws
   pub fields : (i : ℕ) (d : Field) → i < length (table which) → plain_of p (shape_of (get_or (table which) i d).kind) (get_or ws i 0) ≡ Some (entry_in (value_at p (Obj which) w) i)
 
-object_value : (p : List ℕ) (which : Which) (w : ℕ) (v : Plain) → plain_of p (object (schema_number which) (shapes_of (table which))) w ≡ Some v → value_at p (Obj which) w ≡ v → (ws : List ℕ) × ObjectRead p which w ws
+object_value : (p : List ℕ) (which : Which) (w : ℕ) (v : Plain) → plain_of p (object (table_number which) (shapes_of (table which))) w ≡ Some v → value_at p (Obj which) w ≡ v → (ws : List ℕ) × ObjectRead p which w ws
 unfolding plain_of
 object_value p which w v e at =
     elim (null_or_not w) [
       | inl z ↦
-          let null_is : plain_of p (object (schema_number which) (shapes_of (table which))) w ≡ Some null = rw z refl in
+          let null_is : plain_of p (object (table_number which) (shapes_of (table which))) w ≡ Some null = rw z refl in
           let same : v ≡ null = cc in
           ([], record { run = rw z (run_of-null OBJECT p); fields = λ i d lt. rw (at, same) (null_plain p (shape_of (get_or (table which) i d).kind)) })
       | inr t ↦
@@ -276,20 +276,20 @@ pub entry_count : (p : List ℕ) (k : Kind) (ws : List ℕ) → are_all_sound p 
 entry_count p k ws h = each_count (plain_of p (shape_of k)) ws (values_at p k ws) (values_are p k ws h) ∙ ap count_of (sym (entries_arr (values_at p k ws)))
 
 -- a text's value is its bytes
-text_is : (p : List ℕ) (w : ℕ) (v : Plain) → unless_null w (from_answer (λ b. Some (blob_value b)) (blob_of p w)) ≡ Some v → blob_value (text_in v) ≡ v
+text_is : (p : List ℕ) (w : ℕ) (v : Plain) → unless_null w (from_answer (λ b. Some (blob_or_null b)) (blob_of p w)) ≡ Some v → blob_or_null (text_in v) ≡ v
 text_is p w v e =
     elim (null_or_not w) [
       | inl z ↦
-          let null_is : unless_null w (from_answer (λ b. Some (blob_value b)) (blob_of p w)) ≡ Some null = rw z refl in
+          let null_is : unless_null w (from_answer (λ b. Some (blob_or_null b)) (blob_of p w)) ≡ Some null = rw z refl in
           let same : v ≡ null = cc in
           rw same refl
       | inr t ↦
-          let g : unless_null w (from_answer (λ b. Some (blob_value b)) (blob_of p w)) ≡ from_answer (λ b. Some (blob_value b)) (blob_of p w) = rw t refl in
-          let (b, ok, is) = found_is (λ b. Some (blob_value b)) (blob_of p w) v (sym g ∙ e) in
-          let same : v ≡ blob_value b = cc in
+          let g : unless_null w (from_answer (λ b. Some (blob_or_null b)) (blob_of p w)) ≡ from_answer (λ b. Some (blob_or_null b)) (blob_of p w) = rw t refl in
+          let (b, ok, is) = found_is (λ b. Some (blob_or_null b)) (blob_of p w) v (sym g ∙ e) in
+          let same : v ≡ blob_or_null b = cc in
           rw (same, text_blob b) refl
     ]
 
-pub text_shown : (p : List ℕ) (w : ℕ) (b : List ℕ) → is_sound p Text w ≡ true → b ≡ text_in (value_at p Text w) → blob_value b ≡ value_at p Text w
+pub text_shown : (p : List ℕ) (w : ℕ) (b : List ℕ) → is_sound p Text w ≡ true → b ≡ text_in (value_at p Text w) → blob_or_null b ≡ value_at p Text w
 unfolding plain_of
-text_shown p w b h is = ap blob_value is ∙ text_is p w (value_at p Text w) (ap (λ s. plain_of p s w) (sym text_shape) ∙ value_is p Text w h)
+text_shown p w b h is = ap blob_or_null is ∙ text_is p w (value_at p Text w) (ap (λ s. plain_of p s w) (sym text_shape) ∙ value_is p Text w h)

@@ -4,7 +4,7 @@ use Rattle.std.specs.Prelude.{bytes_eq, ◌&&◌, nat_lt}
 use Rattle.std.specs.List.{flat_map}
 use Rattle.std.specs.List.Sorted.{IsPermutation, IsSortedBy}
 use Rattle.adb_fields.specs.declared.pairs.Pair.{Pair}
-use Rattle.adb_fields.specs.Pairs.{NameWithPosition, is_before, earlier, earliest, pair_of, first_pair}
+use Rattle.adb_fields.specs.Pairs.{NameWithPosition, is_reported_before, reported_of_two, first_reported, pair_of, first_pair}
 use Rattle.adb_fields.specs.FirstPair.{IsFirstOf}
 use Rattle.adb_fields.specs.FirstPair.{IsFirst}
 use Rattle.adb_fields.specs.FirstPair.{IsPair}
@@ -63,14 +63,14 @@ alike P Q a f g h = covered P Q a f (λ q k. (q, g q k, record { second = omega 
 
 -- ---- the earliest of a list
 
-pub is-before : (p q : Pair) (t : Bool) → is_before p q ≡ t → cond t (NotAfter p q) (NotAfter q p)
+pub is-before : (p q : Pair) (t : Bool) → is_reported_before p q ≡ t → cond t (NotAfter p q) (NotAfter q p)
 is-before p q true h = record { second = grind (arith, ltb-true, eqb-true); first = λ e. grind (arith, ltb-true, eqb-true) }
 is-before p q false h = record { second = grind (arith, ltb-false, eqb-false); first = λ e. grind (arith, ltb-false, eqb-false) }
 
 abbrev pub Either : (Pair → Type 0) → (Pair → Type 0) → Pair → Type 0
 Either P Q p = P p ⊎ Q p
 
-either-by : (P Q : Pair → Type 0) (p q : Pair) (t : Bool) → is_before q p ≡ t → IsFirst P p → IsFirst Q q → IsFirst (Either P Q) (cond t q p)
+either-by : (P Q : Pair → Type 0) (p q : Pair) (t : Bool) → is_reported_before q p ≡ t → IsFirst P p → IsFirst Q q → IsFirst (Either P Q) (cond t q p)
 either-by P Q p q true e h g =
     let n : NotAfter q p = is-before q p true e in
     record {
@@ -90,11 +90,11 @@ cond-some : (t : Bool) (p q : Pair) → cond t (Some q) (Some p) ≡ Some (cond 
 cond-some true p q = refl
 cond-some false p q = refl
 
-pub earlier-first : (P Q : Pair → Type 0) (a b : Option Pair) → IsFirstOf P a → IsFirstOf Q b → IsFirstOf (Either P Q) (earlier a b)
-earlier-first P Q None None h g = λ q k. elim k [ inl k ↦ h q k | inr k ↦ g q k ]
-earlier-first P Q None (Some q) h g = record { is_one = inr g.is_one; second = λ r k. elim k [ inl k ↦ absurd (h r k) | inr k ↦ g.second r k ]; first = λ r k s. elim k [ inl k ↦ absurd (h r k) | inr k ↦ g.first r k s ] }
-earlier-first P Q (Some p) None h g = record { is_one = inl h.is_one; second = λ r k. elim k [ inl k ↦ h.second r k | inr k ↦ absurd (g r k) ]; first = λ r k s. elim k [ inl k ↦ h.first r k s | inr k ↦ absurd (g r k) ] }
-earlier-first P Q (Some p) (Some q) h g = let F = λ (o : Option Pair). IsFirstOf (Either P Q) o in subst F (sym (cond-some (is_before q p) p q)) (either-by P Q p q (is_before q p) refl h g)
+pub reported_of_two-first : (P Q : Pair → Type 0) (a b : Option Pair) → IsFirstOf P a → IsFirstOf Q b → IsFirstOf (Either P Q) (reported_of_two a b)
+reported_of_two-first P Q None None h g = λ q k. elim k [ inl k ↦ h q k | inr k ↦ g q k ]
+reported_of_two-first P Q None (Some q) h g = record { is_one = inr g.is_one; second = λ r k. elim k [ inl k ↦ absurd (h r k) | inr k ↦ g.second r k ]; first = λ r k s. elim k [ inl k ↦ absurd (h r k) | inr k ↦ g.first r k s ] }
+reported_of_two-first P Q (Some p) None h g = record { is_one = inl h.is_one; second = λ r k. elim k [ inl k ↦ h.second r k | inr k ↦ absurd (g r k) ]; first = λ r k s. elim k [ inl k ↦ h.first r k s | inr k ↦ absurd (g r k) ] }
+reported_of_two-first P Q (Some p) (Some q) h g = let F = λ (o : Option Pair). IsFirstOf (Either P Q) o in subst F (sym (cond-some (is_reported_before q p) p q)) (either-by P Q p q (is_reported_before q p) refl h g)
 
 -- the pair that one place of a list has
 abbrev pub IsThis : Option Pair → Pair → Type 0
@@ -107,16 +107,16 @@ pub this-first : (o : Option Pair) → IsFirstOf (IsThis o) o
 this-first None = λ q e. (cc)
 this-first (Some p) = some-first p
 
-pub earliest-first : (ps : List (Option Pair)) → IsFirstOf (λ p. IsIn (Some p) ps) (earliest ps)
-earliest-first [] = λ q k. k
-earliest-first (p ∷ ps) = earlier-first (IsThis p) (λ q. IsIn (Some q) ps) p (earliest ps) (this-first p) (earliest-first ps)
+pub first_reported-first : (ps : List (Option Pair)) → IsFirstOf (λ p. IsIn (Some p) ps) (first_reported ps)
+first_reported-first [] = λ q k. k
+first_reported-first (p ∷ ps) = reported_of_two-first (IsThis p) (λ q. IsIn (Some q) ps) p (first_reported ps) (this-first p) (first_reported-first ps)
 
-pub earlier-assoc : (a b c : Option Pair) → earlier (earlier a b) c ≡ earlier a (earlier b c)
-earlier-assoc a b c =
+pub reported_of_two-assoc : (a b c : Option Pair) → reported_of_two (reported_of_two a b) c ≡ reported_of_two a (reported_of_two b c)
+reported_of_two-assoc a b c =
     let P : Pair → Type 0 = Either (Either (IsThis a) (IsThis b)) (IsThis c) in
     let Q : Pair → Type 0 = Either (IsThis a) (Either (IsThis b) (IsThis c)) in
-    let left : IsFirstOf P (earlier (earlier a b) c) = earlier-first _ _ (earlier a b) c (earlier-first _ _ a b (this-first a) (this-first b)) (this-first c) in
-    let right : IsFirstOf Q (earlier a (earlier b c)) = earlier-first _ _ a (earlier b c) (this-first a) (earlier-first _ _ b c (this-first b) (this-first c)) in
+    let left : IsFirstOf P (reported_of_two (reported_of_two a b) c) = reported_of_two-first _ _ (reported_of_two a b) c (reported_of_two-first _ _ a b (this-first a) (this-first b)) (this-first c) in
+    let right : IsFirstOf Q (reported_of_two a (reported_of_two b c)) = reported_of_two-first _ _ a (reported_of_two b c) (this-first a) (reported_of_two-first _ _ b c (this-first b) (this-first c)) in
     unique Q _ _ (alike P Q _ (λ p k. from_left p k) (λ p k. from_right p k) left) right
   where
     from_left : (p : Pair) → Either (Either (IsThis a) (IsThis b)) (IsThis c) p → Either (IsThis a) (Either (IsThis b) (IsThis c)) p
@@ -173,7 +173,7 @@ has-pair names p k =
 
 pub first_pair-first : (names : List NameWithPosition) → IsFirstOf (IsPair names) (first_pair names)
 unfolding first_pair
-first_pair-first names = alike (λ p. IsIn (Some p) (all_pairs names)) (IsPair names) (earliest (all_pairs names)) (is-pair names) (has-pair names) (earliest-first (all_pairs names))
+first_pair-first names = alike (λ p. IsIn (Some p) (all_pairs names)) (IsPair names) (first_reported (all_pairs names)) (is-pair names) (has-pair names) (first_reported-first (all_pairs names))
 
 -- ---- neighbours in a sorted list
 
@@ -307,10 +307,10 @@ covers-pair x xs q h k =
     let f = k.second in
     (r.0, r.1, record { second = (let u = r.2.second in omega arith); first = λ s. (let u = r.2.first (omega arith) in omega arith) })
 
-neighbours-first : (x : NameWithPosition) (xs : List NameWithPosition) → Rises x xs → IsFirstOf (IsPair (x ∷ xs)) (earliest (neighbours_from x xs))
-neighbours-first x xs h = covered (λ p. IsIn (Some p) (neighbours_from x xs)) (IsPair (x ∷ xs)) (earliest (neighbours_from x xs)) (neighbour-is x xs) (λ q k. covers-pair x xs q h k) (earliest-first (neighbours_from x xs))
+neighbours-first : (x : NameWithPosition) (xs : List NameWithPosition) → Rises x xs → IsFirstOf (IsPair (x ∷ xs)) (first_reported (neighbours_from x xs))
+neighbours-first x xs h = covered (λ p. IsIn (Some p) (neighbours_from x xs)) (IsPair (x ∷ xs)) (first_reported (neighbours_from x xs)) (neighbour-is x xs) (λ q k. covers-pair x xs q h k) (first_reported-first (neighbours_from x xs))
 
-sorted-first : {X : Type 0} (f : X → NameWithPosition) (xs : List X) → IsSortedBy (λ a b. is_lt (named_cmp (f a) (f b))) xs → IsFirstOf (IsPair (map f xs)) (earliest (neighbours (map f xs)))
+sorted-first : {X : Type 0} (f : X → NameWithPosition) (xs : List X) → IsSortedBy (λ a b. is_lt (named_cmp (f a) (f b))) xs → IsFirstOf (IsPair (map f xs)) (first_reported (neighbours (map f xs)))
 sorted-first f [] h = λ q k. k.one_in
 sorted-first f (x ∷ xs) h = neighbours-first (f x) (map f xs) (rises-from f x xs h)
 
@@ -318,11 +318,11 @@ pair-permuted : (xs ys : List NameWithPosition) (p : Pair) → IsPermutation xs 
 pair-permuted xs ys p m k = record { one = k.one; other = k.other; one_in = in-permuted k.one xs ys m k.one_in; other_in = in-permuted k.other xs ys m k.other_in; alike = k.alike; first = k.first; second = k.second; rises = k.rises }
 
 -- the names in any order, and the same names sorted
-pub first_in_sorted : {X : Type 0} (f : X → NameWithPosition) (xs ys : List X) → IsPermutation xs ys → IsSortedBy (λ a b. is_lt (named_cmp (f a) (f b))) ys → earliest (neighbours (map f ys)) ≡ first_pair (map f xs)
+pub first_in_sorted : {X : Type 0} (f : X → NameWithPosition) (xs ys : List X) → IsPermutation xs ys → IsSortedBy (λ a b. is_lt (named_cmp (f a) (f b))) ys → first_reported (neighbours (map f ys)) ≡ first_pair (map f xs)
 first_in_sorted f xs ys m h =
     let moved = IsPermutation-map f xs ys m in
-    unique (IsPair (map f xs)) (earliest (neighbours (map f ys))) (first_pair (map f xs))
-    (alike (IsPair (map f ys)) (IsPair (map f xs)) (earliest (neighbours (map f ys))) (λ p k. pair-permuted (map f ys) (map f xs) p (IsPermutation-sym (map f xs) (map f ys) moved) k) (λ p k. pair-permuted (map f xs) (map f ys) p moved k) (sorted-first f ys h))
+    unique (IsPair (map f xs)) (first_reported (neighbours (map f ys))) (first_pair (map f xs))
+    (alike (IsPair (map f ys)) (IsPair (map f xs)) (first_reported (neighbours (map f ys))) (λ p k. pair-permuted (map f ys) (map f xs) p (IsPermutation-sym (map f xs) (map f ys) moved) k) (λ p k. pair-permuted (map f xs) (map f ys) p moved k) (sorted-first f ys h))
     (first_pair-first (map f xs))
 
 pub named_order : {X : Type 0} (f : X → NameWithPosition) → IsStrictWeakOrder (λ a b. is_lt (named_cmp (f a) (f b)))
@@ -330,36 +330,36 @@ named_order f = ranks_by named_total f
 
 -- ---- going over the neighbours
 
-pub turn : {X : Type 0} (f : X → NameWithPosition) (xs : List X) (j : ℕ) (d : X) → j + 1 < length xs → earliest (neighbours (map f (drop j xs))) ≡ earlier (pair_of (f (get_or xs j d)) (f (get_or xs (j + 1) d))) (earliest (neighbours (map f (drop (j + 1) xs))))
+pub turn : {X : Type 0} (f : X → NameWithPosition) (xs : List X) (j : ℕ) (d : X) → j + 1 < length xs → first_reported (neighbours (map f (drop j xs))) ≡ reported_of_two (pair_of (f (get_or xs j d)) (f (get_or xs (j + 1) d))) (first_reported (neighbours (map f (drop (j + 1) xs))))
 turn f [] j d h = absurd (omega arith)
 turn f (x ∷ []) j d h = absurd (omega arith)
 turn f (x ∷ y ∷ xs) zero d h = refl
 turn {X} f (x ∷ y ∷ xs) (suc j) d h =
     let e : suc j + 1 ≡ suc (j + 1) = omega arith in
-    let P : ℕ → Type 0 = λ n. earliest (neighbours (map f (drop j (y ∷ xs)))) ≡ earlier (pair_of (f (get_or (y ∷ xs) j d)) (f (get_or (x ∷ y ∷ xs) n d))) (earliest (neighbours (map f (drop n (x ∷ y ∷ xs))))) in
+    let P : ℕ → Type 0 = λ n. first_reported (neighbours (map f (drop j (y ∷ xs)))) ≡ reported_of_two (pair_of (f (get_or (y ∷ xs) j d)) (f (get_or (x ∷ y ∷ xs) n d))) (first_reported (neighbours (map f (drop n (x ∷ y ∷ xs))))) in
     subst P (sym e) (turn f (y ∷ xs) j d (omega arith))
 
-last_alone : {X : Type 0} (f : X → NameWithPosition) (xs : List X) (j : ℕ) → length xs ≤ j + 1 → earliest (neighbours (map f (drop j xs))) ≡ None
+last_alone : {X : Type 0} (f : X → NameWithPosition) (xs : List X) (j : ℕ) → length xs ≤ j + 1 → first_reported (neighbours (map f (drop j xs))) ≡ None
 last_alone f [] zero h = refl
 last_alone f [] (suc j) h = refl
 last_alone f (x ∷ []) zero h = refl
 last_alone f (x ∷ y ∷ xs) zero h = absurd (omega arith)
 last_alone f (x ∷ xs) (suc j) h = last_alone f xs j (omega arith)
 
-pub earlier-none : (a : Option Pair) → earlier a None ≡ a
-earlier-none None = refl
-earlier-none (Some p) = refl
+pub reported_of_two-none : (a : Option Pair) → reported_of_two a None ≡ a
+reported_of_two-none None = refl
+reported_of_two-none (Some p) = refl
 
-pub next_pair : {X : Type 0} (f : X → NameWithPosition) (xs : List X) (j : ℕ) (d : X) (best : Option Pair) (o : Option Pair) → j + 1 < length xs → earlier best (earliest (neighbours (map f (drop j xs)))) ≡ o → earlier (earlier best (pair_of (f (get_or xs j d)) (f (get_or xs (j + 1) d)))) (earliest (neighbours (map f (drop (j + 1) xs)))) ≡ o
-next_pair f xs j d best o h e = earlier-assoc best (pair_of (f (get_or xs j d)) (f (get_or xs (j + 1) d))) _ ∙ (ap (earlier best) (sym (turn f xs j d h)) ∙ e)
+pub next_pair : {X : Type 0} (f : X → NameWithPosition) (xs : List X) (j : ℕ) (d : X) (best : Option Pair) (o : Option Pair) → j + 1 < length xs → reported_of_two best (first_reported (neighbours (map f (drop j xs)))) ≡ o → reported_of_two (reported_of_two best (pair_of (f (get_or xs j d)) (f (get_or xs (j + 1) d)))) (first_reported (neighbours (map f (drop (j + 1) xs)))) ≡ o
+next_pair f xs j d best o h e = reported_of_two-assoc best (pair_of (f (get_or xs j d)) (f (get_or xs (j + 1) d))) _ ∙ (ap (reported_of_two best) (sym (turn f xs j d h)) ∙ e)
 
-pub no_next_pair : {X : Type 0} (f : X → NameWithPosition) (xs : List X) (j : ℕ) (best o : Option Pair) → length xs ≤ j + 1 → earlier best (earliest (neighbours (map f (drop j xs)))) ≡ o → best ≡ o
-no_next_pair f xs j best o h e = sym (earlier-none best) ∙ (ap (earlier best) (sym (last_alone f xs j h)) ∙ e)
+pub no_next_pair : {X : Type 0} (f : X → NameWithPosition) (xs : List X) (j : ℕ) (best o : Option Pair) → length xs ≤ j + 1 → reported_of_two best (first_reported (neighbours (map f (drop j xs)))) ≡ o → best ≡ o
+no_next_pair f xs j best o h e = sym (reported_of_two-none best) ∙ (ap (reported_of_two best) (sym (last_alone f xs j h)) ∙ e)
 
 -- the same by the index of the later name
-pub step_pair : {X : Type 0} (f : X → NameWithPosition) (xs : List X) (i : ℕ) (d : X) (best next o p : Option Pair) → 1 ≤ i → i < length xs → p ≡ pair_of (f (get_or xs (i - 1) d)) (f (get_or xs i d)) → next ≡ earlier best p → earlier best (earliest (neighbours (map f (drop (i - 1) xs)))) ≡ o → earlier next (earliest (neighbours (map f (drop (i + 1 - 1) xs)))) ≡ o
+pub step_pair : {X : Type 0} (f : X → NameWithPosition) (xs : List X) (i : ℕ) (d : X) (best next o p : Option Pair) → 1 ≤ i → i < length xs → p ≡ pair_of (f (get_or xs (i - 1) d)) (f (get_or xs i d)) → next ≡ reported_of_two best p → reported_of_two best (first_reported (neighbours (map f (drop (i - 1) xs)))) ≡ o → reported_of_two next (first_reported (neighbours (map f (drop (i + 1 - 1) xs)))) ≡ o
 step_pair f xs i d best next o p one lt e n h =
     let a : i + 1 - 1 ≡ i - 1 + 1 = omega arith in
     let b : i ≡ i - 1 + 1 = omega arith in
     let same : p ≡ pair_of (f (get_or xs (i - 1) d)) (f (get_or xs (i - 1 + 1) d)) = e ∙ ap (λ k. pair_of (f (get_or xs (i - 1) d)) (f (get_or xs k d))) b in
-    (λ k. earlier ((n ∙ ap (earlier best) same) k) (earliest (neighbours (map f (drop (a k) xs))))) ∙ next_pair f xs (i - 1) d best o (omega arith) h
+    (λ k. reported_of_two ((n ∙ ap (reported_of_two best) same) k) (first_reported (neighbours (map f (drop (a k) xs))))) ∙ next_pair f xs (i - 1) d best o (omega arith) h

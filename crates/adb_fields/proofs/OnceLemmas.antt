@@ -6,12 +6,12 @@ use Rattle.base_core.proofs.Causes.{both_none, none_both}
 use Rattle.adb_view.specs.declared.tables.Which.{Which}
 use Rattle.adb_view.specs.declared.tables.Which.TheVariants.{Dep, Acl, PkgInfo, File, Dir, Scripts, Package, Index, Idb, Intent}
 use Rattle.adb_fields.specs.declared.pairs.Pair.{Pair}
-use Rattle.adb_fields.specs.Pairs.{NameWithPosition, is_before, earlier}
+use Rattle.adb_fields.specs.Pairs.{NameWithPosition, is_reported_before, reported_of_two}
 use Rattle.adb_fields.specs.FirstPair.{IsFirstOf}
 use Rattle.adb_fields.specs.FirstPair.{IsPair}
 use Rattle.adb_fields.specs.FirstPair.{IsIn}
 use Rattle.adb_view.specs.FieldIndexes.{DIR_NAME, FILE_NAME, IDB_PACKAGES, INTENT_WRITES}
-use Rattle.adb_fields.specs.Repeated.{field_number, numbered_from, all_at, by_list_from, twice, twice_in_one, in_two, entries_at, folder_twice, file_twice, package_twice, path_in_two, name_twice, repeated_at, inside_fault, between_fault, repeated_fault}
+use Rattle.adb_fields.specs.Repeated.{field_number, numbered_from, all_at, by_list_from, first_repeat, twice_in_one, first_name_in_two_lists, entries_at, folder_twice, file_twice, package_twice, path_in_two, name_twice, repeated_at, inside_fault, between_fault, repeated_fault}
 use Rattle.adb_fields.specs.Once.{AreDistinctNames, AllDistinct, IsInOneOf, AreApart, HaveNoRepeatInside, HaveNoRepeatBetween, HasNoRepeatedName}
 use Rattle.adb_fields.proofs.Members.{in-front, in-behind, in-either, in-map, from-map}
 use Rattle.adb_fields.proofs.FirstPair.{first_pair-first}
@@ -96,11 +96,11 @@ is_none_by : (IsOne : Pair → Type 0) (o : Option Pair) → IsFirstOf IsOne o �
 is_none_by IsOne None first h = refl
 is_none_by IsOne (Some p) first h = absurd (h p first.is_one)
 
-pub twice_none : (names : List (List ℕ)) → twice names ≡ None → AreDistinctNames names
-twice_none names e = distinct 1 names (none_of (IsPair (numbered_from 1 names)) (twice names) (first_pair-first (numbered_from 1 names)) e)
+pub twice_none : (names : List (List ℕ)) → first_repeat names ≡ None → AreDistinctNames names
+twice_none names e = distinct 1 names (none_of (IsPair (numbered_from 1 names)) (first_repeat names) (first_pair-first (numbered_from 1 names)) e)
 
-pub none_twice : (names : List (List ℕ)) → AreDistinctNames names → twice names ≡ None
-none_twice names d = is_none_by (IsPair (numbered_from 1 names)) (twice names) (first_pair-first (numbered_from 1 names)) (no_pair 1 names d)
+pub none_twice : (names : List (List ℕ)) → AreDistinctNames names → first_repeat names ≡ None
+none_twice names d = is_none_by (IsPair (numbered_from 1 names)) (first_repeat names) (first_pair-first (numbered_from 1 names)) (no_pair 1 names d)
 
 -- ---- several lists, each for itself
 
@@ -108,23 +108,23 @@ never_none : (b : Bool) (p q : Pair) → cond b (Some q) (Some p) ≡ None → �
 never_none true p q e = cc
 never_none false p q e = cc
 
-earlier_none : (a b : Option Pair) → earlier a b ≡ None → (a ≡ None) × (b ≡ None)
+earlier_none : (a b : Option Pair) → reported_of_two a b ≡ None → (a ≡ None) × (b ≡ None)
 earlier_none None b e = (refl, e)
 earlier_none (Some p) None e = absurd (cc)
-earlier_none (Some p) (Some q) e = absurd (never_none (is_before q p) p q e)
+earlier_none (Some p) (Some q) e = absurd (never_none (is_reported_before q p) p q e)
 
-none_earlier : (a b : Option Pair) → a ≡ None → b ≡ None → earlier a b ≡ None
+none_earlier : (a b : Option Pair) → a ≡ None → b ≡ None → reported_of_two a b ≡ None
 none_earlier None b e f = f
 none_earlier (Some p) b e f = absurd (cc)
 
 each_none : (lists : List (List (List ℕ))) → twice_in_one lists ≡ None → AllDistinct lists
 each_none [] e = tt
 each_none (names ∷ lists) e =
-    let (one, others) = earlier_none (twice names) (twice_in_one lists) e in (twice_none names one, each_none lists others)
+    let (one, others) = earlier_none (first_repeat names) (twice_in_one lists) e in (twice_none names one, each_none lists others)
 
 none_each : (lists : List (List (List ℕ))) → AllDistinct lists → twice_in_one lists ≡ None
 none_each [] d = refl
-none_each (names ∷ lists) d = none_earlier (twice names) (twice_in_one lists) (none_twice names d.0) (none_each lists d.1)
+none_each (names ∷ lists) d = none_earlier (first_repeat names) (twice_in_one lists) (none_twice names d.0) (none_each lists d.1)
 
 -- ---- between several lists
 
@@ -205,11 +205,11 @@ none_between n (names ∷ lists) d = λ q k.
     no_pair_between n names lists k.one k.other d.0 (none_between (n + 1) lists d.1)
     (in-either k.one (all_at n names) (by_list_from (n + 1) lists) k.one_in) (in-either k.other (all_at n names) (by_list_from (n + 1) lists) k.other_in) k.alike (omega arith)
 
-two_none : (lists : List (List (List ℕ))) → in_two lists ≡ None → AreApart lists
-two_none lists e = apart 1 lists (none_of (IsPair (by_list_from 1 lists)) (in_two lists) (first_pair-first (by_list_from 1 lists)) e)
+two_none : (lists : List (List (List ℕ))) → first_name_in_two_lists lists ≡ None → AreApart lists
+two_none lists e = apart 1 lists (none_of (IsPair (by_list_from 1 lists)) (first_name_in_two_lists lists) (first_pair-first (by_list_from 1 lists)) e)
 
-none_two : (lists : List (List (List ℕ))) → AreApart lists → in_two lists ≡ None
-none_two lists d = is_none_by (IsPair (by_list_from 1 lists)) (in_two lists) (first_pair-first (by_list_from 1 lists)) (none_between 1 lists d)
+none_two : (lists : List (List (List ℕ))) → AreApart lists → first_name_in_two_lists lists ≡ None
+none_two lists d = is_none_by (IsPair (by_list_from 1 lists)) (first_name_in_two_lists lists) (first_pair-first (by_list_from 1 lists)) (none_between 1 lists d)
 
 -- ---- kind by kind
 

@@ -3,7 +3,7 @@ use Rattle.std.proofs.Common.{◌≡◌, ℕ, List, [], ◌∷◌, Option, Some,
 use Rattle.base_core.specs.declared.cause.Cause.TheVariants.{Repeated}
 use Rattle.adb_view.specs.Plain.{Plain, null, blob, arr, obj, none, more}
 use Rattle.adb_fields.specs.Pairs.{first_pair}
-use Rattle.adb_fields.specs.Repeated.{twice, twice_in_one, in_two, repeated_fault}
+use Rattle.adb_fields.specs.Repeated.{first_repeat, twice_in_one, first_name_in_two_lists, repeated_fault}
 use Rattle.adb_fields.specs.declared.pairs.Pair.{Pair}
 use Rattle.adb_view.specs.declared.tables.Which.TheVariants.{Package, Index, Idb, Intent}
 
@@ -12,24 +12,24 @@ pair i j = Some (record { first = i; second = j })
 
 -- ---- lists of names
 
-each_once : twice (codes "a" ∷ codes "b" ∷ codes "ab" ∷ []) ≡ None
+each_once : first_repeat (codes "a" ∷ codes "b" ∷ codes "ab" ∷ []) ≡ None
 unfolding first_pair
 each_once = refl
 
-first_and_third : twice (codes "a" ∷ codes "b" ∷ codes "a" ∷ []) ≡ pair 1 3
+first_and_third : first_repeat (codes "a" ∷ codes "b" ∷ codes "a" ∷ []) ≡ pair 1 3
 unfolding first_pair
 first_and_third = refl
 
 -- of two pairs the one that ends first
-least_second : twice (codes "a" ∷ codes "b" ∷ codes "b" ∷ codes "a" ∷ []) ≡ pair 2 3
+least_second : first_repeat (codes "a" ∷ codes "b" ∷ codes "b" ∷ codes "a" ∷ []) ≡ pair 2 3
 unfolding first_pair
 least_second = refl
 
-three_times : twice (codes "b" ∷ codes "a" ∷ codes "a" ∷ codes "a" ∷ []) ≡ pair 2 3
+three_times : first_repeat (codes "b" ∷ codes "a" ∷ codes "a" ∷ codes "a" ∷ []) ≡ pair 2 3
 unfolding first_pair
 three_times = refl
 
-empty_names : twice ([] ∷ [] ∷ []) ≡ pair 1 2
+empty_names : first_repeat ([] ∷ [] ∷ []) ≡ pair 1 2
 unfolding first_pair
 empty_names = refl
 
@@ -43,12 +43,12 @@ unfolding first_pair
 in_different_lists = refl
 
 -- twice in one list is not in two
-in_one_list : in_two ((codes "a" ∷ codes "a" ∷ []) ∷ (codes "b" ∷ []) ∷ []) ≡ None
+in_one_list : first_name_in_two_lists ((codes "a" ∷ codes "a" ∷ []) ∷ (codes "b" ∷ []) ∷ []) ≡ None
 unfolding first_pair
 in_one_list = refl
 
 -- two pairs end at one list: the one that begins first
-least_first : in_two ((codes "a" ∷ []) ∷ (codes "b" ∷ []) ∷ (codes "b" ∷ codes "a" ∷ []) ∷ []) ≡ pair 1 3
+least_first : first_name_in_two_lists ((codes "a" ∷ []) ∷ (codes "b" ∷ []) ∷ (codes "b" ∷ codes "a" ∷ []) ∷ []) ≡ pair 1 3
 unfolding first_pair
 least_first = refl
 

@@ -24,7 +24,7 @@ abbrev pub named_cmp : NameWithPosition → NameWithPosition → Ordering
 named_cmp x y = ordering_then (slice_cmp nat_cmp x.name y.name) (nat_cmp x.position y.position)
 
 -- the pairs of positions of a name and the next one, and so on while the names are equal; None between
--- two names that differ. *earliest* returns the pair that is reported
+-- two names that differ. *first_reported* returns the pair that is reported
 abbrev pub neighbours_from : NameWithPosition → List NameWithPosition → List (Option Pair)
 neighbours_from x [] = []
 neighbours_from x (y ∷ ys) = pair_of x y ∷ neighbours_from y ys

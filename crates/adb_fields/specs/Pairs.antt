@@ -10,19 +10,19 @@ pub record NameWithPosition : Type 0 where
   pub position : ℕ
 
 -- whether a pair has priority over another: by the smaller second position, then the smaller first one
-abbrev pub is_before : Pair → Pair → Bool
-is_before p q = nat_lt p.second q.second || (p.second == q.second && nat_lt p.first q.first)
+abbrev pub is_reported_before : Pair → Pair → Bool
+is_reported_before p q = nat_lt p.second q.second || (p.second == q.second && nat_lt p.first q.first)
 
 -- the pair of two that is reported; None if there is neither
-abbrev pub earlier : Option Pair → Option Pair → Option Pair
-earlier None q = q
-earlier (Some p) None = Some p
-earlier (Some p) (Some q) = if is_before q p then Some q else Some p
+abbrev pub reported_of_two : Option Pair → Option Pair → Option Pair
+reported_of_two None q = q
+reported_of_two (Some p) None = Some p
+reported_of_two (Some p) (Some q) = if is_reported_before q p then Some q else Some p
 
 -- the pair of several that is reported; None if there is none
-abbrev pub earliest : List (Option Pair) → Option Pair
-earliest [] = None
-earliest (p ∷ ps) = earlier p (earliest ps)
+abbrev pub first_reported : List (Option Pair) → Option Pair
+first_reported [] = None
+first_reported (p ∷ ps) = reported_of_two p (first_reported ps)
 
 -- the positions of two entries, if they have one name and the first precedes the second
 abbrev pub pair_of : NameWithPosition → NameWithPosition → Option Pair
@@ -31,4 +31,4 @@ pair_of x y = if bytes_eq x.name y.name && nat_lt x.position y.position
 
 -- the pair that is reported of all pairs of positions of one name
 unfoldable pub first_pair : List NameWithPosition → Option Pair
-first_pair names = earliest (flat_map (λ x. map (pair_of x) names) names)
+first_pair names = first_reported (flat_map (λ x. map (pair_of x) names) names)

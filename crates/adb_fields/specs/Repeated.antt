@@ -7,10 +7,10 @@ use Rattle.base_core.specs.declared.cause.Cause.{Cause}
 use Rattle.base_core.specs.declared.cause.Cause.TheVariants.{Repeated}
 use Rattle.adb_view.specs.Plain.{Plain, Plains, none, more}
 use Rattle.adb_view.specs.FieldIndexes.{DIR_FILES, DIR_NAME, FILE_NAME, IDB_PACKAGES, INTENT_REMOVALS, INTENT_WRITES, PACKAGE_INFO, PACKAGE_PATHS}
-use Rattle.adb_view.specs.Schema.{schema_number}
+use Rattle.adb_view.specs.Schema.{table_number}
 use Rattle.adb_view.specs.Values.{entries_in, entry_in, text_in}
 use Rattle.adb_fields.specs.Paths.{path_of}
-use Rattle.adb_fields.specs.Pairs.{NameWithPosition, first_pair, earliest}
+use Rattle.adb_fields.specs.Pairs.{NameWithPosition, first_pair, first_reported}
 use Rattle.adb_fields.specs.declared.pairs.Pair.{Pair}
 use Rattle.adb_view.specs.declared.tables.Which.{Which}
 use Rattle.adb_view.specs.declared.tables.Which.TheVariants.{File, Dir, Package, Idb, Intent}
@@ -23,12 +23,12 @@ numbered_from n [] = []
 numbered_from n (name ∷ names) = record { name = name; position = n } ∷ numbered_from (n + 1) names
 
 -- the pair that is reported of the names of a list; None if each occurs once
-abbrev pub twice : List (List ℕ) → Option Pair
-twice names = first_pair (numbered_from 1 names)
+abbrev pub first_repeat : List (List ℕ) → Option Pair
+first_repeat names = first_pair (numbered_from 1 names)
 
 -- the pair that is reported of several lists, if a name occurs twice in one of them
 abbrev pub twice_in_one : List (List (List ℕ)) → Option Pair
-twice_in_one lists = earliest (map twice lists)
+twice_in_one lists = first_reported (map first_repeat lists)
 
 -- these names, all of them at position n
 abbrev pub all_at : ℕ → List (List ℕ) → List NameWithPosition
@@ -41,8 +41,8 @@ by_list_from n (names ∷ lists) = all_at n names ++ by_list_from (n + 1) lists
 
 -- the positions of two lists with a common name, of all such pairs the one that is reported; None if there
 -- is none
-abbrev pub in_two : List (List (List ℕ)) → Option Pair
-in_two lists = first_pair (by_list_from 1 lists)
+abbrev pub first_name_in_two_lists : List (List (List ℕ)) → Option Pair
+first_name_in_two_lists lists = first_pair (by_list_from 1 lists)
 
 -- ---- the names of a container
 
@@ -96,22 +96,22 @@ file_twice packages = twice_in_one
 
 -- the pair of positions of two packages of one name in a database
 abbrev pub package_twice : List Plain → Option Pair
-package_twice packages = twice (map package_name packages)
+package_twice packages = first_repeat (map package_name packages)
 
 -- the pair of positions of two packages that list one path
 abbrev pub path_in_two : List Plain → Option Pair
-path_in_two packages = in_two (map paths_in packages)
+path_in_two packages = first_name_in_two_lists (map paths_in packages)
 
 -- the pair of positions at which an intent has one name, in its removals followed by its writes
 abbrev pub name_twice : Plain → Option Pair
-name_twice intent = twice
+name_twice intent = first_repeat
     (map text_in (entries_at INTENT_REMOVALS intent) ++ map text_in (entries_at INTENT_WRITES intent))
 
 -- ---- the fault of a container
 
 -- the number of a field in causes: 100 times the table's number, plus the field's index, plus 1
 abbrev pub field_number : Which → ℕ → ℕ
-field_number which index = 100 * schema_number which + (index + 1)
+field_number which index = 100 * table_number which + (index + 1)
 
 -- the cause of a pair, if there is one, with the number of the field whose texts must not repeat
 abbrev pub repeated_at : ℕ → Option Pair → Option Cause

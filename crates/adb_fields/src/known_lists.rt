@@ -10,7 +10,7 @@ ghost use Rattle.adb_view.specs.Values.{is_sound, kind_at};
 ghost use Rattle.adb_fields.specs.Fields.{are_all_sound};
 ghost use Rattle.adb_fields.specs.KnownLists.{ArePairsOf, twice_at};
 ghost use Rattle.adb_fields.specs.NamedTexts.{plains_at};
-ghost use Rattle.adb_fields.specs.Repeated.{NAME_INDEX, name_of, twice};
+ghost use Rattle.adb_fields.specs.Repeated.{NAME_INDEX, first_repeat, name_of};
 ghost use Rattle.adb_view.specs.declared.tables.Kind.TheVariants as Kinds;
 
 use crate::name_lists::object_names;
@@ -56,7 +56,11 @@ impl<'a> KnownLists<'a> {
 
     /// The pair of positions at which two objects of a list have one name. Only a long list
     /// allocates memory, once.
-    pub(crate) fn twice(&mut self, alloc: Global, list: Val) -> Result<Option<Pair>, AllocError>
+    pub(crate) fn first_repeat(
+        &mut self,
+        alloc: Global,
+        list: Val,
+    ) -> Result<Option<Pair>, AllocError>
         requires { is_sound (payload_of self.old.adb) (Kinds.ObjArr self.old.which) list ≡ true }
         ensures value { IfOk result (λ pair. pair
             ≡ twice_at (payload_of self.old.adb) self.old.which list) }
@@ -95,7 +99,7 @@ fn name_twice_in_list(
         ≡ true }
     requires kind { kind_at which NAME_INDEX ≡ Some Kinds.Text }
     ensures { IfOk result (λ pair. pair
-        ≡ twice (map name_of (plains_at (payload_of adb.entry) (Kinds.Obj which)
+        ≡ first_repeat (map name_of (plains_at (payload_of adb.entry) (Kinds.Obj which)
         (array_entries objects.entry)))) }
 {
     let mut names = object_names(alloc, adb, which, objects)?;

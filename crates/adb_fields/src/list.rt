@@ -4,7 +4,7 @@
 ghost use Rattle.std.specs.Prelude.{◌≡◌, ◌<◌, ◌≤◌, ◌-◌, ◌^◌, ◌==◌, true};
 ghost use Rattle.adb_view.specs.Adb.{payload_of};
 ghost use Rattle.adb_view.specs.Entries.{array_entries};
-ghost use Rattle.adb_view.specs.Plain.{Plain, blob_value};
+ghost use Rattle.adb_view.specs.Plain.{Plain, blob_or_null};
 ghost use Rattle.adb_view.specs.Values.{is_sound, value_at, entry_in, entries_in, count_of};
 ghost use Rattle.adb_fields.specs.Fields.{are_all_sound, array_at};
 ghost use Rattle.adb_view.specs.declared.tables.Kind.{Kind};
@@ -96,7 +96,7 @@ impl<'a> Kinded for &'a [u8] {
 }
 
 impl<'a> View<'a> for &'a [u8] {
-    ghost shows = { λ text. blob_value text.now };
+    ghost shows = { λ text. blob_or_null text.now };
 
     // The text of the word.
     #[tactic(auto, using(crate::proofs::FieldReads::text_shown))]

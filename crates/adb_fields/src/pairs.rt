@@ -5,11 +5,11 @@
 ghost use Rattle.std.specs.Prelude.{◌≡◌, ◌<◌, ◌^◌, ◌+◌, ◌≤◌, length, map, take, drop, slice_get, IfSome, ℕ, List};
 ghost use Rattle.std.specs.Cmp.Lexicographic.{slice_cmp};
 ghost use Rattle.std.specs.Ordering.{nat_cmp};
-ghost use Rattle.adb_fields.specs.Pairs.{first_pair, pair_of, earlier, earliest, is_before};
+ghost use Rattle.adb_fields.specs.Pairs.{first_pair, pair_of, reported_of_two, first_reported, is_reported_before};
 ghost use Rattle.adb_fields.specs.FirstPair.{IsFirstOf};
 ghost use Rattle.adb_fields.specs.FirstPair.{IsPair};
 ghost use Rattle.adb_fields.specs.NamedTexts.{named_by, named_cmp, neighbours};
-ghost use Rattle.adb_fields.specs.Repeated.{by_list_from, in_two, numbered_from, twice, twice_in_one};
+ghost use Rattle.adb_fields.specs.Repeated.{by_list_from, first_name_in_two_lists, first_repeat, numbered_from, twice_in_one};
 ghost use Rattle.adb_fields.specs.FirstPair.{IsPairInOne};
 
 use crate::file_path::FilePath;
@@ -36,8 +36,8 @@ pub(crate) struct PathWithPosition<'a> {
 impl Pair {
     /// Whether this pair is reported rather than another: its second position is smaller, or equal
     /// and its first position is smaller.
-    fn is_before(&self, other: &Pair) -> bool
-        ensures { result ≡ is_before self.now other.now }
+    fn is_reported_before(&self, other: &Pair) -> bool
+        ensures { result ≡ is_reported_before self.now other.now }
     {
         if self.second != other.second {
             return self.second < other.second;
@@ -47,13 +47,13 @@ impl Pair {
 }
 
 /// The one of two pairs that is reported; None if there is neither.
-pub(crate) fn earlier(one: Option<Pair>, other: Option<Pair>) -> Option<Pair>
-    ensures { result ≡ earlier one other }
+pub(crate) fn reported_of_two(one: Option<Pair>, other: Option<Pair>) -> Option<Pair>
+    ensures { result ≡ reported_of_two one other }
 {
     match (one, other) {
         (None, other) => other,
         (one, None) => one,
-        (Some(one), Some(other)) => Some(if other.is_before(&one) { other } else { one }),
+        (Some(one), Some(other)) => Some(if other.is_reported_before(&one) { other } else { one }),
     }
 }
 
@@ -68,11 +68,11 @@ pub(crate) fn first_pair(entries: &mut [PathWithPosition<'_>]) -> Option<Pair>
 
 /// The first pair that a name and the next one make; of sorted names it is the first of all.
 fn first_of_neighbours(entries: &[PathWithPosition<'_>]) -> Option<Pair>
-    ensures { result ≡ earliest (neighbours (map named_by entries.now)) }
+    ensures { result ≡ first_reported (neighbours (map named_by entries.now)) }
 {
     let mut first = None;
     for i in 1..entries.len() {
-        first = earlier(first, pair_of(&entries[i - 1], &entries[i]));
+        first = reported_of_two(first, pair_of(&entries[i - 1], &entries[i]));
     }
     first
 }
@@ -104,7 +104,8 @@ fn compared(one: &PathWithPosition<'_>, other: &PathWithPosition<'_>) -> Orderin
 
 /// A law: of the repeated names of one list the first pair is reported.
 pub fn the_first_pair_of_a_list_is_reported()
-    ensures { (names : List (List ℕ)) → IsFirstOf (IsPair (numbered_from 1 names)) (twice names) }
+    ensures { (names : List (List ℕ))
+        → IsFirstOf (IsPair (numbered_from 1 names)) (first_repeat names) }
 {}
 
 /// A law: of the names of several lists, each for itself, the first pair is reported.
@@ -116,5 +117,5 @@ pub fn the_first_pair_in_one_of_several_lists_is_reported()
 /// reported.
 pub fn the_first_pair_of_two_lists_is_reported()
     ensures { (lists : List (List (List ℕ)))
-        → IsFirstOf (IsPair (by_list_from 1 lists)) (in_two lists) }
+        → IsFirstOf (IsPair (by_list_from 1 lists)) (first_name_in_two_lists lists) }
 {}

@@ -53,7 +53,7 @@ pub fn int_word(adb: Adb<'_>, word: Val) -> u64
     requires { is_sound (payload_of adb) Kinds.Int word ≡ true }
     ensures { result ≡ int_in (value_at (payload_of adb.entry) Kinds.Int word) }
 {
-    match adb.find_int(word) {
+    match adb.int_if_read(word) {
         Some(n) => n,
         None => unreachable!(),
     }
@@ -65,7 +65,7 @@ pub fn text_word<'a>(adb: Adb<'a>, word: Val) -> &'a [u8]
     requires { is_sound (payload_of adb) Kinds.Text word ≡ true }
     ensures { result.now ≡ text_in (value_at (payload_of adb.entry) Kinds.Text word) }
 {
-    match adb.find_blob(word) {
+    match adb.blob_if_read(word) {
         Some(bytes) => bytes,
         None => unreachable!(),
     }
@@ -77,7 +77,7 @@ pub fn hash_word<'a>(adb: Adb<'a>, word: Val) -> &'a [u8]
     requires { is_sound (payload_of adb) Kinds.Hash word ≡ true }
     ensures { result.now ≡ text_in (value_at (payload_of adb.entry) Kinds.Hash word) }
 {
-    match adb.find_blob(word) {
+    match adb.blob_if_read(word) {
         Some(bytes) => bytes,
         None => unreachable!(),
     }
@@ -91,7 +91,7 @@ pub fn texts_word<'a>(adb: Adb<'a>, word: Val) -> Arr<'a>
     ensures value { array_at (payload_of adb.entry) Kinds.Text (array_entries result)
         ≡ value_at (payload_of adb.entry) Kinds.TextArr word }
 {
-    match adb.find_arr(word) {
+    match adb.arr_if_read(word) {
         Some(entries) => entries,
         None => unreachable!(),
     }
@@ -106,7 +106,7 @@ pub fn objects_word<'a>(adb: Adb<'a>, which: Which, word: Val) -> Arr<'a>
     ensures value { array_at (payload_of adb.entry) (Kinds.Obj which) (array_entries result)
         ≡ value_at (payload_of adb.entry) (Kinds.ObjArr which) word }
 {
-    match adb.find_arr(word) {
+    match adb.arr_if_read(word) {
         Some(entries) => entries,
         None => unreachable!(),
     }

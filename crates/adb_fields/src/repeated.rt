@@ -10,7 +10,7 @@ ghost use Rattle.adb_fields.specs.Fields.{are_all_sound};
 ghost use Rattle.adb_fields.specs.ListsOf.{AreListsOf};
 ghost use Rattle.adb_view.specs.ShapedPayload.{shaped_value, table_of};
 ghost use Rattle.adb_view.specs.FieldIndexes.{INTENT_REMOVALS, INTENT_WRITES};
-ghost use Rattle.adb_fields.specs.Repeated.{between_fault, field_number, file_twice, files_in, folder_twice, folders_in, inside_fault, name_of, name_twice, package_twice, path_in_two, repeated_at, repeated_fault, twice, twice_in_one};
+ghost use Rattle.adb_fields.specs.Repeated.{between_fault, field_number, file_twice, files_in, first_repeat, folder_twice, folders_in, inside_fault, name_of, name_twice, package_twice, path_in_two, repeated_at, repeated_fault, twice_in_one};
 ghost use Rattle.adb_fields.specs.Once.{HasNoRepeatedName};
 ghost use Rattle.adb_view.specs.Plain.{Plain};
 ghost use Rattle.adb_view.specs.declared.tables.Which.{Which};
@@ -20,7 +20,7 @@ ghost use Rattle.adb_view.specs.declared.tables.Which.TheVariants as Tables;
 
 use crate::known_lists::KnownLists;
 use crate::name_lists::{add_texts, all_paths, package_names};
-use crate::pairs::{Pair, earlier, first_pair};
+use crate::pairs::{Pair, first_pair, reported_of_two};
 use crate::reads::{field_word, objects_field, texts_field};
 use adb_view::field_indexes::{
     DIR_FILES, IDB_PACKAGES, INTENT_REMOVALS, INTENT_WRITES, PACKAGE_PATHS,
@@ -198,11 +198,11 @@ fn folder_twice_in_package(
     requires sound { is_sound (payload_of adb) (Kinds.Obj Tables.Package) pkg ≡ true }
     requires lists { AreListsOf adb Tables.Dir lists.old }
     ensures pair { IfOk result (λ pair. pair
-        ≡ twice (map name_of (folders_in
+        ≡ first_repeat (map name_of (folders_in
         (value_at (payload_of adb.entry) (Kinds.Obj Tables.Package) pkg)))) }
     ensures lists { AreListsOf adb.entry Tables.Dir lists.new }
 {
-    lists.twice(alloc, field_word(adb, Which::Package, pkg, PACKAGE_PATHS))
+    lists.first_repeat(alloc, field_word(adb, Which::Package, pkg, PACKAGE_PATHS))
 }
 
 /// The first pair of positions at which one of a package's folders lists one file.
@@ -224,7 +224,7 @@ fn file_twice_in_package(
     let mut first = None;
     for i in 0..folders.len() {
         let folder = entry_word(folders, i);
-        first = earlier(first, file_twice_in_folder(alloc, adb, lists, folder)?);
+        first = reported_of_two(first, file_twice_in_folder(alloc, adb, lists, folder)?);
     }
     Ok(first)
 }
@@ -239,11 +239,11 @@ fn file_twice_in_folder(
     requires sound { is_sound (payload_of adb) (Kinds.Obj Tables.Dir) folder ≡ true }
     requires lists { AreListsOf adb Tables.File lists.old }
     ensures pair { IfOk result (λ pair. pair
-        ≡ twice (map name_of (files_in
+        ≡ first_repeat (map name_of (files_in
         (value_at (payload_of adb.entry) (Kinds.Obj Tables.Dir) folder)))) }
     ensures lists { AreListsOf adb.entry Tables.File lists.new }
 {
-    lists.twice(alloc, field_word(adb, Which::Dir, folder, DIR_FILES))
+    lists.first_repeat(alloc, field_word(adb, Which::Dir, folder, DIR_FILES))
 }
 
 /// The first pair of positions at which one of the packages lists one folder.
@@ -259,7 +259,7 @@ fn folder_twice(alloc: Global, adb: Adb<'_>, packages: Arr<'_>) -> Result<Option
     let mut first = None;
     for i in 0..packages.len() {
         let pkg = entry_word(packages, i);
-        first = earlier(first, folder_twice_in_package(alloc, adb, &mut lists, pkg)?);
+        first = reported_of_two(first, folder_twice_in_package(alloc, adb, &mut lists, pkg)?);
     }
     Ok(first)
 }
@@ -277,7 +277,7 @@ fn file_twice(alloc: Global, adb: Adb<'_>, packages: Arr<'_>) -> Result<Option<P
     let mut first = None;
     for i in 0..packages.len() {
         let pkg = entry_word(packages, i);
-        first = earlier(first, file_twice_in_package(alloc, adb, &mut lists, pkg)?);
+        first = reported_of_two(first, file_twice_in_package(alloc, adb, &mut lists, pkg)?);
     }
     Ok(first)
 }

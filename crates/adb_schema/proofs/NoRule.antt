@@ -2,14 +2,14 @@
 use Rattle.std.proofs.Common.{◌≡◌, ℕ, ◌+◌, ◌*◌, false, eqb, List, [], ◌∷◌, None, refl, ap, ◌∙◌}
 use Rattle.std.specs.Prelude.{⊤}
 use Rattle.adb_view.specs.Plain.{Plains, none, more}
-use Rattle.adb_view.specs.Schema.{schema_number, table, shape_of, shapes_of}
+use Rattle.adb_view.specs.Schema.{table_number, table, shape_of, shapes_of}
 use Rattle.adb_view.specs.Values.{entries_in, nth, text_in}
 use Rattle.adb_view.specs.declared.tables.Kind.TheVariants.{Int, Text, Hash, Obj, TextArr}
 use Rattle.adb_view.specs.declared.tables.Which.{Which}
 use Rattle.adb_view.specs.declared.tables.Which.TheVariants.{Acl, Scripts}
 use Rattle.adb_view.specs.declared.tables.Field.{Field}
 use Rattle.adb_schema.specs.TextWalk.{TakesEachText, TakesEachValue}
-use Rattle.adb_schema.specs.Texts.{Surroundings, text_rule, text_leaf, each_leaf, field_leaves, first_bad, inside_of, leaves}
+use Rattle.adb_schema.specs.Texts.{Surroundings, text_rule, text_leaf, each_leaf, field_leaves, first_bad, surroundings_of_fields, leaves}
 use Rattle.adb_schema.proofs.TextSteps.{behind, behind_good, int_leaves, text_leaves, hash_leaves, texts_leaves, object_leaves, one_field}
 
 pub int_free : (n : ℕ) → eqb n 103 ≡ false → TakesEachValue Int n
@@ -45,9 +45,9 @@ fields_free (f ∷ fs) n free around vs =
     ∙ behind_good (leaves (shape_of f.kind) n around (nth vs 0)) (field_leaves (shapes_of fs) (n + 1) around (behind 1 vs)) (free.0 around (nth vs 0))
     ∙ fields_free fs (n + 1) free.1 around (behind 1 vs)
 
-object_free : (which : Which) → AreFree (table which) (100 * schema_number which + 1) → (n : ℕ) → TakesEachValue (Obj which) n
+object_free : (which : Which) → AreFree (table which) (100 * table_number which + 1) → (n : ℕ) → TakesEachValue (Obj which) n
 object_free which free n around v =
-    ap first_bad (object_leaves which n around v) ∙ fields_free (table which) (100 * schema_number which + 1) free (inside_of (schema_number which) around v) (entries_in v)
+    ap first_bad (object_leaves which n around v) ∙ fields_free (table which) (100 * table_number which + 1) free (surroundings_of_fields (table_number which) around v) (entries_in v)
 
 pub acl_free : (n : ℕ) → TakesEachValue (Obj Acl) n
 unfolding text_rule

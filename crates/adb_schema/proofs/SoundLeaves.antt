@@ -12,7 +12,7 @@ use Rattle.adb_view.specs.Schema.{shape_of, shapes_of, table}
 use Rattle.adb_view.specs.declared.tables.Which.{Which}
 use Rattle.adb_view.specs.declared.tables.Which.TheVariants as Tables
 use Rattle.adb_view.specs.declared.tables.Kind.TheVariants.{Obj, ObjArr, TextArr}
-use Rattle.adb_schema.specs.Texts.{Surroundings, Leaf, each_leaf, leaves, field_leaves, first_bad, text_fault, text_rule, at_root, inside_of, may_list}
+use Rattle.adb_schema.specs.Texts.{Surroundings, Leaf, each_leaf, leaves, field_leaves, first_bad, text_fault, text_rule, surroundings_of_root, surroundings_of_fields, may_list}
 use Rattle.dep_core.specs.Value.{is_matching}
 use Rattle.adb_fields.specs.Paths.{path_of}
 use Rattle.adb_schema.specs.Rules.{is_file_name}
@@ -112,7 +112,7 @@ kept_hash k a v e = good_if (text_rule k a (text_in v)) (BadText k) e
 dependency_of : (k : ℕ) (a : Surroundings) (v : Plain) → Good (leaves (shape_of (Obj Tables.Dep)) k a v) → IsSoundDependency v
 unfolding leaves shape_of text_rule
 dependency_of k a v g =
-    let b : Surroundings = inside_of 1 a v in
+    let b : Surroundings = surroundings_of_fields 1 a v in
     let h = good_fields (shapes_of (table Tables.Dep)) 101 b (entries_in v) g in
     record {
       name = text_kept 101 b (entry_in v 0) h.0;
@@ -123,7 +123,7 @@ dependency_of k a v g =
 of_dependency : (k : ℕ) (a : Surroundings) (v : Plain) → IsSoundDependency v → Good (leaves (shape_of (Obj Tables.Dep)) k a v)
 unfolding leaves shape_of text_rule
 of_dependency k a v d =
-    let b : Surroundings = inside_of 1 a v in
+    let b : Surroundings = surroundings_of_fields 1 a v in
     fields_good (shapes_of (table Tables.Dep)) 101 b (entries_in v)
     (kept_text 101 b (entry_in v 0) d.name, (kept_text 102 b (entry_in v 1) d.version, (good_if (is_matching (int_in (entry_in v 2))) (BadText 103) d.matching, tt)))
 
@@ -143,7 +143,7 @@ plain_texts k a v h = always_each (leaves text k a) (λ u. kept_text k a u (h (t
 information_of : (k : ℕ) (a : Surroundings) (v : Plain) → Good (leaves (shape_of (Obj Tables.PkgInfo)) k a v) → IsInformation a.root v
 unfolding leaves shape_of text_rule
 information_of k a v g =
-    let b : Surroundings = inside_of 3 a v in
+    let b : Surroundings = surroundings_of_fields 3 a v in
     let h = good_fields (shapes_of (table Tables.PkgInfo)) 301 b (entries_in v) g in
     let d = h.1.1.1.1.1.1.1.1.1.1.1.1.1.1 in
     record {
@@ -160,22 +160,22 @@ information_of k a v g =
 of_information : (k : ℕ) (a : Surroundings) (v : Plain) → IsInformation a.root v → Good (leaves (shape_of (Obj Tables.PkgInfo)) k a v)
 unfolding leaves shape_of text_rule
 of_information k a v d =
-    let b : Surroundings = inside_of 3 a v in
+    let b : Surroundings = surroundings_of_fields 3 a v in
     fields_good (shapes_of (table Tables.PkgInfo)) 301 b (entries_in v)
     (kept_text 301 b (entry_in v 0) d.name, (kept_text 302 b (entry_in v 1) d.version, (kept_hash 303 b (entry_in v 2) d.hash, (refl, (refl, (refl, (refl, (refl, (refl, (refl, (refl, (refl, (refl, (refl, (of_dependencies 315 b (entry_in v 14) d.depends, (of_dependencies 316 b (entry_in v 15) d.provides, (of_dependencies 317 b (entry_in v 16) d.replaces, (of_dependencies 318 b (entry_in v 17) d.install_if, (of_dependencies 319 b (entry_in v 18) d.recommends, (refl, (plain_texts 321 b (entry_in v 20) (λ bytes. refl), (refl, tt))))))))))))))))))))))
 
 rights_good : (k : ℕ) (a : Surroundings) (v : Plain) → Good (leaves (shape_of (Obj Tables.Acl)) k a v)
 unfolding leaves shape_of text_rule
-rights_good k a v = fields_good (shapes_of (table Tables.Acl)) 201 (inside_of 2 a v) (entries_in v) (refl, (refl, (refl, (plain_texts 204 (inside_of 2 a v) (entry_in v 3) (λ bytes. refl), tt))))
+rights_good k a v = fields_good (shapes_of (table Tables.Acl)) 201 (surroundings_of_fields 2 a v) (entries_in v) (refl, (refl, (refl, (plain_texts 204 (surroundings_of_fields 2 a v) (entry_in v 3) (λ bytes. refl), tt))))
 
 scripts_good : (k : ℕ) (a : Surroundings) (v : Plain) → Good (leaves (shape_of (Obj Tables.Scripts)) k a v)
 unfolding leaves shape_of text_rule
-scripts_good k a v = fields_good (shapes_of (table Tables.Scripts)) 601 (inside_of 6 a v) (entries_in v) (refl, (refl, (refl, (refl, (refl, (refl, (refl, tt)))))))
+scripts_good k a v = fields_good (shapes_of (table Tables.Scripts)) 601 (surroundings_of_fields 6 a v) (entries_in v) (refl, (refl, (refl, (refl, (refl, (refl, (refl, tt)))))))
 
 file_of : (k : ℕ) (a : Surroundings) (v : Plain) → Good (leaves (shape_of (Obj Tables.File)) k a v) → IsFileOf a.root a.folder v
 unfolding leaves shape_of text_rule
 file_of k a v g =
-    let b : Surroundings = inside_of 4 a v in
+    let b : Surroundings = surroundings_of_fields 4 a v in
     let h = good_fields (shapes_of (table Tables.File)) 401 b (entries_in v) g in
     let (name, listed) = and_parts (is_file_name a.folder (text_in (entry_in v 0))) (may_list a.root (path_of a.folder (text_in (entry_in v 0)))) (text_kept 401 b (entry_in v 0) h.0) in
     record {
@@ -188,7 +188,7 @@ file_of k a v g =
 of_file : (k : ℕ) (a : Surroundings) (v : Plain) → IsFileOf a.root a.folder v → Good (leaves (shape_of (Obj Tables.File)) k a v)
 unfolding leaves shape_of text_rule
 of_file k a v d =
-    let b : Surroundings = inside_of 4 a v in
+    let b : Surroundings = surroundings_of_fields 4 a v in
     let named = and_from (is_file_name a.folder (text_in (entry_in v 0))) (may_list a.root (path_of a.folder (text_in (entry_in v 0)))) d.name d.listed in
     fields_good (shapes_of (table Tables.File)) 401 b (entries_in v)
     (kept_text 401 b (entry_in v 0) named, (rights_good 402 b (entry_in v 1), (refl, (refl, (kept_hash 405 b (entry_in v 4) d.hash, (kept_text 406 b (entry_in v 5) d.target, (refl, tt)))))))
@@ -196,7 +196,7 @@ of_file k a v d =
 folder_of : (k : ℕ) (a : Surroundings) (v : Plain) → Good (leaves (shape_of (Obj Tables.Dir)) k a v) → IsFolder a.root v
 unfolding leaves shape_of text_rule
 folder_of k a v g =
-    let b : Surroundings = inside_of 5 a v in
+    let b : Surroundings = surroundings_of_fields 5 a v in
     let h = good_fields (shapes_of (table Tables.Dir)) 501 b (entries_in v) g in
     record {
       name = text_kept 501 b (entry_in v 0) h.0;
@@ -206,14 +206,14 @@ folder_of k a v g =
 of_folder : (k : ℕ) (a : Surroundings) (v : Plain) → IsFolder a.root v → Good (leaves (shape_of (Obj Tables.Dir)) k a v)
 unfolding leaves shape_of text_rule
 of_folder k a v d =
-    let b : Surroundings = inside_of 5 a v in
+    let b : Surroundings = surroundings_of_fields 5 a v in
     fields_good (shapes_of (table Tables.Dir)) 501 b (entries_in v)
     (kept_text 501 b (entry_in v 0) d.name, (rights_good 502 b (entry_in v 1), (good_each (IsFileOf b.root b.folder) (leaves (shape_of (Obj Tables.File)) 503 b) (of_file 503 b) (entries_in (entry_in v 2)) d.files, tt)))
 
 package_of : (k : ℕ) (a : Surroundings) (v : Plain) → Good (leaves (shape_of (Obj Tables.Package)) k a v) → IsPackage a.root v
 unfolding leaves shape_of text_rule
 package_of k a v g =
-    let b : Surroundings = inside_of 7 a v in
+    let b : Surroundings = surroundings_of_fields 7 a v in
     let h = good_fields (shapes_of (table Tables.Package)) 701 b (entries_in v) g in
     record {
       info = information_of 701 b (entry_in v 0) h.0;
@@ -223,66 +223,66 @@ package_of k a v g =
 of_package : (k : ℕ) (a : Surroundings) (v : Plain) → IsPackage a.root v → Good (leaves (shape_of (Obj Tables.Package)) k a v)
 unfolding leaves shape_of text_rule
 of_package k a v d =
-    let b : Surroundings = inside_of 7 a v in
+    let b : Surroundings = surroundings_of_fields 7 a v in
     fields_good (shapes_of (table Tables.Package)) 701 b (entries_in v)
     (of_information 701 b (entry_in v 0) d.info, (good_each (IsFolder b.root) (leaves (shape_of (Obj Tables.Dir)) 702 b) (of_folder 702 b) (entries_in (entry_in v 1)) d.folders, (scripts_good 703 b (entry_in v 2), (plain_texts 704 b (entry_in v 3) (λ bytes. refl), (refl, tt)))))
 
-index_of : (v : Plain) → Good (leaves (shape_of (Obj Tables.Index)) 0 (at_root Tables.Index) v) → IsIndex v
+index_of : (v : Plain) → Good (leaves (shape_of (Obj Tables.Index)) 0 (surroundings_of_root Tables.Index) v) → IsIndex v
 unfolding leaves shape_of text_rule
 index_of v g =
-    let b : Surroundings = inside_of 8 (at_root Tables.Index) v in
+    let b : Surroundings = surroundings_of_fields 8 (surroundings_of_root Tables.Index) v in
     let h = good_fields (shapes_of (table Tables.Index)) 801 b (entries_in v) g in
     record {
       packages = each_good (IsInformation Tables.Index) (leaves (shape_of (Obj Tables.PkgInfo)) 802 b) (information_of 802 b) (entries_in (entry_in v 1)) h.1.0;
       pattern = text_kept 803 b (entry_in v 2) h.1.1.0;
     }
 
-of_index : (v : Plain) → IsIndex v → Good (leaves (shape_of (Obj Tables.Index)) 0 (at_root Tables.Index) v)
+of_index : (v : Plain) → IsIndex v → Good (leaves (shape_of (Obj Tables.Index)) 0 (surroundings_of_root Tables.Index) v)
 unfolding leaves shape_of text_rule
 of_index v d =
-    let b : Surroundings = inside_of 8 (at_root Tables.Index) v in
+    let b : Surroundings = surroundings_of_fields 8 (surroundings_of_root Tables.Index) v in
     fields_good (shapes_of (table Tables.Index)) 801 b (entries_in v)
     (refl, (good_each (IsInformation Tables.Index) (leaves (shape_of (Obj Tables.PkgInfo)) 802 b) (of_information 802 b) (entries_in (entry_in v 1)) d.packages, (kept_text 803 b (entry_in v 2) d.pattern, tt)))
 
-database_of : (v : Plain) → Good (leaves (shape_of (Obj Tables.Idb)) 0 (at_root Tables.Idb) v) → Each (IsPackage Tables.Idb) (entries_in (entry_in v 0))
+database_of : (v : Plain) → Good (leaves (shape_of (Obj Tables.Idb)) 0 (surroundings_of_root Tables.Idb) v) → Each (IsPackage Tables.Idb) (entries_in (entry_in v 0))
 unfolding leaves shape_of text_rule
 database_of v g =
-    let b : Surroundings = inside_of 9 (at_root Tables.Idb) v in
+    let b : Surroundings = surroundings_of_fields 9 (surroundings_of_root Tables.Idb) v in
     let h = good_fields (shapes_of (table Tables.Idb)) 901 b (entries_in v) g in
     each_good (IsPackage Tables.Idb) (leaves (shape_of (Obj Tables.Package)) 901 b) (package_of 901 b) (entries_in (entry_in v 0)) h.0
 
-of_database : (v : Plain) → Each (IsPackage Tables.Idb) (entries_in (entry_in v 0)) → Good (leaves (shape_of (Obj Tables.Idb)) 0 (at_root Tables.Idb) v)
+of_database : (v : Plain) → Each (IsPackage Tables.Idb) (entries_in (entry_in v 0)) → Good (leaves (shape_of (Obj Tables.Idb)) 0 (surroundings_of_root Tables.Idb) v)
 unfolding leaves shape_of text_rule
 of_database v d =
-    let b : Surroundings = inside_of 9 (at_root Tables.Idb) v in
+    let b : Surroundings = surroundings_of_fields 9 (surroundings_of_root Tables.Idb) v in
     fields_good (shapes_of (table Tables.Idb)) 901 b (entries_in v)
     (good_each (IsPackage Tables.Idb) (leaves (shape_of (Obj Tables.Package)) 901 b) (of_package 901 b) (entries_in (entry_in v 0)) d, tt)
 
-intent_of : (v : Plain) → Good (leaves (shape_of (Obj Tables.Intent)) 0 (at_root Tables.Intent) v) → IsIntent v
+intent_of : (v : Plain) → Good (leaves (shape_of (Obj Tables.Intent)) 0 (surroundings_of_root Tables.Intent) v) → IsIntent v
 unfolding leaves shape_of text_rule
 intent_of v g =
-    let b : Surroundings = inside_of 10 (at_root Tables.Intent) v in
+    let b : Surroundings = surroundings_of_fields 10 (surroundings_of_root Tables.Intent) v in
     let h = good_fields (shapes_of (table Tables.Intent)) 1001 b (entries_in v) g in
     record {
       removals = each_good IsChangeName (leaves text 1001 b) (text_kept 1001 b) (entries_in (entry_in v 0)) h.0;
       writes = each_good IsChangeName (leaves text 1002 b) (text_kept 1002 b) (entries_in (entry_in v 1)) h.1.0;
     }
 
-of_intent : (v : Plain) → IsIntent v → Good (leaves (shape_of (Obj Tables.Intent)) 0 (at_root Tables.Intent) v)
+of_intent : (v : Plain) → IsIntent v → Good (leaves (shape_of (Obj Tables.Intent)) 0 (surroundings_of_root Tables.Intent) v)
 unfolding leaves shape_of text_rule
 of_intent v d =
-    let b : Surroundings = inside_of 10 (at_root Tables.Intent) v in
+    let b : Surroundings = surroundings_of_fields 10 (surroundings_of_root Tables.Intent) v in
     fields_good (shapes_of (table Tables.Intent)) 1001 b (entries_in v)
     (good_each IsChangeName (leaves text 1001 b) (kept_text 1001 b) (entries_in (entry_in v 0)) d.removals, (good_each IsChangeName (leaves text 1002 b) (kept_text 1002 b) (entries_in (entry_in v 1)) d.writes, tt))
 
 pub rules_kept : (which : Which) (v : Plain) → (text_fault which v ≡ None) ↔ KeepsRules which v
-rules_kept Tables.Dep v = (dependency_of 0 (at_root Tables.Dep) v, of_dependency 0 (at_root Tables.Dep) v)
-rules_kept Tables.Acl v = (λ g. tt, λ d. rights_good 0 (at_root Tables.Acl) v)
-rules_kept Tables.PkgInfo v = (information_of 0 (at_root Tables.PkgInfo) v, of_information 0 (at_root Tables.PkgInfo) v)
-rules_kept Tables.File v = (file_of 0 (at_root Tables.File) v, of_file 0 (at_root Tables.File) v)
-rules_kept Tables.Dir v = (folder_of 0 (at_root Tables.Dir) v, of_folder 0 (at_root Tables.Dir) v)
-rules_kept Tables.Scripts v = (λ g. tt, λ d. scripts_good 0 (at_root Tables.Scripts) v)
-rules_kept Tables.Package v = (package_of 0 (at_root Tables.Package) v, of_package 0 (at_root Tables.Package) v)
+rules_kept Tables.Dep v = (dependency_of 0 (surroundings_of_root Tables.Dep) v, of_dependency 0 (surroundings_of_root Tables.Dep) v)
+rules_kept Tables.Acl v = (λ g. tt, λ d. rights_good 0 (surroundings_of_root Tables.Acl) v)
+rules_kept Tables.PkgInfo v = (information_of 0 (surroundings_of_root Tables.PkgInfo) v, of_information 0 (surroundings_of_root Tables.PkgInfo) v)
+rules_kept Tables.File v = (file_of 0 (surroundings_of_root Tables.File) v, of_file 0 (surroundings_of_root Tables.File) v)
+rules_kept Tables.Dir v = (folder_of 0 (surroundings_of_root Tables.Dir) v, of_folder 0 (surroundings_of_root Tables.Dir) v)
+rules_kept Tables.Scripts v = (λ g. tt, λ d. scripts_good 0 (surroundings_of_root Tables.Scripts) v)
+rules_kept Tables.Package v = (package_of 0 (surroundings_of_root Tables.Package) v, of_package 0 (surroundings_of_root Tables.Package) v)
 rules_kept Tables.Index v = (index_of v, of_index v)
 rules_kept Tables.Idb v = (database_of v, of_database v)
 rules_kept Tables.Intent v = (intent_of v, of_intent v)

@@ -6,14 +6,14 @@ use Rattle.std.proofs.lemmas.List.{drop_more, drop_all}
 use Rattle.base_core.specs.declared.cause.Cause.{Cause}
 use Rattle.base_core.specs.declared.cause.Cause.TheVariants.{BadText}
 use Rattle.adb_view.specs.Plain.{Plain, Plains, none, more, then_more, each_plain, plain_of}
-use Rattle.adb_view.specs.Schema.{schema_number, table, shape_of, shapes_of}
+use Rattle.adb_view.specs.Schema.{table_number, table, shape_of, shapes_of}
 use Rattle.adb_fields.specs.Fields.{IsFieldOf, are_all_sound, values_at, array_at}
 use Rattle.adb_view.specs.Values.{is_sound, value_at, entries_in, nth, int_in, text_in}
 use Rattle.adb_view.specs.Rank.{rank, rank_of_all}
 use Rattle.adb_view.proofs.ValueEntries.{entries_arr}
 use Rattle.adb_view.proofs.WalkSteps.{field_rank}
 use Rattle.adb_schema.specs.TextWalk.{IsSameAsBefore, bad_text_at}
-use Rattle.adb_schema.specs.Texts.{Surroundings, Leaf, number_leaf, text_leaf, keeps_rule, number_of_leaf, each_leaf, leaves, field_leaves, inside_of, first_bad}
+use Rattle.adb_schema.specs.Texts.{Surroundings, Leaf, number_leaf, text_leaf, keeps_rule, number_of_leaf, each_leaf, leaves, field_leaves, surroundings_of_fields, first_bad}
 use Rattle.adb_view.specs.Shapes.{object_shape, objects_shape, texts_shape, int_shape, text_shape, hash_shape}
 use Rattle.adb_view.specs.declared.tables.Which.{Which}
 use Rattle.adb_view.specs.declared.tables.Which.TheVariants.{Dep, Acl, PkgInfo, File, Dir, Scripts, Package, Index, Idb, Intent}
@@ -43,7 +43,7 @@ pub objects_leaves : (which : Which) (field_number : ℕ) (a : Surroundings) (v 
 unfolding leaves
 objects_leaves which field_number a v = ap (λ s. leaves s field_number a v) (objects_shape which)
 
-pub object_leaves : (which : Which) (field_number : ℕ) (a : Surroundings) (v : Plain) → leaves (shape_of (Obj which)) field_number a v ≡ field_leaves (shapes_of (table which)) (100 * schema_number which + 1) (inside_of (schema_number which) a v) (entries_in v)
+pub object_leaves : (which : Which) (field_number : ℕ) (a : Surroundings) (v : Plain) → leaves (shape_of (Obj which)) field_number a v ≡ field_leaves (shapes_of (table which)) (100 * table_number which + 1) (surroundings_of_fields (table_number which) a v) (entries_in v)
 unfolding leaves
 object_leaves which field_number a v = ap (λ s. leaves s field_number a v) (object_shape which)
 
@@ -296,8 +296,8 @@ pub objects_done : (p : List ℕ) (k : Kind) (which : Which) (field_number : ℕ
 objects_done p k which field_number a w ws r is read e =
     along r _ _ (ap (λ vs. first_bad (each_leaf (leaves (shape_of (Obj which)) field_number a) vs)) (sym (entries_arr (values_at p (Obj which) ws)) ∙ ap entries_in read) ∙ ap first_bad (sym (objects_leaves which field_number a (value_at p (ObjArr which) w))) ∙ at_kind p k (ObjArr which) field_number a w is) e
 
-pub object_done : (p : List ℕ) (k : Kind) (which : Which) (field_number : ℕ) (a inside : Surroundings) (w : ℕ) {E : Type 0} (r : Result (Option ℕ) E) → k ≡ Obj which → inside ≡ inside_of (schema_number which) a (value_at p (Obj which) w)
-    → IfOk r (λ o. bad_text_at o ≡ first_bad (field_leaves (shapes_of (table which)) (100 * schema_number which + 1) inside (entries_in (value_at p (Obj which) w)))) → IfOk r (λ o. bad_text_at o ≡ first_bad (leaves (shape_of k) field_number a (value_at p k w)))
+pub object_done : (p : List ℕ) (k : Kind) (which : Which) (field_number : ℕ) (a inside : Surroundings) (w : ℕ) {E : Type 0} (r : Result (Option ℕ) E) → k ≡ Obj which → inside ≡ surroundings_of_fields (table_number which) a (value_at p (Obj which) w)
+    → IfOk r (λ o. bad_text_at o ≡ first_bad (field_leaves (shapes_of (table which)) (100 * table_number which + 1) inside (entries_in (value_at p (Obj which) w)))) → IfOk r (λ o. bad_text_at o ≡ first_bad (leaves (shape_of k) field_number a (value_at p k w)))
 object_done p k which field_number a inside w r is made e =
-    along r _ _ (ap (λ (b : Surroundings). first_bad (field_leaves (shapes_of (table which)) (100 * schema_number which + 1) b (entries_in (value_at p (Obj which) w)))) made
+    along r _ _ (ap (λ (b : Surroundings). first_bad (field_leaves (shapes_of (table which)) (100 * table_number which + 1) b (entries_in (value_at p (Obj which) w)))) made
     ∙ ap first_bad (sym (object_leaves which field_number a (value_at p (Obj which) w))) ∙ at_kind p k (Obj which) field_number a w is) e

@@ -6,8 +6,8 @@ use Rattle.adb_view.specs.declared.tables.Which.{Which}
 use Rattle.adb_schema.specs.declared.checked.Checked.{Checked}
 
 -- the table at the root of a checked payload
-abbrev pub which_of : Checked → Which
-which_of checked = table_of checked.shaped
+abbrev pub table_of_checked : Checked → Which
+table_of_checked checked = table_of checked.shaped
 
 -- the plain value of the root of a checked payload
 abbrev pub checked_value : Checked → Plain

@@ -14,7 +14,7 @@ use Rattle.adb_fields.specs.Paths.{path_of}
 use Rattle.adb_fields.specs.Repeated.{field_number}
 use Rattle.adb_schema.specs.Rules.{is_change_name, is_digest_length, is_digest_length_or_none, is_file_name, is_folder_name, is_id_length, is_name_pattern, is_target}
 use Rattle.adb_view.specs.FieldIndexes.{DEP_MATCH, DEP_NAME, DEP_VERSION, DIR_NAME, FILE_HASHES, FILE_NAME, FILE_SIZE, FILE_TARGET, INDEX_PKGNAME_SPEC, INFO_HASHES, INFO_NAME, INFO_VERSION, INTENT_REMOVALS, INTENT_WRITES}
-use Rattle.adb_view.specs.Schema.{schema_number, shape_of}
+use Rattle.adb_view.specs.Schema.{shape_of, table_number}
 use Rattle.adb_view.specs.Values.{entries_in, entry_in, int_in, text_in}
 use Rattle.adb_view.specs.declared.tables.Which.{Which}
 use Rattle.adb_view.specs.declared.tables.Which.TheVariants.{Dep, PkgInfo, File, Dir, Index, Idb, Intent}
@@ -107,11 +107,11 @@ is_with_contents file = (length (text_in (entry_in file FILE_TARGET)) == 0)
     && nat_lt 0 (int_in (entry_in file FILE_SIZE))
 
 -- the surroundings of an object's fields, by the number of its table and the surroundings of the object
-abbrev pub inside_of : ℕ → Surroundings → Plain → Surroundings
-inside_of schema around v = record {
+abbrev pub surroundings_of_fields : ℕ → Surroundings → Plain → Surroundings
+surroundings_of_fields schema around v = record {
   root = around.root;
-  folder = if schema == schema_number Dir then text_in (entry_in v DIR_NAME) else around.folder;
-  has_contents = if schema == schema_number File then is_with_contents v else around.has_contents;
+  folder = if schema == table_number Dir then text_in (entry_in v DIR_NAME) else around.folder;
+  has_contents = if schema == table_number File then is_with_contents v else around.has_contents;
 }
 
 -- the numbers and texts of each of the values, in order
@@ -128,7 +128,7 @@ unfoldable mutual
   leaves hash field_number around v = text_leaf field_number around (text_in v) ∷ []
   leaves (array s) field_number around v = each_leaf (leaves s field_number around) (entries_in v)
   leaves (object schema fs) field_number around v = field_leaves fs (100 * schema + 1)
-      (inside_of schema around v) (entries_in v)
+      (surroundings_of_fields schema around v) (entries_in v)
 
   -- the numbers and texts of the fields of an object, the first of which has this number
   pub field_leaves : Fields → ℕ → Surroundings → Plains → List Leaf
@@ -139,12 +139,12 @@ unfoldable mutual
       ++ field_leaves fs (field_number + 1) around vs
 
 -- the surroundings of the root: no folder and no file
-abbrev pub at_root : Which → Surroundings
-at_root which = record { root = which; folder = []; has_contents = false }
+abbrev pub surroundings_of_root : Which → Surroundings
+surroundings_of_root which = record { root = which; folder = []; has_contents = false }
 
 -- the numbers and texts of a container with this table at its root
 abbrev pub leaves_of : Which → Plain → List Leaf
-leaves_of which v = leaves (shape_of (Obj which)) 0 (at_root which) v
+leaves_of which v = leaves (shape_of (Obj which)) 0 (surroundings_of_root which) v
 
 -- ---- the first fault
 

@@ -32,7 +32,7 @@ pub struct Checked<'a> {
 impl<'a> Checked<'a> {
     ghost use Rattle.adb_view.specs.ShapedPayload.{adb_of};
     ghost use Rattle.adb_schema.specs.SoundValues.{KeepsRules};
-    ghost use Rattle.adb_schema.specs.Checked.{which_of, checked_value};
+    ghost use Rattle.adb_schema.specs.Checked.{table_of_checked, checked_value};
     ghost use Rattle.adb_schema.specs.ReadFaults.{IsReadFault};
     ghost use Rattle.adb_schema.specs.Views.{package_value, index_value, idb_value, intent_value};
 
@@ -48,7 +48,7 @@ impl<'a> Checked<'a> {
             IsReadFault fault (text_fault (table_of shaped.entry) (shaped_value shaped.entry))) }
         ensures sound { IfOk result (λ _.
             text_fault (table_of shaped.entry) (shaped_value shaped.entry) ≡ None) }
-        ensures which { IfOk result (λ checked. which_of checked ≡ table_of shaped.entry) }
+        ensures which { IfOk result (λ checked. table_of_checked checked ≡ table_of shaped.entry) }
         ensures value { IfOk result (λ checked. checked_value checked ≡ shaped_value shaped.entry) }
         ensures payload { IfOk result (λ checked. adb_of checked.shaped ≡ adb_of shaped.entry) }
     {
@@ -68,14 +68,14 @@ impl<'a> Checked<'a> {
     /// Each text and number of a checked payload obeys the rule of its field: a name is a
     /// package's, a version a version.
     pub fn values_keep_their_rules(&self)
-        ensures { KeepsRules (which_of self.now) (checked_value self.now) }
+        ensures { KeepsRules (table_of_checked self.now) (checked_value self.now) }
     {
         no_text_is_bad_where_each_keeps_its_rule();
     }
 
     /// The package in the payload.
     pub fn package(&self) -> PackageView<'a>
-        requires { which_of self.now ≡ Tables.Package }
+        requires { table_of_checked self.now ≡ Tables.Package }
         ensures { package_value result ≡ checked_value self.now }
     {
         let adb = self.shaped.adb();
@@ -84,7 +84,7 @@ impl<'a> Checked<'a> {
 
     /// The index in the payload.
     pub fn index(&self) -> IndexView<'a>
-        requires { which_of self.now ≡ Tables.Index }
+        requires { table_of_checked self.now ≡ Tables.Index }
         ensures { index_value result ≡ checked_value self.now }
     {
         let adb = self.shaped.adb();
@@ -93,7 +93,7 @@ impl<'a> Checked<'a> {
 
     /// The installed database in the payload.
     pub fn idb(&self) -> IdbView<'a>
-        requires { which_of self.now ≡ Tables.Idb }
+        requires { table_of_checked self.now ≡ Tables.Idb }
         ensures { idb_value result ≡ checked_value self.now }
     {
         let adb = self.shaped.adb();
@@ -102,7 +102,7 @@ impl<'a> Checked<'a> {
 
     /// The journal entry in the payload.
     pub fn intent(&self) -> IntentView<'a>
-        requires { which_of self.now ≡ Tables.Intent }
+        requires { table_of_checked self.now ≡ Tables.Intent }
         ensures { intent_value result ≡ checked_value self.now }
     {
         let adb = self.shaped.adb();

@@ -10,7 +10,7 @@ ghost use Rattle.adb_fields.specs.Repeated.{repeated_fault};
 ghost use Rattle.adb_block.specs.Reading.{reading_of};
 ghost use Rattle.adb_view.specs.Adb.{payload_of};
 ghost use Rattle.adb_view.specs.ShapedPayload.{adb_of};
-ghost use Rattle.adb_schema.specs.Checked.{checked_value, which_of};
+ghost use Rattle.adb_schema.specs.Checked.{checked_value, table_of_checked};
 ghost use Rattle.adb_view.specs.Plain.{IsNormal};
 ghost use Rattle.adb_view.specs.declared.tables.Which.{Which};
 ghost use Rattle.adb_schema.specs.SoundContainers.{IsSoundValue};
@@ -105,7 +105,7 @@ pub fn schema_word(which: Which) -> Option<u32>
 /// and among those the one with the smallest first position.
 pub fn repeated(alloc: Global, checked: &Checked<'_>) -> Result<Option<Cause>, AllocError>
     ensures { IfOk result (λ cause. cause
-        ≡ repeated_fault (which_of checked.now) (checked_value checked.now)) }
+        ≡ repeated_fault (table_of_checked checked.now) (checked_value checked.now)) }
 {
     repeated_names(alloc, &checked.shaped())
 }
@@ -123,7 +123,7 @@ pub fn repeated(alloc: Global, checked: &Checked<'_>) -> Result<Option<Cause>, A
 pub fn read_adb<'a>(alloc: Global, bytes: &'a [u8], which: Which) -> Result<Checked<'a>, ReadFault>
     ensures bad { IfErr result (λ fault. IsReadFault fault (first_fault which bytes.entry.now)) }
     ensures sound { IfOk result (λ _. first_fault which bytes.entry.now ≡ None) }
-    ensures table { IfOk result (λ checked. which_of checked ≡ which) }
+    ensures table { IfOk result (λ checked. table_of_checked checked ≡ which) }
     ensures payload { IfOk result (λ checked. payload_of (adb_of checked.shaped)
         ≡ payload_in bytes.entry.now) }
     ensures value { IfOk result (λ checked. checked_value checked
@@ -158,7 +158,7 @@ fn read_first<'a>(
     requires { blocks.old.last ≡ None }
     ensures bad { IfErr result
         (λ fault. IsReadFault fault (first_block_fault which (reading_of blocks.old))) }
-    ensures table { IfOk result (λ checked. which_of checked ≡ which) }
+    ensures table { IfOk result (λ checked. table_of_checked checked ≡ which) }
     ensures behind { IfOk result
         (λ checked. IsAfterFirstBlock which (payload_of (adb_of checked.shaped)) (reading_of
         blocks.old)
@@ -179,7 +179,7 @@ fn check_payload<'a>(
     ensures bad { IfErr result
         (λ fault. IsReadFault fault (payload_fault which payload.entry.now)) }
     ensures sound { IfOk result (λ _. payload_fault which payload.entry.now ≡ None) }
-    ensures table { IfOk result (λ checked. which_of checked ≡ which) }
+    ensures table { IfOk result (λ checked. table_of_checked checked ≡ which) }
     ensures payload { IfOk result (λ checked. payload_of (adb_of checked.shaped)
         ≡ payload.entry.now) }
 {

@@ -5,7 +5,7 @@
 ghost use Rattle.std.specs.Prelude.{ℕ, List, ◌↔◌, None, ◌≡◌, ◌==◌, ◌*◌, true, false, length, ◌+◌, ◌<◌, ◌≤◌, ◌^◌, IfOk, [], ◌∷◌};
 ghost use Rattle.std.specs.Bool.{OnTrue};
 ghost use Rattle.adb_view.specs.Adb.{payload_of};
-ghost use Rattle.adb_view.specs.Schema.{schema_number, shape_of, shapes_of, table};
+ghost use Rattle.adb_view.specs.Schema.{shape_of, shapes_of, table, table_number};
 ghost use Rattle.adb_view.specs.Values.{is_sound, value_at, entries_in, entry_in, count_of};
 ghost use Rattle.adb_fields.specs.Paths.{path_of};
 ghost use Rattle.adb_schema.specs.Rules.{is_change_name, is_one_part};
@@ -15,7 +15,7 @@ ghost use Rattle.adb_schema.specs.TextWalk.{IsSameAsBefore, TakesEachText, Takes
 ghost use Rattle.adb_view.specs.ShapedPayload.{shaped_value, table_of};
 ghost use Rattle.adb_view.specs.Shaped.{Each};
 ghost use Rattle.adb_schema.specs.SoundValues.{IsChangeName, IsSoundDependency, IsFileOf, IsFolder, IsInformation, IsPackage, KeepsRules};
-ghost use Rattle.adb_schema.specs.Texts.{at_root, inside_of, is_file_hash, is_listed_file, is_package_hash, is_with_contents, may_list, needs_hash, number_rule, text_rule, each_leaf, field_leaves, first_bad, leaves, number_leaf, text_leaf, leaves_of, text_fault};
+ghost use Rattle.adb_schema.specs.Texts.{surroundings_of_root, surroundings_of_fields, is_file_hash, is_listed_file, is_package_hash, is_with_contents, may_list, needs_hash, number_rule, text_rule, each_leaf, field_leaves, first_bad, leaves, number_leaf, text_leaf, leaves_of, text_fault};
 ghost use Rattle.adb_schema.specs.FirstBad.{IsFirstBadOf};
 ghost use Rattle.adb_view.specs.Entries.{array_entries};
 ghost use Rattle.adb_fields.specs.Fields.{are_all_sound, values_at};
@@ -91,8 +91,8 @@ pub(crate) struct Surroundings<'a> {
 
 impl<'a> Surroundings<'a> {
     /// The surroundings of the root of a container: no folder and no file.
-    pub(crate) fn at_root(root: Which) -> Surroundings<'a>
-        ensures { surroundings_of result ≡ at_root root }
+    pub(crate) fn surroundings_of_root(root: Which) -> Surroundings<'a>
+        ensures { surroundings_of result ≡ surroundings_of_root root }
     {
         Surroundings {
             root,
@@ -105,7 +105,7 @@ impl<'a> Surroundings<'a> {
     pub(crate) fn inside(&self, adb: Adb<'a>, which: Which, object: Val) -> Surroundings<'a>
         requires { is_sound (payload_of adb) (Kinds.Obj which) object ≡ true }
         ensures { surroundings_of result
-            ≡ inside_of (schema_number which) (surroundings_of self.now)
+            ≡ surroundings_of_fields (table_number which) (surroundings_of self.now)
             (value_at (payload_of adb.entry) (Kinds.Obj which) object) }
     {
         match which {
@@ -260,7 +260,7 @@ pub fn check_texts(alloc: Global, shaped: Shaped<'_>) -> Result<Option<Cause>, A
     let adb = shaped.adb();
     let which = shaped.which();
     let mut judged = Judged::new(alloc, adb);
-    let around = Surroundings::at_root(which);
+    let around = Surroundings::surroundings_of_root(which);
     match check_value(adb, &mut judged, Kind::Obj(which), 0, &around, adb.root())? {
         Some(place) => Ok(Some(Cause::BadText { place })),
         None => Ok(None),
@@ -356,7 +356,7 @@ fn check_fields<'a>(
     requires sound { is_sound (payload_of adb) (Kinds.Obj which) object ≡ true }
     requires payload { payload_of judged.old.adb ≡ payload_of adb }
     ensures place { IfOk result (λ place. bad_text_at place
-        ≡ first_bad (field_leaves (shapes_of (table which)) (100 * schema_number which + 1)
+        ≡ first_bad (field_leaves (shapes_of (table which)) (100 * table_number which + 1)
         (surroundings_of around.now)
         (entries_in (value_at (payload_of adb.entry) (Kinds.Obj which) object)))) }
     ensures payload { judged.new.adb ≡ judged.old.adb }

@@ -4,7 +4,7 @@
 //! call, and `err` that a call that fails leaves it unchanged.
 
 ghost use Rattle.std.specs.Prelude.{◌≡◌, ℕ, ◌<◌, ◌≤◌, List, ◌∷◌, ◌++◌, [], length, take, true, false, IfOk, OnErr, OnOk, vec_capacity, vec_len};
-ghost use Rattle.adb_view.specs.Plain.{Plain, Plains, arr_value, blob_value, int, null, obj_value};
+ghost use Rattle.adb_view.specs.Plain.{Plain, Plains, arr_value, blob_or_null, int, null, obj_value};
 ghost use Rattle.adb_values.specs.Drafts.{empty_draft, draft_with_open_list, draft_with, draft_with_all, DraftState};
 ghost use Rattle.adb_values.specs.LastList.{last_start, last_word};
 ghost use Rattle.adb_values.specs.Words.{HasBlob};
@@ -31,13 +31,13 @@ pub struct Draft {
 
 impl Model for Draft {
     ghost use Rattle.adb_values.specs.Drafts.{draft_by, DraftState};
-    ghost use Rattle.adb_write.specs.Again.{HasWholeItems};
+    ghost use Rattle.adb_write.specs.Again.{HasWholeItemsWithinLimit};
 
     ghost Value = { DraftState };
 
     ghost view = { λ d. draft_by d.writer d.words.items d.starts.items };
 
-    ghost invariant = { λ d. HasWholeItems d.writer };
+    ghost invariant = { λ d. HasWholeItemsWithinLimit d.writer };
 }
 
 impl Draft {
@@ -74,7 +74,7 @@ impl Draft {
 
     /// Adds a blob; an empty one is Null.
     pub fn blob(&mut self, bytes: &[u8]) -> Result<(), AllocError>
-        ensures ok { OnOk result (self.new ≡ draft_with (blob_value bytes.now) self.old) }
+        ensures ok { OnOk result (self.new ≡ draft_with (blob_or_null bytes.now) self.old) }
         ensures err { OnErr result (self.new ≡ self.old) }
     {
         self.blob_word(bytes)?;
@@ -83,7 +83,7 @@ impl Draft {
 
     /// Adds a blob, as `blob` does, and returns its word, by which it can be added again.
     pub fn blob_word(&mut self, bytes: &[u8]) -> Result<Val, AllocError>
-        ensures ok { OnOk result (self.new ≡ draft_with (blob_value bytes.now) self.old) }
+        ensures ok { OnOk result (self.new ≡ draft_with (blob_or_null bytes.now) self.old) }
         ensures err { OnErr result (self.new ≡ self.old) }
         ensures word { IfOk result (λ word. HasBlob self.new bytes.now word) }
     {
@@ -96,7 +96,7 @@ impl Draft {
     /// Adds a blob again by its word, without reading its bytes.
     pub fn blob_again(&mut self, word: Val) -> Result<(), AllocError>
         ensures ok { OnOk result ((bytes : List ℕ) → HasBlob self.old bytes word
-            → self.new ≡ draft_with (blob_value bytes) self.old) }
+            → self.new ≡ draft_with (blob_or_null bytes) self.old) }
         ensures err { OnErr result (self.new ≡ self.old) }
     {
         let word = word_unless_over(&self.writer, word);

@@ -5,7 +5,7 @@ use Rattle.std.specs.Result.{result_err}
 use Rattle.std.specs.List.{list_all}
 use Rattle.std.proofs.lemmas.Bool.{eqb-true}
 use Rattle.std.proofs.lemmas.List.Folds.{list_all-append}
-use Rattle.adb_view.specs.Plain.{Plain, null, int, Plains, none, more, Shape, number, text, hash, array, object, Fields, no_fields, field, blob_value, arr_value, obj_value, unless_null, from_answer, then_more, each_plain, plain_of, plains_of}
+use Rattle.adb_view.specs.Plain.{Plain, null, int, Plains, none, more, Shape, number, text, hash, array, object, Fields, no_fields, field, blob_or_null, arr_value, obj_value, unless_null, from_answer, then_more, each_plain, plain_of, plains_of}
 use Rattle.adb_view.specs.Readers.{int_of, blob_of, run_of, ARRAY, OBJECT}
 use Rattle.adb_view.specs.Visits.{Visit, or_empty, each_visit, visits, field_visits, is_sound_visit}
 use Rattle.base_core.specs.declared.cause.Cause.{Cause}
@@ -72,8 +72,8 @@ mutual
 
   pub plain_of-found : (p : List ℕ) (s : Shape) (w : ℕ) → is_some (plain_of p s w) ≡ all_sound p (visits p s w)
   plain_of-found p number w = unless_null-is_some w _ (λ e. rw (e, int_of-null p) refl) ∙ found-one int (int_of p w)
-  plain_of-found p text w = unless_null-is_some w _ (λ e. rw (e, blob_of-null p) refl) ∙ found-one blob_value (blob_of p w)
-  plain_of-found p hash w = unless_null-is_some w _ (λ e. rw (e, blob_of-null p) refl) ∙ found-one blob_value (blob_of p w)
+  plain_of-found p text w = unless_null-is_some w _ (λ e. rw (e, blob_of-null p) refl) ∙ found-one blob_or_null (blob_of p w)
+  plain_of-found p hash w = unless_null-is_some w _ (λ e. rw (e, blob_of-null p) refl) ∙ found-one blob_or_null (blob_of p w)
   plain_of-found p (array s) w =
       unless_null-is_some w _ (λ e. rw (e, run_of-null ARRAY p) refl)
       ∙ found-entries p arr_value (each_plain (plain_of p s)) (each_visit (visits p s)) (found-each p (plain_of p s) (visits p s) (plain_of-found p s)) refl (run_of ARRAY p w)

@@ -1,7 +1,7 @@
 -- Each plain value that is found has the shape under which it was looked for.
 use Rattle.std.proofs.Common.{ℕ, Bool, true, false, cond, eqb, List, [], ◌∷◌, Option, Some, None, option_map, Result, Ok, Err}
 use Rattle.std.specs.Prelude.{IfSome}
-use Rattle.adb_view.specs.Plain.{Plain, null, int, blob, arr, obj, Plains, none, more, Shape, number, text, hash, array, object, Fields, no_fields, field, blob_value, arr_value, obj_of, keep, without_last_nulls, obj_value, unless_null, from_answer, then_more, each_plain, plain_of, plains_of}
+use Rattle.adb_view.specs.Plain.{Plain, null, int, blob, arr, obj, Plains, none, more, Shape, number, text, hash, array, object, Fields, no_fields, field, blob_or_null, arr_value, obj_of, put_first_without_last_null, without_last_nulls, obj_value, unless_null, from_answer, then_more, each_plain, plain_of, plains_of}
 use Rattle.adb_view.specs.Readers.{int_of, blob_of, run_of, ARRAY, OBJECT}
 use Rattle.adb_view.specs.Shaped.{Each, HasShape, HaveShapes}
 use Rattle.base_core.specs.declared.cause.Cause.{Cause}
@@ -37,21 +37,21 @@ unfolding HasShape
 int_shape (Ok n) = tt
 int_shape (Err c) = tt
 
-pub blob_value_text : (b : List ℕ) → HasShape text (blob_value b)
+pub blob_value_text : (b : List ℕ) → HasShape text (blob_or_null b)
 unfolding HasShape
 blob_value_text [] = tt
 blob_value_text (c ∷ cs) = tt
 
-pub blob_value_hash : (b : List ℕ) → HasShape hash (blob_value b)
+pub blob_value_hash : (b : List ℕ) → HasShape hash (blob_or_null b)
 unfolding HasShape
 blob_value_hash [] = tt
 blob_value_hash (c ∷ cs) = tt
 
-text_shape : (r : Result (List ℕ) Cause) → IfSome (from_answer (λ b. Some (blob_value b)) r) (HasShape text)
+text_shape : (r : Result (List ℕ) Cause) → IfSome (from_answer (λ b. Some (blob_or_null b)) r) (HasShape text)
 text_shape (Ok b) = blob_value_text b
 text_shape (Err c) = tt
 
-hash_shape : (r : Result (List ℕ) Cause) → IfSome (from_answer (λ b. Some (blob_value b)) r) (HasShape hash)
+hash_shape : (r : Result (List ℕ) Cause) → IfSome (from_answer (λ b. Some (blob_or_null b)) r) (HasShape hash)
 hash_shape (Ok b) = blob_value_hash b
 hash_shape (Err c) = tt
 
@@ -65,7 +65,7 @@ unfolding HasShape
 shapes_none no_fields = tt
 shapes_none (field name s fs) = tt
 
-keep_shape : (name : List ℕ) (s : Shape) (fs : Fields) (v : Plain) (vs : Plains) → HasShape s v → HaveShapes fs vs → HaveShapes (field name s fs) (keep v vs)
+keep_shape : (name : List ℕ) (s : Shape) (fs : Fields) (v : Plain) (vs : Plains) → HasShape s v → HaveShapes fs vs → HaveShapes (field name s fs) (put_first_without_last_null v vs)
 unfolding HasShape
 keep_shape name s fs null none h hs = tt
 keep_shape name s fs null (more v vs) h hs = (h, hs)

@@ -4,8 +4,8 @@ use Rattle.std.specs.Prelude.{All, IfSome, if◌then◌else◌}
 use Rattle.std.proofs.lemmas.List.Elements.{All-head, All-tail, All-take, All-drop}
 use Rattle.std.specs.Int.{Width, w32, w64, byte_len, from_le_bytes}
 use Rattle.adb_view.specs.Bytes.{number_at}
-use Rattle.adb_view.specs.Plain.{Plain, null, int, blob, arr, obj, Plains, none, more, Shape, number, text, hash, array, object, Fields, no_fields, field, blob_value, arr_value, obj_of, keep, without_last_nulls, obj_value, from_answer, then_more, each_plain, plain_of, plains_of, IsNormal, AreNormal}
-use Rattle.adb_view.specs.Readers.{kind_of, low_of, inside, int_of, blob_of, run_of, ARRAY, OBJECT}
+use Rattle.adb_view.specs.Plain.{Plain, null, int, blob, arr, obj, Plains, none, more, Shape, number, text, hash, array, object, Fields, no_fields, field, blob_or_null, arr_value, obj_of, put_first_without_last_null, without_last_nulls, obj_value, from_answer, then_more, each_plain, plain_of, plains_of, IsNormal, AreNormal}
+use Rattle.adb_view.specs.Readers.{kind_of, low_of, or_outside, int_of, blob_of, run_of, ARRAY, OBJECT}
 use Rattle.adb_view.proofs.FoundShapes.{unless_null-all, mapped, run_found}
 use Rattle.base_core.specs.declared.cause.Cause.{Cause}
 
@@ -39,7 +39,7 @@ number_fits w bytes at n fit h e =
     let same : from_le_bytes w bs ≡ n = read_bytes (leb (at + byte_len w) (length bytes)) bs w n e in
     subst (λ k. k < 2 ^ 64) same small
 
-inside_fits : (word n : ℕ) (o : Option ℕ) → ((k : ℕ) → o ≡ Some k → k < 2 ^ 64) → inside word o ≡ Ok n → n < 2 ^ 64
+inside_fits : (word n : ℕ) (o : Option ℕ) → ((k : ℕ) → o ≡ Some k → k < 2 ^ 64) → or_outside word o ≡ Ok n → n < 2 ^ 64
 inside_fits word n (Some k) h e = let same : k ≡ n = cc in subst (λ i. i < 2 ^ 64) same (h k refl)
 inside_fits word n None h e = absurd cc
 
@@ -69,7 +69,7 @@ int_of-fits p w n h e =
 
 -- ---- lists without the Nulls that are last
 
-keep_normal : (v : Plain) (vs : Plains) → IsNormal v → AreNormal vs → AreNormal (keep v vs)
+keep_normal : (v : Plain) (vs : Plains) → IsNormal v → AreNormal vs → AreNormal (put_first_without_last_null v vs)
 unfolding IsNormal
 keep_normal null none h hs = tt
 keep_normal null (more v vs) h hs = (tt, hs)
@@ -83,9 +83,9 @@ unfolding IsNormal
 trimmed_normal none hs = tt
 trimmed_normal (more v vs) hs = keep_normal v (without_last_nulls vs) hs.0 (trimmed_normal vs hs.1)
 
-keep_trimmed : (v : Plain) (vs : Plains) → without_last_nulls vs ≡ vs → without_last_nulls (keep v vs) ≡ keep v vs
+keep_trimmed : (v : Plain) (vs : Plains) → without_last_nulls vs ≡ vs → without_last_nulls (put_first_without_last_null v vs) ≡ put_first_without_last_null v vs
 keep_trimmed null none e = refl
-keep_trimmed null (more v vs) e = ap (keep null) e
+keep_trimmed null (more v vs) e = ap (put_first_without_last_null null) e
 keep_trimmed (int n) vs e = ap (more (int n)) e
 keep_trimmed (blob b) vs e = ap (more (blob b)) e
 keep_trimmed (arr us) vs e = ap (more (arr us)) e
@@ -100,7 +100,7 @@ trimmed-trimmed (more v vs) = keep_trimmed v (without_last_nulls vs) (trimmed-tr
 pub trimmed-more : (v : Plain) (vs : Plains) → without_last_nulls (more v vs) ≡ more v vs → (without_last_nulls vs ≡ vs) × ((vs ≡ none) → v ≢ null)
 trimmed-more v vs e = go v (without_last_nulls vs) refl e
   where
-    go : (v : Plain) (us : Plains) → without_last_nulls vs ≡ us → keep v us ≡ more v vs → (without_last_nulls vs ≡ vs) × ((vs ≡ none) → v ≢ null)
+    go : (v : Plain) (us : Plains) → without_last_nulls vs ≡ us → put_first_without_last_null v us ≡ more v vs → (without_last_nulls vs ≡ vs) × ((vs ≡ none) → v ≢ null)
     go null none i e = absurd cc
     go null (more u us) i e = let same : more u us ≡ vs = cc in (i ∙ same, λ n. absurd (let no : more u us ≡ none = same ∙ n in cc))
     go (int k) us i e = let same : us ≡ vs = cc in (i ∙ same, λ n x. absurd cc)
@@ -115,12 +115,12 @@ unfolding IsNormal
 int_normal (Ok n) h = h n refl
 int_normal (Err c) h = tt
 
-pub blob_value_normal : (b : List ℕ) → IsNormal (blob_value b)
+pub blob_value_normal : (b : List ℕ) → IsNormal (blob_or_null b)
 unfolding IsNormal
 blob_value_normal [] = tt
 blob_value_normal (c ∷ cs) = λ e. absurd cc
 
-blob_normal : (r : Result (List ℕ) Cause) → IfSome (from_answer (λ b. Some (blob_value b)) r) IsNormal
+blob_normal : (r : Result (List ℕ) Cause) → IfSome (from_answer (λ b. Some (blob_or_null b)) r) IsNormal
 blob_normal (Ok b) = blob_value_normal b
 blob_normal (Err c) = tt
 

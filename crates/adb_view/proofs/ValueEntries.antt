@@ -1,9 +1,9 @@
 -- What is in a value that was made of its entries or of its bytes.
 use Rattle.std.proofs.Common.{◌≡◌, ℕ, zero, suc, List, [], ◌∷◌, refl, ◌∙◌}
-use Rattle.adb_view.specs.Plain.{Plain, null, int, blob, arr, obj, Plains, none, more, blob_value, arr_value, obj_of, obj_value, keep, without_last_nulls}
+use Rattle.adb_view.specs.Plain.{Plain, null, int, blob, arr, obj, Plains, none, more, blob_or_null, arr_value, obj_of, obj_value, put_first_without_last_null, without_last_nulls}
 use Rattle.adb_view.specs.Values.{nth, entries_in, entry_in, text_in}
 
-pub text_blob : (b : List ℕ) → text_in (blob_value b) ≡ b
+pub text_blob : (b : List ℕ) → text_in (blob_or_null b) ≡ b
 text_blob [] = refl
 text_blob (x ∷ xs) = refl
 
@@ -17,7 +17,7 @@ entries_obj (more v vs) = refl
 
 -- ---- without the Nulls that are last
 
-nth_keep : (v : Plain) (vs : Plains) (i : ℕ) → nth (keep v vs) i ≡ nth (more v vs) i
+nth_keep : (v : Plain) (vs : Plains) (i : ℕ) → nth (put_first_without_last_null v vs) i ≡ nth (more v vs) i
 nth_keep null none zero = refl
 nth_keep null none (suc i) = refl
 nth_keep null (more u us) i = refl

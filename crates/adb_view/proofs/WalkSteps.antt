@@ -13,7 +13,7 @@ use Rattle.base_core.specs.Lists.{and_then}
 use Rattle.adb_view.specs.Visits.{or_empty, fault_at, MOST_VALUES}
 use Rattle.std.specs.Result.{result_err, result_ok}
 use Rattle.std.specs.Prelude.{is_some}
-use Rattle.adb_view.specs.Schema.{schema_number, table, shape_of, shapes_of}
+use Rattle.adb_view.specs.Schema.{table_number, table, shape_of, shapes_of}
 use Rattle.adb_view.specs.Leaves.{is_sound_leaf}
 use Rattle.adb_view.specs.Rank.{rank, rank_of_all}
 use Rattle.adb_view.specs.Shapes.{object_shape, objects_shape, texts_shape, int_shape, text_shape, hash_shape}
@@ -112,7 +112,7 @@ pub walk_object : (p : List ℕ) (which : Which) (n w : ℕ) → n < MOST_VALUES
 unfolding walk
 walk_object p which n w lt =
     ap (λ s. walk p s n w) (object_shape which)
-    ∙ ap (λ r. and_then r (λ m. fields_walk p (shapes_of (table which)) m (or_empty (run_of OBJECT p w)))) (ok_step n (object (schema_number which) (shapes_of (table which))) w p (run_of OBJECT p w) refl lt)
+    ∙ ap (λ r. and_then r (λ m. fields_walk p (shapes_of (table which)) m (or_empty (run_of OBJECT p w)))) (ok_step n (object (table_number which) (shapes_of (table which))) w p (run_of OBJECT p w) refl lt)
     ∙ bind_run (run_of OBJECT p w) n (λ m ws. fields_walk p (shapes_of (table which)) m ws)
 
 -- ---- depth

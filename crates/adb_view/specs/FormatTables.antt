@@ -2,7 +2,7 @@
 -- The list is in `docs/formats.md`, "Schemas"; the law `tables_are_as_listed` proves that the program
 -- has the same.
 use Rattle.std.specs.Prelude.{ℕ, List, [], ◌∷◌, codes, map}
-use Rattle.adb_view.specs.Schema.{table, schema_number, field_name_text}
+use Rattle.adb_view.specs.Schema.{table, table_number, field_name_text}
 use Rattle.adb_view.specs.declared.tables.Which.{Which}
 use Rattle.adb_view.specs.declared.tables.Which.TheVariants.{Dep, Acl, PkgInfo, File, Dir, Scripts, Package, Index, Idb, Intent}
 use Rattle.adb_view.specs.declared.tables.Kind.{Kind}
@@ -61,7 +61,7 @@ format_table Intent = (10, (codes "removals", TextArr) ∷ (codes "writes", Text
 -- the number of a table, and its fields by name and kind, as the program's constants have them
 abbrev pub program_table : Which → ℕ × List (List ℕ × Kind)
 program_table which = (
-  schema_number which,
+  table_number which,
   map (λ f. (field_name_text f.name, f.kind))
       (table which),
 )

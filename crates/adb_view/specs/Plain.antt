@@ -37,9 +37,9 @@ mutual
 -- ---- an empty blob or array, and an object without a value, are Null
 
 -- bytes as a plain value; no bytes are Null
-abbrev pub blob_value : List ℕ → Plain
-blob_value [] = null
-blob_value (b ∷ bs) = blob (b ∷ bs)
+abbrev pub blob_or_null : List ℕ → Plain
+blob_or_null [] = null
+blob_or_null (b ∷ bs) = blob (b ∷ bs)
 
 -- the values of an array as a plain value; without values it is Null
 abbrev pub arr_value : Plains → Plain
@@ -52,18 +52,18 @@ obj_of none = null
 obj_of (more v vs) = obj (more v vs)
 
 -- the values of an object with one more in front, which is dropped if it is Null and would be last
-abbrev pub keep : Plain → Plains → Plains
-keep null none = none
-keep null (more v vs) = more null (more v vs)
-keep (int n) vs = more (int n) vs
-keep (blob b) vs = more (blob b) vs
-keep (arr us) vs = more (arr us) vs
-keep (obj us) vs = more (obj us) vs
+abbrev pub put_first_without_last_null : Plain → Plains → Plains
+put_first_without_last_null null none = none
+put_first_without_last_null null (more v vs) = more null (more v vs)
+put_first_without_last_null (int n) vs = more (int n) vs
+put_first_without_last_null (blob b) vs = more (blob b) vs
+put_first_without_last_null (arr us) vs = more (arr us) vs
+put_first_without_last_null (obj us) vs = more (obj us) vs
 
 -- the values of an object without the Nulls at its end
 abbrev pub without_last_nulls : Plains → Plains
 without_last_nulls none = none
-without_last_nulls (more v vs) = keep v (without_last_nulls vs)
+without_last_nulls (more v vs) = put_first_without_last_null v (without_last_nulls vs)
 
 -- the values of an object's fields as a plain value, without the Nulls at its end
 abbrev pub obj_value : Plains → Plain
@@ -77,7 +77,7 @@ count_of (more v vs) = suc (count_of vs)
 -- the plain values of texts: a blob for each, and Null for an empty one
 abbrev pub text_plains : List (List ℕ) → Plains
 text_plains [] = none
-text_plains (t ∷ ts) = more (blob_value t) (text_plains ts)
+text_plains (t ∷ ts) = more (blob_or_null t) (text_plains ts)
 
 -- ---- the plain value of a word under a shape
 
@@ -104,8 +104,8 @@ each_plain f (w ∷ ws) = then_more (f w) (each_plain f ws)
 unfoldable mutual
   pub plain_of : List ℕ → Shape → ℕ → Option Plain
   plain_of p number w = unless_null w (from_answer (λ n. Some (int n)) (int_of p w))
-  plain_of p text w = unless_null w (from_answer (λ b. Some (blob_value b)) (blob_of p w))
-  plain_of p hash w = unless_null w (from_answer (λ b. Some (blob_value b)) (blob_of p w))
+  plain_of p text w = unless_null w (from_answer (λ b. Some (blob_or_null b)) (blob_of p w))
+  plain_of p hash w = unless_null w (from_answer (λ b. Some (blob_or_null b)) (blob_of p w))
   plain_of p (array s) w = unless_null w
       (from_answer (λ ws. option_map arr_value (each_plain (plain_of p s) ws)) (run_of ARRAY p w))
   plain_of p (object schema fs) w = unless_null w

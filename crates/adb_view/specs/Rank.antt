@@ -1,7 +1,7 @@
 -- How deep values of a kind nest: a number that is less for the kinds below it. Serves the proof that
 -- the walk ends.
 use Rattle.std.specs.Prelude.{ℕ, ◌+◌, ◌*◌, max, List, [], ◌∷◌}
-use Rattle.adb_view.specs.Schema.{schema_number}
+use Rattle.adb_view.specs.Schema.{table_number}
 use Rattle.adb_view.specs.declared.tables.Kind.{Kind}
 use Rattle.adb_view.specs.declared.tables.Kind.TheVariants.{Int, Text, Hash, Obj, TextArr, ObjArr}
 use Rattle.adb_view.specs.declared.tables.Field.{Field}
@@ -13,8 +13,8 @@ rank Int = 0
 rank Text = 0
 rank Hash = 0
 rank TextArr = 2
-rank (Obj w) = 4 * schema_number w
-rank (ObjArr w) = 4 * schema_number w + 2
+rank (Obj w) = 4 * table_number w
+rank (ObjArr w) = 4 * table_number w + 2
 
 -- the greatest rank of the kinds of some fields; 0 if there are none
 abbrev pub rank_of_all : List Field → ℕ

@@ -25,17 +25,17 @@ table Intent = INTENT.fields
 
 -- the number of a table; that of a field, by which causes name it, is 100 times it plus the field's
 -- own
-abbrev pub schema_number : Which → ℕ
-schema_number Dep = DEP.number
-schema_number Acl = ACL.number
-schema_number PkgInfo = PKGINFO.number
-schema_number File = FILE.number
-schema_number Dir = DIR.number
-schema_number Scripts = SCRIPTS.number
-schema_number Package = PACKAGE.number
-schema_number Index = INDEX.number
-schema_number Idb = IDB.number
-schema_number Intent = INTENT.number
+abbrev pub table_number : Which → ℕ
+table_number Dep = DEP.number
+table_number Acl = ACL.number
+table_number PkgInfo = PKGINFO.number
+table_number File = FILE.number
+table_number Dir = DIR.number
+table_number Scripts = SCRIPTS.number
+table_number Package = PACKAGE.number
+table_number Index = INDEX.number
+table_number Idb = IDB.number
+table_number Intent = INTENT.number
 
 -- the name of a field as the formats write it
 abbrev pub field_name_text : FieldName → List ℕ
@@ -100,12 +100,12 @@ shape_to_depth depth Int = number
 shape_to_depth depth Text = text
 shape_to_depth depth Hash = hash
 shape_to_depth depth TextArr = array text
-shape_to_depth zero (Obj w) = object (schema_number w) no_fields
-shape_to_depth (suc depth) (Obj w) = object (schema_number w)
+shape_to_depth zero (Obj w) = object (table_number w) no_fields
+shape_to_depth (suc depth) (Obj w) = object (table_number w)
     (fields_with (shape_to_depth depth) (table w))
-shape_to_depth zero (ObjArr w) = array (object (schema_number w) no_fields)
+shape_to_depth zero (ObjArr w) = array (object (table_number w) no_fields)
 shape_to_depth (suc depth) (ObjArr w) = array
-    (object (schema_number w) (fields_with (shape_to_depth depth) (table w)))
+    (object (table_number w) (fields_with (shape_to_depth depth) (table w)))
 
 -- the shape of a kind. Five levels are enough for each table: database, package, folder, file, acl
 unfoldable pub shape_of : Kind → Shape

@@ -3,13 +3,13 @@
 -- "Schemas".
 use Rattle.std.proofs.Common.{◌≡◌, refl}
 use Rattle.adb_view.specs.Plain.{number, text, hash, array, object}
-use Rattle.adb_view.specs.Schema.{table, schema_number, shape_of, shapes_of}
+use Rattle.adb_view.specs.Schema.{table, table_number, shape_of, shapes_of}
 use Rattle.adb_view.specs.declared.tables.Which.{Which}
 use Rattle.adb_view.specs.declared.tables.Which.TheVariants.{Dep, Acl, PkgInfo, File, Dir, Scripts, Package, Index, Idb, Intent}
 use Rattle.adb_view.specs.declared.tables.Kind.TheVariants.{Int, Text, Hash, Obj, TextArr, ObjArr}
 
 -- the shape of an object has the shapes of its table's fields, in their order
-pub object_shape : (w : Which) → shape_of (Obj w) ≡ object (schema_number w) (shapes_of (table w))
+pub object_shape : (w : Which) → shape_of (Obj w) ≡ object (table_number w) (shapes_of (table w))
 unfolding shape_of
 object_shape Dep = refl
 object_shape Acl = refl

@@ -154,7 +154,7 @@ impl<'a> Adb<'a> {
     /// The integer that `int` reads; None if that fails. A cause has 150 bytes, and a function that
     /// may return one moves them at each call.
     #[tactic(auto, unfolding(crate::specs::Readers::int_of))]
-    pub fn find_int(&self, v: Val) -> Option<u64>
+    pub fn int_if_read(&self, v: Val) -> Option<u64>
         ensures { result ≡ result_ok (int_of (payload_of self.now) v) }
     {
         if v.is_null() {
@@ -170,7 +170,7 @@ impl<'a> Adb<'a> {
 
     /// The bytes that `blob` reads; None if that fails.
     #[tactic(auto, unfolding(crate::specs::Readers::blob_of))]
-    pub fn find_blob(&self, v: Val) -> Option<&'a [u8]>
+    pub fn blob_if_read(&self, v: Val) -> Option<&'a [u8]>
         ensures { Finds (λ bytes. bytes.now) result (result_ok (blob_of (payload_of self.now) v)) }
     {
         if v.is_null() {
@@ -187,7 +187,7 @@ impl<'a> Adb<'a> {
     }
 
     /// The array that `arr` reads; None if that fails.
-    pub fn find_arr(&self, v: Val) -> Option<Arr<'a>>
+    pub fn arr_if_read(&self, v: Val) -> Option<Arr<'a>>
         ensures { Finds array_entries result (result_ok (run_of ARRAY (payload_of self.now) v)) }
     {
         Arr::find(self.payload, kind::ARRAY, v)

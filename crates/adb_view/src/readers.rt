@@ -29,11 +29,11 @@ pub(crate) fn is_sound_leaf(adb: Adb<'_>, kind: Kind, word: Val) -> bool
         return true;
     }
     match kind {
-        Kind::Int => match adb.find_int(word) {
+        Kind::Int => match adb.int_if_read(word) {
             Some(_) => true,
             None => false,
         },
-        Kind::Text | Kind::Hash => match adb.find_blob(word) {
+        Kind::Text | Kind::Hash => match adb.blob_if_read(word) {
             Some(_) => true,
             None => false,
         },
@@ -48,7 +48,7 @@ pub(crate) fn read_int(adb: Adb<'_>, word: Val) -> Result<u64, VisitFault>
     ensures err { IfErr result (λ fault. int_of (payload_of adb.entry) word
         ≡ Err (cause_of_fault fault)) }
 {
-    if let Some(n) = adb.find_int(word) {
+    if let Some(n) = adb.int_if_read(word) {
         return Ok(n);
     }
     match adb.int(word) {
@@ -64,7 +64,7 @@ pub(crate) fn read_blob<'a>(adb: Adb<'a>, word: Val) -> Result<&'a [u8], VisitFa
     ensures err { IfErr result (λ fault. blob_of (payload_of adb.entry) word
         ≡ Err (cause_of_fault fault)) }
 {
-    if let Some(bytes) = adb.find_blob(word) {
+    if let Some(bytes) = adb.blob_if_read(word) {
         return Ok(bytes);
     }
     match adb.blob(word) {
@@ -81,7 +81,7 @@ pub(crate) fn read_array<'a>(adb: Adb<'a>, word: Val) -> Result<Arr<'a>, VisitFa
     ensures err { IfErr result (λ fault. run_of ARRAY (payload_of adb.entry) word
         ≡ Err (cause_of_fault fault)) }
 {
-    if let Some(words) = adb.find_arr(word) {
+    if let Some(words) = adb.arr_if_read(word) {
         return Ok(words);
     }
     match adb.arr(word) {

@@ -3,7 +3,7 @@
 //! variant of `Which`, and its lines in `fields_of` and `number_of`.
 
 ghost use Rattle.std.specs.Prelude.{◌≡◌, ◌≤◌};
-ghost use Rattle.adb_view.specs.Schema.{table, schema_number, shape_of, shapes_of};
+ghost use Rattle.adb_view.specs.Schema.{table, table_number, shape_of, shapes_of};
 ghost use Rattle.adb_view.specs.Plain.{Shape, object, plain_of};
 ghost use Rattle.adb_view.specs.FormatTables.{format_table, program_table};
 ghost use Rattle.adb_view.specs.declared.tables.Which.{Which};
@@ -397,7 +397,7 @@ pub fn fields_of(which: Which) -> &'static [Field]
 
 /// The number of a table, from 1 to 10.
 pub fn number_of(which: Which) -> u16
-    ensures value { result ≡ schema_number which }
+    ensures value { result ≡ table_number which }
     ensures small { result ≤ 10 }
 {
     match which {
@@ -422,5 +422,5 @@ pub fn tables_are_as_listed()
 /// A law: each object has the fields of its table, however deep it is nested.
 pub fn tables_are_unrolled_whole()
     ensures { (which : Which) → shape_of (Kinds.Obj which)
-        ≡ object (schema_number which) (shapes_of (table which)) }
+        ≡ object (table_number which) (shapes_of (table which)) }
 {}

@@ -11,7 +11,7 @@ ghost use Rattle.adb_view.specs.Entries.{array_entries};
 ghost use Rattle.adb_view.specs.Gives.{Gives};
 ghost use Rattle.adb_view.specs.Readers.{run_of, OBJECT};
 ghost use Rattle.adb_view.specs.Head.{root_of};
-ghost use Rattle.adb_view.specs.Schema.{table, shape_of, shapes_of, schema_number};
+ghost use Rattle.adb_view.specs.Schema.{table, shape_of, shapes_of, table_number};
 ghost use Rattle.adb_view.specs.Walk.{first_fault_from, shape_fault};
 ghost use Rattle.adb_view.specs.CountedWalk.{fields_walk};
 ghost use Rattle.adb_view.specs.CountedWalk.{walk};

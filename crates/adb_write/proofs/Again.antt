@@ -10,7 +10,7 @@ use Rattle.adb_view.specs.Plain.{Plain, null, int, blob, arr, obj, Plains, none,
 use Rattle.adb_view.specs.Readers.{ARRAY, OBJECT}
 use Rattle.adb_write.specs.Canonical.{gap, Item, WrittenItem, Cell, in_place, apart, int_item, int_cell, blob_item, blob_cell, run_bytes, run_item, run_cell, trimmed_words, Layout, empty_layout, end_offset, is_equal_item, word_of_item, put_new, put_unless, put_item, put_cell, put_run, write, write_all, payload_with_root, MOST_BYTES}
 use Rattle.adb_write.specs.Again.{front_len, HasLengthInFront, IsThere, HasAllItems, len_by}
-use Rattle.adb_write.specs.Size.{entries_of, entries_of_all, with_entries}
+use Rattle.adb_write.specs.Size.{entries_of, entries_of_all, with_value_count_raised}
 use Rattle.adb_write.proofs.Found.{equal_kind, equal_bytes, equal_within}
 use Rattle.adb_write.proofs.Placed.{wide8, wide16, wide32, wide64}
 use Rattle.adb_write.proofs.RoundTrip.{Grows-here, put_run-grows, write-grows, write_all-grows, write_all-made, words_stay, item_within}
@@ -236,21 +236,21 @@ put_item_found i out = go (find (is_equal_item out.body i) out.items) refl
 
 -- ---- a value that was written is found again
 
-with_none : (out : Layout) → out ≡ with_entries 0 out
+with_none : (out : Layout) → out ≡ with_value_count_raised 0 out
 with_none out = ap (λ (n : ℕ). record out { values = n }) (omega arith)
 
-with_both : (m n : ℕ) (out : Layout) → with_entries n (with_entries m out) ≡ with_entries (n + m) out
+with_both : (m n : ℕ) (out : Layout) → with_value_count_raised n (with_value_count_raised m out) ≡ with_value_count_raised (n + m) out
 with_both m n out = ap (λ (k : ℕ). record out { values = k }) (omega arith)
 
-cell_again : (c : Cell) (out later : Layout) → IsFramedCell c → Keeps (put_cell c out).1 later → put_cell c later ≡ ((put_cell c out).0, with_entries (entries_in c) later)
+cell_again : (c : Cell) (out later : Layout) → IsFramedCell c → Keeps (put_cell c out).1 later → put_cell c later ≡ ((put_cell c out).0, with_value_count_raised (entries_in c) later)
 cell_again (in_place word) out later f k = ap (λ (l : Layout). (word, l)) (with_none later)
 cell_again (apart i) out later f k =
     let found = put_item_found i out in
-    ap (λ (o : Option WrittenItem). put_unless o i later) (k.found i found.item f found.is) ∙ ap (λ (word : ℕ). (word, with_entries i.entries later)) found.word
+    ap (λ (o : Option WrittenItem). put_unless o i later) (k.found i found.item f found.is) ∙ ap (λ (word : ℕ). (word, with_value_count_raised i.entries later)) found.word
 
 -- the entries of a cell, as a value counts them
-cell_counts : (c : Cell) (out later : Layout) (n : ℕ) → entries_in c ≡ n → IsFramedCell c → Keeps (put_cell c out).1 later → put_cell c later ≡ ((put_cell c out).0, with_entries n later)
-cell_counts c out later n e f k = cell_again c out later f k ∙ ap (λ (m : ℕ). ((put_cell c out).0, with_entries m later)) e
+cell_counts : (c : Cell) (out later : Layout) (n : ℕ) → entries_in c ≡ n → IsFramedCell c → Keeps (put_cell c out).1 later → put_cell c later ≡ ((put_cell c out).0, with_value_count_raised n later)
+cell_counts c out later n e f k = cell_again c out later f k ∙ ap (λ (m : ℕ). ((put_cell c out).0, with_value_count_raised m later)) e
 
 mutual
   unfolding write
@@ -280,7 +280,7 @@ mutual
 mutual
   unfolding write IsNormal entries_of
 
-  write_again : (v : Plain) (out later : Layout) → IsNormal v → HasAllItems out → end_offset (write v out).1 ≤ MOST_BYTES → Keeps (write v out).1 later → write v later ≡ ((write v out).0, with_entries (entries_of v) later)
+  write_again : (v : Plain) (out later : Layout) → IsNormal v → HasAllItems out → end_offset (write v out).1 ≤ MOST_BYTES → Keeps (write v out).1 later → write v later ≡ ((write v out).0, with_value_count_raised (entries_of v) later)
   write_again null out later n w fits k = ap (λ (l : Layout). (0, l)) (with_none later)
   write_again (int m) out later n w fits k = cell_counts (int_cell m) out later 0 (int_entries m) (int_cell_framed m) k
   write_again (blob b) out later n w fits k = cell_counts (blob_cell b) out later 0 (blob_entries b) (blob_cell_framed b out fits) k
@@ -291,7 +291,7 @@ mutual
       let f = array_cell_framed r.0 r.1 fits in
       let t = put_cell_stays (run_cell ARRAY r.0) r.1 f s.whole in
       let all = write_all_again vs out later n.1 w within (keeps_then r.1 (put_run ARRAY r.0 r.1).1 later t.keeps k) in
-      let further : Layout = with_entries (entries_of_all vs) later in
+      let further : Layout = with_value_count_raised (entries_of_all vs) later in
       ap (λ (q : List ℕ × Layout). put_run ARRAY q.0 q.1) all
       ∙ cell_counts (run_cell ARRAY r.0) r.1 further (count_of vs) (run_entries ARRAY r.0 ∙ words_count vs out) f (record { found = k.found })
       ∙ ap (λ (l : Layout). ((put_run ARRAY r.0 r.1).0, l)) (with_both (entries_of_all vs) (count_of vs) later)
@@ -304,23 +304,23 @@ mutual
       let f = object_cell_framed (trimmed_words r.0) r.1 fits in
       let t = put_cell_stays (run_cell OBJECT (trimmed_words r.0)) r.1 f s.whole in
       let all = write_all_again vs out later n.2 w within (keeps_then r.1 (put_run OBJECT (trimmed_words r.0) r.1).1 later t.keeps k) in
-      let further : Layout = with_entries (entries_of_all vs) later in
+      let further : Layout = with_value_count_raised (entries_of_all vs) later in
       ap (λ (q : List ℕ × Layout). put_run OBJECT (trimmed_words q.0) q.1) all
       ∙ cell_counts (run_cell OBJECT (trimmed_words r.0)) r.1 further (count_of vs) (run_entries OBJECT (trimmed_words r.0) ∙ ap length stay ∙ words_count vs out) f (record { found = k.found })
       ∙ ap (λ (l : Layout). ((put_run OBJECT (trimmed_words r.0) r.1).0, l)) (with_both (entries_of_all vs) (count_of vs) later)
 
-  write_all_again : (vs : Plains) (out later : Layout) → AreNormal vs → HasAllItems out → end_offset (write_all vs out).1 ≤ MOST_BYTES → Keeps (write_all vs out).1 later → write_all vs later ≡ ((write_all vs out).0, with_entries (entries_of_all vs) later)
+  write_all_again : (vs : Plains) (out later : Layout) → AreNormal vs → HasAllItems out → end_offset (write_all vs out).1 ≤ MOST_BYTES → Keeps (write_all vs out).1 later → write_all vs later ≡ ((write_all vs out).0, with_value_count_raised (entries_of_all vs) later)
   write_all_again none out later n w fits k = ap (λ (l : Layout). ([], l)) (with_none later)
   write_all_again (more v vs) out later n w fits k =
       let within = le_trans (Grows-here _ _ (write_all-grows vs (write v out).1)) fits in
       let s = write_stays v out w within in
       let t = write_all_stays vs (write v out).1 s.whole fits in
       let first = write_again v out later n.0 w within (keeps_then (write v out).1 (write_all vs (write v out).1).1 later t.keeps k) in
-      let further : Layout = with_entries (entries_of v) later in
+      let further : Layout = with_value_count_raised (entries_of v) later in
       let others = write_all_again vs (write v out).1 further n.1 s.whole fits (record { found = k.found }) in
       ap (λ (q : ℕ × Layout). (q.0 ∷ (write_all vs q.1).0, (write_all vs q.1).1)) first
       ∙ ap (λ (q : List ℕ × Layout). ((write v out).0 ∷ q.0, q.1)) others
-      ∙ ap (λ (l : Layout). ((write v out).0 ∷ (write_all vs (write v out).1).0, l)) (with_both (entries_of v) (entries_of_all vs) later ∙ ap (λ (m : ℕ). with_entries m later) (omega arith))
+      ∙ ap (λ (l : Layout). ((write v out).0 ∷ (write_all vs (write v out).1).0, l)) (with_both (entries_of v) (entries_of_all vs) later ∙ ap (λ (m : ℕ). with_value_count_raised m later) (omega arith))
 
 -- ---- the law
 
@@ -328,7 +328,7 @@ pub nothing_whole : HasAllItems empty_layout
 nothing_whole = record { all = tt }
 
 pub stored_once : (before v since : Plain) → IsNormal v → end_offset (write since (write v (write before empty_layout).1).1).1 ≤ MOST_BYTES
-    → write v (write since (write v (write before empty_layout).1).1).1 ≡ ((write v (write before empty_layout).1).0, with_entries (entries_of v) (write since (write v (write before empty_layout).1).1).1)
+    → write v (write since (write v (write before empty_layout).1).1).1 ≡ ((write v (write before empty_layout).1).0, with_value_count_raised (entries_of v) (write since (write v (write before empty_layout).1).1).1)
 stored_once before v since n fits =
     let a : Layout = (write before empty_layout).1 in
     let b : Layout = (write v a).1 in

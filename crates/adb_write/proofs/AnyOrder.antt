@@ -4,7 +4,7 @@ use Rattle.std.proofs.Common.{◌≡◌, ℕ, ◌^◌, ◌<◌, ◌≤◌, Bool,
 use Rattle.std.specs.Prelude.{◌||◌, Some, Ok, Result, Err}
 use Rattle.std.specs.List.{AllByRecursion}
 use Rattle.std.proofs.lemmas.Bool.{ltb-false, ne_eqb}
-use Rattle.adb_view.specs.Plain.{Plain, null, int, blob, arr, obj, Plains, none, more, without_last_nulls, keep, blob_value, arr_value, obj_of, obj_value, Shape, IsNormal, plain_of, value_of}
+use Rattle.adb_view.specs.Plain.{Plain, null, int, blob, arr, obj, Plains, none, more, without_last_nulls, put_first_without_last_null, blob_or_null, arr_value, obj_of, obj_value, Shape, IsNormal, plain_of, value_of}
 use Rattle.adb_view.specs.Readers.{ARRAY, OBJECT}
 use Rattle.adb_write.specs.Canonical.{Cell, in_place, apart, int_cell, blob_cell, run_cell, keep_word, trimmed_words, Layout, end_offset, put_item, put_cell, put_run, PayloadCounts, layout_counts, passes, payload_with_root, MOST_BYTES, MOST_VALUES}
 use Rattle.adb_view.specs.Shaped.{HasShape}
@@ -69,7 +69,7 @@ int_stands n w lt e = let s = call_stored (int_cell n) w e in moved (int_cell n)
 null_call : (w : Writing) → Denotes (call (in_place 0) w).1 null (call (in_place 0) w).0
 null_call w = subst (λ (r : ℕ × Writing). Denotes r.1 null r.0) (sym (call_null w)) (null_stands w)
 
-pub blob_stands : (b : List ℕ) (w : Writing) → Denotes (blob_call b w).1 (blob_value b) (blob_call b w).0
+pub blob_stands : (b : List ℕ) (w : Writing) → Denotes (blob_call b w).1 (blob_or_null b) (blob_call b w).0
 blob_stands [] w e = null_call w e
 blob_stands (x ∷ xs) w e = let s = call_stored (blob_cell (x ∷ xs)) w e in moved (blob_cell (x ∷ xs)) w (blob (x ∷ xs)) s (blob_made (x ∷ xs) (layout_of w) (λ n. absurd cc) s.fits)
 
@@ -120,7 +120,7 @@ null_word : (p : List ℕ) (x : ℕ) → Holds p null x → x ≡ 0
 unfolding Holds
 null_word p x h = h
 
-kept_pair : (w : Writing) → is_past_limit w ≡ false → (v : Plain) (vs : Plains) (x : ℕ) (xs : List ℕ) → Denotes w v x → AllDenote w vs xs → AllDenote w (keep v vs) (keep_word x xs)
+kept_pair : (w : Writing) → is_past_limit w ≡ false → (v : Plain) (vs : Plains) (x : ℕ) (xs : List ℕ) → Denotes w v x → AllDenote w vs xs → AllDenote w (put_first_without_last_null v vs) (keep_word x xs)
 kept_pair w e null none x [] h a = let zero_is : x ≡ 0 = null_word (payload_with_root 0 (layout_of w)) x ((h e).holds 0) in rw zero_is tt
 kept_pair w e null (more u us) x (y ∷ ys) h a = (h, a)
 kept_pair w e v none x (y ∷ ys) h a = absurd a

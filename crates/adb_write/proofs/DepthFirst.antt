@@ -1,6 +1,6 @@
 -- What calls are made depth first, value by value.
 use Rattle.std.proofs.Common.{◌≡◌, ℕ, ◌+◌, ◌^◌, ◌<◌, true, ltb, List, [], ◌∷◌, ◌++◌, length, arith, refl, sym, ap, subst, ◌∙◌}
-use Rattle.adb_view.specs.Plain.{Plain, null, int, blob, arr, obj, Plains, none, more, without_last_nulls, keep, blob_value, arr_value, obj_of, obj_value}
+use Rattle.adb_view.specs.Plain.{Plain, null, int, blob, arr, obj, Plains, none, more, without_last_nulls, put_first_without_last_null, blob_or_null, arr_value, obj_of, obj_value}
 use Rattle.adb_view.specs.Readers.{OBJECT}
 use Rattle.adb_write.specs.Canonical.{Cell, in_place, int_cell, run_cell, keep_word, trimmed_words, written_of}
 use Rattle.adb_write.specs.Writing.{Writing, empty_writing, call, int_call, blob_call, arr_call, obj_call, finish_result, calls, calls_all}
@@ -18,7 +18,7 @@ pub calls_int : (n : ℕ) (w : Writing) → calls (int n) w ≡ int_call n w
 unfolding calls
 calls_int n w = refl
 
-pub calls_blob : (b : List ℕ) (w : Writing) → calls (blob_value b) w ≡ blob_call b w
+pub calls_blob : (b : List ℕ) (w : Writing) → calls (blob_or_null b) w ≡ blob_call b w
 unfolding calls
 calls_blob [] w = sym (call_null w)
 calls_blob (x ∷ xs) w = refl
@@ -41,7 +41,7 @@ pub record Same (us vs : Plains) (w : Writing) : Type 0 where
   pub words : trimmed_words (calls_all us w).0 ≡ trimmed_words (calls_all vs w).0
   pub state : (calls_all us w).1 ≡ (calls_all vs w).1
 
-keep_same : (v : Plain) (us vs : Plains) (w : Writing) → Same us vs (calls v w).1 → Same (keep v us) (more v vs) w
+keep_same : (v : Plain) (us vs : Plains) (w : Writing) → Same us vs (calls v w).1 → Same (put_first_without_last_null v us) (more v vs) w
 unfolding calls
 keep_same null none vs w s = record { words = ap (keep_word 0) s.words; state = s.state }
 keep_same null (more u us) vs w s = record { words = ap (keep_word 0) s.words; state = s.state }
@@ -70,7 +70,7 @@ writes_null w = record { is = sym (calls_null w) }
 pub writes_int : (n : ℕ) (a : Writing) (x : ℕ) (b : Writing) → ◌≡◌ {A = ℕ × Writing} (x, b) (int_call n a) → WritesValue a (int n) x b
 writes_int n a x b e = record { is = e ∙ sym (calls_int n a) }
 
-pub writes_blob : (bytes : List ℕ) (a : Writing) (x : ℕ) (b : Writing) → ◌≡◌ {A = ℕ × Writing} (x, b) (blob_call bytes a) → WritesValue a (blob_value bytes) x b
+pub writes_blob : (bytes : List ℕ) (a : Writing) (x : ℕ) (b : Writing) → ◌≡◌ {A = ℕ × Writing} (x, b) (blob_call bytes a) → WritesValue a (blob_or_null bytes) x b
 writes_blob bytes a x b e = record { is = e ∙ sym (calls_blob bytes a) }
 
 pub writes_none : (w : Writing) → WritesValues w none [] w
@@ -129,6 +129,6 @@ writes_in_word n a x lt e =
     let is : int_cell n ≡ in_place (2 ^ 28 + n) = rw t refl in
     writes_int n a x a (e ∙ ap (λ (k : Cell). call k a) (sym is))
 
-pub writes_empty : (bytes : List ℕ) (a : Writing) → length bytes ≡ 0 → WritesValue a (blob_value bytes) 0 a
+pub writes_empty : (bytes : List ℕ) (a : Writing) → length bytes ≡ 0 → WritesValue a (blob_or_null bytes) 0 a
 writes_empty [] a e = writes_null a
 writes_empty (x ∷ xs) a e = absurd (omega arith)

@@ -4,7 +4,7 @@ use Rattle.std.specs.Prelude.{find}
 use Rattle.adb_view.specs.Readers.{ARRAY, OBJECT}
 use Rattle.adb_write.specs.Canonical.{gap, Item, WrittenItem, Cell, in_place, apart, int_cell, blob_item, blob_cell, run_cell, trimmed_words, Layout, end_offset, is_equal_item, word_of_item, put_unless, put_item, layout_counts, passes, MOST_BYTES}
 use Rattle.adb_write.specs.Writing.{Writing, empty_writing, writing_by, is_past_limit, layout_of, writing_of, unless_past_limit, call, int_call, blob_call, arr_call, obj_call}
-use Rattle.adb_write.specs.Again.{HasWholeItems, HasLengthInFront, HasAllItems, IsWholeWriting, IsWordOfBlob}
+use Rattle.adb_write.specs.Again.{HasWholeItemsWithinLimit, HasLengthInFront, HasAllItems, IsWholeWriting, IsWordOfBlob}
 use Rattle.adb_write.proofs.Again.{array_cell_framed, blob_cell_framed, blob_framed, int_cell_framed, IsFoundAgain, IsFramedCell, Keeps, nothing_whole, object_cell_framed, put_cell_stays, put_item_found}
 use Rattle.adb_write.proofs.AnyOrder.{call_stored, fits_of}
 use Rattle.adb_write.proofs.Found.{equal_bytes, equal_within, find-passes}
@@ -123,10 +123,10 @@ word_stays (y ∷ ys) word w later g h k o p e = go (find (is_equal_item w.body 
 
 -- what a call leaves of the words of blobs
 pub record LeavesWords (w later : Writing) : Type 0 where
-  pub whole : HasWholeItems later
+  pub whole : HasWholeItemsWithinLimit later
   pub words : (b : List ℕ) (word : ℕ) → IsWordOfBlob w b word → IsWordOfBlob later b word
 
-kept : (c : Cell) (w : Writing) → (is_past_limit (call c w).1 ≡ false → IsFramedCell c) → HasWholeItems w → LeavesWords w (call c w).1
+kept : (c : Cell) (w : Writing) → (is_past_limit (call c w).1 ≡ false → IsFramedCell c) → HasWholeItemsWithinLimit w → LeavesWords w (call c w).1
 kept c w framed h = record {
   whole = λ o. (left c w (framed o) (h (call_stored c w o).before) o).whole;
   words = λ b word is o.
@@ -135,23 +135,23 @@ kept c w framed h = record {
       word_stays b word w (call c w).1 (h before) l.whole l.keeps before o (is before);
 }
 
-pub int_keeps : (n : ℕ) (w : Writing) → HasWholeItems w → LeavesWords w (int_call n w).1
+pub int_keeps : (n : ℕ) (w : Writing) → HasWholeItemsWithinLimit w → LeavesWords w (int_call n w).1
 int_keeps n w h = kept (int_cell n) w (λ o. int_cell_framed n) h
 
-pub blob_keeps : (b : List ℕ) (w : Writing) → HasWholeItems w → LeavesWords w (blob_call b w).1
+pub blob_keeps : (b : List ℕ) (w : Writing) → HasWholeItemsWithinLimit w → LeavesWords w (blob_call b w).1
 blob_keeps b w h = kept (blob_cell b) w (blob_is_framed b w) h
 
-pub arr_keeps : (ws : List ℕ) (w : Writing) → HasWholeItems w → LeavesWords w (arr_call ws w).1
+pub arr_keeps : (ws : List ℕ) (w : Writing) → HasWholeItemsWithinLimit w → LeavesWords w (arr_call ws w).1
 arr_keeps ws w h = kept (run_cell ARRAY ws) w (array_is_framed ws w) h
 
-pub obj_keeps : (ws : List ℕ) (w : Writing) → HasWholeItems w → LeavesWords w (obj_call ws w).1
+pub obj_keeps : (ws : List ℕ) (w : Writing) → HasWholeItemsWithinLimit w → LeavesWords w (obj_call ws w).1
 obj_keeps ws w h = kept (run_cell OBJECT (trimmed_words ws)) w (object_is_framed (trimmed_words ws) w) h
 
-pub empty_whole : HasWholeItems empty_writing
+pub empty_whole : HasWholeItemsWithinLimit empty_writing
 empty_whole o = record { whole = nothing_whole; bytes = refl }
 
 -- the answer is the blob's word from then on
-pub new_word : (b : List ℕ) (w : Writing) → HasWholeItems w → IsWordOfBlob (blob_call b w).1 b (blob_call b w).0
+pub new_word : (b : List ℕ) (w : Writing) → HasWholeItemsWithinLimit w → IsWordOfBlob (blob_call b w).1 b (blob_call b w).0
 unfolding call
 new_word [] w h o = rw o refl
 new_word (y ∷ ys) w h o =

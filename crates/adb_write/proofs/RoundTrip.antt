@@ -6,9 +6,9 @@ use Rattle.std.specs.Int.{Width, w8, w16, w32, w64, byte_len, from_le_bytes, to_
 use Rattle.std.proofs.lemmas.Bool.{cases_lt, leb-true, le-leb, lt-ltb, le-ltb, ne_eqb}
 use Rattle.std.proofs.lemmas.List.{append-nil, take_at, drop_at, length-append, length-drop, length-replicate, take-append-le, drop-append-le}
 use Rattle.adb_view.specs.Bytes.{range_at, number_at, words}
-use Rattle.adb_view.specs.Plain.{IsNormal, AreNormal, Plain, null, int, blob, arr, obj, Plains, none, more, without_last_nulls, blob_value, arr_value, obj_of, obj_value, Shape, number, text, hash, array, object, Fields, no_fields, field, unless_null, from_answer, each_plain, plain_of, plains_of, value_of}
+use Rattle.adb_view.specs.Plain.{IsNormal, AreNormal, Plain, null, int, blob, arr, obj, Plains, none, more, without_last_nulls, blob_or_null, arr_value, obj_of, obj_value, Shape, number, text, hash, array, object, Fields, no_fields, field, unless_null, from_answer, each_plain, plain_of, plains_of, value_of}
 use Rattle.adb_view.specs.Head.{root_of}
-use Rattle.adb_view.specs.Readers.{kind_of, low_of, inside, counted_at, counted_words, run_at, int_of, blob_of, run_of, ARRAY, OBJECT}
+use Rattle.adb_view.specs.Readers.{kind_of, low_of, or_outside, counted_at, counted_words, run_at, int_of, blob_of, run_of, ARRAY, OBJECT}
 use Rattle.adb_write.specs.Canonical.{gap, Item, WrittenItem, Cell, in_place, apart, int_cell, blob_cell, run_cell, run_bytes, keep_word, trimmed_words, Layout, empty_layout, end_offset, is_equal_item, word_of_item, put_new, put_unless, put_item, put_cell, put_run, write, write_all, payload_with_root, canonical, MOST_BYTES}
 use Rattle.adb_view.specs.Shaped.{Each, HasShape, HaveShapes}
 use Rattle.adb_view.proofs.Normal.{trimmed-more}
@@ -61,12 +61,12 @@ run_at-append p q at ws e =
     let (n, is, y) = some_then (counted_words p at) (number_at w32 p at) ws e in
     ap (option_and_then (counted_words (p ++ q) at)) (number_at-append w32 p q at n is) ∙ counted_words-append p q at n ws y
 
-inside_ok : {A : Type 0} (w : ℕ) (o : Option A) (x : A) → inside w o ≡ Ok x → o ≡ Some x
+inside_ok : {A : Type 0} (w : ℕ) (o : Option A) (x : A) → or_outside w o ≡ Ok x → o ≡ Some x
 inside_ok w (Some y) x e = cc
 inside_ok w None x e = absurd cc
 
-inside-append : {A : Type 0} (w : ℕ) (o o' : Option A) (x : A) → ((y : A) → o ≡ Some y → o' ≡ Some y) → inside w o ≡ Ok x → inside w o' ≡ Ok x
-inside-append w o o' x h e = ap (inside w) (h x (inside_ok w o x e))
+inside-append : {A : Type 0} (w : ℕ) (o o' : Option A) (x : A) → ((y : A) → o ≡ Some y → o' ≡ Some y) → or_outside w o ≡ Ok x → or_outside w o' ≡ Ok x
+inside-append w o o' x h e = ap (or_outside w) (h x (inside_ok w o x e))
 
 -- one test of a reader, the same on both sides
 test_same : {A : Type 0} (b : Bool) (x x' y y' : A) (z : A) → (x ≡ z → x' ≡ z) → (y ≡ z → y' ≡ z) → cond b x y ≡ z → cond b x' y' ≡ z
@@ -116,9 +116,9 @@ mutual
 unless_not_null : (w : ℕ) (v : Option Plain) → w ≢ 0 → unless_null w v ≡ v
 unless_not_null w v ne = let t : eqb w 0 ≡ false = ne_eqb w 0 ne in rw t refl
 
-pub blob_value-is : (b : List ℕ) → b ≢ [] → blob_value b ≡ blob b
-blob_value-is [] ne = absurd (ne refl)
-blob_value-is (x ∷ xs) ne = refl
+pub blob_or_null-is : (b : List ℕ) → b ≢ [] → blob_or_null b ≡ blob b
+blob_or_null-is [] ne = absurd (ne refl)
+blob_or_null-is (x ∷ xs) ne = refl
 
 arr_value-is : (vs : Plains) → vs ≢ none → arr_value vs ≡ arr vs
 arr_value-is none ne = absurd (ne refl)
@@ -146,12 +146,12 @@ mutual
   plain_of-Holds p number (obj vs) w n s h = absurd s
   plain_of-Holds p text null w n s h = rw h refl
   plain_of-Holds p text (int k) w n s h = absurd s
-  plain_of-Holds p text (blob b) w n s h = unless_not_null w _ h.0 ∙ rw h.1 (ap Some (blob_value-is b n))
+  plain_of-Holds p text (blob b) w n s h = unless_not_null w _ h.0 ∙ rw h.1 (ap Some (blob_or_null-is b n))
   plain_of-Holds p text (arr vs) w n s h = absurd s
   plain_of-Holds p text (obj vs) w n s h = absurd s
   plain_of-Holds p hash null w n s h = rw h refl
   plain_of-Holds p hash (int k) w n s h = absurd s
-  plain_of-Holds p hash (blob b) w n s h = unless_not_null w _ h.0 ∙ rw h.1 (ap Some (blob_value-is b n))
+  plain_of-Holds p hash (blob b) w n s h = unless_not_null w _ h.0 ∙ rw h.1 (ap Some (blob_or_null-is b n))
   plain_of-Holds p hash (arr vs) w n s h = absurd s
   plain_of-Holds p hash (obj vs) w n s h = absurd s
   plain_of-Holds p (array t) null w n s h = rw h refl

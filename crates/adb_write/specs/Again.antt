@@ -49,8 +49,8 @@ pub record IsWholeWriting (w : Writing) : Type 0 where
   pub bytes : w.bytes ≡ 8 + length w.body
 
 -- unless it passed a limit, a writer has all its items
-abbrev pub HasWholeItems : Writing → Type 0
-HasWholeItems w = is_past_limit w ≡ false → IsWholeWriting w
+abbrev pub HasWholeItemsWithinLimit : Writing → Type 0
+HasWholeItemsWithinLimit w = is_past_limit w ≡ false → IsWholeWriting w
 
 -- unless the writer passed a limit, a call for this blob returns this word and changes nothing
 abbrev pub IsWordOfBlob : Writing → List ℕ → ℕ → Type 0

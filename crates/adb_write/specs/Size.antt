@@ -27,5 +27,5 @@ abbrev pub value_count : Plain → ℕ
 value_count v = 1 + entries_of v
 
 -- a layout whose count of values is n more, with the same items
-abbrev pub with_entries : ℕ → Layout → Layout
-with_entries n out = record out { values = out.values + n }
+abbrev pub with_value_count_raised : ℕ → Layout → Layout
+with_value_count_raised n out = record out { values = out.values + n }

@@ -2,13 +2,13 @@
 //! of an empty function. The rules are in `docs/formats.md`, "Canonical layout"; the README of this
 //! crate lists the laws.
 ghost use Rattle.std.specs.Prelude.{◌≡◌, ◌≤◌, ◌<◌, ◌^◌, ◌⊎◌, ℕ, List, [], ◌∷◌, ◌++◌, false, true, length, Some, Ok, is_some};
-ghost use Rattle.adb_view.specs.Plain.{Plain, null, int, Plains, none, more, blob_value, arr_value, obj_value, Shape, IsNormal, plain_of, value_of};
+ghost use Rattle.adb_view.specs.Plain.{Plain, null, int, Plains, none, more, blob_or_null, arr_value, obj_value, Shape, IsNormal, plain_of, value_of};
 ghost use Rattle.adb_view.specs.Head.{root_of};
 ghost use Rattle.adb_view.specs.Visits.{visits};
 ghost use Rattle.adb_block.specs.Container.{Spells};
 ghost use Rattle.adb_write.specs.File.{adb_piece, file_of};
 ghost use Rattle.adb_write.specs.Canonical.{Layout, empty_layout, end_offset, write, canonical, passes, overflow_of, written_of, payload_with_root, MOST_BYTES};
-ghost use Rattle.adb_write.specs.Size.{size_of, entries_of, value_count, with_entries};
+ghost use Rattle.adb_write.specs.Size.{size_of, entries_of, value_count, with_value_count_raised};
 ghost use Rattle.adb_write.specs.Writing.{Writing, empty_writing, is_past_limit, layout_of, int_call, blob_call, arr_call, obj_call, finish_result};
 ghost use Rattle.adb_write.specs.DepthFirst.{WritesValue, WritesValues, push};
 ghost use Rattle.adb_view.specs.Shaped.{HasShape};
@@ -32,7 +32,7 @@ pub fn values_are_written_depth_first()
     ensures int { (n : ℕ) (a : Writing) (x : ℕ) (b : Writing) → (x, b) ≡ int_call n a
         → WritesValue a (int n) x b }
     ensures blob { (bytes : List ℕ) (a : Writing) (x : ℕ) (b : Writing)
-        → (x, b) ≡ blob_call bytes a → WritesValue a (blob_value bytes) x b }
+        → (x, b) ≡ blob_call bytes a → WritesValue a (blob_or_null bytes) x b }
     ensures arr { (vs : Plains) (xs : List ℕ) (a b : Writing) (x : ℕ) (c : Writing)
         → WritesValues a vs xs b → (x, c) ≡ arr_call xs b → WritesValue a (arr_value vs) x c }
     ensures obj { (vs : Plains) (xs : List ℕ) (a b : Writing) (x : ℕ) (c : Writing)
@@ -73,7 +73,7 @@ pub fn an_answer_denotes_its_value()
     ensures int { (n : ℕ) (w : Writing) → n < 2 ^ 64
         → Denotes (int_call n w).1 (int n) (int_call n w).0 }
     ensures blob { (bytes : List ℕ) (w : Writing)
-        → Denotes (blob_call bytes w).1 (blob_value bytes) (blob_call bytes w).0 }
+        → Denotes (blob_call bytes w).1 (blob_or_null bytes) (blob_call bytes w).0 }
     ensures arr { (vs : Plains) (words : List ℕ) (w : Writing)
         → AllDenote w vs words
         → Denotes (arr_call words w).1 (arr_value vs) (arr_call words w).0 }
@@ -121,7 +121,7 @@ pub fn a_value_is_stored_once()
         → let first : ℕ × Layout = write v (write before empty_layout).1
         in let later : Layout = (write since first.1).1
         in end_offset later ≤ MOST_BYTES
-        → write v later ≡ (first.0, with_entries (entries_of v) later) }
+        → write v later ≡ (first.0, with_value_count_raised (entries_of v) later) }
 {}
 
 /// A walk over a canonical payload visits as many words as the value has values. So a payload

@@ -4,7 +4,7 @@
 
 ghost use Rattle.std.specs.Prelude.{◌≡◌, ◌<◌, ◌≤◌, ◌+◌, ◌^◌, false, IfOk, OnErr, length};
 ghost use Rattle.adb_write.specs.Canonical.{MOST_BYTES, passes, gap, in_place, apart, run_cell, trimmed_words};
-ghost use Rattle.adb_view.specs.Plain.{Plains, int, blob_value, arr_value, obj_value};
+ghost use Rattle.adb_view.specs.Plain.{Plains, int, blob_or_null, arr_value, obj_value};
 ghost use Rattle.adb_write.specs.DepthFirst.{WritesValue, WritesValues};
 ghost use Rattle.adb_write.specs.Writing.{Writing, Grows, empty_writing, is_past_limit, call, int_call, blob_call, arr_call, obj_call, finish_result};
 ghost use Rattle.adb_write.specs.Items.{list_kind, item_of, HasNumbersInRange};
@@ -153,7 +153,7 @@ impl Writer {
     pub fn blob(&mut self, bytes: &[u8]) -> Result<Val, AllocError>
         ensures ok { IfOk result (λ word. (word, self.new) ≡ blob_call bytes.now self.old) }
         ensures written { IfOk result
-            (λ word. WritesValue self.old (blob_value bytes.now) word self.new) }
+            (λ word. WritesValue self.old (blob_or_null bytes.now) word self.new) }
         ensures err { OnErr result (self.new ≡ self.old) }
         ensures wants { OnErr result (Grows self.old (blob_call bytes.now self.old).1) }
     {

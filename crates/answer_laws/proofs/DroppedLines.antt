@@ -28,7 +28,7 @@ use Rattle.adb_view.specs.declared.tables.Which.TheVariants.{File, Idb}
 use Rattle.make_laws.specs.NamedFields.{entries_named}
 use Rattle.v2_core.specs.Database.{listed_access_value, listed_file_value, listed_hash_value, value_of_records}
 use Rattle.v2_core.specs.Records.{ListedFile}
-use Rattle.adb_view.specs.Plain.{blob_value}
+use Rattle.adb_view.specs.Plain.{blob_or_null}
 use Rattle.answer_laws.specs.TextLetters.{IsOfOtherLetter, listed_letters}
 use Rattle.answer_laws.proofs.RecordFields.{as_list, in_info, of_info, package_parts}
 
@@ -184,7 +184,7 @@ no_info r = (
 
 abbrev pub file_parts : ListedFile → Plains
 file_parts f =
-    plains_of_list (blob_value f.name ∷ listed_access_value f.access ∷ null ∷ null ∷ listed_hash_value f.hash ∷ [])
+    plains_of_list (blob_or_null f.name ∷ listed_access_value f.access ∷ null ∷ null ∷ listed_hash_value f.hash ∷ [])
 
 pub no_size : (f : ListedFile) → (let file = listed_file_value f in
     (field_named File (codes "size") file ≡ null) × (field_named File (codes "mtime") file ≡ null) × (field_named File (codes "target") file ≡ null))

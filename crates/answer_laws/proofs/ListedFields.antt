@@ -3,7 +3,7 @@ use Rattle.std.proofs.Common.{◌≡◌, ◌∙◌, ℕ, List, [], ◌∷◌, ma
 use Rattle.std.specs.Prelude.{codes, option_map}
 use Rattle.adb_fields.specs.Repeated.{list_of}
 use Rattle.adb_view.proofs.ValueEntries.{entries_arr, nth_obj}
-use Rattle.adb_view.specs.Plain.{Plain, Plains, blob_value, int}
+use Rattle.adb_view.specs.Plain.{Plain, Plains, blob_or_null, int}
 use Rattle.adb_view.specs.Values.{entries_in}
 use Rattle.adb_view.specs.declared.tables.Which.TheVariants.{Acl, Dir, File, Package}
 use Rattle.make_info.specs.Values.{plains_of_list}
@@ -43,10 +43,10 @@ hash_letter value = refl
 
 abbrev folder_parts : ListedFolder → Plains
 folder_parts f =
-    plains_of_list (blob_value f.name ∷ listed_access_value f.access ∷ array_of (map listed_file_value f.files) ∷ [])
+    plains_of_list (blob_or_null f.name ∷ listed_access_value f.access ∷ array_of (map listed_file_value f.files) ∷ [])
 
 abbrev access_parts : Access → Plains
-access_parts a = plains_of_list (int a.mode ∷ blob_value a.user ∷ blob_value a.group ∷ [])
+access_parts a = plains_of_list (int a.mode ∷ blob_or_null a.user ∷ blob_or_null a.group ∷ [])
 
 entries_are : (v : Plain) (vs : List Plain) → v ≡ array_of vs → list_of (entries_in v) ≡ vs
 entries_are v vs e = ap (λ (u : Plain). list_of (entries_in u)) e ∙ ap list_of (entries_arr (plains_of_list vs)) ∙ as_list vs
@@ -54,17 +54,17 @@ entries_are v vs e = ap (λ (u : Plain). list_of (entries_in u)) e ∙ ap list_o
 pub folders_are : (r : Record) → entries_named Package (codes "paths") (record_value r) ≡ map listed_folder_value r.folders
 folders_are r = entries_are _ (map listed_folder_value r.folders) (nth_obj (package_parts r) 1)
 
-pub folder_is : (f : ListedFolder) → (field_named Dir (codes "name") (listed_folder_value f) ≡ blob_value f.name)
+pub folder_is : (f : ListedFolder) → (field_named Dir (codes "name") (listed_folder_value f) ≡ blob_or_null f.name)
     × (field_named Dir (codes "acl") (listed_folder_value f) ≡ listed_access_value f.access)
     × (entries_named Dir (codes "files") (listed_folder_value f) ≡ map listed_file_value f.files)
 folder_is f = (nth_obj (folder_parts f) 0, nth_obj (folder_parts f) 1, entries_are _ (map listed_file_value f.files) (nth_obj (folder_parts f) 2))
 
-pub file_is : (f : ListedFile) → (field_named File (codes "name") (listed_file_value f) ≡ blob_value f.name)
+pub file_is : (f : ListedFile) → (field_named File (codes "name") (listed_file_value f) ≡ blob_or_null f.name)
     × (field_named File (codes "acl") (listed_file_value f) ≡ listed_access_value f.access)
     × (field_named File (codes "hashes") (listed_file_value f) ≡ listed_hash_value f.hash)
 file_is f = (nth_obj (file_parts f) 0, nth_obj (file_parts f) 1, nth_obj (file_parts f) 4)
 
 pub access_is : (a : Access) → (field_named Acl (codes "mode") (listed_access_value (Some a)) ≡ int a.mode)
-    × (field_named Acl (codes "user") (listed_access_value (Some a)) ≡ blob_value a.user)
-    × (field_named Acl (codes "group") (listed_access_value (Some a)) ≡ blob_value a.group)
+    × (field_named Acl (codes "user") (listed_access_value (Some a)) ≡ blob_or_null a.user)
+    × (field_named Acl (codes "group") (listed_access_value (Some a)) ≡ blob_or_null a.group)
 access_is a = (nth_obj (access_parts a) 0, nth_obj (access_parts a) 1, nth_obj (access_parts a) 2)

@@ -2,7 +2,7 @@
 //! The rules are in `docs/formats.md`, "Text database of version 2", the rows F, M, R, a and Z.
 
 ghost use Rattle.std.specs.Prelude.{◌≡◌, ℕ, List, Some, codes, map, option_map};
-ghost use Rattle.adb_view.specs.Plain.{blob_value, int};
+ghost use Rattle.adb_view.specs.Plain.{blob_or_null, int};
 ghost use Rattle.adb_view.specs.declared.tables.Which.TheVariants.{Acl, Dir, File, Package};
 ghost use Rattle.answer_laws.specs.TextFiles.{folders_listed};
 ghost use Rattle.answer_laws.specs.TextLetters.{letter_line, record_with_lines};
@@ -44,17 +44,17 @@ pub fn folders_and_files_have_their_fields()
     ensures folders { (r : Record) → entries_named Package (codes "paths") (record_value r)
         ≡ map listed_folder_value r.folders }
     ensures folder { (f : ListedFolder)
-        → (field_named Dir (codes "name") (listed_folder_value f) ≡ blob_value f.name)
+        → (field_named Dir (codes "name") (listed_folder_value f) ≡ blob_or_null f.name)
         × (field_named Dir (codes "acl") (listed_folder_value f) ≡ listed_access_value f.access)
         × (entries_named Dir (codes "files") (listed_folder_value f)
         ≡ map listed_file_value f.files) }
     ensures file { (f : ListedFile)
-        → (field_named File (codes "name") (listed_file_value f) ≡ blob_value f.name)
+        → (field_named File (codes "name") (listed_file_value f) ≡ blob_or_null f.name)
         × (field_named File (codes "acl") (listed_file_value f) ≡ listed_access_value f.access)
         × (field_named File (codes "hashes") (listed_file_value f) ≡ listed_hash_value f.hash) }
     ensures access { (a : Access)
         → (field_named Acl (codes "mode") (listed_access_value (Some a)) ≡ int a.mode)
-        × (field_named Acl (codes "user") (listed_access_value (Some a)) ≡ blob_value a.user)
-        × (field_named Acl (codes "group") (listed_access_value (Some a)) ≡ blob_value a.group) }
-    ensures hash { (hash : List ℕ) → listed_hash_value (Some hash) ≡ blob_value hash }
+        × (field_named Acl (codes "user") (listed_access_value (Some a)) ≡ blob_or_null a.user)
+        × (field_named Acl (codes "group") (listed_access_value (Some a)) ≡ blob_or_null a.group) }
+    ensures hash { (hash : List ℕ) → listed_hash_value (Some hash) ≡ blob_or_null hash }
 {}

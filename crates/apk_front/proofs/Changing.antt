@@ -6,7 +6,7 @@ use Rattle.base_core.specs.Calls.{HoldsNow}
 use Rattle.base_core.specs.Undone.{IsDurable}
 use Rattle.base_core.specs.Faults.{Counts, HasCause, IsNoFault}
 use Rattle.base_core.specs.Files.{Files}
-use Rattle.base_core.specs.Restart.{EachMoment, SinceBy}
+use Rattle.base_core.specs.Restart.{EachMoment, SinceGivenEarlier}
 use Rattle.base_core.specs.Tree.{TreeState, files_of}
 use Rattle.base_core.specs.declared.tree.TreeFault.{TreeFault}
 use Rattle.base_core.specs.declared.tree.TreeFault.TheVariants as Trees
@@ -287,7 +287,7 @@ module _ (command : CommandLine) (changes : effect_of command.applet ≡ Changes
 
     commit_run : IsRun (Ones command v) Changes None judged v (v ∷ rest) now
     commit_run = record {
-      moments = λ ignored is_durable hides. inr (outcome, is_one, commits_are, subst (λ (f : Files). SinceBy (IsOldUntilCommit ignored f v) (v ∷ rest) now) (sym files_are) (commit.run.moments ignored is_durable));
+      moments = λ ignored is_durable hides. inr (outcome, is_one, commits_are, subst (λ (f : Files). SinceGivenEarlier (IsOldUntilCommit ignored f v) (v ∷ rest) now) (sym files_are) (commit.run.moments ignored is_durable));
       is_durable = λ ignored is_durable hides. left_durable ignored is_durable;
       settled = λ ignored o is_durable hides one lasts. on_ok judged (λ done. subst (λ (f : Files). HoldsNow now (EachCrashLeaves ignored f)) (files_of_one o one) (done.settled ignored is_durable)) done_so;
       durable_state = λ ignored o is_durable hides one commits.

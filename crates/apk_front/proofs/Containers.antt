@@ -28,7 +28,7 @@ use Rattle.report_core.specs.declared.refusal.Refusal.TheVariants.{Reserved, Res
 use Rattle.command_core.specs.Command.{CommandLine}
 use Rattle.command_core.specs.Files.{without_dot}
 use Rattle.command_core.specs.declared.values.OptionValue.{OptionValue}
-use Rattle.apk_front.specs.Moments.{IsOutputPathFreeIfAny}
+use Rattle.apk_front.specs.Moments.{CanAddOutputNamesIfAny}
 use Rattle.apk_front.specs.Runs.{IsRun}
 use Rattle.apk_front.specs.Containers.{IsIndexMade, IsIndexFound, IsIndexOutcome, IsPackageMade, IsPackageOutcome, OnMade, is_disk_or_memory, ended_by_disk_or_memory, made_in}
 use Rattle.apk_front.specs.Verdicts.{Reports, ReportsOne, as_outcome}
@@ -196,17 +196,17 @@ module _ (Means : TreeState → Result (List ℕ) MakeFault → Type 0) (IsOne :
       runs_by judged v rest now (ended_by_disk_or_memory container) refl found whole (λ is. cut is ∙ same)
       (subst (λ (h : History). IfObservable h (λ v. IsRun (λ o. o ≡ make_outcome (files_of v) output report (made_in container)) Makes output judged v h now)) same run)
 
-  room_by : (c : Container) (v : TreeState) → OnMade c (Means v) → ((o : Outcome) → IsOne v o → o.commits ≡ true → IsOutputPathFreeIfAny output (files_of v))
-      → IfOk c (λ file. (make_outcome (files_of v) output report (Ok file.items)).commits ≡ true → IsOutputPathFreeIfAny output (files_of v))
+  room_by : (c : Container) (v : TreeState) → OnMade c (Means v) → ((o : Outcome) → IsOne v o → o.commits ≡ true → CanAddOutputNamesIfAny output (files_of v))
+      → IfOk c (λ file. (make_outcome (files_of v) output report (Ok file.items)).commits ≡ true → CanAddOutputNamesIfAny output (files_of v))
   room_by (Ok file) v found room = room (make_outcome (files_of v) output report (Ok file.items)) (are.one v (Ok file.items) found)
   room_by (Err why) v found room = tt
 
   pub proper_by : (old mid : History) (first second last : ℕ) → mid ≡ old → IfObservable old (λ v. OnMade container (Means v)) → IfObservable old (λ v. second ≡ first)
-      → IfObservable mid (λ v. IfOk container (λ file. (make_outcome (files_of v) output report (Ok file.items)).commits ≡ true → IsOutputPathFreeIfAny output (files_of v)) → last ≡ second)
-      → IfObservable old (λ v. ((o : Outcome) → IsOne v o → o.commits ≡ true → IsOutputPathFreeIfAny output (files_of v)) → last ≡ first)
+      → IfObservable mid (λ v. IfOk container (λ file. (make_outcome (files_of v) output report (Ok file.items)).commits ≡ true → CanAddOutputNamesIfAny output (files_of v)) → last ≡ second)
+      → IfObservable old (λ v. ((o : Outcome) → IsOne v o → o.commits ≡ true → CanAddOutputNamesIfAny output (files_of v)) → last ≡ first)
   proper_by [] mid first second last same found before after = tt
   proper_by (v ∷ rest) mid first second last same found before after = λ room.
-      subst (λ (h : History). IfObservable h (λ v. IfOk container (λ file. (make_outcome (files_of v) output report (Ok file.items)).commits ≡ true → IsOutputPathFreeIfAny output (files_of v)) → last ≡ second)) same after
+      subst (λ (h : History). IfObservable h (λ v. IfOk container (λ file. (make_outcome (files_of v) output report (Ok file.items)).commits ≡ true → CanAddOutputNamesIfAny output (files_of v)) → last ≡ second)) same after
       (room_by container v found room) ∙ before
 
 -- ---- of a package

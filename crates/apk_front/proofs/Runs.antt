@@ -16,13 +16,13 @@ use Rattle.adb_schema.specs.Reserved.{is_reserved}
 use Rattle.journal_core.specs.Kept.{IsSyncedAt, KeepsMapsExcept, ShownNamesAreDurable}
 use Rattle.journal_core.specs.Quiet.{StateIsUnchanged}
 use Rattle.journal_core.specs.Recovery.{EachCrashLeaves, StateDependsOn, intent_name, is_staged, state_of}
-use Rattle.journal_core.specs.Replacing.{IsOutputPathFree, IgnoresScratch, IsMomentOfReplacing, replaced_files, scratch_of}
+use Rattle.journal_core.specs.Replacing.{CanAddOutputNames, IgnoresScratch, IsMomentOfReplacing, replaced_files, scratch_of}
 use Rattle.journal_core.specs.Reading.{ReadsOldOrReplaced}
 use Rattle.outcome.specs.Effect.{Effect, Makes}
 use Rattle.outcome.specs.Make.{make_outcome}
 use Rattle.outcome.specs.Outcome.{Outcome, commit_report, just_refusal, just_report}
 use Rattle.report_core.specs.declared.refusal.Refusal.TheVariants.{Reserved}
-use Rattle.apk_front.specs.Moments.{AreOldOrLeadToOutcome, IsOutputPathFreeIfAny, IgnoresScratchOf, IsDurableState, IsReadDuringWork, MakesDurableWithoutRecovery, NamesAreDurableWithoutIntentExcept, ignored_but, is_draft_name, output_names}
+use Rattle.apk_front.specs.Moments.{AreOldOrLeadToOutcome, CanAddOutputNamesIfAny, IgnoresScratchOf, IsDurableState, IsReadDuringWork, MakesDurableWithoutRecovery, NamesAreDurableWithoutIntentExcept, ignored_but, is_draft_name, output_names}
 use Rattle.apk_front.specs.Runs.{AreReadDuringWork, IsRun}
 use Rattle.apk_front.specs.Verdicts.{Reports, as_outcome}
 use Rattle.apk_front.specs.declared.answer.Verdict.{Verdict}
@@ -257,13 +257,13 @@ cut_run law output report file name judged e (v ∷ rest) now failed is free mov
 -- ---- room
 
 abbrev pub HasRoomIf : Option (List ℕ) → List ℕ → List ℕ → TreeState → Type 0
-HasRoomIf output report file v = (make_outcome (files_of v) output report (Ok file)).commits ≡ true → IsOutputPathFreeIfAny output (files_of v)
+HasRoomIf output report file v = (make_outcome (files_of v) output report (Ok file)).commits ≡ true → CanAddOutputNamesIfAny output (files_of v)
 
 pub room_proper : (output : Option (List ℕ)) (report file name : List ℕ) (old : History) (P : Type 0) → output ≡ Some name → is_reserved name ≡ false
-    → IfObservable old (λ v. IsOutputPathFree name (files_of v) → P) → IfObservable old (λ v. HasRoomIf output report file v → P)
+    → IfObservable old (λ v. CanAddOutputNames name (files_of v) → P) → IfObservable old (λ v. HasRoomIf output report file v → P)
 room_proper output report file name [] P is free proper = tt
 room_proper output report file name (v ∷ rest) P is free proper = λ room.
-    proper (subst (λ (out : Option (List ℕ)). IsOutputPathFreeIfAny out (files_of v)) is (room (ap (λ (x : Outcome). x.commits) (free_is output report file name (files_of v) is free))))
+    proper (subst (λ (out : Option (List ℕ)). CanAddOutputNamesIfAny out (files_of v)) is (room (ap (λ (x : Outcome). x.commits) (free_is output report file name (files_of v) is free))))
 
 pub any_proper : (Room : TreeState → Type 0) (old : History) (P : Type 0) → P → IfObservable old (λ v. Room v → P)
 any_proper Room [] P p = tt

@@ -25,18 +25,18 @@ wanted before after unplanned same cause = elim cause.reason [
 
 sink_wanted : (o : Outcome) (out err : SinkChange) → HasNoPlannedFailure out.before → HasNoPlannedFailure err.before → IsProperUse out → IsProperUse err → FailedAt out o.out ⊎ FailedAt err o.err
     → Rose out.before.memory_faults out.after.memory_faults ⊎ Rose err.before.memory_faults err.after.memory_faults
-sink_wanted o out err calm_out calm_err keeps_out keeps_err (inl failed) = inl (wanted out.before out.after calm_out keeps_out.proper failed.failed)
-sink_wanted o out err calm_out calm_err keeps_out keeps_err (inr failed) = inr (wanted err.before err.after calm_err keeps_err.proper failed.failed)
+sink_wanted o out err calm_out calm_err does_exclude keeps_err (inl failed) = inl (wanted out.before out.after calm_out does_exclude.proper failed.failed)
+sink_wanted o out err calm_out calm_err does_exclude keeps_err (inr failed) = inr (wanted err.before err.after calm_err keeps_err.proper failed.failed)
 
 ends_as_stated : (words : List (List ℕ)) (files : Files) (Leaves : Outcome → Type 0) (before after : Counts) (answer : Answer) (out err : SinkChange)
     → IsAnswerOf (IsOutcome (command_of words) files) Leaves (HasCause before after) answer out err → after.misuses ≡ before.misuses → IsProperUse out → IsProperUse err
     → HasNoPlannedFailure before → HasNoPlannedFailure out.before → HasNoPlannedFailure err.before
     → IsOutcomeUnlessMemory words files Leaves answer before after out err
-ends_as_stated words files Leaves before after Good out err stated same keeps_out keeps_err calm calm_out calm_err = stated
-ends_as_stated words files Leaves before after (Refused refusal) out err stated same keeps_out keeps_err calm calm_out calm_err = stated
-ends_as_stated words files Leaves before after TreeFault out err (cause, fault) same keeps_out keeps_err calm calm_out calm_err = wanted before after calm same cause
-ends_as_stated words files Leaves before after OutFault out err (o, is, fault, leaves) same keeps_out keeps_err calm calm_out calm_err = sink_wanted o out err calm_out calm_err keeps_out keeps_err (either_failed fault.which)
-ends_as_stated words files Leaves before after Memory out err fault same keeps_out keeps_err calm calm_out calm_err = tt
+ends_as_stated words files Leaves before after Good out err stated same does_exclude keeps_err calm calm_out calm_err = stated
+ends_as_stated words files Leaves before after (Refused refusal) out err stated same does_exclude keeps_err calm calm_out calm_err = stated
+ends_as_stated words files Leaves before after TreeFault out err (cause, fault) same does_exclude keeps_err calm calm_out calm_err = wanted before after calm same cause
+ends_as_stated words files Leaves before after OutFault out err (o, is, fault, leaves) same does_exclude keeps_err calm calm_out calm_err = sink_wanted o out err calm_out calm_err does_exclude keeps_err (either_failed fault.which)
+ends_as_stated words files Leaves before after Memory out err fault same does_exclude keeps_err calm calm_out calm_err = tt
 
 pub ends_unless_memory : (Room : TreeState → Type 0) (words : List (List ℕ)) (old now : List TreeState) (before after : Counts) (answer : Answer) (out err : SinkChange)
     → IfObservable old (λ v. IsAnswerOf (IsOutcome (command_of words) (files_of v)) (LeavesFiles now) (HasCause before after) answer out err)
@@ -44,6 +44,6 @@ pub ends_unless_memory : (Room : TreeState → Type 0) (words : List (List ℕ))
     → IsProperUse out → IsProperUse err
     → IfObservable old (λ v. Room v → HasNoPlannedFailure before → HasNoPlannedFailure out.before → HasNoPlannedFailure err.before
     → IsOutcomeUnlessMemory words (files_of v) (LeavesFiles now) answer before after out err)
-ends_unless_memory Room words [] now before after answer out err stated proper keeps_out keeps_err = tt
-ends_unless_memory Room words (v ∷ rest) now before after answer out err stated proper keeps_out keeps_err = λ room calm calm_out calm_err.
-    ends_as_stated words (files_of v) (LeavesFiles now) before after answer out err stated (proper room) keeps_out keeps_err calm calm_out calm_err
+ends_unless_memory Room words [] now before after answer out err stated proper does_exclude keeps_err = tt
+ends_unless_memory Room words (v ∷ rest) now before after answer out err stated proper does_exclude keeps_err = λ room calm calm_out calm_err.
+    ends_as_stated words (files_of v) (LeavesFiles now) before after answer out err stated (proper room) does_exclude keeps_err calm calm_out calm_err

@@ -7,12 +7,12 @@ use Rattle.base_core.specs.Calls.{HoldsNow, IfObservable}
 use Rattle.base_core.specs.Crash.{Since}
 use Rattle.base_core.specs.Undone.{IsDurable}
 use Rattle.base_core.specs.Files.{Files}
-use Rattle.base_core.specs.Restart.{SinceBy}
+use Rattle.base_core.specs.Restart.{SinceGivenEarlier}
 use Rattle.base_core.specs.Tree.{TreeState, files_of}
 use Rattle.journal_core.specs.Kept.{HasOldOrNewBytes, JournalOnlyShrinks, ShownNamesAreDurableExcept}
 use Rattle.journal_core.specs.Quiet.{StateIsUnchanged}
 use Rattle.journal_core.specs.Recovery.{EachCrashLeaves, StateDependsOn, intent_name, intent_of, is_staged}
-use Rattle.journal_core.specs.Replacing.{IsOutputPathFree, IgnoresScratch, IsMomentOfReplacing, scratch_of}
+use Rattle.journal_core.specs.Replacing.{CanAddOutputNames, IgnoresScratch, IsMomentOfReplacing, scratch_of}
 use Rattle.journal_core.specs.Staged.{AreReplayPathsFree, AreStagingPathsFree, IsEmptyStage, IsOldUntilCommit, unstaged_files}
 use Rattle.outcome.specs.Effect.{Effect, Computes, Reads, Tells, Makes, Changes, does_recover, effect_by, output}
 use Rattle.outcome.specs.Outcome.{Outcome}
@@ -44,16 +44,16 @@ ignored_but (Some name) ignored q =
 -- ---- free paths
 
 -- the paths of an output and its scratch name are free in the files
-abbrev pub IsOutputPathFreeIfAny : Option (List ℕ) → Files → Type 0
-IsOutputPathFreeIfAny None files = Unit {0}
-IsOutputPathFreeIfAny (Some name) files = IsOutputPathFree name files
+abbrev pub CanAddOutputNamesIfAny : Option (List ℕ) → Files → Type 0
+CanAddOutputNamesIfAny None files = Unit {0}
+CanAddOutputNamesIfAny (Some name) files = CanAddOutputNames name files
 
 -- the paths that a command writes are free in the files
 abbrev pub ArePathsToWriteFree : Effect → Option (List ℕ) → Files → Type 0
 ArePathsToWriteFree Computes output files = Unit {0}
 ArePathsToWriteFree Reads output files = Unit {0}
 ArePathsToWriteFree Tells output files = Unit {0}
-ArePathsToWriteFree Makes output files = IsOutputPathFreeIfAny output files
+ArePathsToWriteFree Makes output files = CanAddOutputNamesIfAny output files
 ArePathsToWriteFree Changes output files = AreStagingPathsFree files
 
 -- The paths that a run with these outcomes writes are free: those of recovery in the files, and those
@@ -154,7 +154,7 @@ NamesAreDurableWithoutIntentExcept output w =
 abbrev pub MomentsLeadTo :
     Bool → (List ℕ → Bool) → Files → TreeState → List TreeState → List TreeState → Type 0
 MomentsLeadTo true ignored files v old now = Since (IsMomentOfReplacing ignored files v) old now
-MomentsLeadTo false ignored files v old now = SinceBy (IsOldUntilCommit ignored files v) old now
+MomentsLeadTo false ignored files v old now = SinceGivenEarlier (IsOldUntilCommit ignored files v) old now
 
 -- The state is unchanged; or the run has an outcome that commits, and leads to its files.
 abbrev pub AreOldOrLeadToOutcome :

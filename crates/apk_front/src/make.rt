@@ -4,7 +4,7 @@
 ghost use Rattle.std.specs.Prelude.{◌≡◌, ◌≢◌, ◌⊎◌, ℕ, false, true, List, Ok, Err, IsSome, IfOk, IsErrOf, OnOk};
 ghost use Rattle.make_package.specs.Answers.{IsMadeBySome};
 ghost use Rattle.apk_front.specs.Containers.{IsIndexMade, IsIndexFound, IsIndexOutcome, IsPackageMade, IsPackageOutcome, OnMade, is_disk_or_memory, ended_by_disk_or_memory, made_in};
-ghost use Rattle.apk_front.specs.Moments.{IsOutputPathFreeIfAny};
+ghost use Rattle.apk_front.specs.Moments.{CanAddOutputNamesIfAny};
 ghost use Rattle.apk_front.specs.Runs.{IsRun};
 ghost use Rattle.apk_front.specs.Verdicts.{Reports, ReportsOne};
 ghost use Rattle.base_core.specs.Calls.{IfObservable};
@@ -68,7 +68,7 @@ pub(crate) fn mkpkg<T: Tree>(
         → IsNoFault (T.counts tree.old) (T.counts tree.new) }
     ensures proper { IfObservable (T.history tree.old) (λ v.
         ((outcome : Outcome) → IsPackageOutcome command.now (files_of v) outcome
-        → outcome.commits ≡ true → IsOutputPathFreeIfAny (output_name command.now) (files_of v))
+        → outcome.commits ≡ true → CanAddOutputNamesIfAny (output_name command.now) (files_of v))
         → (T.counts tree.new).misuses ≡ (T.counts tree.old).misuses) }
 {
     // Laws that the proof needs; they have no effect at run time.
@@ -109,7 +109,7 @@ pub(crate) fn mkndx<T: Tree>(
         → IsNoFault (T.counts tree.old) (T.counts tree.new) }
     ensures proper { IfObservable (T.history tree.old) (λ v.
         ((outcome : Outcome) → IsIndexOutcome command.now (files_of v) outcome
-        → outcome.commits ≡ true → IsOutputPathFreeIfAny (output_name command.now) (files_of v))
+        → outcome.commits ≡ true → CanAddOutputNamesIfAny (output_name command.now) (files_of v))
         → (T.counts tree.new).misuses ≡ (T.counts tree.old).misuses) }
 {
     // Laws that the proof needs; they have no effect at run time.
@@ -194,7 +194,7 @@ fn finish<T: Tree>(
     ensures proper { IfObservable (T.history tree.old) (λ v.
         IfOk container (λ file.
         (make_outcome (files_of v) (output_name command.now) report (Ok file.items)).commits
-        ≡ true → IsOutputPathFreeIfAny (output_name command.now) (files_of v))
+        ≡ true → CanAddOutputNamesIfAny (output_name command.now) (files_of v))
         → (T.counts tree.new).misuses ≡ (T.counts tree.old).misuses) }
 {
     match container {
@@ -231,7 +231,7 @@ fn write<T: Tree>(
         → IsNoFault (T.counts tree.old) (T.counts tree.new) }
     ensures proper { IfObservable (T.history tree.old) (λ v.
         ((make_outcome (files_of v) (output_name command.now) report (Ok file.now)).commits ≡ true
-        → IsOutputPathFreeIfAny (output_name command.now) (files_of v))
+        → CanAddOutputNamesIfAny (output_name command.now) (files_of v))
         → (T.counts tree.new).misuses ≡ (T.counts tree.old).misuses) }
 {
     // Laws that the proof needs; they have no effect at run time.

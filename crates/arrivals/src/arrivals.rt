@@ -253,7 +253,7 @@ fn push_read<'a>(members: &mut Members<'a>, read: &'a MemberRead) -> Result<(), 
 {
     match read {
         MemberRead::Stays(place) => members.stays(*place),
-        MemberRead::Comes(pkg) => members.comes_in_pieces(&pkg.contents()),
+        MemberRead::Comes(pkg) => members.push_added_in_pieces(&pkg.contents()),
     }
 }
 

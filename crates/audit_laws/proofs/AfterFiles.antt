@@ -8,7 +8,7 @@ use Rattle.audit_core.specs.declared.comparing.Difference.TheVariants.{Changed, 
 use Rattle.base_core.specs.Files.{Files}
 use Rattle.change_files.specs.Fate.{is_guarded}
 use Rattle.change_files.specs.FileChange.{FileChange, added_owner_listing, is_claimed, old_entry, owner_listing}
-use Rattle.change_files.specs.FilesAfter.{Records, changed_files, aside_listing_at, path_beside}
+use Rattle.change_files.specs.FilesAfter.{Records, changed_files, aside_claim_at, path_beside}
 use Rattle.change_files.specs.Touched.{IsUsersFile, is_aside_name, is_record_name}
 use Rattle.change_files.proofs.Coming.{takes_path}
 use Rattle.change_files.proofs.Owned.{beside_is, claimed_by_owner, coming_is, nobody_beside}
@@ -42,14 +42,14 @@ module _ (change : FileChange) (bytes_of : Listing → List ℕ) (records : Reco
     not_aside : is_aside_name change files path ≡ false
     not_aside = by_path (path_beside path) refl
       where
-        by_laid : (q : List ℕ) → path_beside path ≡ Some q → (o : Option Listing) → aside_listing_at change files q ≡ o → is_some o ≡ false
+        by_laid : (q : List ℕ) → path_beside path ≡ Some q → (o : Option Listing) → aside_claim_at change files q ≡ o → is_some o ≡ false
         by_laid q e None laid = refl
         by_laid q e (Some m) laid =
             absurd (true≢false (sym claimed ∙ (ap (is_claimed change) (beside_is path q e) ∙ nobody_beside change files q m laid)))
 
-        by_path : (o : Option (List ℕ)) → path_beside path ≡ o → is_some (option_and_then (aside_listing_at change files) o) ≡ false
+        by_path : (o : Option (List ℕ)) → path_beside path ≡ o → is_some (option_and_then (aside_claim_at change files) o) ≡ false
         by_path None e = refl
-        by_path (Some q) e = by_laid q e (aside_listing_at change files q) refl
+        by_path (Some q) e = by_laid q e (aside_claim_at change files q) refl
 
     -- ---- whether the user changed it
 

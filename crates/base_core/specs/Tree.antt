@@ -99,8 +99,8 @@ abbrev pub after_sync_names : TreeState → TreeState
 after_sync_names v = record v { older = [] }
 
 -- the state after a call that failed and changed nothing: the state before it
-abbrev pub same_state : TreeState → TreeState
-same_state v = v
+abbrev pub after_failed_call : TreeState → TreeState
+after_failed_call v = v
 
 -- ---- when a call is no misuse
 

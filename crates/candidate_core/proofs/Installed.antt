@@ -8,7 +8,7 @@ use Rattle.std.specs.Str.{bytes_eq}
 use Rattle.std.proofs.lemmas.Bool.{cases_Bool}
 use Rattle.base_core.proofs.Booleans.{both_second, both_first}
 use Rattle.candidate_core.specs.Candidates.{Candidate, as_installed, as_installed_where_same, is_same_package, offers_name, with_installed}
-use Rattle.candidate_core.specs.CandidateList.{is_same_at, marked_at}
+use Rattle.candidate_core.specs.CandidateList.{is_installed_package_at, marked_at}
 use Rattle.candidate_core.specs.Options.{places_from}
 use Rattle.candidate_core.specs.Packages.{installed_at}
 
@@ -84,14 +84,14 @@ marked_all installed cs = marked_after installed [] cs
 same_still : (installed c : Candidate) → is_same_package installed (if is_same_package installed c then as_installed c else c) ≡ is_same_package installed c
 same_still installed c = elim (cases_Bool (is_same_package installed c)) [ inl e ↦ rw e e | inr e ↦ rw e e ]
 
-same_at_still : (installed : Candidate) (j : ℕ) (cs : List Candidate) (k : ℕ) → is_same_at installed (marked_at installed j cs) k ≡ is_same_at installed cs k
+same_at_still : (installed : Candidate) (j : ℕ) (cs : List Candidate) (k : ℕ) → is_installed_package_at installed (marked_at installed j cs) k ≡ is_installed_package_at installed cs k
 same_at_still installed j [] k = refl
 same_at_still installed zero (c ∷ cs) zero = same_still installed c
 same_at_still installed zero (c ∷ cs) (suc k) = refl
 same_at_still installed (suc j) (c ∷ cs) zero = refl
 same_at_still installed (suc j) (c ∷ cs) (suc k) = same_at_still installed j cs k
 
-pub same_among_still : (installed : Candidate) (ks : List ℕ) (cs : List Candidate) (k : ℕ) → is_same_at installed (marked_among installed ks cs) k ≡ is_same_at installed cs k
+pub same_among_still : (installed : Candidate) (ks : List ℕ) (cs : List Candidate) (k : ℕ) → is_installed_package_at installed (marked_among installed ks cs) k ≡ is_installed_package_at installed cs k
 same_among_still installed [] cs k = refl
 same_among_still installed (j ∷ ks) cs k = same_among_still installed ks (marked_at installed j cs) k ∙ same_at_still installed j cs k
 
@@ -110,7 +110,7 @@ any_places weak strong all n (c ∷ cs) to there =
       ]
     ]
 
-pub any_same : (installed : Candidate) (cs : List Candidate) → list_any (is_same_at installed cs) (places_from 0 (offers_name installed.name) cs) ≡ list_any (is_same_package installed) cs
+pub any_same : (installed : Candidate) (cs : List Candidate) → list_any (is_installed_package_at installed cs) (places_from 0 (offers_name installed.name) cs) ≡ list_any (is_same_package installed) cs
 any_same installed cs =
     any_places (offers_name installed.name) (is_same_package installed) (λ k. slice_get cs k) 0 cs (same_is_named installed) (λ k. ap (slice_get cs) (omega arith))
 

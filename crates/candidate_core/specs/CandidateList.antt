@@ -1,6 +1,6 @@
 -- The list of candidates under construction, and how candidates are marked as installed one by one. The
 -- rules are in `docs/selection.md`, "What there is to choose from". The contracts of `Pool` cite
--- *IsCandidateList* and *candidates_in*. *is_same_at* and *marked_at* serve their proofs: they are
+-- *IsCandidateList* and *candidates_in*. *is_installed_package_at* and *marked_at* serve their proofs: they are
 -- *with_installed* for one place.
 use Rattle.std.specs.Prelude.{◌≤◌, ℕ, zero, suc, Bool, false, if◌then◌else◌, List, [], ◌∷◌, length, Option, Some, None, slice_get}
 use Rattle.std.specs.Option.{option_map_or}
@@ -22,8 +22,8 @@ candidates_in None = []
 candidates_in (Some list) = candidates_of_packages list.packages
 
 -- whether the candidate at a place is the installed package; not if no candidate is there
-abbrev pub is_same_at : Candidate → List Candidate → ℕ → Bool
-is_same_at installed cs place = option_map_or (is_same_package installed) (slice_get cs place) false
+abbrev pub is_installed_package_at : Candidate → List Candidate → ℕ → Bool
+is_installed_package_at installed cs place = option_map_or (is_same_package installed) (slice_get cs place) false
 
 -- the list, with the candidate at a place marked as installed if it is the installed package
 abbrev pub marked_at : Candidate → ℕ → List Candidate → List Candidate

@@ -12,7 +12,7 @@ ghost use Rattle.adb_view.specs.Entries.{array_entries};
 ghost use Rattle.adb_view.specs.Values.{count_of, entries_in, entry_in};
 ghost use Rattle.candidate_core.specs.Candidates.{as_installed_where_same, candidate_of, is_same_package, with_installed};
 ghost use Rattle.candidate_core.specs.Options.{places_offering};
-ghost use Rattle.candidate_core.specs.CandidateList.{IsCandidateList, is_same_at, marked_at};
+ghost use Rattle.candidate_core.specs.CandidateList.{IsCandidateList, is_installed_package_at, marked_at};
 ghost use Rattle.candidate_core.specs.PackageWords.{IsPackageOf};
 ghost use Rattle.candidate_core.specs.Packages.{candidate_in_source, candidates_of_packages, candidates_of_source};
 ghost use Rattle.candidate_core.specs.SoundTexts.{HasSoundTexts};
@@ -203,7 +203,8 @@ fn mark_among<'a>(packages: &mut Packages<'a>, ids: &[CandId], installed: &Detai
 // Marks a candidate as installed if it is the installed package, and returns whether it is.
 fn mark_one<'a>(packages: &mut Packages<'a>, id: CandId, installed: &Details<'a>) -> bool
     requires { id < length (candidates_of_packages packages.old) }
-    ensures same { result ≡ is_same_at installed.now (candidates_of_packages packages.old) id }
+    ensures same { result
+        ≡ is_installed_package_at installed.now (candidates_of_packages packages.old) id }
     ensures marked { candidates_of_packages packages.new
         ≡ marked_at installed.now id (candidates_of_packages packages.old) }
 {

@@ -56,7 +56,7 @@ impl<'a> Deps<'a> {
         if self.are_sound {
             self.list.len()
         } else {
-            count_judged(&self.list)
+            count_sound(&self.list)
         }
     }
 
@@ -103,7 +103,7 @@ pub(crate) fn read_if_sound<'a>(view: &DepView<'a>) -> Option<Dep<'a>>
 }
 
 // How many entries of a list are dependencies; each is tested.
-fn count_judged<'a>(list: &List<'a, DepView<'a>>) -> usize
+fn count_sound<'a>(list: &List<'a, DepView<'a>>) -> usize
     ensures { result ≡ length (dependencies_in (list_value list.now)) }
 {
     let mut count = 0;

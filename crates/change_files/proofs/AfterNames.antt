@@ -10,7 +10,7 @@ use Rattle.base_core.proofs.AtName.{is_name}
 use Rattle.db_core.specs.Members.{Listing}
 use Rattle.path_clashes.specs.Clash.{is_name_after}
 use Rattle.change_files.specs.FileChange.{FileChange, is_claimed, old_entry, was_listed}
-use Rattle.change_files.specs.FilesAfter.{Records, bytes_after, changed_files, database_name, is_kept, is_removed, is_written, aside_listing_at, may_be_kept, path_beside, text_database_name, world_bytes_after, world_name, written_as}
+use Rattle.change_files.specs.FilesAfter.{Records, bytes_after, changed_files, database_name, is_kept, is_removed, is_written, aside_claim_at, may_be_kept, path_beside, text_database_name, world_bytes_after, world_name, written_as}
 use Rattle.change_files.specs.NamesAfter.{added_paths, is_released, counts_as_written, name_change}
 use Rattle.change_files.specs.Touched.{is_record_name}
 use Rattle.change_files.proofs.Lists.{any_name}
@@ -25,13 +25,13 @@ counted change files name written = or_right (is_some (files name) && not (is_re
 counts_path : (change : FileChange) (files : Files) (name : List ℕ) → IsIn name (database_name ∷ world_name ∷ added_paths change.members) → counts_as_written change files name ≡ true
 unfolding counts_as_written
 counts_path change files name among =
-    or_left (list_any (bytes_eq name) (database_name ∷ world_name ∷ added_paths change.members)) (is_some (option_and_then (aside_listing_at change files) (path_beside name)))
+    or_left (list_any (bytes_eq name) (database_name ∷ world_name ∷ added_paths change.members)) (is_some (option_and_then (aside_claim_at change files) (path_beside name)))
     (any_name name (database_name ∷ world_name ∷ added_paths change.members) among)
 
-counts_beside : (change : FileChange) (files : Files) (name : List ℕ) → is_some (option_and_then (aside_listing_at change files) (path_beside name)) ≡ true → counts_as_written change files name ≡ true
+counts_beside : (change : FileChange) (files : Files) (name : List ℕ) → is_some (option_and_then (aside_claim_at change files) (path_beside name)) ≡ true → counts_as_written change files name ≡ true
 unfolding counts_as_written
 counts_beside change files name beside =
-    or_right (list_any (bytes_eq name) (database_name ∷ world_name ∷ added_paths change.members)) (is_some (option_and_then (aside_listing_at change files) (path_beside name))) beside
+    or_right (list_any (bytes_eq name) (database_name ∷ world_name ∷ added_paths change.members)) (is_some (option_and_then (aside_claim_at change files) (path_beside name))) beside
 
 counts_written : (change : FileChange) (files : Files) (name : List ℕ) (l : Listing) → written_as change files name ≡ Some l → counts_as_written change files name ≡ true
 counts_written change files name l e =
@@ -40,8 +40,8 @@ counts_written change files name l e =
       | inl own ↦ counts_path change files name
           (inr (inr (subst (λ (q : List ℕ). IsIn q (added_paths change.members)) (sym own.0) (in_coming_paths change l.path l written.comes))))
       | inr beside ↦ counts_beside change files name
-          (ap (λ (q : List ℕ). is_some (option_and_then (aside_listing_at change files) (path_beside q))) beside.0
-          ∙ (ap (λ (o : Option (List ℕ)). is_some (option_and_then (aside_listing_at change files) o)) (is_beside l.path)
+          (ap (λ (q : List ℕ). is_some (option_and_then (aside_claim_at change files) (path_beside q))) beside.0
+          ∙ (ap (λ (o : Option (List ℕ)). is_some (option_and_then (aside_claim_at change files) o)) (is_beside l.path)
           ∙ ap is_some beside.1))
     ]
 

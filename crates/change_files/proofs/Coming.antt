@@ -11,7 +11,7 @@ use Rattle.db_core.specs.Members.{Listing}
 use Rattle.file_guard.specs.AsListed.{do_entries_agree, is_as_listed}
 use Rattle.change_files.specs.Fate.{Fate, agrees_with_old, aside_name, fate_beside, fate_by, fate_of, gives_way, goes_aside, goes_in, is_as_old, is_guarded}
 use Rattle.change_files.specs.FileChange.{FileChange, added_owner_listing, is_claimed, old_entry}
-use Rattle.change_files.specs.FilesAfter.{if_aside, if_in, aside_listing_at, path_beside, written_as}
+use Rattle.change_files.specs.FilesAfter.{if_aside, if_in, aside_claim_at, path_beside, written_as}
 use Rattle.std.specs.Option.{option_or}
 use Rattle.change_files.specs.Touched.{IsNewEntry, IsUsersFile}
 use Rattle.change_files.proofs.Owned.{aside_found, claimed_by_owner, coming_is, is_beside, nobody_beside}
@@ -52,7 +52,7 @@ nobodys_fate change files path l comes nobodys = fate_at change files path l com
 pub takes_path : (change : FileChange) (files : Files) (path : List ℕ) (l : Listing) → added_owner_listing change path ≡ Some l → ((bytes : List ℕ) → IsUsersFile change files path bytes → ⊥) → written_as change files path ≡ Some l
 unfolding written_as
 takes_path change files path l comes nobodys =
-    let beside : Option Listing = option_and_then (aside_listing_at change files) (path_beside path) in
+    let beside : Option Listing = option_and_then (aside_claim_at change files) (path_beside path) in
     ap (λ (o : Option Listing). option_or (option_and_then (λ l. if_in l (fate_of change files l)) o) beside) comes
     ∙ ap (λ (f : Fate). option_or (if_in l f) beside) (nobodys_fate change files path l comes nobodys)
 
@@ -74,7 +74,7 @@ new_disagrees change path entry differs = by_entry (old_entry change path) diffe
     by_entry (Some old) differs = differs old refl
 
 pub lies_beside : (change : FileChange) (files : Files) (path bytes : List ℕ) (l : Listing) → added_owner_listing change path ≡ Some l → IsUsersFile change files path bytes → IsNewEntry change path l.entry
-    → IsName (aside_name path) → is_claimed change (aside_name path) ≡ false → aside_listing_at change files path ≡ Some l
+    → IsName (aside_name path) → is_claimed change (aside_name path) ≡ false → aside_claim_at change files path ≡ Some l
 lies_beside change files path bytes l comes own differs named free =
     let tests : (not (agrees_with_old (old_entry change path) l.entry) && (nat_le (length (aside_name path)) 1024 && not (is_claimed change (aside_name path)))) ≡ true =
     and_from (not (agrees_with_old (old_entry change path) l.entry)) (nat_le (length (aside_name path)) 1024 && not (is_claimed change (aside_name path)))
@@ -96,7 +96,7 @@ new_entry change path entry aside old is = by_tests (do_entries_agree old entry)
         (ap (λ (o : Option Plain). agrees_with_old o entry) is ∙ agrees) in
         absurd (cc)
 
-pub beside_users_file : (change : FileChange) (files : Files) (path : List ℕ) (l : Listing) → aside_listing_at change files path ≡ Some l
+pub beside_users_file : (change : FileChange) (files : Files) (path : List ℕ) (l : Listing) → aside_claim_at change files path ≡ Some l
     → ((bytes : List ℕ) × IsUsersFile change files path bytes) × IsNewEntry change path l.entry × (is_claimed change (aside_name path) ≡ false)
 beside_users_file change files path l laid =
     let (comes, aside) = aside_found change files path l laid in
@@ -122,9 +122,9 @@ no_owner change name free = by_owner (added_owner_listing change name) refl
     by_owner None e = refl
     by_owner (Some l) e = absurd (true≢false (sym (claimed_by_owner change name l (coming_is change name l e).0) ∙ free))
 
-pub written_beside : (change : FileChange) (files : Files) (path : List ℕ) (l : Listing) → aside_listing_at change files path ≡ Some l → written_as change files (aside_name path) ≡ Some l
+pub written_beside : (change : FileChange) (files : Files) (path : List ℕ) (l : Listing) → aside_claim_at change files path ≡ Some l → written_as change files (aside_name path) ≡ Some l
 unfolding written_as
 written_beside change files path l laid =
-    ap (λ (o : Option Listing). option_or (option_and_then (λ l. if_in l (fate_of change files l)) o) (option_and_then (aside_listing_at change files) (path_beside (aside_name path))))
+    ap (λ (o : Option Listing). option_or (option_and_then (λ l. if_in l (fate_of change files l)) o) (option_and_then (aside_claim_at change files) (path_beside (aside_name path))))
     (no_owner change (aside_name path) (nobody_beside change files path l laid))
-    ∙ (ap (option_and_then (aside_listing_at change files)) (is_beside path) ∙ laid)
+    ∙ (ap (option_and_then (aside_claim_at change files)) (is_beside path) ∙ laid)

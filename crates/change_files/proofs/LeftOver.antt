@@ -10,7 +10,7 @@ use Rattle.db_core.specs.Members.{Listing}
 use Rattle.file_guard.specs.AsListed.{is_as_listed}
 use Rattle.change_files.specs.Fate.{is_guarded}
 use Rattle.change_files.specs.FileChange.{FileChange, old_entry, old_listings}
-use Rattle.change_files.specs.FilesAfter.{is_changed, is_kept, is_left_over, is_removed, may_be_kept}
+use Rattle.change_files.specs.FilesAfter.{is_changed, is_kept, is_no_longer_listed, is_removed, may_be_kept}
 use Rattle.change_files.specs.Touched.{IsUsersFile}
 use Rattle.change_files.proofs.Owned.{claimed_by_owner, coming_is, in_old_paths}
 use Rattle.change_files.proofs.Untouched.{IsLeftOver, kept_is, left_over_is, removed_is}
@@ -41,13 +41,13 @@ stays_is_users change files path left stays = by_entry (old_entry change path) r
         let (unpurged, changed) = and_parts (not change.purge) (is_changed entry (files path)) behind in
         (by_file entry listed guarded (files path) refl changed, not-true change.purge unpurged)
 
-pub left_over_goes : (change : FileChange) (files : Files) (path : List ℕ) → is_left_over change files path ≡ true → ((bytes : List ℕ) → IsUsersFile change files path bytes → ⊥) ⊎ (change.purge ≡ true)
+pub left_over_goes : (change : FileChange) (files : Files) (path : List ℕ) → is_no_longer_listed change files path ≡ true → ((bytes : List ℕ) → IsUsersFile change files path bytes → ⊥) ⊎ (change.purge ≡ true)
     → is_removed change files path ≡ true
 unfolding is_removed
 left_over_goes change files path left free = by_test (may_be_kept change path (files path) (old_entry change path)) refl
   where
-    by_test : (b : Bool) → may_be_kept change path (files path) (old_entry change path) ≡ b → (is_left_over change files path && not (may_be_kept change path (files path) (old_entry change path))) ≡ true
-    by_test false gone = and_from (is_left_over change files path) (not (may_be_kept change path (files path) (old_entry change path))) left (not_from_false (may_be_kept change path (files path) (old_entry change path)) gone)
+    by_test : (b : Bool) → may_be_kept change path (files path) (old_entry change path) ≡ b → (is_no_longer_listed change files path && not (may_be_kept change path (files path) (old_entry change path))) ≡ true
+    by_test false gone = and_from (is_no_longer_listed change files path) (not (may_be_kept change path (files path) (old_entry change path))) left (not_from_false (may_be_kept change path (files path) (old_entry change path)) gone)
     by_test true stays =
         let (own, unpurged) = stays_is_users change files path (left_over_is change files path left) stays in
         absurd (elim free [ inl nobodys ↦ nobodys own.0 own.1 | inr purged ↦ true≢false (sym purged ∙ unpurged) ])

@@ -14,7 +14,7 @@ use Rattle.file_owners.specs.Owners.{owner_of_path}
 use Rattle.file_guard.specs.AsListed.{is_as_listed}
 use Rattle.change_files.specs.Fate.{Fate, agrees_with_old, aside_name, fate_beside, fate_by, fate_of, gives_way, goes_aside, goes_in, is_as_old, is_guarded}
 use Rattle.change_files.specs.FileChange.{FileChange, added_owner_listing, if_member_added, is_claimed, old_entry, old_listings, owner_listing}
-use Rattle.change_files.specs.FilesAfter.{if_aside, if_in, aside_listing_at, path_beside, written_as, written_in}
+use Rattle.change_files.specs.FilesAfter.{if_aside, if_in, aside_claim_at, path_beside, written_as, written_in}
 use Rattle.std.specs.Option.{option_or}
 use Rattle.change_files.specs.NamesAfter.{added_paths}
 use Rattle.change_files.proofs.Lists.{IsOneOf, any_passes, contains_from_one, found_passes, kept_passes, passing_kept, seen_in}
@@ -109,7 +109,7 @@ only_aside (Some m) fate l e = by_fate (fate m) refl e
 pub goes_in_found : (change : FileChange) (files : Files) (path : List ℕ) (l : Listing) → written_in change files path ≡ Some l → (added_owner_listing change path ≡ Some l) × (fate_of change files l ≡ goes_in)
 goes_in_found change files path l e = only_in (added_owner_listing change path) (fate_of change files) l e
 
-pub aside_found : (change : FileChange) (files : Files) (path : List ℕ) (l : Listing) → aside_listing_at change files path ≡ Some l → (added_owner_listing change path ≡ Some l) × (fate_of change files l ≡ goes_aside)
+pub aside_found : (change : FileChange) (files : Files) (path : List ℕ) (l : Listing) → aside_claim_at change files path ≡ Some l → (added_owner_listing change path ≡ Some l) × (fate_of change files l ≡ goes_aside)
 aside_found change files path l e = only_aside (added_owner_listing change path) (fate_of change files) l e
 
 -- beside a file nothing is laid under a name that a package lists
@@ -130,7 +130,7 @@ free_by change path entry (Some bytes) e = by_test (not (is_guarded path) || (is
     by_test true e = absurd (cc)
     by_test false e = free_beside change path entry e
 
-pub nobody_beside : (change : FileChange) (files : Files) (path : List ℕ) (l : Listing) → aside_listing_at change files path ≡ Some l → is_claimed change (aside_name path) ≡ false
+pub nobody_beside : (change : FileChange) (files : Files) (path : List ℕ) (l : Listing) → aside_claim_at change files path ≡ Some l → is_claimed change (aside_name path) ≡ false
 unfolding fate_of
 nobody_beside change files path l e =
     let (comes, fate) = aside_found change files path l e in
@@ -165,13 +165,13 @@ is_beside path =
 -- the file goes in under its own path, or is laid beside it
 pub record IsWritten (change : FileChange) (files : Files) (name : List ℕ) (l : Listing) : Type 0 where
   pub comes : added_owner_listing change l.path ≡ Some l
-  pub under : ((name ≡ l.path) × (written_in change files name ≡ Some l)) ⊎ ((name ≡ aside_name l.path) × (aside_listing_at change files l.path ≡ Some l))
+  pub under : ((name ≡ l.path) × (written_in change files name ≡ Some l)) ⊎ ((name ≡ aside_name l.path) × (aside_claim_at change files l.path ≡ Some l))
 
 either : (inside beside : Option Listing) (l : Listing) → option_or inside beside ≡ Some l → (inside ≡ Some l) ⊎ ((inside ≡ None) × (beside ≡ Some l))
 either None beside l e = inr (refl, e)
 either (Some m) beside l e = inl e
 
-beside_at : (change : FileChange) (files : Files) (path : Option (List ℕ)) (l : Listing) → option_and_then (aside_listing_at change files) path ≡ Some l → (q : List ℕ) × (path ≡ Some q) × (aside_listing_at change files q ≡ Some l)
+beside_at : (change : FileChange) (files : Files) (path : Option (List ℕ)) (l : Listing) → option_and_then (aside_claim_at change files) path ≡ Some l → (q : List ℕ) × (path ≡ Some q) × (aside_claim_at change files q ≡ Some l)
 beside_at change files None l e = absurd (cc)
 beside_at change files (Some q) l e = (q, refl, e)
 
@@ -181,7 +181,7 @@ own_path change path l e = let (owner, comes) = coming_is change path l e in sub
 pub written_is : (change : FileChange) (files : Files) (name : List ℕ) (l : Listing) → written_as change files name ≡ Some l → IsWritten change files name l
 unfolding written_as
 written_is change files name l e =
-    elim (either (written_in change files name) (option_and_then (aside_listing_at change files) (path_beside name)) l e) [
+    elim (either (written_in change files name) (option_and_then (aside_claim_at change files) (path_beside name)) l e) [
       | inl inside ↦ (let (comes, fate) = goes_in_found change files name l inside in
           let (owner, coming) = coming_is change name l comes in
           record { comes = own_path change name l comes; under = inl (sym owner.of_path, inside) })
@@ -192,15 +192,15 @@ written_is change files name l e =
             comes = own_path change path l comes;
             under = inr (
               beside_is name path at ∙ ap aside_name (sym owner.of_path),
-              subst (λ (q : List ℕ). aside_listing_at change files q ≡ Some l) (sym owner.of_path) laid,
+              subst (λ (q : List ℕ). aside_claim_at change files q ≡ Some l) (sym owner.of_path) laid,
             );
           })
     ]
 
 -- nothing goes in, and nothing is laid beside another file under this name
-pub not_written : (change : FileChange) (files : Files) (name : List ℕ) → written_in change files name ≡ None → is_some (option_and_then (aside_listing_at change files) (path_beside name)) ≡ false → written_as change files name ≡ None
+pub not_written : (change : FileChange) (files : Files) (name : List ℕ) → written_in change files name ≡ None → is_some (option_and_then (aside_claim_at change files) (path_beside name)) ≡ false → written_as change files name ≡ None
 unfolding written_as
-not_written change files name none beside = ap (λ (o : Option Listing). option_or o (option_and_then (aside_listing_at change files) (path_beside name))) none ∙ no_value (option_and_then (aside_listing_at change files) (path_beside name)) beside
+not_written change files name none beside = ap (λ (o : Option Listing). option_or o (option_and_then (aside_claim_at change files) (path_beside name))) none ∙ no_value (option_and_then (aside_claim_at change files) (path_beside name)) beside
   where
     no_value : (o : Option Listing) → is_some o ≡ false → o ≡ None
     no_value None e = refl

@@ -9,7 +9,7 @@ use Rattle.base_core.proofs.Rising.{IsIn, contains_from_in, in_from_contains, pa
 use Rattle.db_core.specs.Members.{Listing}
 use Rattle.change_files.specs.Fate.{aside_name}
 use Rattle.change_files.specs.FileChange.{FileChange}
-use Rattle.change_files.specs.FilesAfter.{is_kept, is_removed, is_written, aside_listing_at, written_as}
+use Rattle.change_files.specs.FilesAfter.{is_kept, is_removed, is_written, aside_claim_at, written_as}
 use Rattle.change_files.specs.NamesAfter.{added_paths}
 use Rattle.change_files.specs.PlanLists.{FileWrite, aside_of, file_writes_of, kept_of, names_in_order, old_paths, removals_of, write_to}
 use Rattle.change_files.specs.Touched.{IsWriteOf}
@@ -131,15 +131,15 @@ pub kept_rise : (change : FileChange) (files : Files) → IsRising (kept_of chan
 unfolding kept_of
 kept_rise change files = rises_just (is_kept change files) (old_paths change)
 
-pub aside_hold : (change : FileChange) (files : Files) (path : List ℕ) → Contains (aside_of change files) path ↔ (is_some (aside_listing_at change files path) ≡ true)
+pub aside_hold : (change : FileChange) (files : Files) (path : List ℕ) → Contains (aside_of change files) path ↔ (is_some (aside_claim_at change files path) ≡ true)
 unfolding aside_of
 aside_hold change files path =
-    holds_just (λ path. is_some (aside_listing_at change files path)) (added_paths change.members)
-    (λ q laid. (let found = some_listing (aside_listing_at change files q) laid in in_coming_paths change q found.0 ((aside_found change files q found.0 found.1).0))) path
+    holds_just (λ path. is_some (aside_claim_at change files path)) (added_paths change.members)
+    (λ q laid. (let found = some_listing (aside_claim_at change files q) laid in in_coming_paths change q found.0 ((aside_found change files q found.0 found.1).0))) path
 
 pub aside_rise : (change : FileChange) (files : Files) → IsRising (aside_of change files)
 unfolding aside_of
-aside_rise change files = rises_just (λ path. is_some (aside_listing_at change files path)) (added_paths change.members)
+aside_rise change files = rises_just (λ path. is_some (aside_claim_at change files path)) (added_paths change.members)
 
 -- ---- no name is in two of the lists
 

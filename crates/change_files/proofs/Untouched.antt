@@ -9,7 +9,7 @@ use Rattle.db_core.specs.Members.{Listing, is_added}
 use Rattle.file_guard.specs.AsListed.{is_as_listed}
 use Rattle.change_files.specs.Fate.{agrees_with_old, aside_name, fate_beside, fate_by, fate_of, gives_way, goes_aside, goes_in, is_as_old, is_guarded}
 use Rattle.change_files.specs.FileChange.{FileChange, added_owner_listing, is_claimed, old_entry, owner_listing, was_listed}
-use Rattle.change_files.specs.FilesAfter.{Records, bytes_after, changed_files, database_name, if_in, is_changed, is_kept, is_left_over, is_removed, is_written, aside_listing_at, may_be_kept, path_beside, text_database_name, world_bytes_after, world_name, written_as, written_in}
+use Rattle.change_files.specs.FilesAfter.{Records, bytes_after, changed_files, database_name, if_in, is_changed, is_kept, is_no_longer_listed, is_removed, is_written, aside_claim_at, may_be_kept, path_beside, text_database_name, world_bytes_after, world_name, written_as, written_in}
 use Rattle.change_files.specs.NamesAfter.{added_paths}
 use Rattle.change_files.specs.Touched.{IsUsersFile, is_aside_name, is_added_path, is_record_name}
 use Rattle.change_files.proofs.Lists.{any_name}
@@ -37,14 +37,14 @@ untouched change bytes_of records files name none stays other =
 
 -- ---- what is left over
 
-claimed_not_left : (change : FileChange) (files : Files) (path : List ℕ) → is_claimed change path ≡ true → is_left_over change files path ≡ false
+claimed_not_left : (change : FileChange) (files : Files) (path : List ℕ) → is_claimed change path ≡ true → is_no_longer_listed change files path ≡ false
 claimed_not_left change files path claimed =
     and_right (was_listed change path) (not (is_claimed change path) && not (is_written change files path))
     (and_left (not (is_claimed change path)) (not (is_written change files path)) (not_from_true (is_claimed change path) claimed))
 
-removed_left : (change : FileChange) (files : Files) (path : List ℕ) → is_left_over change files path ≡ false → is_removed change files path ≡ false
+removed_left : (change : FileChange) (files : Files) (path : List ℕ) → is_no_longer_listed change files path ≡ false → is_removed change files path ≡ false
 unfolding is_removed
-removed_left change files path e = and_left (is_left_over change files path) (not (may_be_kept change path (files path) (old_entry change path))) e
+removed_left change files path e = and_left (is_no_longer_listed change files path) (not (may_be_kept change path (files path) (old_entry change path))) e
 
 never_listed : (change : FileChange) (files : Files) (name : List ℕ) → was_listed change name ≡ false → is_removed change files name ≡ false
 never_listed change files name never =
@@ -56,7 +56,7 @@ pub record IsLeftOver (change : FileChange) (files : Files) (path : List ℕ) : 
   pub unclaimed : is_claimed change path ≡ false
   pub unwritten : is_written change files path ≡ false
 
-pub left_over_is : (change : FileChange) (files : Files) (path : List ℕ) → is_left_over change files path ≡ true → IsLeftOver change files path
+pub left_over_is : (change : FileChange) (files : Files) (path : List ℕ) → is_no_longer_listed change files path ≡ true → IsLeftOver change files path
 left_over_is change files path e =
     let (listed, behind) = and_parts (was_listed change path) (not (is_claimed change path) && not (is_written change files path)) e in
     let (unclaimed, unwritten) = and_parts (not (is_claimed change path)) (not (is_written change files path)) behind in
@@ -65,13 +65,13 @@ left_over_is change files path e =
 pub removed_is : (change : FileChange) (files : Files) (path : List ℕ) → is_removed change files path ≡ true → IsLeftOver change files path × (may_be_kept change path (files path) (old_entry change path) ≡ false)
 unfolding is_removed
 removed_is change files path e =
-    let (left, gone) = and_parts (is_left_over change files path) (not (may_be_kept change path (files path) (old_entry change path))) e in
+    let (left, gone) = and_parts (is_no_longer_listed change files path) (not (may_be_kept change path (files path) (old_entry change path))) e in
     (left_over_is change files path left, not-true (may_be_kept change path (files path) (old_entry change path)) gone)
 
 pub kept_is : (change : FileChange) (files : Files) (path : List ℕ) → is_kept change files path ≡ true → IsLeftOver change files path × (may_be_kept change path (files path) (old_entry change path) ≡ true)
 unfolding is_kept
 kept_is change files path e =
-    let (left, stays) = and_parts (is_left_over change files path) (may_be_kept change path (files path) (old_entry change path)) e in
+    let (left, stays) = and_parts (is_no_longer_listed change files path) (may_be_kept change path (files path) (old_entry change path)) e in
     (left_over_is change files path left, stays)
 
 pub not_some : (o : Option Listing) → is_some o ≡ false → o ≡ None
@@ -97,7 +97,7 @@ is_gone change bytes_of records files name gone other =
 may_stay_unremoved : (change : FileChange) (files : Files) (name : List ℕ) → may_be_kept change name (files name) (old_entry change name) ≡ true → is_removed change files name ≡ false
 unfolding is_removed
 may_stay_unremoved change files name stays =
-    and_right (is_left_over change files name) (not (may_be_kept change name (files name) (old_entry change name)))
+    and_right (is_no_longer_listed change files name) (not (may_be_kept change name (files name) (old_entry change name)))
     (not_from_true (may_be_kept change name (files name) (old_entry change name)) stays)
 
 pub is_spared : (change : FileChange) (bytes_of : Listing → List ℕ) (records : Records) (files : Files) (name : List ℕ) → is_kept change files name ≡ true → is_record_name records name ≡ false
@@ -112,11 +112,11 @@ is_spared change bytes_of records files name kept other =
 claimed_not_beside : (change : FileChange) (files : Files) (name : List ℕ) → is_claimed change name ≡ true → is_aside_name change files name ≡ false
 claimed_not_beside change files name claimed = by_path (path_beside name) refl
   where
-    by_path : (o : Option (List ℕ)) → path_beside name ≡ o → is_some (option_and_then (aside_listing_at change files) o) ≡ false
+    by_path : (o : Option (List ℕ)) → path_beside name ≡ o → is_some (option_and_then (aside_claim_at change files) o) ≡ false
     by_path None e = refl
-    by_path (Some path) e = by_listing (aside_listing_at change files path) refl
+    by_path (Some path) e = by_listing (aside_claim_at change files path) refl
       where
-        by_listing : (o : Option Listing) → aside_listing_at change files path ≡ o → is_some o ≡ false
+        by_listing : (o : Option Listing) → aside_claim_at change files path ≡ o → is_some o ≡ false
         by_listing None laid = refl
         by_listing (Some l) laid =
             let free : is_claimed change (aside_name path) ≡ false = nobody_beside change files path l laid in

@@ -32,8 +32,8 @@ written_in change files path =
     option_and_then (λ l. if_in l (fate_of change files l)) (added_owner_listing change path)
 
 -- the file that is laid beside the one under this path, if one is
-abbrev pub aside_listing_at : FileChange → Files → List ℕ → Option Listing
-aside_listing_at change files path =
+abbrev pub aside_claim_at : FileChange → Files → List ℕ → Option Listing
+aside_claim_at change files path =
     option_and_then (λ l. if_aside l (fate_of change files l)) (added_owner_listing change path)
 
 -- the path beside which a file of this name would be laid: the name without the ending
@@ -46,7 +46,7 @@ path_beside name =
 unfoldable pub written_as : FileChange → Files → List ℕ → Option Listing
 written_as change files name =
     option_or (written_in change files name)
-    (option_and_then (aside_listing_at change files) (path_beside name))
+    (option_and_then (aside_claim_at change files) (path_beside name))
 
 -- whether a file of a package is written under this name, be it its path or the name beside another
 abbrev pub is_written : FileChange → Files → List ℕ → Bool
@@ -67,19 +67,19 @@ may_be_kept change path bytes (Some entry) =
     is_guarded path && (not change.purge && is_changed entry bytes)
 
 -- whether a path was listed before, and now no package lists it and nothing is written there
-abbrev pub is_left_over : FileChange → Files → List ℕ → Bool
-is_left_over change files path =
+abbrev pub is_no_longer_listed : FileChange → Files → List ℕ → Bool
+is_no_longer_listed change files path =
     was_listed change path && (not (is_claimed change path) && not (is_written change files path))
 
 -- whether the user's file is kept under a path although its package is removed
 unfoldable pub is_kept : FileChange → Files → List ℕ → Bool
 is_kept change files path =
-    is_left_over change files path && may_be_kept change path (files path) (old_entry change path)
+    is_no_longer_listed change files path && may_be_kept change path (files path) (old_entry change path)
 
 -- whether a change removes the file under a path, if there is one
 unfoldable pub is_removed : FileChange → Files → List ℕ → Bool
 is_removed change files path =
-    is_left_over change files path && not (may_be_kept change path (files path) (old_entry change path))
+    is_no_longer_listed change files path && not (may_be_kept change path (files path) (old_entry change path))
 
 -- ---- the contents of an added file
 

@@ -11,7 +11,7 @@ use Rattle.db_core.specs.Members.{Listing, Member}
 use Rattle.change_files.specs.NamesAfter.{added_paths}
 use Rattle.change_files.specs.Fate.{aside_name}
 use Rattle.change_files.specs.FileChange.{FileChange, old_listings}
-use Rattle.change_files.specs.FilesAfter.{is_kept, is_removed, aside_listing_at, written_as}
+use Rattle.change_files.specs.FilesAfter.{is_kept, is_removed, aside_claim_at, written_as}
 
 -- ---- names in byte order, each once
 
@@ -64,7 +64,7 @@ kept_of change files = filter (is_kept change files) (names_in_order (old_paths 
 -- the paths beside which a file is laid, in byte order
 unfoldable pub aside_of : FileChange → Files → List (List ℕ)
 aside_of change files =
-    filter (λ path. is_some (aside_listing_at change files path))
+    filter (λ path. is_some (aside_claim_at change files path))
     (names_in_order (added_paths change.members))
 
 -- ---- reserved paths

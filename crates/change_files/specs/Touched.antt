@@ -9,7 +9,7 @@ use Rattle.adb_view.specs.Plain.{Plain}
 use Rattle.file_guard.specs.AsListed.{do_entries_agree, is_as_listed}
 use Rattle.change_files.specs.Fate.{is_guarded}
 use Rattle.change_files.specs.FileChange.{FileChange, added_owner_listing, old_entry}
-use Rattle.change_files.specs.FilesAfter.{Records, database_name, aside_listing_at, path_beside, text_database_name, world_name, written_as}
+use Rattle.change_files.specs.FilesAfter.{Records, database_name, aside_claim_at, path_beside, text_database_name, world_name, written_as}
 use Rattle.change_files.specs.NamesAfter.{added_paths}
 use Rattle.change_files.specs.PlanLists.{FileWrite, write_to}
 
@@ -22,7 +22,7 @@ is_record_name records name =
 -- whether a file is laid beside another one under this name
 abbrev pub is_aside_name : FileChange → Files → List ℕ → Bool
 is_aside_name change files name =
-    is_some (option_and_then (aside_listing_at change files) (path_beside name))
+    is_some (option_and_then (aside_claim_at change files) (path_beside name))
 
 -- whether an added package lists the path
 abbrev pub is_added_path : FileChange → List ℕ → Bool

@@ -15,7 +15,7 @@ ghost use Rattle.pkg_core.specs.Contents.{Contents, expected_contents};
 ghost use Rattle.pkg_core.specs.GoodContents.{AreContentsOf, HaveDigests};
 ghost use Rattle.change_files.specs.Fate.{aside_name};
 ghost use Rattle.change_files.specs.FileChange.{FileChange, added_owner_listing, is_claimed, old_listings, owner_listing, was_listed};
-ghost use Rattle.change_files.specs.FilesAfter.{Records, changed_files, database_name, is_kept, is_left_over, is_removed, is_written, aside_listing_at, listing_bytes, text_database_name, world_name, written_as};
+ghost use Rattle.change_files.specs.FilesAfter.{Records, changed_files, database_name, is_kept, is_no_longer_listed, is_removed, is_written, aside_claim_at, listing_bytes, text_database_name, world_name, written_as};
 ghost use Rattle.change_files.specs.NamesAfter.{is_released, name_change};
 ghost use Rattle.change_files.specs.PlanLists.{FileWrite, aside_of, file_writes_of, first_reserved, kept_of, removals_of};
 ghost use Rattle.change_files.specs.Touched.{IsNewEntry, IsUsersFile, IsWriteOf, is_aside_name, is_added_path, is_record_name};
@@ -55,15 +55,15 @@ pub fn what_differs_is_written_beside_the_users_file()
         → added_owner_listing change path ≡ Some l → IsUsersFile change files path bytes
         → IsNewEntry change path l.entry
         → IsName (aside_name path) → is_claimed change (aside_name path) ≡ false
-        → aside_listing_at change files path ≡ Some l }
+        → aside_claim_at change files path ≡ Some l }
     // Only then.
     ensures only { (change : FileChange) (files : Files) (path : List ℕ) (l : Listing)
-        → aside_listing_at change files path ≡ Some l
+        → aside_claim_at change files path ≡ Some l
         → ((bytes : List ℕ) × IsUsersFile change files path bytes)
         × IsNewEntry change path l.entry × (is_claimed change (aside_name path) ≡ false) }
     // It is written under that name.
     ensures located { (change : FileChange) (files : Files) (path : List ℕ) (l : Listing)
-        → aside_listing_at change files path ≡ Some l
+        → aside_claim_at change files path ≡ Some l
         → written_as change files (aside_name path) ≡ Some l }
 {}
 
@@ -123,7 +123,7 @@ pub fn what_is_removed_is_not_reserved()
 /// to be purged.
 pub fn what_is_left_over_is_removed_unless_it_is_the_users()
     ensures goes { (change : FileChange) (files : Files) (path : List ℕ)
-        → is_left_over change files path ≡ true
+        → is_no_longer_listed change files path ≡ true
         → ((bytes : List ℕ) → IsUsersFile change files path bytes → ⊥) ⊎ (change.purge ≡ true)
         → is_removed change files path ≡ true }
     ensures kept { (change : FileChange) (files : Files) (path : List ℕ)
@@ -238,7 +238,7 @@ pub fn the_lists_of_a_plan_hold_just_its_names()
         → Contains (kept_of change files) path ↔ (is_kept change files path ≡ true) }
     ensures aside { (change : FileChange) (files : Files) (path : List ℕ)
         → Contains (aside_of change files) path
-        ↔ (is_some (aside_listing_at change files path) ≡ true) }
+        ↔ (is_some (aside_claim_at change files path) ≡ true) }
 {}
 
 /// Each list of a plan is in byte order, and no name is repeated.

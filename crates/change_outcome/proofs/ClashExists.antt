@@ -8,7 +8,7 @@ use Rattle.base_core.specs.Files.{Files, IsFolderOf, HasNamesAmong}
 use Rattle.base_core.proofs.Rising.{IsIn}
 use Rattle.change_files.specs.Fate.{aside_name}
 use Rattle.change_files.specs.FileChange.{FileChange}
-use Rattle.change_files.specs.FilesAfter.{database_name, aside_listing_at, path_beside, world_name}
+use Rattle.change_files.specs.FilesAfter.{database_name, aside_claim_at, path_beside, world_name}
 use Rattle.change_files.specs.NamesAfter.{added_paths, counts_as_written, name_change}
 use Rattle.change_files.proofs.InOrder.{in_left, in_map, in_right}
 use Rattle.change_files.proofs.Owned.{aside_found, beside_is, in_coming_paths}
@@ -183,11 +183,11 @@ module _ (change : FileChange) (files : Files) (within : List (List ℕ)) (finit
   listed_in q (inr (inl is)) = inr (inl is)
   listed_in q (inr (inr path)) = inr (inr (in_left q (added_paths change.members) (map aside_name (added_paths change.members)) path))
 
-  beside_in : (q : List ℕ) (path : Option (List ℕ)) → path_beside q ≡ path → is_some (option_and_then (aside_listing_at change files) path) ≡ true → IsIn q written
+  beside_in : (q : List ℕ) (path : Option (List ℕ)) → path_beside q ≡ path → is_some (option_and_then (aside_claim_at change files) path) ≡ true → IsIn q written
   beside_in q None is e = absurd (true≢false (sym e))
-  beside_in q (Some p) is e = by_listing (aside_listing_at change files p) refl e
+  beside_in q (Some p) is e = by_listing (aside_claim_at change files p) refl e
     where
-      by_listing : (o : Option Listing) → aside_listing_at change files p ≡ o → is_some o ≡ true → IsIn q written
+      by_listing : (o : Option Listing) → aside_claim_at change files p ≡ o → is_some o ≡ true → IsIn q written
       by_listing None laid e = absurd (true≢false (sym e))
       by_listing (Some l) laid e =
           inr (inr (in_right q (added_paths change.members) (map aside_name (added_paths change.members))
@@ -196,7 +196,7 @@ module _ (change : FileChange) (files : Files) (within : List (List ℕ)) (finit
   counted_in : (q : List ℕ) → counts_as_written change files q ≡ true → IsIn q written
   unfolding counts_as_written
   counted_in q counts =
-      elim (or_cases (list_any (bytes_eq q) (database_name ∷ world_name ∷ added_paths change.members)) (is_some (option_and_then (aside_listing_at change files) (path_beside q))) counts) [
+      elim (or_cases (list_any (bytes_eq q) (database_name ∷ world_name ∷ added_paths change.members)) (is_some (option_and_then (aside_claim_at change files) (path_beside q))) counts) [
         | inl listed ↦ listed_in q (name_of_any q (database_name ∷ world_name ∷ added_paths change.members) listed)
         | inr beside ↦ beside_in q (path_beside q) refl beside
       ]

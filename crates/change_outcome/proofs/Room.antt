@@ -10,7 +10,7 @@ use Rattle.adb_schema.specs.Reserved.{is_at_or_below, is_reserved}
 use Rattle.base_core.specs.Files.{Files, IsFolderOf}
 use Rattle.base_core.proofs.Rising.{IsIn}
 use Rattle.change_files.specs.FileChange.{FileChange}
-use Rattle.change_files.specs.FilesAfter.{Records, bytes_after, changed_files, database_name, is_removed, aside_listing_at, path_beside, text_database_name, world_name, written_as, written_in}
+use Rattle.change_files.specs.FilesAfter.{Records, bytes_after, changed_files, database_name, is_removed, aside_claim_at, path_beside, text_database_name, world_name, written_as, written_in}
 use Rattle.std.specs.Option.{option_or}
 use Rattle.change_files.specs.NamesAfter.{added_paths, counts_as_written, name_change}
 use Rattle.change_files.specs.PlanLists.{first_reserved}
@@ -80,9 +80,9 @@ below_taken p q (inr (k, is)) (rest, e) = ap is_reserved (e ∙ ap (λ (x : List
 
 -- ---- names that count as written
 
-beside_written : (change : FileChange) (files : Files) (name : List ℕ) → is_some (option_and_then (aside_listing_at change files) (path_beside name)) ≡ true → (l : Listing) × (written_as change files name ≡ Some l)
+beside_written : (change : FileChange) (files : Files) (name : List ℕ) → is_some (option_and_then (aside_claim_at change files) (path_beside name)) ≡ true → (l : Listing) × (written_as change files name ≡ Some l)
 unfolding written_as
-beside_written change files name there = by_both (written_in change files name) (option_and_then (aside_listing_at change files) (path_beside name)) there
+beside_written change files name there = by_both (written_in change files name) (option_and_then (aside_claim_at change files) (path_beside name)) there
   where
     by_both : (a b : Option Listing) → is_some b ≡ true → (l : Listing) × (option_or a b ≡ Some l)
     by_both None None e = absurd (true≢false (sym e))
@@ -94,7 +94,7 @@ pub counted_is : (change : FileChange) (files : Files) (name : List ℕ) → fir
     → (name ≡ database_name) ⊎ ((name ≡ world_name) ⊎ (is_reserved name ≡ false))
 unfolding counts_as_written
 counted_is change files name none counts =
-    elim (or_cases (list_any (bytes_eq name) (database_name ∷ world_name ∷ added_paths change.members)) (is_some (option_and_then (aside_listing_at change files) (path_beside name))) counts) [
+    elim (or_cases (list_any (bytes_eq name) (database_name ∷ world_name ∷ added_paths change.members)) (is_some (option_and_then (aside_claim_at change files) (path_beside name))) counts) [
       | inl listed ↦ by_place (name_of_any name (database_name ∷ world_name ∷ added_paths change.members) listed)
       | inr beside ↦ inr (inr (let l = beside_written change files name beside in written_unreserved change files name l.0 none l.1))
     ]

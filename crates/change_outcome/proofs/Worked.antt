@@ -1,6 +1,6 @@
 -- Rows worked by hand: where a package's file lies, and which folders a pattern matches.
 use Rattle.std.proofs.Common.{◌≡◌, refl, true, false, ℕ, List, [], ◌∷◌, codes}
-use Rattle.adb_view.specs.Plain.{Plains, arr, blob, blob_value, more, none, null, obj}
+use Rattle.adb_view.specs.Plain.{Plains, arr, blob, blob_or_null, more, none, null, obj}
 use Rattle.change_files.specs.PlanLists.{names_in_order}
 use Rattle.db_core.specs.Members.{Member, member_of_kept}
 use Rattle.change_outcome.specs.ConfigurationLines.{configuration_lines}
@@ -112,7 +112,7 @@ by_path = refl
 -- a package with this name, trigger script and patterns
 watcher : List ℕ → List ℕ → Plains → Member
 watcher name script patterns = member_of_kept
-    (obj (more (obj (more (blob name) none)) (more null (more (obj (more (blob_value script) none)) (more (arr patterns) none)))))
+    (obj (more (obj (more (blob name) none)) (more null (more (obj (more (blob_or_null script) none)) (more (arr patterns) none)))))
 
 man : Member
 man = watcher (codes "man") (codes "s") (more (blob (codes "/usr/share/man/*")) (more (blob (codes "/usr/*/man/man1")) none))

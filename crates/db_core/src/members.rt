@@ -135,7 +135,7 @@ impl<'a> Members<'a> {
     /// # Errors
     ///
     /// Out of memory.
-    pub fn comes_in_pieces(&mut self, contents: &Contents<'a>) -> Result<(), AllocError>
+    pub fn push_added_in_pieces(&mut self, contents: &Contents<'a>) -> Result<(), AllocError>
         requires behind { is_after_members (package_name (value_of_contents contents.now))
             (members_of self.old) ≡ true }
         requires few { length (members_of self.old) < MOST_MEMBERS }
@@ -240,7 +240,7 @@ impl<'a> Members<'a> {
 
     /// A kept member lists no reserved path, since its database passed the tests; an added package
     /// may list one.
-    pub fn no_kept_path_is_reserved(&self)
+    pub fn no_kept_member_lists_a_reserved_path(&self)
         ensures { All (λ l. is_added l.member ≡ false → is_reserved l.path ≡ false)
             (member_listings (members_of self.now)) }
     {}

@@ -1,7 +1,7 @@
 -- What a package keeps in a new database, and that no integer in it is 0.
 use Rattle.std.proofs.Common.{◌≡◌, ◌≢◌, ℕ, Bool, true, false, List, [], ◌∷◌, map, drop, Ok, refl, ap, sym, ◌∙◌, arith}
 use Rattle.std.specs.Prelude.{unwrap_or}
-use Rattle.adb_view.specs.Plain.{Plain, int, blob, obj, Plains, none, more, arr_value, blob_value, obj_value}
+use Rattle.adb_view.specs.Plain.{Plain, int, blob, obj, Plains, none, more, arr_value, blob_or_null, obj_value}
 use Rattle.adb_view.specs.Values.{entries_in, entry_in, int_in, text_in}
 use Rattle.adb_view.specs.declared.tables.Which.TheVariants.{Idb}
 use Rattle.adb_fields.specs.Repeated.{entries_at, files_in, folders_in, list_of, name_of}
@@ -9,7 +9,7 @@ use Rattle.adb_schema.specs.Soundness.{payload_in, root_value}
 use Rattle.adb_schema.specs.declared.read.TheConstants.{IDB_WORD}
 use Rattle.adb_write.specs.Canonical.{written_of}
 use Rattle.adb_sound.specs.Root.{IsRootOf}
-use Rattle.adb_copy.specs.Zeros.{all_without_zeros, info_with, int_value, with_at, without_zeros}
+use Rattle.adb_copy.specs.Zeros.{all_without_zeros, info_with, int_or_null, with_at, without_zeros}
 use Rattle.adb_view.proofs.ValueEntries.{nth_obj}
 use Rattle.adb_copy.proofs.WithoutZeros.{int_zeros, text_zeros}
 use Rattle.adb_copy.proofs.Zeros.{at_other, at_same, nth_zeros, zeros_arr, zeros_obj, zeros_twice}
@@ -96,7 +96,7 @@ each_free count value h (x ∷ xs) flags = λ j. more (h x flags j) (each_free c
 folder_free : (d : Plain) (flags : List Bool) → without_zeros (folder_after d flags) ≡ folder_after d flags
 unfolding without_zeros
 folder_free d flags =
-    zeros_obj (more (blob_value (name_of d)) (more (without_zeros (entry_in d 1)) (more (arr_value (owned_entries (files_in d) flags)) none)))
+    zeros_obj (more (blob_or_null (name_of d)) (more (without_zeros (entry_in d 1)) (more (arr_value (owned_entries (files_in d) flags)) none)))
     ∙ (λ j. obj_value (more (zeros_twice (blob (name_of d)) j) (more (zeros_twice (entry_in d 1) j)
     (more ((zeros_arr (owned_entries (files_in d) flags) ∙ ap arr_value (owned_free (files_in d) flags)) j) none))))
 
@@ -105,7 +105,7 @@ unfolding without_zeros info_with
 package_free m flags =
     let info : Plain = entry_in m.pkg 0 in
     let with_id : Plains = with_at 12 (int (int_in (entry_in info 12))) (with_at 2 (blob (unwrap_or m.id (text_in (entry_in info 2)))) (entries_in info)) in
-    zeros_obj (more (info_after m.id info) (more (arr_value (folders_after (folders_in m.pkg) flags)) (more (without_zeros (entry_in m.pkg 2)) (more (without_zeros (entry_in m.pkg 3)) (more (int_value (int_in (entry_in m.pkg 4))) none)))))
+    zeros_obj (more (info_after m.id info) (more (arr_value (folders_after (folders_in m.pkg) flags)) (more (without_zeros (entry_in m.pkg 2)) (more (without_zeros (entry_in m.pkg 3)) (more (int_or_null (int_in (entry_in m.pkg 4))) none)))))
     ∙ (λ j. obj_value (more (zeros_twice (obj with_id) j)
     (more ((zeros_arr (folders_after (folders_in m.pkg) flags) ∙ ap arr_value (each_free file_count folder_after folder_free (folders_in m.pkg) flags)) j)
     (more (zeros_twice (entry_in m.pkg 2) j) (more (zeros_twice (entry_in m.pkg 3) j) (more (zeros_twice (int (int_in (entry_in m.pkg 4))) j) none))))))

@@ -2,11 +2,11 @@
 use Rattle.std.proofs.Common.{◌≡◌, ℕ, ◌+◌, Bool, true, false, List, [], ◌∷◌, ◌++◌, map, drop, length, refl, ap, sym, ◌∙◌}
 use Rattle.std.proofs.lemmas.List.{map-append}
 use Rattle.std.specs.List.{flat_map}
-use Rattle.adb_view.specs.Plain.{Plain, Plains, none, more, arr_value, blob_value}
+use Rattle.adb_view.specs.Plain.{Plain, Plains, none, more, arr_value, blob_or_null}
 use Rattle.adb_view.specs.Values.{entries_in, entry_in, int_in, text_in}
 use Rattle.adb_fields.specs.Paths.{path_of}
 use Rattle.adb_fields.specs.Repeated.{files_in, folders_in, list_of, name_of, paths_in, paths_under}
-use Rattle.adb_copy.specs.Zeros.{int_value, without_zeros}
+use Rattle.adb_copy.specs.Zeros.{int_or_null, without_zeros}
 use Rattle.adb_view.proofs.ValueEntries.{entries_arr, nth_obj, text_blob}
 use Rattle.adb_copy.proofs.WithoutZeros.{text_zeros}
 use Rattle.adb_copy.proofs.Entries.{entry_zeros}
@@ -52,7 +52,7 @@ files_owned m place folder i above (f ∷ files) (false ∷ flags) = files_owned
 
 folder_owned : (m : Member) (place i : ℕ) (d : Plain) (flags : List Bool) → paths_under (folder_after d flags) ≡ paths_of (listings_in_folder m place i 1 (name_of d) (files_in d)) flags
 folder_owned m place i d flags =
-    let fields : Plains = more (blob_value (name_of d)) (more (without_zeros (entry_in d 1)) (more (arr_value (owned_entries (files_in d) flags)) none)) in
+    let fields : Plains = more (blob_or_null (name_of d)) (more (without_zeros (entry_in d 1)) (more (arr_value (owned_entries (files_in d) flags)) none)) in
     let name : name_of (folder_after d flags) ≡ name_of d = ap text_in (nth_obj fields 0) ∙ text_blob (name_of d) in
     let files : files_in (folder_after d flags) ≡ list_of (owned_entries (files_in d) flags) = ap (λ v. list_of (entries_in v)) (nth_obj fields 2) ∙ ap list_of (entries_arr (owned_entries (files_in d) flags)) in
     (λ j. map (λ file. path_of (name j) (name_of file)) (files j)) ∙ files_owned m place i 1 (name_of d) (files_in d) flags
@@ -69,7 +69,7 @@ pub package_owned : (m : Member) (place : ℕ) (flags : List Bool) → paths_in 
 package_owned m place flags =
     let folders : folders_in (package_after m flags) ≡ list_of (folders_after (folders_in m.pkg) flags) =
     ap (λ v. list_of (entries_in v)) (nth_obj (more (info_after m.id (entry_in m.pkg 0)) (more (arr_value (folders_after (folders_in m.pkg) flags))
-    (more (without_zeros (entry_in m.pkg 2)) (more (without_zeros (entry_in m.pkg 3)) (more (int_value (int_in (entry_in m.pkg 4))) none))))) 1)
+    (more (without_zeros (entry_in m.pkg 2)) (more (without_zeros (entry_in m.pkg 3)) (more (int_or_null (int_in (entry_in m.pkg 4))) none))))) 1)
     ∙ ap list_of (entries_arr (folders_after (folders_in m.pkg) flags)) in
     ap (flat_map paths_under) folders ∙ folders_owned m place 1 (folders_in m.pkg) flags
 

@@ -1,14 +1,14 @@
 -- The value of a new database is normal and has its shape, part by part.
 use Rattle.std.proofs.Common.{ℕ, Bool, true, false, List, [], ◌∷◌, drop, Option}
 use Rattle.std.specs.Prelude.{unwrap_or}
-use Rattle.adb_view.specs.Plain.{Plain, Plains, int, blob, none, more, arr_value, blob_value, IsNormal, AreNormal}
+use Rattle.adb_view.specs.Plain.{Plain, Plains, int, blob, none, more, arr_value, blob_or_null, IsNormal, AreNormal}
 use Rattle.adb_view.specs.Shaped.{Each, HasShape, IsArrayOf, HaveShapes}
 use Rattle.adb_view.specs.Schema.{shape_of, shapes_of, table}
 use Rattle.adb_view.specs.Values.{entries_in, entry_in, int_in, text_in}
 use Rattle.adb_view.specs.declared.tables.Kind.TheVariants.{Obj, TextArr}
 use Rattle.adb_view.specs.declared.tables.Which.TheVariants as Tables
 use Rattle.adb_fields.specs.Repeated.{files_in, folders_in, list_of, name_of}
-use Rattle.adb_copy.specs.Zeros.{info_with, int_value, without_zeros}
+use Rattle.adb_copy.specs.Zeros.{info_with, int_or_null, without_zeros}
 use Rattle.adb_copy.proofs.Fields.{INFO}
 use Rattle.adb_view.proofs.FoundShapes.{arr_value_shape, blob_value_text, obj_value_shape}
 use Rattle.adb_view.proofs.Normal.{arr_normal, blob_value_normal, obj_normal}
@@ -53,11 +53,11 @@ members_enter (m ∷ members) h = (member_enters m.pkg m.id h.0, members_enter m
 -- ---- what is written of a folder, of a package and of a database
 
 abbrev pub fields_of_folder : Plain → List Bool → Plains
-fields_of_folder d flags = more (blob_value (name_of d)) (more (without_zeros (entry_in d 1)) (more (arr_value (owned_entries (files_in d) flags)) none))
+fields_of_folder d flags = more (blob_or_null (name_of d)) (more (without_zeros (entry_in d 1)) (more (arr_value (owned_entries (files_in d) flags)) none))
 
 abbrev pub fields_of_package : Member → List Bool → Plains
 fields_of_package m flags = more (info_after m.id (entry_in m.pkg 0)) (more (arr_value (folders_after (folders_in m.pkg) flags))
-    (more (without_zeros (entry_in m.pkg 2)) (more (without_zeros (entry_in m.pkg 3)) (more (int_value (int_in (entry_in m.pkg 4))) none))))
+    (more (without_zeros (entry_in m.pkg 2)) (more (without_zeros (entry_in m.pkg 3)) (more (int_or_null (int_in (entry_in m.pkg 4))) none))))
 
 abbrev pub fields_of_database : List Member → List Bool → Plains
 fields_of_database members flags = more (arr_value (packages_after members flags)) none

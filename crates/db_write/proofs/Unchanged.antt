@@ -1,6 +1,6 @@
 -- Where nothing changes, the value is written as it was, without zeros.
 use Rattle.std.proofs.Common.{◌≡◌, ℕ, suc, zero, ◌-◌, ◌≤◌, Bool, true, List, [], ◌∷◌, map, drop, replicate, None, Ok, refl, ap, sym, ◌∙◌, subst, arith}
-use Rattle.adb_view.specs.Plain.{Plain, null, int, blob, arr, obj, Plains, none, more, blob_value, arr_value, obj_value}
+use Rattle.adb_view.specs.Plain.{Plain, null, int, blob, arr, obj, Plains, none, more, blob_or_null, arr_value, obj_value}
 use Rattle.adb_view.specs.Shaped.{Each, HasShape, IsArrayOf}
 use Rattle.adb_view.specs.Schema.{shape_of, shapes_of, table}
 use Rattle.adb_view.specs.Values.{count_of, entries_in, entry_in, int_in, text_in}
@@ -11,7 +11,7 @@ use Rattle.adb_fields.proofs.NameLists.{count-listed}
 use Rattle.adb_schema.specs.declared.read.TheConstants.{IDB_WORD}
 use Rattle.adb_write.specs.Canonical.{written_of}
 use Rattle.adb_write.specs.File.{file_of}
-use Rattle.adb_copy.specs.Zeros.{all_without_zeros, int_value, without_zeros}
+use Rattle.adb_copy.specs.Zeros.{all_without_zeros, int_or_null, without_zeros}
 use Rattle.adb_copy.proofs.Fields.{INFO, info_written, object_written}
 use Rattle.adb_copy.proofs.Shapes.{entries_shape, nth_shape}
 use Rattle.adb_copy.proofs.Zeros.{zeros_array}
@@ -65,7 +65,7 @@ folder_same v m h enough =
     let files : IsArrayOf (HasShape (shape_of (Kinds.Obj Tables.File))) (entry_in v 2) = nth_shape (shapes_of (table Tables.Dir)) (entries_in v) 2 (entries_shape 5 (shapes_of (table Tables.Dir)) v h) in
     let owned : owned_entries (files_in v) (replicate m true) ≡ all_without_zeros (entries_in (entry_in v 2)) =
     owned_all (entries_in (entry_in v 2)) m (omega (arith, enough, count-listed (entries_in (entry_in v 2)))) in
-    ap (λ fs. obj_value (more (blob_value (name_of v)) (more (without_zeros (entry_in v 1)) (more fs none))))
+    ap (λ fs. obj_value (more (blob_or_null (name_of v)) (more (without_zeros (entry_in v 1)) (more fs none))))
     (ap arr_value owned ∙ sym (zeros_array (HasShape (shape_of (Kinds.Obj Tables.File))) (entry_in v 2) files))
     ∙ object_written 5 (shapes_of (table Tables.Dir)) v h
 
@@ -91,7 +91,7 @@ package_same v m h enough =
     (subst (λ ds. total_of file_count ds ≤ m) (sym (map_same listed)) enough) in
     (λ j. obj_value (more (info_same (entry_in v 0) info j)
     (more ((ap arr_value all ∙ sym (zeros_array (HasShape (shape_of (Kinds.Obj Tables.Dir))) (entry_in v 1) folders)) j)
-    (more (without_zeros (entry_in v 2)) (more (without_zeros (entry_in v 3)) (more (int_value (int_in (entry_in v 4))) none))))))
+    (more (without_zeros (entry_in v 2)) (more (without_zeros (entry_in v 3)) (more (int_or_null (int_in (entry_in v 4))) none))))))
     ∙ object_written 7 (shapes_of (table Tables.Package)) v h
 
 -- ---- the database

@@ -3,14 +3,14 @@
 -- The rules are in `docs/formats.md`, "The database after a change"; the fields in "Schemas", tables 5,
 -- 7 and 9.
 use Rattle.std.specs.Prelude.{ℕ, ◌+◌, Bool, true, false, List, [], ◌∷◌, Option, length, drop, unwrap_or, Result, Ok, Err}
-use Rattle.adb_view.specs.Plain.{Plain, Plains, none, more, blob_value, arr_value, obj_value}
+use Rattle.adb_view.specs.Plain.{Plain, Plains, none, more, blob_or_null, arr_value, obj_value}
 use Rattle.adb_view.specs.FieldIndexes.{DIR_ACL, INFO_FILE_SIZE, INFO_HASHES, PACKAGE_INFO, PACKAGE_REPLACES_PRIORITY, PACKAGE_SCRIPTS, PACKAGE_TRIGGERS}
 use Rattle.adb_view.specs.Values.{entry_in, int_in, text_in}
 use Rattle.adb_fields.specs.Repeated.{name_of, folders_in, files_in}
 use Rattle.adb_schema.specs.declared.read.TheConstants.{IDB_WORD}
 use Rattle.adb_write.specs.Canonical.{PayloadCounts, written_of}
 use Rattle.adb_write.specs.File.{file_of}
-use Rattle.adb_copy.specs.Zeros.{info_with, int_value, without_zeros}
+use Rattle.adb_copy.specs.Zeros.{info_with, int_or_null, without_zeros}
 use Rattle.db_core.specs.Members.{Member}
 
 -- ---- by flags, one for each file in its order
@@ -45,7 +45,7 @@ file_count folder = length (files_in folder)
 -- a folder in the new database: its name, its access list, and those of its files whose flag is set
 abbrev pub folder_after : Plain → List Bool → Plain
 folder_after folder flags =
-    obj_value (more (blob_value (name_of folder)) (more (without_zeros (entry_in folder DIR_ACL))
+    obj_value (more (blob_or_null (name_of folder)) (more (without_zeros (entry_in folder DIR_ACL))
     (more (arr_value (owned_entries (files_in folder) flags)) none)))
 
 -- the folders of a package in the new database; each takes as many flags as it has files
@@ -72,7 +72,7 @@ package_after m flags =
     (more (arr_value (folders_after (folders_in m.pkg) flags))
     (more (without_zeros (entry_in m.pkg PACKAGE_SCRIPTS))
     (more (without_zeros (entry_in m.pkg PACKAGE_TRIGGERS))
-    (more (int_value (int_in (entry_in m.pkg PACKAGE_REPLACES_PRIORITY))) none)))))
+    (more (int_or_null (int_in (entry_in m.pkg PACKAGE_REPLACES_PRIORITY))) none)))))
 
 -- the packages of the new database, each with the flags of its own files
 abbrev pub packages_after : List Member → List Bool → Plains

@@ -85,7 +85,7 @@ fn at_version<'a>(dep: Dep<'a>, op: Op, text: &'a [u8]) -> Option<Dep<'a>>
     requires { IsTrue (is_some (operator_text op)) }
     ensures { option_map dependency result ≡ at_version (dependency dep.entry) op text.entry.now }
 {
-    let (version, rest) = text.split_at(len_before_at(text));
+    let (version, rest) = text.split_at(len_before_at_sign(text));
     let version = Version::read(version)?;
     at_version_end(dep.with_constraint(version, op), rest)
 }
@@ -252,7 +252,7 @@ fn is_operator_byte(byte: u8) -> bool
 
 /// How many bytes precede the first `@`.
 #[tactic(auto, using(crate::proofs::Prefixes::len_at))]
-pub fn len_before_at(text: &[u8]) -> usize
+pub fn len_before_at_sign(text: &[u8]) -> usize
     ensures len { result ≡ prefix_len is_not_at text.now }
     ensures within { result ≤ length text.now }
 {

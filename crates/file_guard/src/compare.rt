@@ -112,8 +112,8 @@ fn compare_present<T: Tree>(
         at += len;
     }
     Ok(Comparison {
-        as_new: for_new.is_met(),
-        as_old: for_old.is_met(),
+        as_new: for_new.has_listed_bytes(),
+        as_old: for_old.has_listed_bytes(),
     })
 }
 

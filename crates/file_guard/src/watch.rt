@@ -50,7 +50,7 @@ impl<'a> Watch<'a> {
     }
 
     /// Whether the file is as listed, if no bytes remain.
-    pub fn is_met(self) -> bool
+    pub fn has_listed_bytes(self) -> bool
         ensures { (test : List ℕ → Bool) (bytes : List ℕ) → Watches self.entry test bytes
             → result ≡ test bytes }
     {

@@ -12,7 +12,7 @@ ghost use Rattle.journal_core.specs.Filling.{HasChangedOnly, HasNewFileAt, IsRea
 ghost use Rattle.journal_core.specs.Kept.{IsSyncedAt, KeepsMapsExcept};
 ghost use Rattle.journal_core.specs.Reading.{ReadsOldOrReplaced};
 ghost use Rattle.journal_core.specs.Recovery.{StateDependsOn, EachCrashLeaves, intent_name};
-ghost use Rattle.journal_core.specs.Replacing.{IgnoresScratch, IsOutputPathFree, IsMomentOfReplacing, replaced_files, scratch_of};
+ghost use Rattle.journal_core.specs.Replacing.{IgnoresScratch, CanAddOutputNames, IsMomentOfReplacing, replaced_files, scratch_of};
 
 use base_core::{Disk, Name, Tree, TreeFault, counts_of_consecutive_calls_compose};
 use journal_core::calls::{append, create, remove, rename, sync_all_names, sync_file};
@@ -92,7 +92,7 @@ pub fn replace<T: Tree>(
     ensures kept { OnOk result (IsNoFault (T.counts tree.old) (T.counts tree.new)) }
 
     // If the paths are free, no call is a misuse.
-    ensures proper { IfObservable (T.history tree.old) (λ v. IsOutputPathFree name.now (files_of v)
+    ensures proper { IfObservable (T.history tree.old) (λ v. CanAddOutputNames name.now (files_of v)
         → (T.counts tree.new).misuses ≡ (T.counts tree.old).misuses) }
 {
     let scratch = scratch_name(alloc, name)?;

@@ -3,7 +3,7 @@ use Rattle.std.proofs.Common.{◌≡◌, ◌≢◌, ℕ, zero, suc, ◌+◌, ◌
 use Rattle.std.specs.Prelude.{codes, bytes_eq, map}
 use Rattle.std.proofs.lemmas.List.{append-nil, length-append, take-append-le}
 use Rattle.std.proofs.lemmas.Bool.{and_parts}
-use Rattle.adb_view.specs.Plain.{Plain, Plains, null, int, blob, arr, obj, none, more, keep, without_last_nulls, Shape, number, text, hash, array, object, Fields, no_fields, field, IsNormal, AreNormal}
+use Rattle.adb_view.specs.Plain.{Plain, Plains, null, int, blob, arr, obj, none, more, put_first_without_last_null, without_last_nulls, Shape, number, text, hash, array, object, Fields, no_fields, field, IsNormal, AreNormal}
 use Rattle.adb_view.specs.Shaped.{Each, HasShape, HaveShapes}
 use Rattle.adb_view.proofs.FoundShapes.{shape_null}
 use Rattle.base_core.specs.Lists.{and_then}
@@ -98,12 +98,12 @@ no_more_fit (field name s fs) = record { trim = refl; normal = tt; shapes = tt; 
 
 more_fit : (name : List ℕ) (s : Shape) (fs : Fields) (v : Plain) (vs : Plains) → Fit s v → FieldsFit fs vs → FieldsFit (field name s fs) (more v vs)
 unfolding IsNormal HasShape IsOfBytes
-more_fit name s fs v vs f g = record { trim = ap (keep v) g.trim ∙ keeps v vs f.some; normal = (f.normal, g.normal); shapes = (f.shape, g.shapes); bytes = (f.bytes, g.bytes) }
+more_fit name s fs v vs f g = record { trim = ap (put_first_without_last_null v) g.trim ∙ keeps v vs f.some; normal = (f.normal, g.normal); shapes = (f.shape, g.shapes); bytes = (f.bytes, g.bytes) }
 
-null_fit : (name : List ℕ) (s : Shape) (fs : Fields) (vs : Plains) → FieldsFit fs vs → FieldsFit (field name s fs) (keep null vs)
+null_fit : (name : List ℕ) (s : Shape) (fs : Fields) (vs : Plains) → FieldsFit fs vs → FieldsFit (field name s fs) (put_first_without_last_null null vs)
 unfolding IsNormal HasShape IsOfBytes
 null_fit name s fs none g = no_more_fit (field name s fs)
-null_fit name s fs (more u us) g = record { trim = ap (keep null) g.trim; normal = (tt, g.normal); shapes = (shape_null s, g.shapes); bytes = (tt, g.bytes) }
+null_fit name s fs (more u us) g = record { trim = ap (put_first_without_last_null null) g.trim; normal = (tt, g.normal); shapes = (shape_null s, g.shapes); bytes = (tt, g.bytes) }
 
 entry_more : (s : Shape) (v : Plain) (vs : Plains) → EntryFit s v → EntriesFit s vs → EntriesFit s (more v vs)
 unfolding IsNormal IsOfBytes
@@ -365,7 +365,7 @@ pub record FieldsCompleted (fs : Fields) (ls : List Line) (k : ℕ) : Type 0 whe
 no_field : (fs : Fields) (ls : List Line) (k : ℕ) → k ≡ 0 → FieldsCompleted fs ls k
 no_field fs ls k e = subst (λ (n : ℕ). FieldsCompleted fs ls n) (sym e) (record { values = none; fit = no_more_fit fs; count = omega arith; rest = []; lines = no_lines fs })
 
-null_lines : (name : List ℕ) (s : Shape) (fs : Fields) (vs : Plains) → fields_lines (field name s fs) (keep null vs) ≡ fields_lines fs vs
+null_lines : (name : List ℕ) (s : Shape) (fs : Fields) (vs : Plains) → fields_lines (field name s fs) (put_first_without_last_null null vs) ≡ fields_lines fs vs
 unfolding fields_lines
 null_lines name s fs none = sym (no_lines fs)
 null_lines name s fs (more u us) = refl
@@ -521,7 +521,7 @@ field_completed name s fs h next (l ∷ ls) k e = go (strip_prefix (name ++ code
         let (j, bad, count) = later 0 null (fields_read fs (l ∷ ls)) k e in
         let same : j ≡ k = omega (arith, count) in
         let c = next (l ∷ ls) k (bad ∙ ap no_values same) in
-        record { values = keep null c.values; fit = null_fit name s fs c.values c.fit; count = c.count; rest = c.rest; lines = null_lines name s fs c.values ∙ c.lines }
+        record { values = put_first_without_last_null null c.values; fit = null_fit name s fs c.values c.fit; count = c.count; rest = c.rest; lines = null_lines name s fs c.values ∙ c.lines }
     go (Some rest) named e = named_completed name s fs h next l rest ls k (named_here name l rest named) e
 
 no_fields_completed : FieldsComplete no_fields

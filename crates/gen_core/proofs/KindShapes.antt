@@ -1,9 +1,9 @@
 -- Values by their kind.
 use Rattle.std.proofs.Common.{◌≡◌, ◌≢◌, ℕ, Bool, true, false, List, [], ◌∷◌, length, Some, Ok, Err, refl, sym, ap, ◌∙◌}
 use Rattle.std.specs.Prelude.{codes}
-use Rattle.adb_write.proofs.RoundTrip.{blob_value-is}
-use Rattle.adb_view.specs.Plain.{Plain, blob, blob_value, Fields, Shape, number, text, hash, array, object}
-use Rattle.adb_view.specs.Schema.{schema_number, shape_of, shapes_of, table}
+use Rattle.adb_write.proofs.RoundTrip.{blob_or_null-is}
+use Rattle.adb_view.specs.Plain.{Plain, blob, blob_or_null, Fields, Shape, number, text, hash, array, object}
+use Rattle.adb_view.specs.Schema.{shape_of, shapes_of, table, table_number}
 use Rattle.adb_view.specs.Shapes.{object_shape}
 use Rattle.adb_view.specs.declared.tables.Which.{Which}
 use Rattle.adb_values.specs.Drafts.{DraftState, draft_with}
@@ -90,7 +90,7 @@ object_read which fs ls = refl
 
 -- an object of a table
 pub table_read : (w : Which) (ls : List Line) → block_read (shape_of (Obj w)) ls ≡ and_then (fields_read (shapes_of (table w)) ls) obj_read
-table_read w ls = ap (λ (s : Shape). block_read s ls) (object_shape w) ∙ object_read (schema_number w) (shapes_of (table w)) ls
+table_read w ls = ap (λ (s : Shape). block_read s ls) (object_shape w) ∙ object_read (table_number w) (shapes_of (table w)) ls
 
 -- ---- one line by its kind
 
@@ -101,8 +101,8 @@ pub object_line : (w : Which) (l : Line) → line_read (shape_of (Obj w)) l ≡ 
 object_line w l = ap (λ (x : Shape). line_read x l) (object_shape w)
 
 -- a text or a hash that was read is written
-pub blob_read_as : (s : Shape) (b c : List ℕ) (l : Line) (old new : DraftState) → line_read s l ≡ Ok (blob b) → b ≢ [] → c ≡ b → new ≡ draft_with (blob_value c) old → (v : Plain) × (line_read s l ≡ Ok v) × (new ≡ draft_with v old)
-blob_read_as s b c l old new read ne same is = (blob b, read, is ∙ ap (λ (x : Plain). draft_with x old) (ap blob_value same ∙ blob_value-is b ne))
+pub blob_read_as : (s : Shape) (b c : List ℕ) (l : Line) (old new : DraftState) → line_read s l ≡ Ok (blob b) → b ≢ [] → c ≡ b → new ≡ draft_with (blob_or_null c) old → (v : Plain) × (line_read s l ≡ Ok v) × (new ≡ draft_with v old)
+blob_read_as s b c l old new read ne same is = (blob b, read, is ∙ ap (λ (x : Plain). draft_with x old) (ap blob_or_null same ∙ blob_or_null-is b ne))
 
 -- ---- the root
 

@@ -4,7 +4,7 @@ use Rattle.std.specs.List.{onto_first, slice_get, slice_split}
 use Rattle.std.specs.Option.{option_map}
 use Rattle.std.proofs.lemmas.Bool.{eq-eqb, eqb-true, false≢true}
 use Rattle.std.proofs.lemmas.Option.{none-some, same_Some}
-use Rattle.adb_view.specs.Schema.{schema_number, table}
+use Rattle.adb_view.specs.Schema.{table, table_number}
 use Rattle.adb_view.specs.declared.tables.Field.{Field}
 use Rattle.adb_view.specs.declared.tables.Which.{Which}
 use Rattle.adb_view.specs.declared.tables.Which.TheVariants as Tables
@@ -19,7 +19,7 @@ use Rattle.hint_core.specs.declared.hint.HintFile.{HintFile}
 use Rattle.hint_core.specs.declared.hint.Subject.{Subject}
 use Rattle.hint_core.specs.declared.hint.Subject.TheVariants.{Word, Information, Line, Database}
 use Rattle.hint_core.specs.declared.hint.Subject.TheVariants as Subjects
-use Rattle.hint_core.specs.Hints.{cause_hint, cause_of, cause_place, field_of, found_field, found_line, found_repository, information_hint, named_place, subject_hint, subject_of, table_numbered, word_hint}
+use Rattle.hint_core.specs.Hints.{cause_hint, cause_of, cause_place, field_hint, found_field, found_line, found_repository, information_hint, named_place, subject_hint, subject_of, table_numbered, word_hint}
 use Rattle.hint_core.specs.Repositories.{on_line, path_alone, repository_at, repository_line_by}
 use Rattle.hint_core.specs.Truths.{HasPath, IsSo, NamesPlace}
 
@@ -195,14 +195,14 @@ subject_so words refusal found Subjects.Nothing s = tt
 
 -- ---- the field at a place
 
-numbered : (n k : ℕ) (t which : Which) (rest : Option Which) → schema_number t ≡ k → (rest ≡ Some which → schema_number which ≡ n) → cond (eqb n k) (Some t) rest ≡ Some which → schema_number which ≡ n
+numbered : (n k : ℕ) (t which : Which) (rest : Option Which) → table_number t ≡ k → (rest ≡ Some which → table_number which ≡ n) → cond (eqb n k) (Some t) rest ≡ Some which → table_number which ≡ n
 numbered n k t which rest s later h =
-    elim (eqb n k) as (λ b. eqb n k ≡ b → cond b (Some t) rest ≡ Some which → schema_number which ≡ n) [
-      | true ↦ λ e y. ap schema_number (sym (same_Some _ _ y)) ∙ (s ∙ sym (eqb-true n k e))
+    elim (eqb n k) as (λ b. eqb n k ≡ b → cond b (Some t) rest ≡ Some which → table_number which ≡ n) [
+      | true ↦ λ e y. ap table_number (sym (same_Some _ _ y)) ∙ (s ∙ sym (eqb-true n k e))
       | false ↦ λ e y. later y
     ] refl h
 
-table_is : (n : ℕ) (which : Which) → table_numbered n ≡ Some which → schema_number which ≡ n
+table_is : (n : ℕ) (which : Which) → table_numbered n ≡ Some which → table_number which ≡ n
 table_is n which h =
     numbered n 1 Tables.Dep which _ refl
     (numbered n 2 Tables.Acl which _ refl
@@ -215,13 +215,13 @@ table_is n which h =
     (numbered n 9 Tables.Idb which _ refl
     (numbered n 10 Tables.Intent which _ refl (λ e. absurd (none-some which e))))))))))) h
 
-field_so : (words : List (List ℕ)) (refusal : Refusal) (found : Option (List ℕ)) (place : ℕ) (which : Which) (o : Option Field) → NamesPlace refusal place → schema_number which ≡ place / 100 → eqb (place % 100) 0 ≡ false → slice_get (table which) (place % 100 - 1) ≡ o → IsSo words refusal found (found_field place which o)
+field_so : (words : List (List ℕ)) (refusal : Refusal) (found : Option (List ℕ)) (place : ℕ) (which : Which) (o : Option Field) → NamesPlace refusal place → table_number which ≡ place / 100 → eqb (place % 100) 0 ≡ false → slice_get (table which) (place % 100 - 1) ≡ o → IsSo words refusal found (found_field place which o)
 field_so words refusal found place which None p s e h = tt
 field_so words refusal found place which (Some field) p s e h =
     let some : place % 100 ≢ 0 = λ none. false≢true (sym e ∙ eq-eqb (place % 100) 0 none) in
     (p, place % 100, omega (arith, s), omega (arith, some), (field, h, refl))
 
-table_so : (words : List (List ℕ)) (refusal : Refusal) (found : Option (List ℕ)) (place : ℕ) (o : Option Which) → NamesPlace refusal place → table_numbered (place / 100) ≡ o → IsSo words refusal found (field_of place o)
+table_so : (words : List (List ℕ)) (refusal : Refusal) (found : Option (List ℕ)) (place : ℕ) (o : Option Which) → NamesPlace refusal place → table_numbered (place / 100) ≡ o → IsSo words refusal found (field_hint place o)
 table_so words refusal found place None p h = tt
 table_so words refusal found place (Some which) p h =
     elim (eqb (place % 100) 0) as (λ b. eqb (place % 100) 0 ≡ b → IsSo words refusal found (cond b Hinted.Nothing (found_field place which (slice_get (table which) (place % 100 - 1))))) [

@@ -17,7 +17,7 @@ use Rattle.hint_core.specs.declared.telling.HintFault.{HintFault}
 use Rattle.hint_core.specs.declared.telling.HintFault.TheVariants.{Disk, Memory, Sink}
 use Rattle.hint_core.specs.Hints.{hints_of, is_explained}
 use Rattle.hint_core.specs.Lines.{hint_lines, printed_byte, printed_bytes}
-use Rattle.hint_core.specs.Told.{IsFoundIn, IsNoDisk, Tells, lines_told}
+use Rattle.hint_core.specs.Told.{IsFoundIfNamed, IsNoDisk, Tells, lines_told}
 
 pub printed_chain : Chains printed_bytes
 printed_chain [] b = refl
@@ -36,7 +36,7 @@ found_now [] name = None
 found_now (v ∷ earlier) None = None
 found_now (v ∷ earlier) (Some name) = files_of v name
 
-pub is_found_now : (history : List TreeState) (name : Option (List ℕ)) → IsFoundIn history name (found_now history name)
+pub is_found_now : (history : List TreeState) (name : Option (List ℕ)) → IsFoundIfNamed history name (found_now history name)
 unfolding found_now
 is_found_now [] None = refl
 is_found_now [] (Some name) = tt

@@ -58,15 +58,15 @@ subject_of (DatabaseBad cause) = database_subject cause
 subject_of refusal = Nothing
 
 -- the name of a file of which refusals name lines
-abbrev pub file_name : HintFile → List ℕ
-file_name Files.World = world_name
-file_name Files.Repositories = repositories_name
-file_name Files.TextDatabase = text_database_name
+abbrev pub hint_file_name : HintFile → List ℕ
+hint_file_name Files.World = world_name
+hint_file_name Files.Repositories = repositories_name
+hint_file_name Files.TextDatabase = text_database_name
 
 -- the name of the file that a refusal is about, if there is one
 abbrev pub subject_file : Subject → Option (List ℕ)
 subject_file (Repository number) = Some repositories_name
-subject_file (Line file line) = Some (file_name file)
+subject_file (Line file line) = Some (hint_file_name file)
 subject_file Database = Some database_name
 subject_file subject = None
 
@@ -154,13 +154,13 @@ field_in place which =
     found_field place which (slice_get (table which) (place % 100 - 1))
 
 -- the field of a table that was found, at a place
-abbrev pub field_of : ℕ → Option Which → Hint
-field_of place (Some which) = field_in place which
-field_of place None = Hinted.Nothing
+abbrev pub field_hint : ℕ → Option Which → Hint
+field_hint place (Some which) = field_in place which
+field_hint place None = Hinted.Nothing
 
 -- the field at a place: 100 times the number of its table plus its own
 abbrev pub place_hint : ℕ → Hint
-place_hint place = field_of place (table_numbered (place / 100))
+place_hint place = field_hint place (table_numbered (place / 100))
 
 -- the field at the place that a cause names, if it names one
 abbrev pub named_place : Option ℕ → Hint

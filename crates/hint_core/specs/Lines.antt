@@ -12,7 +12,7 @@ use Rattle.hint_core.specs.declared.hint.Hint.{Hint}
 use Rattle.hint_core.specs.declared.hint.Hint.TheVariants.{Word, Missing, Repository, Line, Database, Field, Nothing}
 use Rattle.hint_core.specs.declared.hint.HintFile.{HintFile}
 use Rattle.hint_core.specs.declared.hint.Hints.{Hints}
-use Rattle.hint_core.specs.Hints.{file_name}
+use Rattle.hint_core.specs.Hints.{hint_file_name}
 
 -- ---- bytes as they are shown
 
@@ -72,20 +72,20 @@ missing_line place = texts_joined
     ∷ (codes ": a package needs -I name:NAME and -I version:VERSION\n" ∷ [])))
 
 -- the line of a repository
-abbrev pub repository_line : ℕ → ℕ → List ℕ → List ℕ
-repository_line number line path = texts_joined
+abbrev pub repository_hint_line : ℕ → ℕ → List ℕ → List ℕ
+repository_hint_line number line path = texts_joined
     (codes "apk: repository " ∷ (decimal number ∷ (codes " is " ∷ (printed_text path
     ∷ (codes ", line " ∷ (decimal line ∷ (codes " of etc/apk/repositories\n" ∷ [])))))))
 
 -- the line of a line of a file
 abbrev pub line_line : HintFile → ℕ → List ℕ → List ℕ
 line_line file line text = texts_joined
-    (codes "apk: line " ∷ (decimal line ∷ (codes " of " ∷ (file_name file
+    (codes "apk: line " ∷ (decimal line ∷ (codes " of " ∷ (hint_file_name file
     ∷ (codes " is " ∷ (printed_text text ∷ (codes "\n" ∷ [])))))))
 
 -- the line of the database
-abbrev pub database_line : Bool → List ℕ
-database_line is_container = texts_joined
+abbrev pub database_hint_line : Bool → List ℕ
+database_hint_line is_container = texts_joined
     (codes "apk: the package database is " ∷ (database_text is_container ∷ (codes "\n" ∷ [])))
 
 -- the line of a field
@@ -98,9 +98,9 @@ field_line place table name = texts_joined
 abbrev pub hint_line : Hint → List ℕ
 hint_line (Word place word) = word_line place word
 hint_line (Missing place) = missing_line place
-hint_line (Repository number line path) = repository_line number line path
+hint_line (Repository number line path) = repository_hint_line number line path
 hint_line (Line file line text) = line_line file line text
-hint_line (Database is_container) = database_line is_container
+hint_line (Database is_container) = database_hint_line is_container
 hint_line (Field place table name) = field_line place table (field_name_text name)
 hint_line Nothing = []
 

@@ -25,13 +25,13 @@ IsNoDisk Memory = Unit {0}
 IsNoDisk Sink = Unit {0}
 
 -- what was found is the file under a name, if there is one; nothing is found if no name is asked for
-abbrev pub IsFoundIn : List TreeState → Option (List ℕ) → Option (List ℕ) → Type 0
-IsFoundIn history None found = found ≡ None
-IsFoundIn history (Some name) found = IfObservable history (λ v. found ≡ files_of v name)
+abbrev pub IsFoundIfNamed : List TreeState → Option (List ℕ) → Option (List ℕ) → Type 0
+IsFoundIfNamed history None found = found ≡ None
+IsFoundIfNamed history (Some name) found = IfObservable history (λ v. found ≡ files_of v name)
 
 -- what was found is the file that a refusal is about
 abbrev pub IsFoundFor : List TreeState → Subject → Option (List ℕ) → Type 0
-IsFoundFor history subject found = IsFoundIn history (subject_file subject) found
+IsFoundFor history subject found = IsFoundIfNamed history (subject_file subject) found
 
 -- the lines that are written after a refusal, given the file that it is about
 abbrev pub lines_told : List (List ℕ) → Refusal → Option (List ℕ) → List ℕ

@@ -2,7 +2,7 @@
 use Rattle.std.specs.Prelude.{◌≡◌, ◌⊎◌, ℕ, ◌+◌, ◌-◌, ◌*◌, ◌<◌, ◌≤◌, List, ◌∷◌, length, Option, Some, is_some, Ok}
 use Rattle.std.specs.List.{slice_get}
 use Rattle.std.specs.Option.{option_map}
-use Rattle.adb_view.specs.Schema.{schema_number, table}
+use Rattle.adb_view.specs.Schema.{table, table_number}
 use Rattle.adb_view.specs.declared.tables.Field.{Field}
 use Rattle.adb_view.specs.declared.tables.FieldName.{FieldName}
 use Rattle.adb_view.specs.declared.tables.Which.{Which}
@@ -65,6 +65,6 @@ IsSo words refusal found (Hinted.Database is_container) =
 -- the place is 100 times the number of the table plus that of the field
 IsSo words refusal found (Hinted.Field place which name) =
     NamesPlace refusal place
-    × (number : ℕ) × (place ≡ 100 * schema_number which + number) × (0 < number)
+    × (number : ℕ) × (place ≡ 100 * table_number which + number) × (0 < number)
     × HasField which number name
 IsSo words refusal found Hinted.Nothing = Unit {0}

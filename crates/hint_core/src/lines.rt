@@ -1,8 +1,8 @@
 //! The lines of hints. The rules are in `docs/commands.md`, "Hints".
 ghost use Rattle.std.specs.Prelude.{◌≡◌, ◌++◌, codes, IfOk, OnOk};
 ghost use Rattle.adb_view.specs.Schema.{field_name_text};
-ghost use Rattle.hint_core.specs.Hints.{file_name};
-ghost use Rattle.hint_core.specs.Lines.{database_text, field_line, hint_line, hint_lines, line_line, missing_line, repository_line, table_text, word_line};
+ghost use Rattle.hint_core.specs.Hints.{hint_file_name};
+ghost use Rattle.hint_core.specs.Lines.{database_text, field_line, hint_line, hint_lines, line_line, missing_line, repository_hint_line, table_text, word_line};
 
 use crate::hint::{Hint, HintFile, Hints};
 use crate::printed::{printed, push_texts};
@@ -86,7 +86,7 @@ fn push_repository(
     path: &[u8],
 ) -> Result<(), AllocError>
     ensures { OnOk result (lines.new.items
-        ≡ lines.old.items ++ repository_line number line path.now) }
+        ≡ lines.old.items ++ repository_hint_line number line path.now) }
 {
     let shown = printed(alloc, path)?;
     let mut number_digits = Buffer::new();
@@ -158,7 +158,7 @@ fn push_field(
 
 // The path of a file of which refusals name lines.
 fn file_text(file: HintFile) -> &'static [u8]
-    ensures { result.now ≡ file_name file }
+    ensures { result.now ≡ hint_file_name file }
 {
     match file {
         HintFile::World => b"etc/apk/world",

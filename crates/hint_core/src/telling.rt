@@ -5,7 +5,7 @@ ghost use Rattle.std.specs.Option.{option_copied};
 ghost use Rattle.base_core.specs.Read.{OnlyReads, bytes_in};
 ghost use Rattle.base_core.specs.Sink.{sink_change};
 ghost use Rattle.words_core.specs.Grammar.{command_of};
-ghost use Rattle.hint_core.specs.Hints.{file_name, hints_of, is_explained, subject_file, subject_of};
+ghost use Rattle.hint_core.specs.Hints.{hint_file_name, hints_of, is_explained, subject_file, subject_of};
 ghost use Rattle.hint_core.specs.Lines.{hint_lines};
 ghost use Rattle.hint_core.specs.Told.{IsFoundFor, IsNoDisk, Tells, lines_told};
 
@@ -133,7 +133,7 @@ fn subject_file(alloc: Global, subject: Subject) -> Result<Option<Name>, AllocEr
 {
     match subject {
         Subject::Repository { number: _ } => Ok(Some(repositories_name(alloc)?)),
-        Subject::Line { file, line: _ } => Ok(Some(file_name(alloc, file)?)),
+        Subject::Line { file, line: _ } => Ok(Some(hint_file_name(alloc, file)?)),
         Subject::Database => Ok(Some(database_name(alloc)?)),
         Subject::Word { place: _ } | Subject::Information { place: _ } | Subject::Nothing => {
             Ok(None)
@@ -142,8 +142,8 @@ fn subject_file(alloc: Global, subject: Subject) -> Result<Option<Name>, AllocEr
 }
 
 // The name of a file of which refusals name lines.
-fn file_name(alloc: Global, file: HintFile) -> Result<Name, AllocError>
-    ensures { IfOk result (λ name. name ≡ file_name file) }
+fn hint_file_name(alloc: Global, file: HintFile) -> Result<Name, AllocError>
+    ensures { IfOk result (λ name. name ≡ hint_file_name file) }
 {
     match file {
         HintFile::World => world_name(alloc),

@@ -111,7 +111,7 @@ impl<'a, R: Host> Root<'a, R> {
     }
 
     /// Takes the lock on the folder, if it is not held yet.
-    pub fn enter(&mut self) -> Result<(), HostFault> {
+    pub fn take_lock(&mut self) -> Result<(), HostFault> {
         if self.held.is_none() {
             self.held = Some(lock_root(self.rt, self.lock)?);
         }
@@ -120,7 +120,7 @@ impl<'a, R: Host> Root<'a, R> {
 
     /// The length of the regular file at a path, or None if there is none.
     pub fn length_of(&mut self, path: &[u8]) -> Result<Option<u64>, HostFault> {
-        self.enter()?;
+        self.take_lock()?;
         match self.folders.find(self.rt, path)? {
             Found::File(looked_at) => {
                 self.recovers |= path == INTENT;
@@ -147,7 +147,7 @@ impl<'a, R: Host> Root<'a, R> {
 
     /// Fills the buffer with the bytes of the file at a path, from an offset on.
     pub fn fill(&mut self, path: &[u8], at: u64, into: &mut [u8]) -> Result<(), HostFault> {
-        self.enter()?;
+        self.take_lock()?;
         if !is_open(&self.reader, path) {
             self.open_to_read(path)?;
         }
@@ -168,7 +168,7 @@ impl<'a, R: Host> Root<'a, R> {
     /// Makes an empty file at a path, which stays open, with the folders on the way to it. Folders
     /// without files are removed; anything else there is kept, and is a fault.
     pub fn begin(&mut self, path: &[u8]) -> Result<(), HostFault> {
-        self.enter()?;
+        self.take_lock()?;
         self.seen = None;
         self.folders.make_room(self.rt, path)?;
         self.folders.note(parent_of(path))?;
@@ -205,7 +205,7 @@ impl<'a, R: Host> Root<'a, R> {
     /// Appends a piece to the file at a path. If that fails, the written beginning of the piece is
     /// cut off again.
     pub fn add(&mut self, path: &[u8], piece: &[u8]) -> Result<(), HostFault> {
-        self.enter()?;
+        self.take_lock()?;
         let writer = self.open_to_write(path)?;
         let added = writer.add(piece);
         if added.is_err() && !writer.cut_back() {
@@ -216,7 +216,7 @@ impl<'a, R: Host> Root<'a, R> {
 
     /// Lets the host write the file at a path through, and closes it.
     pub fn write_file_through(&mut self, path: &[u8]) -> Result<(), HostFault> {
-        self.enter()?;
+        self.take_lock()?;
         let written = self.open_to_write(path)?.write_through();
         self.has_lost = written.is_err();
         self.writer = None;
@@ -226,7 +226,7 @@ impl<'a, R: Host> Root<'a, R> {
     /// Renames the file of `from` to `to`, in one step of the host. Folders without files at `to`
     /// are removed. The file first gets mode and owner of the one that it replaces.
     pub fn move_file(&mut self, from: &[u8], to: &[u8]) -> Result<(), HostFault> {
-        self.enter()?;
+        self.take_lock()?;
         self.forget(from);
         self.forget(to);
         if from == to {
@@ -267,7 +267,7 @@ impl<'a, R: Host> Root<'a, R> {
     /// Asks whether a file can be renamed to a path later, from a source, or whether the path can
     /// be removed later, if there is no source.
     pub fn check_target(&mut self, path: &[u8], source: Option<&[u8]>) -> Result<(), HostFault> {
-        self.enter()?;
+        self.take_lock()?;
         match source {
             Some(source) => self
                 .targets
@@ -279,7 +279,7 @@ impl<'a, R: Host> Root<'a, R> {
     /// Removes the file at a path, if there is one, and the folders that then have no file. In a
     /// recovery these folders are removed even if the file is gone already: the run that was killed
     /// may not have removed them.
-    pub fn take_off(&mut self, path: &[u8]) -> Result<(), HostFault> {
+    pub fn remove_file_at(&mut self, path: &[u8]) -> Result<(), HostFault> {
         if self.length_of(path)?.is_none() {
             if self.recovers {
                 self.folders.prune(self.rt, path)?;
@@ -295,7 +295,7 @@ impl<'a, R: Host> Root<'a, R> {
 
     /// Syncs the folders whose names changed.
     pub fn write_names_through(&mut self) -> Result<(), HostFault> {
-        self.enter()?;
+        self.take_lock()?;
         if self.has_lost {
             return Err(HostFault::own(Reason::LostWrite));
         }

@@ -166,7 +166,7 @@ impl<'a, R: Host> Tree for HostTree<'a, R> {
 
     // Removes a name; an absent one changes nothing.
     fn remove(&mut self, name: &Name) -> Result<(), Disk> {
-        let answer = self.root.take_off(name.as_bytes());
+        let answer = self.root.remove_file_at(name.as_bytes());
         self.note_answer("remove", name, answer)
     }
 

@@ -21,7 +21,7 @@ pub fn list_below<R: Host>(
 ) -> Result<Names, HostFault>
     ensures { IfOk result (AreNamesBelow folder.now) }
 {
-    root.enter()?;
+    root.take_lock()?;
     let mut walk = Walk {
         alloc,
         folders: Vec::new(alloc),

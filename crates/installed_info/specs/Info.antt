@@ -27,8 +27,8 @@ use Rattle.installed_info.specs.declared.telling.Form.TheVariants.{Contents, Dep
 -- ---- of one package
 
 -- the section on what a package is; an empty line if the package does not say so
-abbrev pub description_text : Plain → List ℕ
-description_text pkg =
+abbrev pub description_section_of : Plain → List ℕ
+description_section_of pkg =
     description_section (package_name pkg) (version_text pkg)
     (text_in (entry_in (entry_in pkg PACKAGE_INFO) INFO_DESCRIPTION))
 
@@ -48,7 +48,7 @@ owner_line path pkg = report_line (owner_text path (package_name pkg) (version_t
 
 -- the report on the package of an operand
 abbrev pub package_info : Form → List ℕ → Plain → List ℕ
-package_info Description name pkg = description_text pkg
+package_info Description name pkg = description_section_of pkg
 package_info Contents name pkg = contents_text pkg
 package_info Depends name pkg = depends_text pkg
 package_info Installed name pkg = report_line name

@@ -5,7 +5,7 @@ ghost use Rattle.adb_fields.specs.Repeated.{package_name};
 ghost use Rattle.adb_schema.specs.Views.{package_value, dependency_value};
 ghost use Rattle.db_core.specs.Seen.{packages_of};
 ghost use Rattle.file_owners.specs.Replaces.{version_text};
-ghost use Rattle.installed_info.specs.Info.{contents_text, depends_text, description_text, owner_line, package_info};
+ghost use Rattle.installed_info.specs.Info.{contents_text, depends_text, description_section_of, owner_line, package_info};
 ghost use Rattle.report_core.specs.Reports.{name_version, report_line, report_lines};
 ghost use Rattle.std.specs.Option.{option_map_or, option_map};
 ghost use Rattle.std.specs.Prelude.{◌≡◌, ◌<◌, ◌++◌, [], length, slice_get, OnOk, map};
@@ -65,7 +65,7 @@ fn push_info(
 // Adds the section on what a package is.
 fn push_description(report: &mut Vec<u8>, pkg: &PackageView<'_>) -> Result<(), AllocError>
     ensures { OnOk result (report.new.items
-        ≡ report.old.items ++ description_text (package_value pkg.now)) }
+        ≡ report.old.items ++ description_section_of (package_value pkg.now)) }
 {
     push_heading(report, pkg, b" description:")?;
     push_line(report, pkg.info().description())?;

@@ -11,7 +11,7 @@ use Rattle.base_core.proofs.Undone.{change_whole, left_only, read_may_be_left}
 use Rattle.base_core.proofs.AtName.{same_name, name_cases, off_name}
 use Rattle.journal_core.specs.Recovery.{Intent, IsStagedNameOf, EachCrashLeaves, StateDependsOn, intent_name, intent_at, intent_of, is_hidden, move_if, recovered_files, stage_name, state_of, without_names}
 use Rattle.journal_core.specs.Quiet.{StateIsUnchanged}
-use Rattle.journal_core.specs.Staged.{Staging, AreActionsDone, IsActing, IsNeeded, NeededNamesLast, action_count}
+use Rattle.journal_core.specs.Staged.{Staging, AreActionsDone, IsActing, IsStillNeeded, NeededNamesLast, action_count}
 use Rattle.journal_core.proofs.Changes.{change_dropped, change_moved, left_here, synced_left}
 use Rattle.journal_intent.proofs.AtName.{put_name-off, drop_name-at, drop_name-off}
 use Rattle.journal_core.proofs.Images.{CrashLaws, quiet_by_maps, quiet_on, settled_by_maps}
@@ -132,7 +132,7 @@ once_apart (n ∷ ns) (suc i) (suc j) a b once at_i at_j less = once_apart ns i 
 
 -- ---- what is still needed
 
-needed_fewer : (intent : Intent) (acted : ℕ) (q : List ℕ) → IsNeeded intent (acted + 1) q → IsNeeded intent acted q
+needed_fewer : (intent : Intent) (acted : ℕ) (q : List ℕ) → IsStillNeeded intent (acted + 1) q → IsStillNeeded intent acted q
 needed_fewer intent acted q (inl is) = inl is
 needed_fewer intent acted q (inr (i, from, at)) = inr (i, omega (arith, from), at)
 
@@ -193,7 +193,7 @@ module _ (laws : CrashLaws) (stage now : Staging) (files : Files) (v : TreeState
   remove_still ignored is_durable =
       removed_still_at laws ignored stage.intent v r (v.names r) refl is_durable (intent_kept stage files v acting) free.no_intent (among_at stage.intent.removals stage.acted r at)
 
-  not_removed : (acted : ℕ) (q : List ℕ) → IsNeeded stage.intent acted q → q ≢ r
+  not_removed : (acted : ℕ) (q : List ℕ) → IsStillNeeded stage.intent acted q → q ≢ r
   not_removed acted q (inl is) = λ e. free.no_intent (sym e ∙ is)
   not_removed acted q (inr (i, from, inl at_i)) = λ e.
       true_false (sym (among_at stage.intent.removals stage.acted r at) ∙ sym (ap (λ (x : List ℕ). list_any (bytes_eq x) stage.intent.removals) e) ∙ proper.apart q (among_at stage.intent.writes i q at_i))
@@ -313,7 +313,7 @@ module _ (laws : CrashLaws) (stage now : Staging) (files : Files) (v : TreeState
       (moved_still_at laws ignored stage.intent v k name (v.names (stage_name k)) refl is_durable (intent_kept stage files v acting) needed_here proper small is_place open_name numbered out)
 
   -- neither is needed by a later move
-  not_moved : (q : List ℕ) → IsNeeded stage.intent (stage.acted + 1) q → (q ≢ stage_name k) × (q ≢ name)
+  not_moved : (q : List ℕ) → IsStillNeeded stage.intent (stage.acted + 1) q → (q ≢ stage_name k) × (q ≢ name)
   not_moved q (inl is) = ((λ e. stage_name_no_intent k (sym e ∙ is)), (λ e. open_name.no_intent (sym e ∙ is)))
   not_moved q (inr (i, from, inl at_i)) = (
     (free_at stage.intent.writes i q proper.writes at_i).no_place k,

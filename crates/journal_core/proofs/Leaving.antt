@@ -6,7 +6,7 @@ use Rattle.base_core.specs.Calls.{IfObservable, HoldsNow, ChangesHistory}
 use Rattle.base_core.specs.Crash.{Since}
 use Rattle.base_core.specs.Files.{drop_name}
 use Rattle.base_core.specs.Listed.{AreNamesBelow}
-use Rattle.base_core.specs.Tree.{TreeState, after_remove, after_rename, after_sync_names, bytes_at, files_of, move_at, remove_at, same_state, IsAlwaysAllowed}
+use Rattle.base_core.specs.Tree.{TreeState, after_remove, after_rename, after_sync_names, bytes_at, files_of, move_at, remove_at, after_failed_call, IsAlwaysAllowed}
 use Rattle.base_core.proofs.AtName.{other_name, name_cases, off_name}
 use Rattle.journal_core.specs.Acting.{MovesIfPresent}
 use Rattle.journal_core.specs.Kept.{JournalOnlyShrinks, IsJournalName, KeepsIntent, NamesAreDurableExcept, ShownNamesAreDurable}
@@ -122,7 +122,7 @@ module _ (intent : Intent) (free : HasFreeNames intent) (few : length intent.rem
 
 -- ---- the end of a stage
 
-pub sync_waiting : {T E : Type 0} (old new : History) (r : Result T E) → ChangesHistory IsAlwaysAllowed after_sync_names same_state old new r → IfObservable old (λ v. Since (JournalOnlyShrinks v) old new)
+pub sync_waiting : {T E : Type 0} (old new : History) (r : Result T E) → ChangesHistory IsAlwaysAllowed after_sync_names after_failed_call old new r → IfObservable old (λ v. Since (JournalOnlyShrinks v) old new)
 sync_waiting old new r moves = told_called JournalOnlyShrinks old new r moves (λ v q waits. inr refl) less_same
 
 pub remove_waiting : {T E : Type 0} (name : List ℕ) (old new : History) (r : Result T E) → ChangesHistory IsAlwaysAllowed (after_remove name) (after_remove name) old new r → IfObservable old (λ v. Since (JournalOnlyShrinks v) old new)

@@ -3,7 +3,7 @@ use Rattle.std.proofs.Common.{◌≡◌, ◌≢◌, ◌⊎◌, inl, inr, ⊎_eli
 use Rattle.base_core.specs.Calls.{IfObservable, HoldsNow, ChangesHistory}
 use Rattle.base_core.specs.Crash.{Since}
 use Rattle.base_core.specs.Files.{Files, drop_name}
-use Rattle.base_core.specs.Tree.{TreeState, after_remove, after_rename, after_sync_names, files_of, same_state, IsAlwaysAllowed}
+use Rattle.base_core.specs.Tree.{TreeState, after_remove, after_rename, after_sync_names, files_of, after_failed_call, IsAlwaysAllowed}
 use Rattle.base_core.proofs.AtName.{name_cases, off_name}
 use Rattle.journal_core.specs.Acting.{MovesIfPresent, acting_stage}
 use Rattle.journal_core.specs.Kept.{HasOldOrNewBytes, IsJournalName, KeepsFilesExcept, KeepsOldOrNewBytes}
@@ -116,7 +116,7 @@ intent_on a b c first then q off = then q off ∙ first q off
 intent_removed : (name : List ℕ) → name ≡ intent_name → (v : TreeState) → KeepsButIntent v (after_remove name v)
 intent_removed name is v q off = ap (λ (F : Files). F q) (removed_reads v name) ∙ drop_name-off (files_of v) name q (λ e. off (e ∙ is))
 
-pub sync_shown : {T E : Type 0} (old new : History) (r : Result T E) → ChangesHistory IsAlwaysAllowed after_sync_names same_state old new r → IfObservable old (λ v. Since (KeepsButIntent v) old new)
+pub sync_shown : {T E : Type 0} (old new : History) (r : Result T E) → ChangesHistory IsAlwaysAllowed after_sync_names after_failed_call old new r → IfObservable old (λ v. Since (KeepsButIntent v) old new)
 sync_shown old new r moves = told_called KeepsButIntent old new r moves (λ v q off. refl) intent_same
 
 pub remove_shown : {T E : Type 0} (name : List ℕ) → name ≡ intent_name → (old new : History) (r : Result T E) → ChangesHistory IsAlwaysAllowed (after_remove name) (after_remove name) old new r → IfObservable old (λ v. Since (KeepsButIntent v) old new)

@@ -5,7 +5,7 @@ use Rattle.base_core.specs.Files.{Files, IsFolderOf, no_names, put_name}
 use Rattle.base_core.specs.Tree.{TreeState, files_of}
 use Rattle.base_core.proofs.AtName.{name_cases, off_name}
 use Rattle.journal_core.specs.Recovery.{intent_name, state_of}
-use Rattle.journal_core.specs.Replacing.{IsOutputPathFree, scratch_of}
+use Rattle.journal_core.specs.Replacing.{CanAddOutputNames, scratch_of}
 use Rattle.journal_core.specs.Staged.{WasCommittedFor, AreStagingPathsFree, MayBePresent}
 use Rattle.journal_intent.proofs.AtName.{put_name-off}
 use Rattle.journal_intent.specs.FreeNames.{IsUsedByJournal}
@@ -61,7 +61,7 @@ apart_by name p q (inl p_is) (inr q_is) (rest, is) =
     let first : 46 ≡ 47 = ap (λ (x : List ℕ). get_or x 0 0) same in
     omega (arith, first)
 
-pub room_for_file : (name : List ℕ) → IsOutputPathFree name no_names
+pub room_for_file : (name : List ℕ) → CanAddOutputNames name no_names
 room_for_file name = record {
   folders = λ p q folder has_p has_q. apart_by name p q (one_of_both (scratch_of name) name p has_p) (one_of_both (scratch_of name) name q has_q) folder;
 }

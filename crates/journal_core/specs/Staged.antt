@@ -93,8 +93,8 @@ pub record IsStaged (stage : Staging) (contents : List (List ℕ)) (begun : Opti
 
 -- a name that is still needed when so many actions are done: the intent's, and those of each move that
 -- is left
-abbrev pub IsNeeded : Intent → ℕ → List ℕ → Type 0
-IsNeeded intent acted q =
+abbrev pub IsStillNeeded : Intent → ℕ → List ℕ → Type 0
+IsStillNeeded intent acted q =
     (q ≡ intent_name)
     ⊎ ((i : ℕ) × (acted ≤ length intent.removals + i)
     × ((slice_get intent.writes i ≡ Some q) ⊎ ((i < length intent.writes) × (q ≡ stage_name (i + 1)))))
@@ -102,7 +102,7 @@ IsNeeded intent acted q =
 -- no crash undoes a change of a name that is still needed
 abbrev pub NeededNamesLast : Intent → ℕ → TreeState → Type 0
 NeededNamesLast intent acted v =
-    (map : NameMap) → IsCrashMap v map → (q : List ℕ) → IsNeeded intent acted q → map q ≡ v.names q
+    (map : NameMap) → IsCrashMap v map → (q : List ℕ) → IsStillNeeded intent acted q → map q ≡ v.names q
 
 -- the first so many actions are done in these files
 pub record AreActionsDone (intent : Intent) (acted : ℕ) (files : Files) : Type 0 where

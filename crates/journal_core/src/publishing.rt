@@ -7,7 +7,7 @@ ghost use Rattle.base_core.specs.Crash.{Since};
 ghost use Rattle.base_core.specs.Undone.{IsDurable};
 ghost use Rattle.base_core.specs.Faults.{CountsOnlyRise, HasCause, IsNoFault};
 ghost use Rattle.base_core.specs.Files.{Files};
-ghost use Rattle.base_core.specs.Restart.{SinceBy};
+ghost use Rattle.base_core.specs.Restart.{SinceGivenEarlier};
 ghost use Rattle.base_core.specs.Tree.{CanCreate, CanRename, files_of};
 ghost use Rattle.journal_core.specs.Acting.{acting_stage, full_stage};
 ghost use Rattle.journal_core.specs.Committing.{HasCommittedIntent, IsCommitting, IsReadyToCommit, IsWritten};
@@ -28,7 +28,7 @@ pub(crate) fn publish_intent<T: Tree>(tree: &mut T, intent: &PreparedIntent) -> 
     ensures moments { IfObservable (T.history tree.old) (λ v. (ignored : List ℕ → Bool)
         (contents : List (List ℕ)) (base : Files) → IsDurable (StateDependsOn ignored) v
         → IsStaged (full_stage intent.now) contents None base v
-        → SinceBy (IsOldUntilCommit ignored (after_actions intent.now (files_of v)) v)
+        → SinceGivenEarlier (IsOldUntilCommit ignored (after_actions intent.now (files_of v)) v)
         (T.history tree.old) (T.history tree.new)) }
     ensures published { IfObservable (T.history tree.old) (λ v. (ignored : List ℕ → Bool)
         (contents : List (List ℕ)) (base : Files) → IsDurable (StateDependsOn ignored) v

@@ -9,7 +9,7 @@ ghost use Rattle.base_core.specs.Crash.{Since};
 ghost use Rattle.base_core.specs.Undone.{IsDurable};
 ghost use Rattle.base_core.specs.Faults.{CountsOnlyRise, HasCause, IsNoFault};
 ghost use Rattle.base_core.specs.Files.{Files};
-ghost use Rattle.base_core.specs.Restart.{SinceBy};
+ghost use Rattle.base_core.specs.Restart.{SinceGivenEarlier};
 ghost use Rattle.base_core.specs.Tree.{files_of};
 ghost use Rattle.base_core.specs.declared.cause.Cause.{Cause};
 ghost use Rattle.journal_core.specs.Acting.{IsNextName};
@@ -324,7 +324,8 @@ impl Stage {
         ensures moments { IfObservable (T.history tree.old) (λ v. (ignored : List ℕ → Bool)
             (contents : List (List ℕ)) (base : Files) → IsDurable (StateDependsOn ignored) v
             → IsStaged self.old contents None base v
-            → SinceBy (IsOldUntilCommit ignored (after_actions self.old.intent (files_of v)) v)
+            → SinceGivenEarlier
+            (IsOldUntilCommit ignored (after_actions self.old.intent (files_of v)) v)
             (T.history tree.old) (T.history tree.new)) }
         ensures published { IfObservable (T.history tree.old) (λ v. (ignored : List ℕ → Bool)
             (contents : List (List ℕ)) (base : Files) → IsDurable (StateDependsOn ignored) v

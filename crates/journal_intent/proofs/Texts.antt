@@ -2,7 +2,7 @@
 use Rattle.std.proofs.Common.{◌≡◌, ◌≤◌, ◌<◌, ◌+◌, ◌-◌, ◌^◌, ℕ, zero, suc, List, [], ◌∷◌, ◌++◌, map, take, length, true, refl, sym, ap, subst, ◌∙◌, arith}
 use Rattle.std.proofs.lemmas.List.{take_all}
 use Rattle.base_core.specs.Name.{is_name}
-use Rattle.adb_view.specs.Plain.{Plain, Plains, none, more, blob_value}
+use Rattle.adb_view.specs.Plain.{Plain, Plains, none, more, blob_or_null}
 use Rattle.adb_fields.specs.Repeated.{list_of}
 use Rattle.adb_view.specs.Values.{count_of, nth, text_in}
 use Rattle.adb_view.proofs.ValueEntries.{text_blob}
@@ -13,7 +13,7 @@ named_at none i below all = absurd (omega (arith, below))
 named_at (more v vs) zero below all = all.0
 named_at (more v vs) (suc i) below all = named_at vs i (omega (arith, below)) all.1
 
-pub text_named : (vs : Plains) (i : ℕ) (bytes : List ℕ) → i < count_of vs → AllNamed vs → blob_value bytes ≡ nth vs i → is_name bytes ≡ true
+pub text_named : (vs : Plains) (i : ℕ) (bytes : List ℕ) → i < count_of vs → AllNamed vs → blob_or_null bytes ≡ nth vs i → is_name bytes ≡ true
 text_named vs i bytes below all is = subst (λ (b : List ℕ). is_name b ≡ true) (sym (ap text_in is) ∙ text_blob bytes) (named_at vs i below all)
 
 take_texts : (vs : Plains) (i : ℕ) → i < count_of vs → take (i + 1) (map text_in (list_of vs)) ≡ take i (map text_in (list_of vs)) ++ text_in (nth vs i) ∷ []
@@ -23,7 +23,7 @@ take_texts (more v vs) (suc i) below =
     let next : suc i + 1 ≡ suc (i + 1) = omega arith in
     ap (λ k. take k (map text_in (list_of (more v vs)))) next ∙ ap (λ (l : List (List ℕ)). text_in v ∷ l) (take_texts vs i (omega (arith, below)))
 
-pub texts_more : (vs : Plains) (i : ℕ) (bytes : List ℕ) (old new : List (List ℕ)) → i < count_of vs → blob_value bytes ≡ nth vs i → old ≡ take i (map text_in (list_of vs)) → new ≡ old ++ bytes ∷ [] → new ≡ take (i + 1) (map text_in (list_of vs))
+pub texts_more : (vs : Plains) (i : ℕ) (bytes : List ℕ) (old new : List (List ℕ)) → i < count_of vs → blob_or_null bytes ≡ nth vs i → old ≡ take i (map text_in (list_of vs)) → new ≡ old ++ bytes ∷ [] → new ≡ take (i + 1) (map text_in (list_of vs))
 texts_more vs i bytes old new below is so_far added =
     added ∙ ap (λ (l : List (List ℕ)). l ++ bytes ∷ []) so_far ∙ ap (λ (b : List ℕ). take i (map text_in (list_of vs)) ++ b ∷ []) (sym (text_blob bytes) ∙ ap text_in is) ∙ sym (take_texts vs i below)
 

@@ -1,7 +1,7 @@
 -- Rules that do not look at what stands around a value.
 use Rattle.std.proofs.Common.{◌≡◌, ℕ, zero, suc, ◌+◌, ◌*◌, List, [], ◌∷◌, Some, None, refl, ap, sym, subst, ◌∙◌, arith, add-zero}
 use Rattle.adb_view.specs.Plain.{Plain, null, Plains, none, more, Shape, number, text, hash, array, object, Fields, no_fields, field}
-use Rattle.adb_schema.specs.Texts.{Surroundings, Leaf, text_leaf, leaves, field_leaves, each_leaf, inside_of, first_bad, text_rule}
+use Rattle.adb_schema.specs.Texts.{Surroundings, Leaf, text_leaf, leaves, field_leaves, each_leaf, surroundings_of_fields, first_bad, text_rule}
 use Rattle.adb_view.specs.Values.{nth, entries_in, text_in}
 use Rattle.base_core.specs.declared.cause.Cause.TheVariants.{BadText}
 use Rattle.std.specs.Prelude.{Bool, if◌then◌else◌}
@@ -41,7 +41,7 @@ mutual
   turned text place a b v blind h = one_turned place a b (text_in v) (blind a b (text_in v)) h
   turned hash place a b v blind h = one_turned place a b (text_in v) (blind a b (text_in v)) h
   turned (array s) place a b v blind h = each_turned (leaves s place a) (leaves s place b) (λ u. turned s place a b u blind) (entries_in v) h
-  turned (object schema fs) place a b v blind h = all_turned fs (100 * schema + 1) (inside_of schema a v) (inside_of schema b v) (entries_in v) blind h
+  turned (object schema fs) place a b v blind h = all_turned fs (100 * schema + 1) (surroundings_of_fields schema a v) (surroundings_of_fields schema b v) (entries_in v) blind h
 
   pub all_turned : (fs : Fields) (place : ℕ) (a b : Surroundings) (vs : Plains) → AreBlind fs place → first_bad (field_leaves fs place a vs) ≡ None → first_bad (field_leaves fs place b vs) ≡ None
   all_turned no_fields place a b vs blind h = refl

@@ -2,9 +2,9 @@
 use Rattle.std.proofs.Common.{◌≡◌, ℕ, ◌+◌, ◌*◌, ◌^◌, ◌<◌, Bool, true, false, if◌then◌else◌, List, [], ◌∷◌, ◌++◌, Option, Some, None, refl, ap, ◌∙◌}
 use Rattle.base_core.specs.declared.cause.Cause.{Cause}
 use Rattle.base_core.specs.declared.cause.Cause.TheVariants.{BadText}
-use Rattle.adb_view.specs.Plain.{Plain, null, int, blob, arr, obj, Plains, none, more, Shape, number, text, hash, array, object, Fields, no_fields, field, blob_value, arr_value, obj_value, keep, without_last_nulls, IsNormal, AreNormal}
+use Rattle.adb_view.specs.Plain.{Plain, null, int, blob, arr, obj, Plains, none, more, Shape, number, text, hash, array, object, Fields, no_fields, field, blob_or_null, arr_value, obj_value, put_first_without_last_null, without_last_nulls, IsNormal, AreNormal}
 use Rattle.adb_view.specs.Shaped.{Each, HasShape, HaveShapes}
-use Rattle.adb_schema.specs.Texts.{Surroundings, Leaf, number_leaf, text_leaf, keeps_rule, number_of_leaf, leaves, field_leaves, each_leaf, inside_of, first_bad, number_rule, text_rule}
+use Rattle.adb_schema.specs.Texts.{Surroundings, Leaf, number_leaf, text_leaf, keeps_rule, number_of_leaf, leaves, field_leaves, each_leaf, surroundings_of_fields, first_bad, number_rule, text_rule}
 use Rattle.adb_view.specs.Values.{text_in}
 use Rattle.adb_view.proofs.FoundShapes.{arr_value_shape, blob_value_hash, blob_value_text, obj_value_shape}
 use Rattle.adb_view.proofs.Normal.{arr_normal, blob_value_normal, obj_normal}
@@ -13,7 +13,7 @@ use Rattle.adb_view.proofs.ValueEntries.{entries_arr, entries_obj, text_blob}
 -- ---- their leaves
 
 keep-leaves : (name : List ℕ) (s : Shape) (fs : Fields) (place : ℕ) (around : Surroundings) (v : Plain) (us : Plains)
-    → field_leaves (field name s fs) place around (keep v us) ≡ field_leaves (field name s fs) place around (more v us)
+    → field_leaves (field name s fs) place around (put_first_without_last_null v us) ≡ field_leaves (field name s fs) place around (more v us)
 unfolding field_leaves
 keep-leaves name s fs place around null none = refl
 keep-leaves name s fs place around null (more u us) = refl
@@ -30,10 +30,10 @@ trimmed-leaves (field name s fs) place around (more v vs) =
     keep-leaves name s fs place around v (without_last_nulls vs) ∙ ap (λ l. leaves s place around v ++ l) (trimmed-leaves fs (place + 1) around vs)
 
 pub obj_value-leaves : (schema : ℕ) (fs : Fields) (place : ℕ) (around : Surroundings) (vs : Plains)
-    → leaves (object schema fs) place around (obj_value vs) ≡ field_leaves fs (100 * schema + 1) (inside_of schema around (obj_value vs)) vs
+    → leaves (object schema fs) place around (obj_value vs) ≡ field_leaves fs (100 * schema + 1) (surroundings_of_fields schema around (obj_value vs)) vs
 unfolding leaves
 obj_value-leaves schema fs place around vs =
-    let inside : Surroundings = inside_of schema around (obj_value vs) in
+    let inside : Surroundings = surroundings_of_fields schema around (obj_value vs) in
     ap (field_leaves fs (100 * schema + 1) inside) (entries_obj (without_last_nulls vs)) ∙ trimmed-leaves fs (100 * schema + 1) inside vs
 
 -- ---- good walks, part by part
@@ -98,7 +98,7 @@ all_kept no_fields place around (more v vs) g = absurd g
 all_kept (field name s fs) place around none g = good_append (leaves s place around null) (field_leaves fs (place + 1) around none) g.0.kept (all_kept fs (place + 1) around none g.1)
 all_kept (field name s fs) place around (more v vs) g = good_append (leaves s place around v) (field_leaves fs (place + 1) around vs) g.0.kept (all_kept fs (place + 1) around vs g.1)
 
-pub obj_good : (schema : ℕ) (fs : Fields) (place : ℕ) (around inside : Surroundings) (vs : Plains) → inside_of schema around (obj_value vs) ≡ inside
+pub obj_good : (schema : ℕ) (fs : Fields) (place : ℕ) (around inside : Surroundings) (vs : Plains) → surroundings_of_fields schema around (obj_value vs) ≡ inside
     → AreGood fs (100 * schema + 1) inside vs → IsGood (object schema fs) place around (obj_value vs)
 obj_good schema fs place around inside vs e g = record {
   normal = obj_normal vs (all_normal fs (100 * schema + 1) inside vs g);
@@ -127,20 +127,20 @@ arr_good s place around vs g = record {
   kept = ap (λ (us : Plains). first_bad (each_leaf (leaves s place around) us)) (entries_arr vs) ∙ each_kept s place around vs g;
 }
 
-pub text_good : (place : ℕ) (around : Surroundings) (b : List ℕ) → text_rule place around b ≡ true → IsGood text place around (blob_value b)
+pub text_good : (place : ℕ) (around : Surroundings) (b : List ℕ) → text_rule place around b ≡ true → IsGood text place around (blob_or_null b)
 unfolding leaves
 text_good place around b e = record {
   normal = blob_value_normal b;
   shaped = blob_value_text b;
-  kept = good_leaf (text_leaf place around (text_in (blob_value b))) (ap (text_rule place around) (text_blob b) ∙ e);
+  kept = good_leaf (text_leaf place around (text_in (blob_or_null b))) (ap (text_rule place around) (text_blob b) ∙ e);
 }
 
-pub hash_good : (place : ℕ) (around : Surroundings) (b : List ℕ) → text_rule place around b ≡ true → IsGood hash place around (blob_value b)
+pub hash_good : (place : ℕ) (around : Surroundings) (b : List ℕ) → text_rule place around b ≡ true → IsGood hash place around (blob_or_null b)
 unfolding leaves
 hash_good place around b e = record {
   normal = blob_value_normal b;
   shaped = blob_value_hash b;
-  kept = good_leaf (text_leaf place around (text_in (blob_value b))) (ap (text_rule place around) (text_blob b) ∙ e);
+  kept = good_leaf (text_leaf place around (text_in (blob_or_null b))) (ap (text_rule place around) (text_blob b) ∙ e);
 }
 
 pub number_good : (place : ℕ) (around : Surroundings) (n : ℕ) → n < 2 ^ 64 → number_rule place n ≡ true → IsGood number place around (int n)

@@ -5,7 +5,7 @@ use Rattle.sha2.proofs.Facts256.{length-sha256}
 use Rattle.adb_view.specs.Plain.{Plain, int, blob, obj, Plains, Shape, number, hash, object, Fields}
 use Rattle.adb_view.specs.Shaped.{HasShape, HaveShapes}
 use Rattle.adb_view.specs.Schema.{shape_of, shapes_of, table}
-use Rattle.adb_schema.specs.Texts.{Surroundings, number_leaf, text_leaf, at_root, inside_of, leaves, field_leaves, first_bad, is_package_hash, text_rule}
+use Rattle.adb_schema.specs.Texts.{Surroundings, number_leaf, text_leaf, surroundings_of_root, surroundings_of_fields, leaves, field_leaves, first_bad, is_package_hash, text_rule}
 use Rattle.adb_view.specs.Values.{nth, entries_in, entry_in}
 use Rattle.adb_schema.specs.Soundness.{payload_in}
 use Rattle.adb_view.specs.declared.tables.Which.{Which}
@@ -48,11 +48,11 @@ info_shaped v o =
     entries_shape 3 infos (entry_in v 0) (part_shaped (shapes_of (table Package)) 0 (shape_of (Obj PkgInfo)) (entries_in v) refl shapes)
 
 abbrev around_info : Plain → Surroundings
-around_info v = inside_of 3 (inside_of 7 (at_root Package) v) (entry_in v 0)
+around_info v = surroundings_of_fields 3 (surroundings_of_fields 7 (surroundings_of_root Package) v) (entry_in v 0)
 
 info_kept : (v : Plain) → IsOpened v → first_bad (field_leaves infos 301 (around_info v) (entries_in (entry_in v 0))) ≡ None
 unfolding shape_of leaves
-info_kept v o = part_kept (shapes_of (table Package)) 0 (shape_of (Obj PkgInfo)) 701 (inside_of 7 (at_root Package) v) (entries_in v) refl o.kept
+info_kept v o = part_kept (shapes_of (table Package)) 0 (shape_of (Obj PkgInfo)) 701 (surroundings_of_fields 7 (surroundings_of_root Package) v) (entries_in v) refl o.kept
 
 -- ---- its hash and its length
 
@@ -125,7 +125,7 @@ entry_by v id len place around o long small root =
     let us = with_both vs id len in
     let ints = obj_ints us (both_ints vs id len small (entries_ints (entry_in v 0) (nth_ints (entries_in v) 0 (entries_ints v (normal_ints v o.normal))))) in
     let shaped = obj_shaped 3 infos us (both_shaped vs id len (info_shaped v o)) in
-    let kept = both_kept (around_info v) (inside_of 3 around (obj us)) vs id len long refl root (info_kept v o) in
+    let kept = both_kept (around_info v) (surroundings_of_fields 3 around (obj us)) vs id len long refl root (info_kept v o) in
     record {
       normal = zeros_normal (obj us) ints;
       shaped = zeros_shape (object 3 infos) (obj us) shaped;

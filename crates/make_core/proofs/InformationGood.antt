@@ -13,10 +13,10 @@ use Rattle.dep_core.specs.Spelling.{SpellsDependency}
 use Rattle.dep_core.specs.Value.{DepValue, dep_value, is_matching, is_version_or_empty}
 use Rattle.dep_core.specs.ValueReading.{dependency_of_value}
 use Rattle.command_core.specs.declared.values.OptionValue.{OptionValue}
-use Rattle.adb_view.specs.Plain.{Plain, null, Plains, none, more, text as text_shape, hash, number as number_shape, array, blob_value, obj_value}
+use Rattle.adb_view.specs.Plain.{Plain, null, Plains, none, more, text as text_shape, hash, number as number_shape, array, blob_or_null, obj_value}
 use Rattle.adb_view.specs.Shaped.{Each}
 use Rattle.adb_view.specs.Schema.{shape_of, shapes_of, table}
-use Rattle.adb_schema.specs.Texts.{Surroundings, inside_of, number_rule, text_rule}
+use Rattle.adb_schema.specs.Texts.{Surroundings, number_rule, surroundings_of_fields, text_rule}
 use Rattle.adb_view.specs.declared.tables.Which.TheVariants.{Dep, PkgInfo}
 use Rattle.adb_view.specs.declared.tables.Kind.TheVariants.{Obj}
 use Rattle.make_info.specs.declared.field.Field.{Field}
@@ -254,8 +254,8 @@ need_good needs place a d (part, is, if_untagged) =
     let v : DepValue = dep_value d in
     let all = and_parts (is_dep_name v.name) (is_version_or_empty v.version && is_matching (unwrap_or v.matching 0)) (need_parts v.name v.version (unwrap_or v.matching 0) d (needs.back d (needs.spelled part d is).0 if_untagged)) in
     let both = and_parts (is_version_or_empty v.version) (is_matching (unwrap_or v.matching 0)) all.1 in
-    let vs : Plains = more (blob_value v.name) (more (blob_value v.version) (more (number_value v.matching) none)) in
-    let inside : Surroundings = inside_of 1 a (obj_value vs) in
+    let vs : Plains = more (blob_or_null v.name) (more (blob_or_null v.version) (more (number_value v.matching) none)) in
+    let inside : Surroundings = surroundings_of_fields 1 a (obj_value vs) in
     obj_good 1 (shapes_of (table Dep)) place a inside vs refl (text_good 101 inside v.name all.0, (text_good 102 inside v.version both.0, (matching_good inside v.matching both.1, tt)))
 
 a_need : Needs → (place : ℕ) (a : Surroundings) (s : FieldValue) → IsSaidAs Kinds.Dependencies s → IsGood (shape_of (Obj Dep)) place a (plain_value s)
@@ -282,7 +282,7 @@ module _ (needs : Needs) (items : List InfoItem) (is : IsInformation items) wher
   pub info_good : (size : ℕ) → size < 2 ^ 64 → IsGood (shape_of (Obj PkgInfo)) 701 around_folder (information_value items size)
   unfolding shape_of text_rule information_value
   info_good size small =
-      let a : Surroundings = inside_of 3 around_folder (obj_value (information_fields items size)) in
+      let a : Surroundings = surroundings_of_fields 3 around_folder (obj_value (information_fields items size)) in
       obj_good 3 (shapes_of (table PkgInfo)) 701 around_folder a (information_fields items size) refl (
         given_single (IsGood text_shape 301 a) Fields.Name items is.good is.name (name_good a),
         (

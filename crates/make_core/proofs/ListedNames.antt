@@ -11,7 +11,7 @@ use Rattle.adb_fields.specs.FirstPair.{IsIn}
 use Rattle.adb_fields.proofs.Members.{from-flat_map, from-map}
 use Rattle.adb_fields.specs.Paths.{path_of}
 use Rattle.adb_schema.specs.Rules.{is_file_name, is_folder_name}
-use Rattle.package_files.specs.Folders.{FolderListing, before_slashes, path_below, names_in_folder, folder_names, folder_of, folders_of, folders_above, is_slash, listing_of, last_part_of}
+use Rattle.package_files.specs.Folders.{FolderListing, before_slashes, path_below, names_in_folder, all_folders_above, folder_of, folders_of, folders_above, is_slash, listing_of, last_part_of}
 use Rattle.package_files.specs.Package.{Source, SourceFolder, kind_of_file, installed_size, size_of_folder, size_of_kind}
 use Rattle.package_files.specs.Sources.{and_then, each_from, file_at, sources_from, folder_at, source_folders_from, found_at}
 use Rattle.make_info.specs.Reads.{Reads}
@@ -73,7 +73,7 @@ over_good : (path f : List ℕ) → is_name path ≡ true → IsIn f (folders_ab
 over_good path f name (inl is) = ap is_folder_name is
 over_good path f name (inr h) = let (rest, e) = before_slash path f h in folder_good f rest (ap is_name (sym e) ∙ name)
 
-pub folder_named : (dir : List ℕ) (names : List (List ℕ)) (f : List ℕ) → AreListed dir names → IsIn f (folder_names (map (path_below dir) names)) → is_folder_name f ≡ true
+pub folder_named : (dir : List ℕ) (names : List (List ℕ)) (f : List ℕ) → AreListed dir names → IsIn f (all_folders_above (map (path_below dir) names)) → is_folder_name f ≡ true
 folder_named dir names f all h =
     let (path, at, over) = from-flat_map folders_above f (map (path_below dir) names) (in_order_in f (flat_map folders_above (map (path_below dir) names)) h) in
     let (name, here, is) = from-map (path_below dir) path names at in
@@ -241,7 +241,7 @@ module _ (dir : List ℕ) (names : List (List ℕ)) where
   pub sources_good : (place : ℕ) (read : Reads) (n : ℕ) (sources : List SourceFolder) → AreListed dir names → Rises names → source_folders_from place read n (folders_of dir names) ≡ Ok sources → AreSources sources
   unfolding folders_of
   sources_good place read n sources all rises e =
-      let fs : List (List ℕ) = folder_names (map (path_below dir) names) in
+      let fs : List (List ℕ) = all_folders_above (map (path_below dir) names) in
       let are = folders_read place read n (map (listing_of dir names) fs) sources e in
       record {
         named = all_named fs sources all (λ f here. folder_named dir names f all here) are;

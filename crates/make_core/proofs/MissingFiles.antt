@@ -13,7 +13,7 @@ use Rattle.make_info.specs.Information.{InfoItem, information}
 use Rattle.make_info.specs.Reads.{Reads}
 use Rattle.make_info.specs.declared.fault.MakeFault.{MakeFault}
 use Rattle.make_info.specs.declared.fault.MakeFault.TheVariants.{FileMissing}
-use Rattle.package_files.specs.Folders.{FolderListing, folder_names, folders_of, last_part_of, listing_of, names_in_folder, path_below}
+use Rattle.package_files.specs.Folders.{FolderListing, all_folders_above, folders_of, last_part_of, listing_of, names_in_folder, path_below}
 use Rattle.make_package.specs.Making.{container_unless, made_package, or_info_bad, package_container, package_of_parts}
 use Rattle.package_files.specs.Package.{Script, Source, SourceFolder}
 use Rattle.package_files.specs.Sources.{each_from, file_at, folder_at, folders_below, found_at, and_then, script_at, scripts_from, source_folders_from, sources_from, values_with}
@@ -103,8 +103,8 @@ record IsMissingBelow (read : Reads) (place : ℕ) (names : List (List ℕ)) (fa
 below_fails : (read : Reads) (place n : ℕ) (dir : List ℕ) (names : List (List ℕ)) (fault : MakeFault) → source_folders_from place read n (folders_of dir names) ≡ Err fault → IsMissingBelow read place names fault
 unfolding folders_of
 below_fails read place n dir names fault e =
-    let one = each_fails (IsMissingIn read place) (λ (folder : FolderListing). length folder.files) (folder_at place read) (folder_fails place read) n (map (listing_of dir names) (folder_names (map (path_below dir) names))) fault e in
-    let listing = from-map (listing_of dir names) one.x (folder_names (map (path_below dir) names)) one.is_in in
+    let one = each_fails (IsMissingIn read place) (λ (folder : FolderListing). length folder.files) (folder_at place read) (folder_fails place read) n (map (listing_of dir names) (all_folders_above (map (path_below dir) names))) fault e in
+    let listing = from-map (listing_of dir names) one.x (all_folders_above (map (path_below dir) names)) one.is_in in
     let file = one.is in
     let here : IsIn file.x (names_in_folder dir names listing.0) = subst (λ (l : FolderListing). IsIn file.x l.files) listing.2 file.is_in in
     record { name = file.x; listed = (filter_in (stands_in dir listing.0) file.x names here).0; is = file.is }

@@ -6,12 +6,12 @@ use Rattle.std.proofs.lemmas.List.{length-drop, take_all}
 use Rattle.std.proofs.lemmas.Slice.Eq.{bytes_eq-Decides}
 use Rattle.sha2.specs.Sha256.{sha256}
 use Rattle.sha2.proofs.Facts256.{length-sha256}
-use Rattle.adb_view.specs.Plain.{Plain, null, int, Plains, none, more, number, text, blob_value, arr_value, obj_value}
+use Rattle.adb_view.specs.Plain.{Plain, null, int, Plains, none, more, number, text, blob_or_null, arr_value, obj_value}
 use Rattle.adb_view.specs.Shaped.{Each}
 use Rattle.adb_fields.specs.Repeated.{files_in, folders_in, list_of}
 use Rattle.adb_schema.specs.Rules.{is_digest_length, is_digest_length_or_none, is_file_name, is_folder_name, is_target}
 use Rattle.adb_view.specs.Schema.{shape_of, shapes_of, table}
-use Rattle.adb_schema.specs.Texts.{Surroundings, at_root, inside_of, is_file_hash, number_rule, text_rule}
+use Rattle.adb_schema.specs.Texts.{Surroundings, is_file_hash, number_rule, surroundings_of_fields, surroundings_of_root, text_rule}
 use Rattle.adb_view.specs.Values.{entries_in, entry_in, int_in, text_in}
 use Rattle.adb_view.specs.declared.tables.Which.TheVariants.{Acl, File, Dir, Scripts, PkgInfo, Package}
 use Rattle.adb_view.specs.declared.tables.Kind.TheVariants.{Obj}
@@ -82,8 +82,8 @@ acl_good : (mode place : ℕ) (around : Surroundings) → mode < 2 ^ 64 → IsGo
 unfolding shape_of text_rule
 acl_good mode place around small =
     let root : List ℕ = codes "root" in
-    let vs : Plains = more (int mode) (more (blob_value root) (more (blob_value root) none)) in
-    let inside : Surroundings = inside_of 2 around (obj_value vs) in
+    let vs : Plains = more (int mode) (more (blob_or_null root) (more (blob_or_null root) none)) in
+    let inside : Surroundings = surroundings_of_fields 2 around (obj_value vs) in
     obj_good 2 (shapes_of (table Acl)) place around inside vs refl
     (number_good 201 inside mode small refl, (text_good 202 inside root refl, (text_good 203 inside root refl, (null_array text 204 inside, tt))))
 
@@ -101,8 +101,8 @@ around_file folder kind = record { root = Package; folder = folder; has_contents
 
 abbrev file_fields : List ℕ → FileKind → Plains
 file_fields name kind =
-    more (blob_value name) (more (access_value 420) (more (size_value (size_of_kind kind)) (more null
-    (more (blob_value (hash_of_kind kind)) (more (blob_value (target_of_kind kind)) none)))))
+    more (blob_or_null name) (more (access_value 420) (more (size_value (size_of_kind kind)) (more null
+    (more (blob_or_null (hash_of_kind kind)) (more (blob_or_null (target_of_kind kind)) none)))))
 
 pub name_stands : (name : List ℕ) (kind : FileKind) → text_in (entry_in (value_of_kind name kind) 0) ≡ name
 name_stands name kind = ap text_in (nth_obj (file_fields name kind) 0) ∙ text_blob name
@@ -116,7 +116,7 @@ hash_stands name kind = ap text_in (nth_obj (file_fields name kind) 4) ∙ text_
 pub target_stands : (name : List ℕ) (kind : FileKind) → text_in (entry_in (value_of_kind name kind) 5) ≡ target_of_kind kind
 target_stands name kind = ap text_in (nth_obj (file_fields name kind) 5) ∙ text_blob (target_of_kind kind)
 
-file_inside : (folder name : List ℕ) (kind : FileKind) → inside_of 4 (in_folder folder) (value_of_kind name kind) ≡ around_file folder kind
+file_inside : (folder name : List ℕ) (kind : FileKind) → surroundings_of_fields 4 (in_folder folder) (value_of_kind name kind) ≡ around_file folder kind
 file_inside folder name kind =
     inside_same 4 (in_folder folder) (value_of_kind name kind) name (target_of_kind kind) (size_of_kind kind) (name_stands name kind) (target_stands name kind) (size_stands name kind)
 
@@ -181,12 +181,12 @@ abbrev pub around_folder : Surroundings
 around_folder = record { root = Package; folder = []; has_contents = false }
 
 abbrev folder_fields : SourceFolder → Plains
-folder_fields folder = more (blob_value folder.name) (more (access_value 493) (more (arr_value (plains_of_list (map value_of_file folder.files))) none))
+folder_fields folder = more (blob_or_null folder.name) (more (access_value 493) (more (arr_value (plains_of_list (map value_of_file folder.files))) none))
 
 pub folder_name_stands : (folder : SourceFolder) → text_in (entry_in (value_of_folder folder) 0) ≡ folder.name
 folder_name_stands folder = ap text_in (nth_obj (folder_fields folder) 0) ∙ text_blob folder.name
 
-folder_inside : (folder : SourceFolder) → inside_of 5 around_folder (value_of_folder folder) ≡ in_folder folder.name
+folder_inside : (folder : SourceFolder) → surroundings_of_fields 5 around_folder (value_of_folder folder) ≡ in_folder folder.name
 folder_inside folder =
     inside_same 5 around_folder (value_of_folder folder) folder.name (text_in (entry_in (value_of_folder folder) 5)) (int_in (entry_in (value_of_folder folder) 2)) (folder_name_stands folder) refl refl
 
@@ -215,8 +215,8 @@ folders_good (folder ∷ folders) good = (folder_good folder good.0 good.1, fold
 scripts_good : (scripts : List Script) → IsGood (shape_of (Obj Scripts)) 703 around_folder (value_of_scripts scripts)
 unfolding shape_of text_rule
 scripts_good scripts =
-    let vs : Plains = plains_of_list (map (λ field. blob_value (script_in scripts field)) script_types) in
-    let inside : Surroundings = inside_of 6 around_folder (obj_value vs) in
+    let vs : Plains = plains_of_list (map (λ field. blob_or_null (script_in scripts field)) script_types) in
+    let inside : Surroundings = surroundings_of_fields 6 around_folder (obj_value vs) in
     let of : List ℕ → List ℕ = script_in scripts in
     obj_good 6 (shapes_of (table Scripts)) 703 around_folder inside vs refl (
       text_good 601 inside (of (codes "trigger")) refl,
@@ -238,7 +238,7 @@ scripts_good scripts =
       ),
     )
 
-triggers_good : (triggers : List (List ℕ)) → Each (IsGood text 704 around_folder) (plains_of_list (map blob_value triggers))
+triggers_good : (triggers : List (List ℕ)) → Each (IsGood text 704 around_folder) (plains_of_list (map blob_or_null triggers))
 unfolding text_rule
 triggers_good [] = tt
 triggers_good (t ∷ ts) = (text_good 704 around_folder t refl, triggers_good ts)
@@ -246,21 +246,21 @@ triggers_good (t ∷ ts) = (text_good 704 around_folder t refl, triggers_good ts
 abbrev package_fields : Plain → List SourceFolder → List Script → List (List ℕ) → Option ℕ → Plains
 package_fields info folders scripts triggers priority =
     more info (more (arr_value (plains_of_list (map value_of_folder folders))) (more (value_of_scripts scripts)
-    (more (arr_value (plains_of_list (map blob_value triggers))) (more (number_value priority) none))))
+    (more (arr_value (plains_of_list (map blob_or_null triggers))) (more (number_value priority) none))))
 
 pub package_value_good : (info : Plain) (folders : List SourceFolder) (scripts : List Script) (triggers : List (List ℕ)) (priority : Option ℕ)
     → IsGood (shape_of (Obj PkgInfo)) 701 around_folder info → AreGoodFolders folders → IsGood number 705 around_folder (number_value priority)
-    → IsGood (shape_of (Obj Package)) 0 (at_root Package) (value_of_package info folders scripts triggers priority)
+    → IsGood (shape_of (Obj Package)) 0 (surroundings_of_root Package) (value_of_package info folders scripts triggers priority)
 unfolding shape_of
 package_value_good info folders scripts triggers priority about named number_good =
-    obj_good 7 (shapes_of (table Package)) 0 (at_root Package) around_folder (package_fields info folders scripts triggers priority) refl (
+    obj_good 7 (shapes_of (table Package)) 0 (surroundings_of_root Package) around_folder (package_fields info folders scripts triggers priority) refl (
       about,
       (
         arr_good (shape_of (Obj Dir)) 702 around_folder (plains_of_list (map value_of_folder folders)) (folders_good folders named),
         (
           scripts_good scripts,
           (
-            arr_good text 704 around_folder (plains_of_list (map blob_value triggers)) (triggers_good triggers),
+            arr_good text 704 around_folder (plains_of_list (map blob_or_null triggers)) (triggers_good triggers),
             (number_good, tt),
           ),
         ),

@@ -20,7 +20,7 @@ use Rattle.command_core.specs.Command.{CommandLine}
 use Rattle.command_core.specs.Files.{without_dot}
 use Rattle.command_core.specs.declared.values.OptionValue.{OptionValue}
 use Rattle.make_info.specs.Information.{replaces_priority}
-use Rattle.package_files.specs.Folders.{FolderListing, folder_names, folders_of, last_part_of, listing_of, names_in_folder, path_below}
+use Rattle.package_files.specs.Folders.{FolderListing, all_folders_above, folders_of, last_part_of, listing_of, names_in_folder, path_below}
 use Rattle.make_package.specs.Making.{made_package}
 use Rattle.package_files.specs.Package.{Source, SourceFolder, value_of_file, value_of_folder, kind_of_file}
 use Rattle.package_files.specs.Sources.{AreNamesFor, file_at, folder_at, folders_below, found_at, source_folders_from, sources_from, texts_of, values_with}
@@ -159,7 +159,7 @@ read_below : OneFolder → (files : Files) (place n : ℕ) (dir : List ℕ) (nam
     → source_folders_from place (λ n name. files name) n (folders_of dir names) ≡ Ok sources → folders_in pkg ≡ map value_of_folder sources → HasFilesBelow files dir names pkg
 unfolding folders_of
 read_below law files place n dir names sources pkg all e is =
-    let fs : List (List ℕ) = folder_names (map (path_below dir) names) in
+    let fs : List (List ℕ) = all_folders_above (map (path_below dir) names) in
     let listings : List FolderListing = map (listing_of dir names) fs in
     let are = each_read (IsFolderRead files) (λ (folder : FolderListing). length folder.files) (folder_at place (λ n name. files name)) (folder_is_read files place) n listings sources e in
     let at = folders_at files dir names fs sources all are in

@@ -4,7 +4,7 @@ use Rattle.std.specs.Prelude.{is_some}
 use Rattle.std.proofs.lemmas.Bool.{ltb-false, or_parts}
 use Rattle.adb_view.specs.Plain.{IsNormal, Plain}
 use Rattle.adb_view.specs.Schema.{shape_of}
-use Rattle.adb_schema.specs.Texts.{at_root}
+use Rattle.adb_schema.specs.Texts.{surroundings_of_root}
 use Rattle.adb_fields.specs.Repeated.{repeated_fault}
 use Rattle.adb_view.specs.declared.tables.Which.{Which}
 use Rattle.adb_view.specs.declared.tables.Kind.TheVariants.{Obj}
@@ -29,7 +29,7 @@ written v payload h = written_by v payload (overflow_of v) refl h
 abbrev pub Exact : Type 0
 Exact = (v : Plain) → IsNormal v → is_some (overflow_of v) ≡ passes (size_of v, value_count v)
 
-pub root_good : Exact → (which : Which) (v : Plain) (payload : List ℕ) → IsGood (shape_of (Obj which)) 0 (at_root which) v → repeated_fault which v ≡ None → IsWritten v payload → IsRootOf which v
+pub root_good : Exact → (which : Which) (v : Plain) (payload : List ℕ) → IsGood (shape_of (Obj which)) 0 (surroundings_of_root which) v → repeated_fault which v ≡ None → IsWritten v payload → IsRootOf which v
 root_good exact which v payload g once w =
     let within : passes (size_of v, value_count v) ≡ false = sym (exact v g.normal) ∙ ap is_some w.none in
     let limits = or_parts _ _ within in

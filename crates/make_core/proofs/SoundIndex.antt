@@ -5,10 +5,10 @@ use Rattle.std.specs.Prelude.{All}
 use Rattle.std.specs.Ordering.{is_gt}
 use Rattle.std.specs.declared.cmp.Ordering.{Ordering}
 use Rattle.base_core.specs.declared.cause.Cause.{Cause}
-use Rattle.adb_view.specs.Plain.{Plain, Plains, none, more, arr_value, blob_value, obj_value}
+use Rattle.adb_view.specs.Plain.{Plain, Plains, none, more, arr_value, blob_or_null, obj_value}
 use Rattle.adb_view.specs.Shaped.{Each}
 use Rattle.adb_view.specs.Schema.{shape_of, shapes_of, table}
-use Rattle.adb_schema.specs.Texts.{Surroundings, at_root, inside_of, text_rule}
+use Rattle.adb_schema.specs.Texts.{Surroundings, surroundings_of_fields, surroundings_of_root, text_rule}
 use Rattle.adb_fields.specs.Repeated.{repeated_fault}
 use Rattle.adb_schema.specs.Soundness.{payload_in, root_value, schema_word}
 use Rattle.adb_view.specs.declared.tables.Which.TheVariants.{Package, PkgInfo, Index}
@@ -89,17 +89,17 @@ entries_good laws around read n (o ∷ operands) entries files root e =
 -- ---- the index
 
 abbrev index_fields : List ℕ → List Plain → Plains
-index_fields description entries = more (blob_value description) (more (arr_value (plains_of_list entries)) none)
+index_fields description entries = more (blob_or_null description) (more (arr_value (plains_of_list entries)) none)
 
 abbrev around_entries : List ℕ → List Plain → Surroundings
-around_entries description entries = inside_of 8 (at_root Index) (obj_value (index_fields description entries))
+around_entries description entries = surroundings_of_fields 8 (surroundings_of_root Index) (obj_value (index_fields description entries))
 
 index_good : (description : List ℕ) (entries : List Plain) → ((around : Surroundings) → around.root ≡ Index → Each (IsEntry around) (plains_of_list entries))
-    → IsGood (shape_of (Obj Index)) 0 (at_root Index) (value_of_index description entries)
+    → IsGood (shape_of (Obj Index)) 0 (surroundings_of_root Index) (value_of_index description entries)
 unfolding shape_of value_of_index text_rule
 index_good description entries each =
     let around : Surroundings = around_entries description entries in
-    obj_good 8 (shapes_of (table Index)) 0 (at_root Index) around (index_fields description entries) refl
+    obj_good 8 (shapes_of (table Index)) 0 (surroundings_of_root Index) around (index_fields description entries) refl
     (text_good 801 around description refl, (arr_good (shape_of (Obj PkgInfo)) 802 around (plains_of_list entries) (each around refl), (text_good 803 around [] refl, tt)))
 
 none_repeated : (v : Plain) → repeated_fault Index v ≡ None
@@ -114,7 +114,7 @@ module _ (P : Plain → List ℕ → Type 0) where
   abbrev pub Holds : Type 0
   Holds = (v : Plain) → IsRootOf Index v → P v (file_of INDEX_WORD (canonical v))
 
-  file_holds : Holds → Exact → (v : Plain) (r : Result (List ℕ) PayloadCounts) (bytes : List ℕ) → IsGood (shape_of (Obj Index)) 0 (at_root Index) v → written_of v ≡ r → index_container r ≡ Ok bytes → P v bytes
+  file_holds : Holds → Exact → (v : Plain) (r : Result (List ℕ) PayloadCounts) (bytes : List ℕ) → IsGood (shape_of (Obj Index)) 0 (surroundings_of_root Index) v → written_of v ≡ r → index_container r ≡ Ok bytes → P v bytes
   file_holds holds exact v (Err c) bytes g w e = absurd (cc (e))
   file_holds holds exact v (Ok payload) bytes g w e =
       let is = written v payload w in

@@ -2,8 +2,8 @@
 use Rattle.std.proofs.Common.{◌≡◌, ℕ, ◌+◌, ◌*◌, ◌&&◌, ◌==◌, nat_lt, if◌then◌else◌, List, [], ◌∷◌, ◌++◌, length, refl, ap, ◌∙◌}
 use Rattle.adb_view.specs.Plain.{Plain, null, int, blob, arr, obj, Plains, none, more, Shape, number, text, hash, array, object, Fields, no_fields, field, obj_value}
 use Rattle.adb_view.specs.Shaped.{Each, HasShape, HaveShapes}
-use Rattle.adb_view.specs.Schema.{schema_number}
-use Rattle.adb_schema.specs.Texts.{Surroundings, number_leaf, text_leaf, leaves, field_leaves, each_leaf, inside_of}
+use Rattle.adb_view.specs.Schema.{table_number}
+use Rattle.adb_schema.specs.Texts.{Surroundings, number_leaf, text_leaf, leaves, field_leaves, each_leaf, surroundings_of_fields}
 use Rattle.adb_view.specs.Values.{nth, entry_in, int_in, text_in}
 use Rattle.adb_view.specs.declared.tables.Which.TheVariants.{File, Dir}
 use Rattle.adb_copy.specs.Zeros.{without_zeros, all_without_zeros}
@@ -16,15 +16,15 @@ use Rattle.make_core.proofs.GoodValues.{obj_value-leaves}
 abbrev pub inside_by : ℕ → Surroundings → List ℕ → List ℕ → ℕ → Surroundings
 inside_by schema around name target size = record {
   root = around.root;
-  folder = if schema == schema_number Dir then name else around.folder;
-  has_contents = if schema == schema_number File then (length target == 0) && nat_lt 0 size else around.has_contents;
+  folder = if schema == table_number Dir then name else around.folder;
+  has_contents = if schema == table_number File then (length target == 0) && nat_lt 0 size else around.has_contents;
 }
 
 pub inside_same : (schema : ℕ) (around : Surroundings) (v : Plain) (name target : List ℕ) (size : ℕ) → text_in (entry_in v 0) ≡ name → text_in (entry_in v 5) ≡ target → int_in (entry_in v 2) ≡ size
-    → inside_of schema around v ≡ inside_by schema around name target size
+    → surroundings_of_fields schema around v ≡ inside_by schema around name target size
 inside_same schema around v name target size a b c = λ k. inside_by schema around (a k) (b k) (c k)
 
-zeros_inside : (schema : ℕ) (around : Surroundings) (vs : Plains) → inside_of schema around (obj_value (all_without_zeros vs)) ≡ inside_of schema around (obj vs)
+zeros_inside : (schema : ℕ) (around : Surroundings) (vs : Plains) → surroundings_of_fields schema around (obj_value (all_without_zeros vs)) ≡ surroundings_of_fields schema around (obj vs)
 zeros_inside schema around vs =
     let us : Plains = all_without_zeros vs in
     inside_same schema around (obj_value us) (text_in (nth vs 0)) (text_in (nth vs 5)) (int_in (nth vs 2))
@@ -50,7 +50,7 @@ mutual
   zeros_leaves (object schema fs) place around (arr vs) h = absurd h
   zeros_leaves (object schema fs) place around (obj vs) h =
       obj_value-leaves schema fs place around (all_without_zeros vs)
-      ∙ (ap (λ (a : Surroundings). field_leaves fs (100 * schema + 1) a (all_without_zeros vs)) (zeros_inside schema around vs) ∙ all_zeros_leaves fs (100 * schema + 1) (inside_of schema around (obj vs)) vs h)
+      ∙ (ap (λ (a : Surroundings). field_leaves fs (100 * schema + 1) a (all_without_zeros vs)) (zeros_inside schema around vs) ∙ all_zeros_leaves fs (100 * schema + 1) (surroundings_of_fields schema around (obj vs)) vs h)
 
   pub each_zeros_leaves : (s : Shape) (place : ℕ) (around : Surroundings) (vs : Plains) → Each (HasShape s) vs → each_leaf (leaves s place around) (all_without_zeros vs) ≡ each_leaf (leaves s place around) vs
   each_zeros_leaves s place around none h = refl

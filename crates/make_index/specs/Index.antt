@@ -5,7 +5,7 @@ use Rattle.command_core.specs.declared.values.TheConstants.{DESCRIPTION}
 use Rattle.std.specs.Prelude.{ℕ, ◌+◌, ◌==◌, List, [], ◌∷◌, Option, Some, None, Result, Ok, Err}
 use Rattle.std.specs.List.{find}
 use Rattle.base_core.specs.declared.cause.Cause.{Cause}
-use Rattle.adb_view.specs.Plain.{Plain, none, more, blob_value, arr_value, obj_value}
+use Rattle.adb_view.specs.Plain.{Plain, none, more, blob_or_null, arr_value, obj_value}
 use Rattle.adb_schema.specs.declared.read.TheConstants.{INDEX_WORD}
 use Rattle.adb_write.specs.Canonical.{PayloadCounts, written_of}
 use Rattle.adb_write.specs.File.{file_of}
@@ -28,7 +28,7 @@ use Rattle.base_core.specs.Sorted.{sorted_by}
 -- packages' files
 unfoldable pub value_of_index : List ℕ → List Plain → Plain
 value_of_index description entries =
-    obj_value (more (blob_value description) (more (arr_value (plains_of_list entries)) none))
+    obj_value (more (blob_or_null description) (more (arr_value (plains_of_list entries)) none))
 
 -- ---- the packages, operand by operand
 

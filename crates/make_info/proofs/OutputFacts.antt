@@ -19,7 +19,7 @@ use Rattle.make_info.specs.declared.field.Field.TheVariants as Fields
 use Rattle.make_info.specs.Fields.{kind_of_field, values_by_kind, text_if}
 use Rattle.command_core.specs.Files.{longest_output}
 use Rattle.make_info.specs.FieldTexts.{FieldText, file_name_in, first_text_for, field_text_in, if_passes, values_of_info, is_for, is_text_for, is_info_option, is_too_long, package_name_in, named_output, default_output, package_file_name_of, text_when_for, package_version_in}
-use Rattle.make_info.specs.Information.{InfoItem, all_items, first_offence, information, information_of, is_second, info_item, items_of_text, items_of_option, lacks_name_or_version, offends, unless_offence}
+use Rattle.make_info.specs.Information.{InfoItem, all_items, first_offence, information, information_of, repeats_single_field, info_item, items_of_text, items_of_option, lacks_name_or_version, offends, unless_offence}
 use Rattle.make_info.specs.Output.{if_allowed, is_mkpkg, output_name, package_output}
 use Rattle.make_info.proofs.Outputs.{AreOutputs, allowed, named_short, no_value, own_fits, unoffended}
 use Rattle.make_info.proofs.Reading.{same_field}
@@ -97,7 +97,7 @@ module _ (f : Field) (is_good : List ℕ → Bool) (strict : IsStrict f is_good)
     by_field : (v : OptionValue) (before rest : List OptionValue) (later : Option (List ℕ)) (b : Bool) → is_for f v ≡ b → offends too_long before v ≡ false → first_offence too_long (before ++ v ∷ []) rest ≡ None
         → (b || list_any (is_for f) rest) ≡ true → Later rest later → is_some (option_and_then (if_passes is_good) (option_or (text_when_for f (field_text_in v.text)) later)) ≡ true
     by_field v before rest later true here fine none any more =
-        first_or is_good (text_when_for f (field_text_in v.text)) later (good_here (field_text_in v.text) (no_offence (is_some (items_of_option v)) (is_second before v || (too_long && is_for Fields.Version v)) fine) here)
+        first_or is_good (text_when_for f (field_text_in v.text)) later (good_here (field_text_in v.text) (no_offence (is_some (items_of_option v)) (repeats_single_field before v || (too_long && is_for Fields.Version v)) fine) here)
     by_field v before rest later false here fine none any more =
         later_or is_good (text_when_for f (field_text_in v.text)) later (no_value f (field_text_in v.text) here) (more (before ++ v ∷ []) none any)
 

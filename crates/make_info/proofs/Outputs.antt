@@ -15,7 +15,7 @@ use Rattle.command_core.specs.declared.values.OptionValue.{OptionValue}
 use Rattle.make_info.specs.declared.field.Field.{Field}
 use Rattle.make_info.specs.declared.field.Field.TheVariants as Fields
 use Rattle.make_info.specs.FieldTexts.{FieldText, file_name_in, first_text_for, field_text_in, if_passes, values_of_info, is_for, is_text_for, is_info_option, is_long_name, is_too_long, package_name_in, named_output, default_output, package_file_name_of, text_for, text_when_for}
-use Rattle.make_info.specs.Information.{InfoItem, all_items, first_offence, information, information_of, is_second, items_of_option, lacks_name_or_version, offends, unless_offence}
+use Rattle.make_info.specs.Information.{InfoItem, all_items, first_offence, information, information_of, items_of_option, lacks_name_or_version, offends, repeats_single_field, unless_offence}
 use Rattle.make_info.specs.Output.{if_allowed, package_output}
 use Rattle.make_info.proofs.FileNames.{HaveVersionBytes, own_file_name}
 
@@ -78,7 +78,7 @@ none_or (Some x) b h k = cc
 
 version_here : (done rest : List OptionValue) (v : OptionValue) (b : Bool) → first_offence true done (cond b (v ∷ rest) rest) ≡ None → cond b (text_when_for Fields.Version (field_text_in v.text)) None ≡ None
 version_here done rest v true h =
-    no_value Fields.Version (field_text_in v.text) (not_good (not (is_some (items_of_option v))) (is_second done v) (is_for Fields.Version v) (none_at (offends true done v) v.place (first_offence true (done ++ v ∷ []) rest) h).0)
+    no_value Fields.Version (field_text_in v.text) (not_good (not (is_some (items_of_option v))) (repeats_single_field done v) (is_for Fields.Version v) (none_at (offends true done v) v.place (first_offence true (done ++ v ∷ []) rest) h).0)
 version_here done rest v false h = refl
 
 -- none of the rest offends either, behind some values

@@ -16,7 +16,7 @@ use Rattle.make_info.specs.declared.field.Field.{Field}
 use Rattle.make_info.specs.declared.field.Field.TheVariants as Fields
 use Rattle.make_info.specs.declared.field.Kind.{Kind}
 use Rattle.make_info.specs.declared.field.Kind.TheVariants as Kinds
-use Rattle.make_info.specs.Fields.{FieldValue, text, number, value_of_digits, field_word, fields, is_list, kind_of_field, field_among, decimal_number, values_by_kind, text_if}
+use Rattle.make_info.specs.Fields.{FieldValue, text, number, value_of_digits, field_word, fields, may_repeat, kind_of_field, field_among, decimal_number, values_by_kind, text_if}
 use Rattle.make_info.specs.FieldTexts.{FieldText, field_text_in, values_of_info, is_for, is_text_for, is_same, is_too_long}
 use Rattle.make_info.specs.Information.{InfoItem, all_items, first_offence, information_of, is_item_for, repeats_field, info_item, items_of_text, items_of_option, lacks_name_or_version, offends, unless_offence, with_values}
 use Rattle.make_info.specs.Reading.{has_no_name_or_version, items_with, items_with_text}
@@ -67,7 +67,7 @@ one_number : (n : Option ℕ) (said : List FieldValue) → option_map (λ n. num
 one_number (Some n) said h = (number n, cc)
 one_number None said h = cc
 
-one_said : (k : Kind) (value : List ℕ) (said : List FieldValue) → is_list k ≡ false → values_by_kind k value ≡ Some said → IsOne said
+one_said : (k : Kind) (value : List ℕ) (said : List FieldValue) → may_repeat k ≡ false → values_by_kind k value ≡ Some said → IsOne said
 one_said Kinds.PackageName value said k h = one_text (is_package_name value) value said h
 one_said Kinds.PackageVersion value said k h = one_text (is_version value) value said h
 one_said Kinds.AnyText value said k h = one_text true value said h
@@ -86,15 +86,15 @@ found_one f g said one h =
     ap (λ s. is_some (find (is_item_for f) (map (info_item g) s))) one.1 ∙ ap (λ b. is_some (cond b (Some (info_item g one.0)) None)) h
 
 -- whether a field is among what one value of a field says
-among : (f g : Field) (value : List ℕ) (said : List FieldValue) (b : Bool) → is_same g f ≡ b → is_list (kind_of_field f) ≡ false → values_by_kind (kind_of_field g) value ≡ Some said → is_some (find (is_item_for f) (map (info_item g) said)) ≡ b
+among : (f g : Field) (value : List ℕ) (said : List FieldValue) (b : Bool) → is_same g f ≡ b → may_repeat (kind_of_field f) ≡ false → values_by_kind (kind_of_field g) value ≡ Some said → is_some (find (is_item_for f) (map (info_item g) said)) ≡ b
 among f g value said true h k s =
-    found_one f g said (one_said (kind_of_field g) value said (ap (λ x. is_list (kind_of_field x)) (same_field g f h) ∙ k) s) h
+    found_one f g said (one_said (kind_of_field g) value said (ap (λ x. may_repeat (kind_of_field x)) (same_field g f h) ∙ k) s) h
 among f g value said false h k s = not_found f g said h
 
 -- ---- a value offends exactly when it is not taken
 
 abbrev pub IsFresh : List OptionValue → List InfoItem → Type 0
-IsFresh done said = (f : Field) → is_list (kind_of_field f) ≡ false → is_some (find (is_item_for f) said) ≡ list_any (is_for f) done
+IsFresh done said = (f : Field) → may_repeat (kind_of_field f) ≡ false → is_some (find (is_item_for f) said) ≡ list_any (is_for f) done
 
 abbrev offends_given : Bool → List OptionValue → Option FieldText → Bool
 offends_given too_long done given =
@@ -117,7 +117,7 @@ by_parts false false false h (Some s) f before same =
 judged_given : (too_long : Bool) (done : List OptionValue) (said : List InfoItem) (given : Option FieldText) → IsFresh done said → offends_given too_long done given ≡ not (is_some (items_with_text too_long said given))
 judged_given too_long done said None fresh = refl
 judged_given too_long done said (Some g) fresh =
-    by_parts (too_long && is_same g.field Fields.Version) (is_list (kind_of_field g.field)) (list_any (is_for g.field) done) (is_some (find (is_item_for g.field) said)) (values_by_kind (kind_of_field g.field) g.value) g.field said (fresh g.field)
+    by_parts (too_long && is_same g.field Fields.Version) (may_repeat (kind_of_field g.field)) (list_any (is_for g.field) done) (is_some (find (is_item_for g.field) said)) (values_by_kind (kind_of_field g.field) g.value) g.field said (fresh g.field)
 
 judged : (too_long : Bool) (done : List OptionValue) (said : List InfoItem) (v : OptionValue) → IsFresh done said → offends too_long done v ≡ not (is_some (items_with too_long said v.text))
 unfolding items_with
@@ -128,9 +128,9 @@ judged too_long done said v fresh = judged_given too_long done said (field_text_
 abbrev SaysAs : List InfoItem → List InfoItem → List OptionValue → Option FieldText → Type 0
 SaysAs said new done given =
     (new ≡ said ++ unwrap_or (option_and_then items_of_text given) [])
-    × ((f : Field) → is_list (kind_of_field f) ≡ false → is_some (find (is_item_for f) (unwrap_or (option_and_then items_of_text given) [])) ≡ is_text_for f given)
+    × ((f : Field) → may_repeat (kind_of_field f) ≡ false → is_some (find (is_item_for f) (unwrap_or (option_and_then items_of_text given) [])) ≡ is_text_for f given)
 
-by_taking : (x y : Bool) (g : FieldText) (s : Option (List FieldValue)) (said new : List InfoItem) (done : List OptionValue) → values_by_kind (kind_of_field g.field) g.value ≡ s → Some new ≡ cond x None (cond y None (with_values said g.field s)) → (new ≡ said ++ unwrap_or (with_values [] g.field s) []) × ((f : Field) → is_list (kind_of_field f) ≡ false → is_some (find (is_item_for f) (unwrap_or (with_values [] g.field s) [])) ≡ is_same g.field f)
+by_taking : (x y : Bool) (g : FieldText) (s : Option (List FieldValue)) (said new : List InfoItem) (done : List OptionValue) → values_by_kind (kind_of_field g.field) g.value ≡ s → Some new ≡ cond x None (cond y None (with_values said g.field s)) → (new ≡ said ++ unwrap_or (with_values [] g.field s) []) × ((f : Field) → may_repeat (kind_of_field f) ≡ false → is_some (find (is_item_for f) (unwrap_or (with_values [] g.field s) [])) ≡ is_same g.field f)
 by_taking true y g s said new done e h = cc
 by_taking false true g s said new done e h = cc
 by_taking false false g None said new done e h = cc
@@ -140,7 +140,7 @@ by_taking false false g (Some xs) said new done e h =
 says_given : (too_long : Bool) (done : List OptionValue) (said new : List InfoItem) (given : Option FieldText) → Some new ≡ items_with_text too_long said given → SaysAs said new done given
 says_given too_long done said new None h = cc
 says_given too_long done said new (Some g) h =
-    by_taking (too_long && is_same g.field Fields.Version) (not (is_list (kind_of_field g.field)) && is_some (find (is_item_for g.field) said)) g (values_by_kind (kind_of_field g.field) g.value) said new done refl h
+    by_taking (too_long && is_same g.field Fields.Version) (not (may_repeat (kind_of_field g.field)) && is_some (find (is_item_for g.field) said)) g (values_by_kind (kind_of_field g.field) g.value) said new done refl h
 
 says : (too_long : Bool) (done : List OptionValue) (said new : List InfoItem) (v : OptionValue) → Some new ≡ items_with too_long said v.text → SaysAs said new done (field_text_in v.text)
 unfolding items_with

@@ -75,14 +75,14 @@ kind_of_field Fields.Recommends = Kinds.Dependencies
 kind_of_field Fields.Tags = Kinds.Texts
 
 -- whether a field may be given several times, each value adding to it
-abbrev pub is_list : Kind → Bool
-is_list Kinds.PackageName = false
-is_list Kinds.PackageVersion = false
-is_list Kinds.AnyText = false
-is_list Kinds.HexDigits = false
-is_list Kinds.Number = false
-is_list Kinds.Dependencies = true
-is_list Kinds.Texts = true
+abbrev pub may_repeat : Kind → Bool
+may_repeat Kinds.PackageName = false
+may_repeat Kinds.PackageVersion = false
+may_repeat Kinds.AnyText = false
+may_repeat Kinds.HexDigits = false
+may_repeat Kinds.Number = false
+may_repeat Kinds.Dependencies = true
+may_repeat Kinds.Texts = true
 
 -- one value of a field: a text, a number, or a dependency; pairs of hexadecimal digits are decoded
 pub data FieldValue : Type 0 where

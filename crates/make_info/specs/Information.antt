@@ -5,11 +5,11 @@ use Rattle.std.specs.Prelude.{ℕ, Bool, false, ◌&&◌, ◌||◌, not, if◌th
 use Rattle.std.specs.List.{find, flat_map, list_any}
 use Rattle.command_core.specs.Command.{CommandLine}
 use Rattle.command_core.specs.declared.values.OptionValue.{OptionValue}
-use Rattle.adb_view.specs.Plain.{Plain, null, int, Plains, none, more, blob_value, arr_value, obj_value}
+use Rattle.adb_view.specs.Plain.{Plain, null, int, Plains, none, more, blob_or_null, arr_value, obj_value}
 use Rattle.dep_core.specs.Value.{DepValue, dep_value}
 use Rattle.make_info.specs.declared.field.Field.{Field}
 use Rattle.make_info.specs.declared.field.Field.TheVariants as Fields
-use Rattle.make_info.specs.Fields.{FieldValue, text, number, need, is_list, kind_of_field, values_by_kind}
+use Rattle.make_info.specs.Fields.{FieldValue, text, number, need, may_repeat, kind_of_field, values_by_kind}
 use Rattle.make_info.specs.FieldTexts.{FieldText, field_text_in, values_of_info, is_for, is_same, is_too_long}
 use Rattle.make_info.specs.Values.{number_value, size_value}
 
@@ -43,18 +43,18 @@ items_of_option v = option_and_then items_of_text (field_text_in v.text)
 abbrev pub repeats_field : List OptionValue → Option FieldText → Bool
 repeats_field before None = false
 repeats_field before (Some given) =
-    not (is_list (kind_of_field given.field)) && list_any (is_for given.field) before
+    not (may_repeat (kind_of_field given.field)) && list_any (is_for given.field) before
 
 -- whether a value is for a field that is given once, and another one for it is before it
-abbrev pub is_second : List OptionValue → OptionValue → Bool
-is_second before v = repeats_field before (field_text_in v.text)
+abbrev pub repeats_single_field : List OptionValue → OptionValue → Bool
+repeats_single_field before v = repeats_field before (field_text_in v.text)
 
 -- whether a value offends: it is not allowed, it is a second one, or it is the version that makes the
 -- output's name too long
 abbrev pub offends : Bool → List OptionValue → OptionValue → Bool
 offends too_long before v =
     not (is_some (items_of_option v))
-    || (is_second before v || (too_long && is_for Fields.Version v))
+    || (repeats_single_field before v || (too_long && is_for Fields.Version v))
 
 -- the place of the first of these values that offends after those before it
 abbrev pub first_offence : Bool → List OptionValue → List OptionValue → Option ℕ
@@ -97,11 +97,11 @@ information command = information_of command.values command.behind
 abbrev pub need_value : DepValue → Plain
 need_value v =
     obj_value
-    (more (blob_value v.name) (more (blob_value v.version) (more (number_value v.matching) none)))
+    (more (blob_or_null v.name) (more (blob_or_null v.version) (more (number_value v.matching) none)))
 
 -- the plain value of one value of a field; an empty text is Null
 abbrev pub plain_value : FieldValue → Plain
-plain_value (text bytes) = blob_value bytes
+plain_value (text bytes) = blob_or_null bytes
 plain_value (number n) = int n
 plain_value (need d) = need_value (dep_value d)
 

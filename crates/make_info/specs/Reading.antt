@@ -4,7 +4,7 @@
 use Rattle.std.specs.Prelude.{ℕ, Bool, not, ◌&&◌, ◌||◌, if◌then◌else◌, List, [], ◌∷◌, Option, Some, None, is_some}
 use Rattle.std.specs.List.{find}
 use Rattle.make_info.specs.declared.field.Field.TheVariants as Fields
-use Rattle.make_info.specs.Fields.{is_list, is_nonempty, kind_of_field, values_by_kind}
+use Rattle.make_info.specs.Fields.{is_nonempty, kind_of_field, may_repeat, values_by_kind}
 use Rattle.make_info.specs.FieldTexts.{FieldText, field_text_in, is_same}
 use Rattle.make_info.specs.Information.{InfoItem, is_item_for, with_values}
 
@@ -22,7 +22,7 @@ abbrev pub items_with_text : Bool → List InfoItem → Option FieldText → Opt
 items_with_text too_long before None = None
 items_with_text too_long before (Some given) =
     if too_long && is_same given.field Fields.Version then None else
-    if not (is_list (kind_of_field given.field)) && has_item_for given before then None else
+    if not (may_repeat (kind_of_field given.field)) && has_item_for given before then None else
     with_values before given.field (values_by_kind (kind_of_field given.field) given.value)
 
 -- the items so far, with those of the text of a value; None if the value offends

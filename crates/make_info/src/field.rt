@@ -1,6 +1,6 @@
 //! The fields of `-I` of `mkpkg` (apk(8)), and the grammar of each one's values.
 //! The rules are in `docs/commands.md`, "`mkpkg`", the table of fields.
-ghost use Rattle.make_info.specs.Fields.{field_of, field_word, is_list, kind_of_field, field_among, decimal_number};
+ghost use Rattle.make_info.specs.Fields.{field_of, field_word, may_repeat, kind_of_field, field_among, decimal_number};
 ghost use Rattle.std.specs.Prelude.{◌≡◌};
 
 use command_core::is_decimal;
@@ -132,8 +132,8 @@ impl Field {
 
 impl Kind {
     /// Whether a field of this kind may be given several times, each value adding to it.
-    pub(crate) fn is_list(self) -> bool
-        ensures { result ≡ is_list self }
+    pub(crate) fn may_repeat(self) -> bool
+        ensures { result ≡ may_repeat self }
     {
         matches!(self, Kind::Dependencies | Kind::Texts)
     }

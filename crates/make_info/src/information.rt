@@ -138,7 +138,7 @@ fn add_value<'a>(
     if too_long && given.field == Field::Version {
         return Ok(false);
     }
-    if !given.field.kind().is_list() && entries.find(given.field).is_some() {
+    if !given.field.kind().may_repeat() && entries.find(given.field).is_some() {
         return Ok(false);
     }
     entries.add(given)

@@ -2,7 +2,7 @@
 //! field by field.
 //! A dependency is an object of table 1; its match number is defined in "Dependencies".
 ghost use Rattle.adb_values.specs.Drafts.{draft_with, draft_with_all};
-ghost use Rattle.adb_view.specs.Plain.{blob_value};
+ghost use Rattle.adb_view.specs.Plain.{blob_or_null};
 ghost use Rattle.dep_core.specs.Meets.{dependency};
 ghost use Rattle.dep_core.specs.Value.{dep_value, matching_of};
 ghost use Rattle.make_info.specs.Columns.{column_value, column_values};
@@ -186,7 +186,7 @@ pub fn write_need(draft: &mut Draft, dep: &Dep<'_>) -> Result<(), AllocError>
 // Writes the version that a dependency names, or NULL.
 fn write_version(draft: &mut Draft, dep: &Dep<'_>) -> Result<(), AllocError>
     ensures { OnOk result (draft.new
-        ≡ draft_with (blob_value (dep_value (dependency dep.now)).version) draft.old) }
+        ≡ draft_with (blob_or_null (dep_value (dependency dep.now)).version) draft.old) }
 {
     match &dep.version {
         Some(version) => draft.blob(version.text()),

@@ -9,7 +9,7 @@ use Rattle.adb_view.specs.Values.{entries_in, entry_in, int_in, nth}
 use Rattle.adb_view.specs.declared.tables.Field.{Field}
 use Rattle.adb_view.specs.declared.tables.Which.TheVariants.{Package, PkgInfo}
 use Rattle.adb_view.proofs.ValueEntries.{nth_obj}
-use Rattle.adb_view.specs.Plain.{Plain, null, int, blob, arr, obj, Plains, none, more, blob_value, obj_of, without_last_nulls}
+use Rattle.adb_view.specs.Plain.{Plain, null, int, blob, arr, obj, Plains, none, more, blob_or_null, obj_of, without_last_nulls}
 use Rattle.make_index.specs.Entries.{entry_of_package}
 use Rattle.make_core.proofs.ValueParts.{placed_later}
 use Rattle.make_laws.specs.MadePackages.{contained_package}
@@ -73,7 +73,7 @@ entry_at info id len i = nth_obj (all_without_zeros (told info id len)) i ∙ nt
 abbrev own_info : List ℕ → Plain
 own_info file = field_named Package (codes "info") (contained_package file)
 
-pub id_told : (file : List ℕ) → field_named PkgInfo (codes "hashes") (entry_of_package file) ≡ blob_value (package_id file)
+pub id_told : (file : List ℕ) → field_named PkgInfo (codes "hashes") (entry_of_package file) ≡ blob_or_null (package_id file)
 unfolding without_zeros
 id_told file =
     let id : List ℕ = package_id file in

@@ -9,7 +9,7 @@ use Rattle.make_package.proofs.FileFields.{kind_by}
 use Rattle.adb_view.specs.Values.{int_in}
 use Rattle.adb_view.specs.declared.tables.Which.TheVariants.{File}
 use Rattle.adb_view.proofs.ValueEntries.{nth_obj}
-use Rattle.adb_view.specs.Plain.{blob_value, null}
+use Rattle.adb_view.specs.Plain.{blob_or_null, null}
 use Rattle.make_info.specs.Values.{size_value}
 use Rattle.package_files.specs.Package.{file_fields, hash_of_kind, is_link_file, kind_of_file, link_text, size_of_kind, target_of_kind, value_of_file}
 use Rattle.package_files.specs.declared.file.FileKind.{FileKind}
@@ -57,15 +57,15 @@ regular_by bytes false e none = kind_by bytes false e
 -- what a file tells by its kind
 abbrev Tells : List ℕ → List ℕ → FileKind → Type 0
 Tells name bytes kind =
-    (field_named File (codes "target") (value_of_file (record { name = name; bytes = bytes })) ≡ blob_value (target_of_kind kind))
+    (field_named File (codes "target") (value_of_file (record { name = name; bytes = bytes })) ≡ blob_or_null (target_of_kind kind))
     × (field_named File (codes "size") (value_of_file (record { name = name; bytes = bytes })) ≡ size_value (size_of_kind kind))
-    × (field_named File (codes "hashes") (value_of_file (record { name = name; bytes = bytes })) ≡ blob_value (hash_of_kind kind))
+    × (field_named File (codes "hashes") (value_of_file (record { name = name; bytes = bytes })) ≡ blob_or_null (hash_of_kind kind))
 
 tells : (name bytes : List ℕ) (kind : FileKind) → kind_of_file bytes ≡ kind → Tells name bytes kind
 tells name bytes kind e = (
-  nth_obj (file_fields name (kind_of_file bytes)) 5 ∙ ap (λ (k : FileKind). blob_value (target_of_kind k)) e,
+  nth_obj (file_fields name (kind_of_file bytes)) 5 ∙ ap (λ (k : FileKind). blob_or_null (target_of_kind k)) e,
   nth_obj (file_fields name (kind_of_file bytes)) 2 ∙ ap (λ (k : FileKind). size_value (size_of_kind k)) e,
-  nth_obj (file_fields name (kind_of_file bytes)) 4 ∙ ap (λ (k : FileKind). blob_value (hash_of_kind k)) e,
+  nth_obj (file_fields name (kind_of_file bytes)) 4 ∙ ap (λ (k : FileKind). blob_or_null (hash_of_kind k)) e,
 )
 
 pub link_tells : (name bytes target : List ℕ) → IsLinkTo target bytes → Tells name bytes (Link (0 ∷ 160 ∷ target))
@@ -74,7 +74,7 @@ link_tells name bytes target l = tells name bytes (Link (0 ∷ 160 ∷ target)) 
 pub regular_tells : (name bytes : List ℕ) → IsNoLink bytes
     → (field_named File (codes "target") (value_of_file (record { name = name; bytes = bytes })) ≡ null)
     × (int_in (field_named File (codes "size") (value_of_file (record { name = name; bytes = bytes }))) ≡ length bytes)
-    × (field_named File (codes "hashes") (value_of_file (record { name = name; bytes = bytes })) ≡ blob_value (sha256 bytes))
+    × (field_named File (codes "hashes") (value_of_file (record { name = name; bytes = bytes })) ≡ blob_or_null (sha256 bytes))
 regular_tells name bytes none =
     let all = tells name bytes (Regular (length bytes) (sha256 bytes)) (regular_by bytes (is_link_file bytes) refl none) in
     (all.0, ap int_in all.1 ∙ int-size_value (length bytes), all.2)

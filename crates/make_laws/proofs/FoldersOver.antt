@@ -12,7 +12,7 @@ use Rattle.command_core.specs.Command.{CommandLine}
 use Rattle.command_core.specs.Files.{without_dot}
 use Rattle.command_core.specs.declared.values.OptionValue.{OptionValue}
 use Rattle.make_info.specs.Reads.{Reads}
-use Rattle.package_files.specs.Folders.{before_slashes, folder_names, folders_of, folders_above, is_slash, listing_of, path_below}
+use Rattle.package_files.specs.Folders.{before_slashes, all_folders_above, folders_of, folders_above, is_slash, listing_of, path_below}
 use Rattle.package_files.specs.Package.{SourceFolder}
 use Rattle.package_files.specs.Sources.{AreNamesFor, folders_below, values_with}
 use Rattle.make_core.specs.FilesBelow.{name_below}
@@ -60,8 +60,8 @@ over_there path f (inr (rest, e)) = inr (subst (λ (p : List ℕ). IsIn f (befor
 
 -- what the names of a package's folders are
 pub record AreFolderNames : Type 0 where
-  pub over : (paths : List (List ℕ)) (folder : List ℕ) → Contains (folder_names paths) folder → Any (λ path. Contains (folders_above path) folder) paths
-  pub whole : (paths : List (List ℕ)) (path folder : List ℕ) → Contains paths path → Contains (folders_above path) folder → Contains (folder_names paths) folder
+  pub over : (paths : List (List ℕ)) (folder : List ℕ) → Contains (all_folders_above paths) folder → Any (λ path. Contains (folders_above path) folder) paths
+  pub whole : (paths : List (List ℕ)) (path folder : List ℕ) → Contains paths path → Contains (folders_above path) folder → Contains (all_folders_above paths) folder
 
 in_from : {A : Type 0} (x : A) (xs : List A) → Contains xs x → IsIn x xs
 in_from x xs h = in-from_index x x xs h.0 h.1 h.2
@@ -70,9 +70,9 @@ module _ (dir : List ℕ) (names : List (List ℕ)) (all : AreListed dir names) 
   abbrev paths : List (List ℕ)
   paths = map (path_below dir) names
 
-  over_one : (f : List ℕ) → IsIn f (folder_names paths) → IsAboveOnePath dir names f
+  over_one : (f : List ℕ) → IsIn f (all_folders_above paths) → IsAboveOnePath dir names f
   over_one f h =
-      let found = law.over paths f (contains-from_in f (folder_names paths) h) in
+      let found = law.over paths f (contains-from_in f (all_folders_above paths) h) in
       let path : List ℕ = found.1 in
       let here : IsIn path paths = in-from_index path path paths found.0 found.2 found.3 in
       let (name, at, is) = from-map (path_below dir) path names here in
@@ -80,20 +80,20 @@ module _ (dir : List ℕ) (names : List (List ℕ)) (all : AreListed dir names) 
       let same : name ≡ name_below dir path = listed.is ∙ ap (name_below dir) (sym is) in
       (path, subst (λ (n : List ℕ). IsIn n names) same at, over_is path f (in_from f (folders_above path) found.4))
 
-  one_over : (f : List ℕ) → IsAboveOnePath dir names f → IsIn f (folder_names paths)
+  one_over : (f : List ℕ) → IsAboveOnePath dir names f → IsIn f (all_folders_above paths)
   one_over f (path, at, over) =
       let here : IsIn path paths = subst (λ (p : List ℕ). IsIn p paths) (below_is dir path) (in-map (path_below dir) (name_below dir path) names at) in
-      in_from f (folder_names paths) (law.whole paths path f (contains-from_in path paths here) (contains-from_in f (folders_above path) (over_there path f over)))
+      in_from f (all_folders_above paths) (law.whole paths path f (contains-from_in path paths here) (contains-from_in f (folders_above path) (over_there path f over)))
 
-  pub names_over : (pkg : Plain) → map name_of (folders_in pkg) ≡ folder_names paths → HasJustFoldersAbove dir names pkg
+  pub names_over : (pkg : Plain) → map name_of (folders_in pkg) ≡ all_folders_above paths → HasJustFoldersAbove dir names pkg
   names_over pkg e f =
       (λ h. over_one f (subst (IsIn f) e h), λ h. subst (IsIn f) (sym e) (one_over f h))
 
 names_read : (read : Reads) (n place : ℕ) (dir : List ℕ) (names : List (List ℕ)) (sources : List SourceFolder) (v : OptionValue) (vs : List OptionValue) → folders_below read n (v ∷ vs) names ≡ Ok sources
-    → map (λ (s : SourceFolder). s.name) sources ≡ folder_names (map (path_below (without_dot v.text)) names)
+    → map (λ (s : SourceFolder). s.name) sources ≡ all_folders_above (map (path_below (without_dot v.text)) names)
 unfolding folders_of
 names_read read n place dir names sources v vs e =
-    let fs : List (List ℕ) = folder_names (map (path_below (without_dot v.text)) names) in
+    let fs : List (List ℕ) = all_folders_above (map (path_below (without_dot v.text)) names) in
     listed_names (without_dot v.text) names fs sources (folders_named v.place read n (map (listing_of (without_dot v.text) names) fs) sources e)
 
 pub folders_over_paths : AreFolderNames → (command : CommandLine) (names : List (List ℕ)) (read : Reads) (pkg : Plain) (v : OptionValue) (vs : List OptionValue) → AreNamesFor (values_with FILES command.values) names

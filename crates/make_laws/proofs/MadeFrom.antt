@@ -5,7 +5,7 @@ use Rattle.adb_fields.specs.Repeated.{folders_in, list_of}
 use Rattle.adb_sound.specs.Container.{package_by}
 use Rattle.adb_view.specs.Values.{entries_in, entry_in, text_in}
 use Rattle.adb_view.proofs.ValueEntries.{entries_arr, nth_obj, text_blob}
-use Rattle.adb_view.specs.Plain.{Plain, blob_value}
+use Rattle.adb_view.specs.Plain.{Plain, blob_or_null}
 use Rattle.command_core.specs.Command.{CommandLine}
 use Rattle.make_info.specs.Information.{InfoItem, information_value, information, replaces_priority}
 use Rattle.make_info.specs.Reads.{Reads}
@@ -55,7 +55,7 @@ made_from back command names read bytes made =
       value = ap (λ (p : Packed). p.value) (sym same);
     }
 
-texts_back : (ts : List (List ℕ)) → map text_in (map blob_value ts) ≡ ts
+texts_back : (ts : List (List ℕ)) → map text_in (map blob_or_null ts) ≡ ts
 texts_back [] = refl
 texts_back (t ∷ ts) = λ k. text_blob t k ∷ texts_back ts k
 
@@ -84,5 +84,5 @@ module _ (command : CommandLine) (names : List (List ℕ)) (read : Reads) (pkg :
   pub triggers_are : HasTriggersInOrder command.values pkg
   triggers_are =
       ap (λ (v : Plain). map text_in (list_of (entries_in v))) (part 3 ∙ nth_obj (package_fields info (map value_of_folder m.sources) m.scripts triggers (replaces_priority m.items)) 3)
-      ∙ (ap (λ us. map text_in (list_of us)) (entries_arr (plains_of_list (map blob_value triggers)))
-      ∙ (ap (map text_in) (list-plains (map blob_value triggers)) ∙ texts_back triggers))
+      ∙ (ap (λ us. map text_in (list_of us)) (entries_arr (plains_of_list (map blob_or_null triggers)))
+      ∙ (ap (map text_in) (list-plains (map blob_or_null triggers)) ∙ texts_back triggers))

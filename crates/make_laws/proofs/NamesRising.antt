@@ -19,7 +19,7 @@ use Rattle.command_core.specs.Command.{CommandLine}
 use Rattle.command_core.specs.Files.{without_dot}
 use Rattle.command_core.specs.declared.values.OptionValue.{OptionValue}
 use Rattle.make_info.specs.Reads.{Reads}
-use Rattle.package_files.specs.Folders.{FolderListing, folder_names, folders_of, folders_above, last_part_of, listing_of, names_in_folder, path_below}
+use Rattle.package_files.specs.Folders.{FolderListing, all_folders_above, folders_of, folders_above, last_part_of, listing_of, names_in_folder, path_below}
 use Rattle.package_files.specs.Package.{Source, SourceFolder, kind_of_file, value_of_file, value_of_folder}
 use Rattle.package_files.specs.Sources.{AreNamesFor, file_at, folder_at, folders_below, found_at, source_folders_from, sources_from, values_with}
 use Rattle.make_core.proofs.Apart.{Rises, cmp, in_order_rises, rises_from_pairs}
@@ -156,7 +156,7 @@ sources_in_order read n [] names sources below e =
     subst AreInOrder same (pairs_rise [] tt, All-nil HasFilesRising)
 sources_in_order read n (v ∷ vs) names sources below e =
     let dir : List ℕ = without_dot v.text in
-    let fs : List (List ℕ) = folder_names (map (path_below dir) names) in
+    let fs : List (List ℕ) = all_folders_above (map (path_below dir) names) in
     let are = folders_named v.place read n (map (listing_of dir names) fs) sources e in (
       subst IsRising (sym (listed_names dir names fs sources are)) (pairs_rise fs (in_order_rises (flat_map folders_above (map (path_below dir) names)))),
       files_rise dir names fs sources (are_listed dir names below.each) (rises_from_pairs names below.rising) are,

@@ -11,7 +11,7 @@ use Rattle.dep_core.specs.Reading.{dependency_of}
 use Rattle.dep_core.specs.Spelling.{SpellsDependency}
 use Rattle.make_info.specs.declared.field.Field.{Field}
 use Rattle.make_info.specs.declared.field.Field.TheVariants as Fields
-use Rattle.make_info.specs.Fields.{FieldValue, field_word, is_list, kind_of_field, values_by_kind}
+use Rattle.make_info.specs.Fields.{FieldValue, field_word, kind_of_field, may_repeat, values_by_kind}
 use Rattle.make_info.specs.FieldTexts.{FieldText, field_text_in, is_for, is_same, is_text_for}
 use Rattle.make_info.specs.Information.{items_of_text, offends, repeats_field, with_values}
 use Rattle.make_info.proofs.Reading.{same_field}
@@ -19,7 +19,7 @@ use Rattle.make_laws.specs.OptionGrammar.{IsGivenFor, IsTakenOption, is_list_fie
 use Rattle.make_laws.proofs.FieldValues.{says_from, says_to}
 use Rattle.make_laws.proofs.OptionTexts.{given, text_is}
 
-list_is : (f : Field) → is_list (kind_of_field f) ≡ is_list_field f
+list_is : (f : Field) → may_repeat (kind_of_field f) ≡ is_list_field f
 list_is Fields.Name = refl
 list_is Fields.Version = refl
 list_is Fields.Description = refl
@@ -120,7 +120,7 @@ module _ (spelled : (t : List ℕ) (d : Dependency) → dependency_of t ≡ Some
         given = text_is v.text g is;
         said = said.0;
         allowed = says_to spelled read f g.value said.0 said.1;
-        first = λ single other h for. none_before f before (single_any (is_list (kind_of_field f)) (list_any (is_for f) before) two.0 (list_is f ∙ single)) other h for;
+        first = λ single other h for. none_before f before (single_any (may_repeat (kind_of_field f)) (list_any (is_for f) before) two.0 (list_is f ∙ single)) other h for;
         short = version_apart too_long f two.1;
       }
 
@@ -133,7 +133,7 @@ module _ (spelled : (t : List ℕ) (d : Dependency) → dependency_of t ≡ Some
       let g : Option FieldText = Some (record { field = f; value = t.value }) in
       let is : field_text_in v.text ≡ g = ap field_text_in t.given ∙ given f t.value in
       ap (offends_given too_long before) is
-      ∙ all_false (not (is_some (with_values [] f (values_by_kind (kind_of_field f) t.value)))) (not (is_list (kind_of_field f)) && list_any (is_for f) before) (too_long && is_same f Fields.Version)
+      ∙ all_false (not (is_some (with_values [] f (values_by_kind (kind_of_field f) t.value)))) (not (may_repeat (kind_of_field f)) && list_any (is_for f) before) (too_long && is_same f Fields.Version)
       (said_some f (values_by_kind (kind_of_field f) t.value) t.said (says_from spelled read f t.value t.said t.allowed))
-      (any_single (is_list (kind_of_field f)) (list_any (is_for f) before) (λ single. none_given f before (t.first (sym (list_is f) ∙ single))))
+      (any_single (may_repeat (kind_of_field f)) (list_any (is_for f) before) (λ single. none_given f before (t.first (sym (list_is f) ∙ single))))
       (apart_version too_long f t.short)

@@ -4,7 +4,7 @@
 use Rattle.std.specs.Prelude.{◌≡◌, ◌⊎◌, ℕ, List, Some}
 use Rattle.adb_fields.specs.FirstPair.{IsIn}
 use Rattle.adb_view.specs.declared.tables.Which.TheVariants.{Package, Scripts}
-use Rattle.adb_view.specs.Plain.{Plain, null, blob_value}
+use Rattle.adb_view.specs.Plain.{Plain, null, blob_or_null}
 use Rattle.command_core.specs.Files.{without_dot}
 use Rattle.command_core.specs.Values.{script_file, script_type}
 use Rattle.command_core.specs.declared.values.OptionValue.{OptionValue}
@@ -29,7 +29,7 @@ IsNotGiven options type =
 -- the script of the type in a package: the one that is given, or none if none is given
 abbrev pub IsScriptGiven : Reads → List OptionValue → List ℕ → Plain → Type 0
 IsScriptGiven read options type script =
-    ((bytes : List ℕ) × IsGivenScript read options type bytes × (script ≡ blob_value bytes))
+    ((bytes : List ℕ) × IsGivenScript read options type bytes × (script ≡ blob_or_null bytes))
     ⊎ (IsNotGiven options type × (script ≡ null))
 
 -- the script of this type in a package; Null if it has none

@@ -6,7 +6,7 @@
 ghost use Rattle.adb_copy.specs.Zeros.{without_zeros};
 ghost use Rattle.adb_view.specs.Values.{entry_in, int_in, text_in};
 ghost use Rattle.adb_view.specs.declared.tables.Which.TheVariants.{Dep, File, Index, Package, PkgInfo};
-ghost use Rattle.adb_view.specs.Plain.{Plain, arr_value, blob_value, int, null};
+ghost use Rattle.adb_view.specs.Plain.{Plain, arr_value, blob_or_null, int, null};
 ghost use Rattle.command_core.specs.Values.{script_file, script_type};
 ghost use Rattle.command_core.specs.declared.values.OptionValue.{OptionValue};
 ghost use Rattle.dep_core.specs.Dependency.{Dependency};
@@ -68,7 +68,7 @@ pub fn an_entry_describes_the_bytes_of_its_file()
     // A link: 0 and 160 are the kind 0xa000, little-endian.
     ensures link { (name bytes target : List ℕ) → IsLinkTo target bytes
         → (let file = value_of_file (record { name = name; bytes = bytes }) in
-        (field_named File (codes "target") file ≡ blob_value (0 ∷ 160 ∷ target))
+        (field_named File (codes "target") file ≡ blob_or_null (0 ∷ 160 ∷ target))
         × (field_named File (codes "size") file ≡ null)
         × (field_named File (codes "hashes") file ≡ null)) }
     // A regular file.
@@ -76,18 +76,18 @@ pub fn an_entry_describes_the_bytes_of_its_file()
         → (let file = value_of_file (record { name = name; bytes = bytes }) in
         (field_named File (codes "target") file ≡ null)
         × (int_in (field_named File (codes "size") file) ≡ length bytes)
-        × (field_named File (codes "hashes") file ≡ blob_value (sha256 bytes))) }
+        × (field_named File (codes "hashes") file ≡ blob_or_null (sha256 bytes))) }
 {}
 
 /// The value of an option is stored unchanged: a text, a number, also 0, and for a dependency the
 /// name, the version and the match number.
 pub fn a_value_is_stored_as_given()
-    ensures text { (bytes : List ℕ) → plain_value (text bytes) ≡ blob_value bytes }
+    ensures text { (bytes : List ℕ) → plain_value (text bytes) ≡ blob_or_null bytes }
     ensures number { (n : ℕ) → plain_value (number n) ≡ int n }
     ensures need { (d : Dependency)
         → (let told = plain_value (need d) in
-        (field_named Dep (codes "name") told ≡ blob_value (dep_value d).name)
-        × (field_named Dep (codes "version") told ≡ blob_value (dep_value d).version)
+        (field_named Dep (codes "name") told ≡ blob_or_null (dep_value d).name)
+        × (field_named Dep (codes "version") told ≡ blob_or_null (dep_value d).version)
         × (field_named Dep (codes "match") told ≡ number_value (dep_value d).matching)) }
 {}
 
@@ -95,7 +95,7 @@ pub fn a_value_is_stored_as_given()
 /// name, is the one of the package's information, without zeros.
 pub fn an_entry_has_the_values_of_its_package()
     ensures id { (file : List ℕ) → field_named PkgInfo (codes "hashes") (entry_of_package file)
-        ≡ blob_value (package_id file) }
+        ≡ blob_or_null (package_id file) }
     ensures length { (file : List ℕ)
         → int_in (field_named PkgInfo (codes "file-size") (entry_of_package file)) ≡ length file }
     ensures others { (file name : List ℕ) → name ≢ codes "hashes" → name ≢ codes "file-size"
@@ -117,7 +117,7 @@ pub fn values_without_zeros_tell_the_same()
 pub fn an_index_has_its_description_and_packages()
     ensures { (description : List ℕ) (entries : List Plain)
         → (field_named Index (codes "description") (value_of_index description entries)
-        ≡ blob_value description)
+        ≡ blob_or_null description)
         × (field_named Index (codes "packages") (value_of_index description entries)
         ≡ arr_value (plains_of_list entries)) }
 {}

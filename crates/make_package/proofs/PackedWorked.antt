@@ -1,7 +1,7 @@
 -- Packages worked by hand: their folders, values and files.
 use Rattle.std.proofs.Common.{◌≡◌, [], ◌∷◌, refl, codes}
-use Rattle.adb_view.specs.Plain.{Plain, none, more, blob_value, obj_value}
-use Rattle.package_files.specs.Folders.{folder_names, folder_of, last_part_of, folders_of}
+use Rattle.adb_view.specs.Plain.{Plain, none, more, blob_or_null, obj_value}
+use Rattle.package_files.specs.Folders.{all_folders_above, folder_of, last_part_of, folders_of}
 
 a_path : folder_of (codes "usr/bin/hello") ≡ codes "usr/bin"
 a_path = refl
@@ -16,10 +16,10 @@ its_own_part : last_part_of (codes "hello") ≡ codes "hello"
 its_own_part = refl
 
 -- a folder that holds a file at some depth alone stands among the others, in byte order
-folders : folder_names (codes "a-b/x" ∷ codes "a/b/c" ∷ codes "a/b/d" ∷ []) ≡ [] ∷ codes "a" ∷ codes "a-b" ∷ codes "a/b" ∷ []
+folders : all_folders_above (codes "a-b/x" ∷ codes "a/b/c" ∷ codes "a/b/d" ∷ []) ≡ [] ∷ codes "a" ∷ codes "a-b" ∷ codes "a/b" ∷ []
 folders = refl
 
-no_folders : folder_names [] ≡ []
+no_folders : all_folders_above [] ≡ []
 no_folders = refl
 
 their_files : folders_of (codes "in") (codes "in/a-b/x" ∷ codes "in/a/b/c" ∷ codes "in/a/b/d" ∷ [])
@@ -29,4 +29,4 @@ their_files = refl
 
 -- a name and a version alone
 info : Plain
-info = obj_value (more (blob_value (codes "a")) (more (blob_value (codes "1")) none))
+info = obj_value (more (blob_or_null (codes "a")) (more (blob_or_null (codes "1")) none))

@@ -3,7 +3,7 @@ use Rattle.std.proofs.Common.{◌≡◌, ℕ, ◌+◌, ◌<◌, List, [], ◌∷
 use borrow.Author.Tests.{ne_eqb, eq-eqb}
 use Rattle.std.proofs.lemmas.Option.{get_or_from_slice_get, slice_get_within}
 use Rattle.std.proofs.lemmas.List.Elements.{filter-append}
-use Rattle.adb_view.specs.Plain.{blob_value, Plains, more}
+use Rattle.adb_view.specs.Plain.{blob_or_null, Plains, more}
 use Rattle.command_core.specs.declared.values.OptionValue.{OptionValue}
 use Rattle.package_files.specs.Sources.{values_with, texts_of}
 use Rattle.std.proofs.lemmas.List.{take_more}
@@ -36,24 +36,24 @@ pub given_other : (letter : ℕ) (values : List OptionValue) (i : ℕ) (v : Opti
 given_other letter values i v here ne = given_next letter values i v false here (ne_eqb v.letter letter ne) ∙ append-nil (values_with letter (take i values))
 
 abbrev pub blobs : List OptionValue → Plains
-blobs values = plains_of_list (map blob_value (texts_of values))
+blobs values = plains_of_list (map blob_or_null (texts_of values))
 
 -- the blobs from a place on: with a value of the option in front, and without
 blobs_from : (letter : ℕ) (values : List OptionValue) (i : ℕ) (v : OptionValue) (b : Bool) → slice_get values i ≡ Some v → (v.letter == letter) ≡ b
-    → blobs (values_with letter (drop i values)) ≡ (if b then more (blob_value v.text) (blobs (values_with letter (drop (i + 1) values))) else blobs (values_with letter (drop (i + 1) values)))
+    → blobs (values_with letter (drop i values)) ≡ (if b then more (blob_or_null v.text) (blobs (values_with letter (drop (i + 1) values))) else blobs (values_with letter (drop (i + 1) values)))
 blobs_from letter values i v b here e =
     ap (λ (l : List OptionValue). blobs (values_with letter l)) (drop_at values i v here) ∙ behind b e
   where
     rest : List OptionValue
     rest = drop (i + 1) values
 
-    behind : (c : Bool) → (v.letter == letter) ≡ c → blobs (values_with letter (v ∷ rest)) ≡ (if c then more (blob_value v.text) (blobs (values_with letter rest)) else blobs (values_with letter rest))
+    behind : (c : Bool) → (v.letter == letter) ≡ c → blobs (values_with letter (v ∷ rest)) ≡ (if c then more (blob_or_null v.text) (blobs (values_with letter rest)) else blobs (values_with letter rest))
     behind true is = ap (λ (c : Bool). blobs (if c then v ∷ values_with letter rest else values_with letter rest)) is
     behind false is = ap (λ (c : Bool). blobs (if c then v ∷ values_with letter rest else values_with letter rest)) is
 
 module _ (letter : ℕ) (values : List OptionValue) (i : ℕ) (v : OptionValue) (old new whole : DraftState) (here : slice_get values i ≡ Some v) (left : draft_with_all (blobs (values_with letter (drop i values))) old ≡ whole) where
   -- a value of the option is given
-  pub blob_given : v.letter ≡ letter → new ≡ draft_with (blob_value v.text) old → draft_with_all (blobs (values_with letter (drop (i + 1) values))) new ≡ whole
+  pub blob_given : v.letter ≡ letter → new ≡ draft_with (blob_or_null v.text) old → draft_with_all (blobs (values_with letter (drop (i + 1) values))) new ≡ whole
   blob_given e one =
       ap (λ (d : DraftState). draft_with_all (blobs (values_with letter (drop (i + 1) values))) d) one
       ∙ sym (ap (λ (us : Plains). draft_with_all us old) (blobs_from letter values i v true here (eq-eqb v.letter letter e))) ∙ left

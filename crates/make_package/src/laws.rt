@@ -3,13 +3,13 @@
 //! 7, by the names of the fields there.
 ghost use Rattle.adb_view.specs.Schema.{field_name_text, table};
 ghost use Rattle.adb_view.specs.declared.tables.Which.TheVariants.{Dir, File, Package, Scripts};
-ghost use Rattle.adb_view.specs.Plain.{Plain, arr_value, blob_value, null};
+ghost use Rattle.adb_view.specs.Plain.{Plain, arr_value, blob_or_null, null};
 ghost use Rattle.command_core.specs.Values.{script_types};
 ghost use Rattle.make_info.specs.declared.field.Field.TheVariants.{ReplacesPriority};
 ghost use Rattle.make_info.specs.Fields.{field_word};
 ghost use Rattle.make_info.specs.Named.{value_by_name};
 ghost use Rattle.make_info.specs.Values.{number_value, plains_of_list, size_value};
-ghost use Rattle.package_files.specs.Folders.{folder_names, folders_of, folders_above};
+ghost use Rattle.package_files.specs.Folders.{all_folders_above, folders_of, folders_above};
 ghost use Rattle.package_files.specs.Package.{FILE_MODE, FOLDER_MODE, Script, access_value, file_fields, folder_fields, is_link_file, kind_of_file, link_text, package_fields, script_fields, script_in};
 ghost use Rattle.package_files.specs.declared.file.FileKind.{FileKind};
 ghost use Rattle.sha2.specs.Sha256.{sha256};
@@ -28,7 +28,7 @@ pub fn a_part_is_in_the_field_of_its_name()
     // A script is at the field of its type.
     ensures scripts { (scripts : List Script) → All (λ type.
         value_by_name type (table Scripts) (script_fields scripts)
-        ≡ Some (blob_value (script_in scripts type))) script_types }
+        ≡ Some (blob_or_null (script_in scripts type))) script_types }
     // The priority in replacing is at the package's field of that name.
     ensures priority { (info : Plain) (paths : List Plain) (scripts : List Script)
         (triggers : List (List ℕ)) (priority : Option ℕ)
@@ -48,12 +48,12 @@ pub fn each_name_is_in_one_folder()
         (map (λ folder. folder.name) (folders_of dir names)) }
     // Each folder is above a path.
     ensures over { (paths : List (List ℕ)) (folder : List ℕ)
-        → Contains (folder_names paths) folder
+        → Contains (all_folders_above paths) folder
         → Any (λ path. Contains (folders_above path) folder) paths }
     // Each folder that is above a path is one of them.
     ensures whole { (paths : List (List ℕ)) (path folder : List ℕ)
         → Contains paths path → Contains (folders_above path) folder
-        → Contains (folder_names paths) folder }
+        → Contains (all_folders_above paths) folder }
 {}
 
 /// The fields of a file in a package describe its bytes: for a link its target and neither size nor
@@ -65,7 +65,7 @@ pub fn the_fields_of_a_file_are_those_of_its_bytes()
         → (value_by_name (codes "size") (table File) (file_fields name (kind_of_file bytes))
         ≡ Some (size_value (length bytes)))
         × (value_by_name (codes "hashes") (table File) (file_fields name (kind_of_file bytes))
-        ≡ Some (blob_value (sha256 bytes)))
+        ≡ Some (blob_or_null (sha256 bytes)))
         × (value_by_name (codes "target") (table File) (file_fields name (kind_of_file bytes))
         ≡ Some null) }
     // A link has only its target.
@@ -75,17 +75,17 @@ pub fn the_fields_of_a_file_are_those_of_its_bytes()
         × (value_by_name (codes "hashes") (table File) (file_fields name (kind_of_file bytes))
         ≡ Some null)
         × (value_by_name (codes "target") (table File) (file_fields name (kind_of_file bytes))
-        ≡ Some (blob_value (0 ∷ 160 ∷ link_text bytes))) }
+        ≡ Some (blob_or_null (0 ∷ 160 ∷ link_text bytes))) }
     // Each file has its name and its access rights.
     ensures named { (name : List ℕ) (kind : FileKind)
         → (value_by_name (codes "name") (table File) (file_fields name kind)
-        ≡ Some (blob_value name))
+        ≡ Some (blob_or_null name))
         × (value_by_name (codes "acl") (table File) (file_fields name kind)
         ≡ Some (access_value FILE_MODE)) }
     // A folder has its name, its access rights, and its files.
     ensures folder { (name : List ℕ) (files : List Plain)
         → (value_by_name (codes "name") (table Dir) (folder_fields name files)
-        ≡ Some (blob_value name))
+        ≡ Some (blob_or_null name))
         × (value_by_name (codes "acl") (table Dir) (folder_fields name files)
         ≡ Some (access_value FOLDER_MODE))
         × (value_by_name (codes "files") (table Dir) (folder_fields name files)

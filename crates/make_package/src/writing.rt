@@ -4,7 +4,7 @@
 //! in `docs/formats.md`, "Schemas", tables 2, 4, 5, 6 and 7: the fields in their order.
 ghost use Rattle.command_core.specs.declared.values.TheConstants.{TRIGGER};
 ghost use Rattle.adb_values.specs.Drafts.{draft_with};
-ghost use Rattle.adb_view.specs.Plain.{arr_value, blob_value};
+ghost use Rattle.adb_view.specs.Plain.{arr_value, blob_or_null};
 ghost use Rattle.make_info.specs.Information.{information_value, replaces_priority};
 ghost use Rattle.make_info.specs.Values.{plains_of_list};
 ghost use Rattle.package_files.specs.Package.{access_value, script_in, value_of_scripts, package_with};
@@ -150,7 +150,7 @@ fn script_of<'a>(scripts: &'a [Script<'_>], kind: &[u8]) -> &'a [u8]
 
 /// Writes the triggers: the values of `-t`, in the order given.
 fn write_triggers(draft: &mut Draft, values: &Values) -> Result<(), AllocError>
-    ensures { OnOk result (draft.new ≡ draft_with (arr_value (plains_of_list (map blob_value
+    ensures { OnOk result (draft.new ≡ draft_with (arr_value (plains_of_list (map blob_or_null
         (texts_of (values_with TRIGGER values.now))))) draft.old) }
 {
     draft.open_list()?;

@@ -14,7 +14,7 @@ use Rattle.version_core.specs.Order.{version_cmp}
 use Rattle.candidate_core.specs.Candidates.{Candidate, Need, version_under}
 use Rattle.candidate_core.specs.Options.{rank_order_of}
 use Rattle.candidate_core.specs.Rank.{SealedPool, bytes_cmp, candidate_at, earlier_repository, greater_version, is_better, is_pinned, quality_cmp, quality_first, rank_cmp}
-use Rattle.option_ranks.specs.Ranking.{IsRankingIn, Ranking, ranking_by, ranking_cmp, read_as, version_order}
+use Rattle.option_ranks.specs.Ranking.{IsRankingIn, Ranking, ranking_by, ranking_cmp, version_order, with_values_of_candidate}
 use Rattle.option_ranks.specs.VersionRanks.{AreRankedTwice, AreReadyFor, rank_among, version_of, with_rank}
 use Rattle.option_ranks.specs.declared.rank.VersionKey.{VersionKey}
 use Rattle.option_ranks.specs.declared.rank.VersionKey.TheVariants.{ByRank, ByText}
@@ -82,7 +82,7 @@ sorted_places pool need key P same rs all up = λ k d low high.
 -- ---- by texts
 
 module _ (pool : SealedPool) (need : Need) where
-  read_by_text : (a b : Ranking) (x y : Candidate) → candidate_at pool a.place ≡ Some x → candidate_at pool b.place ≡ Some y → ranking_cmp ByText (read_as pool need x a) (read_as pool need y b) ≡ rank_cmp pool need a.place b.place
+  read_by_text : (a b : Ranking) (x y : Candidate) → candidate_at pool a.place ≡ Some x → candidate_at pool b.place ≡ Some y → ranking_cmp ByText (with_values_of_candidate pool need x a) (with_values_of_candidate pool need y b) ≡ rank_cmp pool need a.place b.place
   unfolding ranking_cmp rank_cmp
   read_by_text a b x y h g =
       rw (h, g) (ap (λ (o : Ordering). ordering_then (ordering_then (quality_first (is_pinned pool.world) x y) (ordering_then (quality_cmp pool.upgraded need x y) o)) (nat_cmp a.place b.place))
@@ -90,7 +90,7 @@ module _ (pool : SealedPool) (need : Need) where
 
   same_by_text : (a b : Ranking) → IsRankingIn pool need a → IsRankingIn pool need b → ranking_cmp ByText a b ≡ rank_cmp pool need a.place b.place
   same_by_text a b p q =
-      ap (λ (r : Ranking). ranking_cmp ByText r b) p.1.1 ∙ (ap (λ (r : Ranking). ranking_cmp ByText (read_as pool need p.0 a) r) q.1.1
+      ap (λ (r : Ranking). ranking_cmp ByText r b) p.1.1 ∙ (ap (λ (r : Ranking). ranking_cmp ByText (with_values_of_candidate pool need p.0 a) r) q.1.1
       ∙ read_by_text a b p.0 q.0 p.1.0 q.1.0)
 
 -- ---- by ranks
@@ -101,7 +101,7 @@ module _ (versions : IsTotalOrder version_cmp) (pool : SealedPool) (need : Need)
     pub under : HasRank Under unders r
     pub own : HasRank Own owns r
 
-  as_read : (a b : Ranking) (x y : Candidate) → candidate_at pool a.place ≡ Some x → candidate_at pool b.place ≡ Some y → nat_cmp a.under.rank b.under.rank ≡ greater_version (version_under need x) (version_under need y) → nat_cmp a.version.rank b.version.rank ≡ ordering_then (greater_version x.version y.version) (option_cmp bytes_cmp x.version y.version) → ranking_cmp ByRank (read_as pool need x a) (read_as pool need y b) ≡ rank_cmp pool need a.place b.place
+  as_read : (a b : Ranking) (x y : Candidate) → candidate_at pool a.place ≡ Some x → candidate_at pool b.place ≡ Some y → nat_cmp a.under.rank b.under.rank ≡ greater_version (version_under need x) (version_under need y) → nat_cmp a.version.rank b.version.rank ≡ ordering_then (greater_version x.version y.version) (option_cmp bytes_cmp x.version y.version) → ranking_cmp ByRank (with_values_of_candidate pool need x a) (with_values_of_candidate pool need y b) ≡ rank_cmp pool need a.place b.place
   unfolding ranking_cmp rank_cmp
   as_read a b x y h g under own =
       rw (h, g, under, own) (ap (λ (o : Ordering). ordering_then (ordering_then (quality_first (is_pinned pool.world) x y) (ordering_then (quality_cmp pool.upgraded need x y) o)) (nat_cmp a.place b.place))
@@ -117,7 +117,7 @@ module _ (versions : IsTotalOrder version_cmp) (pool : SealedPool) (need : Need)
       let own : nat_cmp a.version.rank b.version.rank ≡ version_order Own x.version y.version =
       same_by_rank versions Own owns a b p.own q.own
       ∙ (ap (λ (r : Ranking). version_order Own r.version.version b.version.version) p.read.1.1 ∙ ap (λ (r : Ranking). version_order Own x.version r.version.version) q.read.1.1) in
-      ap (λ (r : Ranking). ranking_cmp ByRank r b) p.read.1.1 ∙ (ap (λ (r : Ranking). ranking_cmp ByRank (read_as pool need x a) r) q.read.1.1
+      ap (λ (r : Ranking). ranking_cmp ByRank r b) p.read.1.1 ∙ (ap (λ (r : Ranking). ranking_cmp ByRank (with_values_of_candidate pool need x a) r) q.read.1.1
       ∙ as_read a b x y p.read.1.0 q.read.1.0 under own)
 
 -- ---- by either

@@ -52,8 +52,8 @@ with_version ranked version = record ranked { version = version }
 
 -- the ranking of a candidate, by its own keys and versions; of the ranking `r` only the places and the
 -- ranks stay
-abbrev pub read_as : SealedPool → Need → Candidate → Ranking → Ranking
-read_as pool need c r =
+abbrev pub with_values_of_candidate : SealedPool → Need → Candidate → Ranking → Ranking
+with_values_of_candidate pool need c r =
     ranking_by (is_pinned pool.world c) (is_untagged c) (has_needed_name need c)
     (is_kept_installed pool.upgraded c) (with_version r.under (version_under need c)) c.priority c.name
     (with_version r.version c.version) c.repository r.place
@@ -61,7 +61,7 @@ read_as pool need c r =
 -- there is a candidate at the place of the ranking, and the ranking is that of it
 abbrev pub IsRankingIn : SealedPool → Need → Ranking → Type 0
 IsRankingIn pool need r = (c : Candidate) × ((candidate_at pool r.place ≡ Some c)
-    × (r ≡ read_as pool need c r))
+    × (r ≡ with_values_of_candidate pool need c r))
 
 -- the order of two versions of a kind: the greater is first; equal own versions of candidates are
 -- ordered by their texts

@@ -11,9 +11,9 @@ use Rattle.base_core.proofs.NameParts.{other_bytes}
 use Rattle.path_claims.specs.Claims.{PathClaim}
 use Rattle.claim_lists.proofs.Firsts.{paths}
 use Rattle.claim_lists.proofs.PathOrder.{less_apart}
-use Rattle.own_core.specs.Found.{AreByFiles, said_of}
+use Rattle.own_core.specs.Found.{AreAnswersByFiles, said_of}
 
-pub by_tree : {Y : Type 0} (said : PathClaim → Option (List ℕ) → Y) (v : TreeState) (earlier : List TreeState) (cs : List PathClaim) (ys : List Y) → AreByFiles said (v ∷ earlier) cs ys → ys ≡ said_of said (files_of v) cs
+pub by_tree : {Y : Type 0} (said : PathClaim → Option (List ℕ) → Y) (v : TreeState) (earlier : List TreeState) (cs : List PathClaim) (ys : List Y) → AreAnswersByFiles said (v ∷ earlier) cs ys → ys ≡ said_of said (files_of v) cs
 by_tree said v earlier [] [] are = refl
 by_tree said v earlier [] (y ∷ ys) are = absurd are
 by_tree said v earlier (c ∷ cs) [] are = absurd are
@@ -26,12 +26,12 @@ same_said said f g (c ∷ cs) h = (λ j. said c (h c.path (inl refl) j) ∷ same
 -- ---- put together
 
 -- the files that were found under the paths of claims, and others elsewhere
-abbrev found_or : {Y : Type 0} (said : PathClaim → Option (List ℕ) → Y) (h : List TreeState) (cs : List PathClaim) (ys : List Y) → AreByFiles said h cs ys → Files → Files
+abbrev found_or : {Y : Type 0} (said : PathClaim → Option (List ℕ) → Y) (h : List TreeState) (cs : List PathClaim) (ys : List Y) → AreAnswersByFiles said h cs ys → Files → Files
 found_or said h [] ys are others q = others q
 found_or said h (c ∷ cs) [] are others q = others q
 found_or said h (c ∷ cs) (y ∷ ys) are others q = if bytes_eq c.path q then are.0.found else found_or said h cs ys are.1 others q
 
-found_elsewhere : {Y : Type 0} (said : PathClaim → Option (List ℕ) → Y) (h : List TreeState) (cs : List PathClaim) (ys : List Y) (are : AreByFiles said h cs ys) (others : Files) (q : List ℕ)
+found_elsewhere : {Y : Type 0} (said : PathClaim → Option (List ℕ) → Y) (h : List TreeState) (cs : List PathClaim) (ys : List Y) (are : AreAnswersByFiles said h cs ys) (others : Files) (q : List ℕ)
     → (Names.IsIn q (paths cs) → ⊥) → found_or said h cs ys are others q ≡ others q
 found_elsewhere said h [] ys are others q off = refl
 found_elsewhere said h (c ∷ cs) [] are others q off = refl
@@ -39,7 +39,7 @@ found_elsewhere said h (c ∷ cs) (y ∷ ys) are others q off =
     ap (λ b. if b then are.0.found else found_or said h cs ys are.1 others q) (other_bytes c.path q (λ is. off (inl (sym is))))
     ∙ found_elsewhere said h cs ys are.1 others q (λ here. off (inr here))
 
-found_each : {Y : Type 0} (said : PathClaim → Option (List ℕ) → Y) (h : List TreeState) (cs : List PathClaim) (ys : List Y) (are : AreByFiles said h cs ys) (others : Files)
+found_each : {Y : Type 0} (said : PathClaim → Option (List ℕ) → Y) (h : List TreeState) (cs : List PathClaim) (ys : List Y) (are : AreAnswersByFiles said h cs ys) (others : Files)
     → Names.Rises (paths cs) → ys ≡ said_of said (found_or said h cs ys are others) cs
 found_each said h [] [] are others up = refl
 found_each said h [] (y ∷ ys) are others up = absurd are
@@ -61,7 +61,7 @@ pub record AreFilesFound {Y Z : Type 0} (first : PathClaim → Option (List ℕ)
 
 pub files_found : {Y Z : Type 0} (first : PathClaim → Option (List ℕ) → Y) (second : PathClaim → Option (List ℕ) → Z) (h : List TreeState) (cs ds : List PathClaim) (ys : List Y) (zs : List Z)
     → Names.Rises (paths cs) → Names.Rises (paths ds) → ((q : List ℕ) → Names.IsIn q (paths cs) → Names.IsIn q (paths ds) → ⊥)
-    → AreByFiles first h cs ys → AreByFiles second h ds zs → AreFilesFound first second h cs ds ys zs
+    → AreAnswersByFiles first h cs ys → AreAnswersByFiles second h ds zs → AreFilesFound first second h cs ds ys zs
 files_found first second (v ∷ earlier) cs ds ys zs up down apart are others =
     record { files = files_of v; told = refl; one = by_tree first v earlier cs ys are; other = by_tree second v earlier ds zs others }
 files_found first second [] cs ds ys zs up down apart are others =

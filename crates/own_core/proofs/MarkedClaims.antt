@@ -13,7 +13,7 @@ use Rattle.path_claims.proofs.Places.{map_len, no_some}
 use Rattle.claim_lists.proofs.Firsts.{paths}
 use Rattle.own_core.specs.ClaimEntries.{AreClaimsOf}
 use Rattle.own_core.specs.Fates.{marked_claims}
-use Rattle.own_core.specs.Found.{AreByFiles}
+use Rattle.own_core.specs.Found.{AreAnswersByFiles}
 use Rattle.own_core.proofs.ChangeClaims.{rising_sorted}
 use Rattle.own_core.proofs.TreeLoops.{found_len}
 
@@ -81,10 +81,10 @@ filtered_rises t (c ∷ cs) r = go (t c) (filtered_rises t cs r.1)
     go true rest = (λ q here. r.0 q (in_filtered t cs q here), rest)
     go false rest = rest
 
-pub marks_len : {Y Z : Type 0} (s : Z → Y) (said : PathClaim → Option (List ℕ) → Y) (h : List TreeState) (xs : List Claim) (fs : List Z) → AreByFiles said h (map claim_seen xs) (map s fs) → length fs ≡ length xs
+pub marks_len : {Y Z : Type 0} (s : Z → Y) (said : PathClaim → Option (List ℕ) → Y) (h : List TreeState) (xs : List Claim) (fs : List Z) → AreAnswersByFiles said h (map claim_seen xs) (map s fs) → length fs ≡ length xs
 marks_len s said h xs fs are = sym (map_len s fs) ∙ (found_len said h (map claim_seen xs) (map s fs) are ∙ map_len claim_seen xs)
 
-pub flags_len : (said : PathClaim → Option (List ℕ) → Bool) (h : List TreeState) (xs : List Claim) (fs : List Bool) → AreByFiles said h (map claim_seen xs) fs → length fs ≡ length xs
+pub flags_len : (said : PathClaim → Option (List ℕ) → Bool) (h : List TreeState) (xs : List Claim) (fs : List Bool) → AreAnswersByFiles said h (map claim_seen xs) fs → length fs ≡ length xs
 flags_len said h xs fs are = found_len said h (map claim_seen xs) fs are ∙ map_len claim_seen xs
 
 pub marked_sorted : {Y : Type 0} (test : Y → Bool) (cs xs : List PathClaim) (ms : List Y) → Names.Rises (paths cs) → xs ≡ marked_claims test cs ms → IsSorted claim_cmp xs

@@ -15,7 +15,7 @@ use Rattle.file_owners.specs.Owners.{claims_in}
 use Rattle.change_files.specs.Fate as Fates
 use Rattle.change_files.specs.Fate.{fate_by, fate_of, goes_aside, goes_in, gives_way, is_guarded}
 use Rattle.change_files.specs.FileChange.{FileChange, added_owner_listing, if_member_added, is_claimed, old_entry, old_listings, owner_listing, was_listed}
-use Rattle.change_files.specs.FilesAfter.{if_aside, if_in, is_changed, is_kept, is_left_over, is_removed, is_written, aside_listing_at, may_be_kept, path_beside, written_as, written_in}
+use Rattle.change_files.specs.FilesAfter.{if_aside, if_in, is_changed, is_kept, is_no_longer_listed, is_removed, is_written, aside_claim_at, may_be_kept, path_beside, written_as, written_in}
 use Rattle.std.specs.Option.{option_or}
 use Rattle.change_files.specs.NamesAfter.{added_paths}
 use Rattle.change_files.specs.PlanLists.{aside_of, kept_of, old_paths, removals_of}
@@ -126,7 +126,7 @@ module _ (change : FileChange) (files : Files) (coming : List PathClaim) (up : N
   some_if true c = refl
   some_if false c = refl
 
-  pub laid_is : (q : List ℕ) → is_some (aside_listing_at change files q) ≡ is_some (find (is_of_path q) (with_fate goes_aside))
+  pub laid_is : (q : List ℕ) → is_some (aside_claim_at change files q) ≡ is_some (find (is_of_path q) (with_fate goes_aside))
   laid_is q = go (added_owner_listing change q) (find (is_of_path q) coming) refl refl (together q) ∙ sym (ap is_some (found_kept (λ c. is_fate goes_aside (claim_fate change c (files c.path))) coming up q))
     where
       go : (a : Option Listing) (b : Option PathClaim) → added_owner_listing change q ≡ a → find (is_of_path q) coming ≡ b → GoTogether a b
@@ -148,7 +148,7 @@ module _ (change : FileChange) (files : Files) (coming : List PathClaim) (up : N
       go (Some l) (Some c) e f h =
           in_test l (fate_of change files l) ∙ (ap (is_fate goes_in) (sym (same_fate change files q l c e h)) ∙ sym (some_if (is_fate goes_in (claim_fate change c (files c.path))) c))
 
-  laid_comes : (q : List ℕ) → is_some (aside_listing_at change files q) ≡ true → is_some (added_owner_listing change q) ≡ true
+  laid_comes : (q : List ℕ) → is_some (aside_claim_at change files q) ≡ true → is_some (added_owner_listing change q) ≡ true
   laid_comes q h = go (added_owner_listing change q) h
     where
       go : (a : Option Listing) → is_some (option_and_then (λ l. if_aside l (fate_of change files l)) a) ≡ true → is_some a ≡ true
@@ -158,15 +158,15 @@ module _ (change : FileChange) (files : Files) (coming : List PathClaim) (up : N
   -- the paths beside which a file is laid
   pub aside_are : paths (with_fate goes_aside) ≡ aside_of change files
   unfolding aside_of
-  aside_are = same_names (λ path. is_some (aside_listing_at change files path)) (paths (with_fate goes_aside)) (added_paths change.members)
+  aside_are = same_names (λ path. is_some (aside_claim_at change files path)) (paths (with_fate goes_aside)) (added_paths change.members)
       (kept_rises (λ c. is_fate goes_aside (claim_fate change c (files c.path))) coming up)
       (λ q here. (let t = laid_is q ∙ is_there (with_fate goes_aside) q here in (in_coming_paths change q (laid_comes q t), t)))
       (λ q here t. there_is (with_fate goes_aside) q (sym (laid_is q) ∙ t))
 
-  pub beside_is : (name : List ℕ) → is_beside (with_fate goes_aside) name ≡ is_some (option_and_then (aside_listing_at change files) (path_beside name))
+  pub beside_is : (name : List ℕ) → is_beside (with_fate goes_aside) name ≡ is_some (option_and_then (aside_claim_at change files) (path_beside name))
   beside_is name = go (path_beside name)
     where
-      go : (p : Option (List ℕ)) → is_some (option_and_then (λ path. find (is_of_path path) (with_fate goes_aside)) p) ≡ is_some (option_and_then (aside_listing_at change files) p)
+      go : (p : Option (List ℕ)) → is_some (option_and_then (λ path. find (is_of_path path) (with_fate goes_aside)) p) ≡ is_some (option_and_then (aside_claim_at change files) p)
       go None = refl
       go (Some q) = sym (laid_is q)
 
@@ -180,20 +180,20 @@ no_claims (l ∷ ls) q h = go (bytes_eq l.path q) (no_claims ls q) h
     go true rest h = absurd (true≢false h)
     go false rest h = rest h
 
-pub left_is : (change : FileChange) (files : Files) (q : List ℕ) (b : Bool) → b ≡ is_some (option_and_then (aside_listing_at change files) (path_beside q))
+pub left_is : (change : FileChange) (files : Files) (q : List ℕ) (b : Bool) → b ≡ is_some (option_and_then (aside_claim_at change files) (path_beside q))
     → (not (is_claimed change q) && not (is_written change files q)) ≡ (not (is_claimed change q) && not b)
 unfolding written_as
 left_is change files q b e = go (is_claimed change q) refl
   where
-    go : (c : Bool) → is_claimed change q ≡ c → (not c && not (is_some (option_or (written_in change files q) (option_and_then (aside_listing_at change files) (path_beside q))))) ≡ (not c && not b)
+    go : (c : Bool) → is_claimed change q ≡ c → (not c && not (is_some (option_or (written_in change files q) (option_and_then (aside_claim_at change files) (path_beside q))))) ≡ (not c && not b)
     go true h = refl
     go false h =
-        ap (λ o. not (is_some (option_or (option_and_then (λ l. if_in l (fate_of change files l)) o) (option_and_then (aside_listing_at change files) (path_beside q))))) (no_owner change q h)
+        ap (λ o. not (is_some (option_or (option_and_then (λ l. if_in l (fate_of change files l)) o) (option_and_then (aside_claim_at change files) (path_beside q))))) (no_owner change q h)
         ∙ ap not (sym e)
 
 module _ (change : FileChange) (files : Files) (before : List PathClaim) (up : Names.Rises (paths before))
     (each : (q : List ℕ) → find (is_of_path q) before ≡ find (is_of_path q) (sorted_by claim_cmp (claims_in (members_of_kept change.old))))
-    (asides : List PathClaim) (beside : (q : List ℕ) → is_beside asides q ≡ is_some (option_and_then (aside_listing_at change files) (path_beside q))) where
+    (asides : List PathClaim) (beside : (q : List ℕ) → is_beside asides q ≡ is_some (option_and_then (aside_claim_at change files) (path_beside q))) where
   pub entries_are : (q : List ℕ) → option_map (claim_entry (members_of_kept change.old)) (find (is_of_path q) before) ≡ old_entry change q
   unfolding old_listings
   entries_are q = ap (option_map (claim_entry (members_of_kept change.old))) (each q ∙ same_found (claims_in (members_of_kept change.old)) q) ∙ old_entry_is change (members_of_kept change.old) refl q
@@ -206,7 +206,7 @@ module _ (change : FileChange) (files : Files) (before : List PathClaim) (up : N
 
   -- by the test of a path that is listed
   pub going_is : (stays : Bool) (q : List ℕ) → is_some (find (is_of_path q) (going stays))
-      ≡ (is_left_over change files q && is_flag stays (may_be_kept change q (files q) (old_entry change q)))
+      ≡ (is_no_longer_listed change files q && is_flag stays (may_be_kept change q (files q) (old_entry change q)))
   going_is stays q =
       ap is_some (found_kept (λ c. is_flag stays (is_file_kept change c (files c.path))) left_over (kept_rises (λ c. is_path_left_over change asides c.path) before up) q)
       ∙ (ap (λ o. is_some (keep_if (λ c. is_flag stays (is_file_kept change c (files c.path))) o)) (found_kept (λ c. is_path_left_over change asides c.path) before up q)
@@ -232,7 +232,7 @@ module _ (change : FileChange) (files : Files) (before : List PathClaim) (up : N
           left : (c : PathClaim) (is : c.path ≡ q) → is_path_left_over change asides c.path ≡ (not (is_claimed change q) && not (is_written change files q))
           left c is = ap (is_path_left_over change asides) is ∙ sym (left_is change files q (is_beside asides q) (beside q))
 
-  old_path : (q : List ℕ) → is_left_over change files q ≡ true → Names.IsIn q (old_paths change)
+  old_path : (q : List ℕ) → is_no_longer_listed change files q ≡ true → Names.IsIn q (old_paths change)
   unfolding old_entry
   old_path q h = listed_in (old_listings change) q (mapped (find (λ l. bytes_eq l.path q) (old_listings change)) (first (was_listed change q) _ h))
     where
@@ -252,12 +252,12 @@ module _ (change : FileChange) (files : Files) (before : List PathClaim) (up : N
   unfolding kept_of is_kept
   kept_are = same_names (is_kept change files) (paths (going true)) (old_paths change)
       (kept_rises (λ c. is_flag true (is_file_kept change c (files c.path))) left_over (kept_rises (λ c. is_path_left_over change asides c.path) before up))
-      (λ q here. (let t = sym (going_is true q) ∙ is_there (going true) q here in (old_path q (front (is_left_over change files q) _ t), t)))
+      (λ q here. (let t = sym (going_is true q) ∙ is_there (going true) q here in (old_path q (front (is_no_longer_listed change files q) _ t), t)))
       (λ q here t. there_is (going true) q (going_is true q ∙ t))
 
   pub removals_are : paths (going false) ≡ removals_of change files
   unfolding removals_of is_removed
   removals_are = same_names (is_removed change files) (paths (going false)) (old_paths change)
       (kept_rises (λ c. is_flag false (is_file_kept change c (files c.path))) left_over (kept_rises (λ c. is_path_left_over change asides c.path) before up))
-      (λ q here. (let t = sym (going_is false q) ∙ is_there (going false) q here in (old_path q (front (is_left_over change files q) _ t), t)))
+      (λ q here. (let t = sym (going_is false q) ∙ is_there (going false) q here in (old_path q (front (is_no_longer_listed change files q) _ t), t)))
       (λ q here t. there_is (going false) q (going_is false q ∙ t))

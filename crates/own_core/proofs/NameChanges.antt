@@ -20,13 +20,13 @@ use Rattle.claim_lists.specs.Once.{HasFirsts}
 use Rattle.file_owners.specs.Owners.{claims_from, claims_in}
 use Rattle.change_files.specs.Fate.{aside_name}
 use Rattle.change_files.specs.FileChange.{old_entry, was_listed}
-use Rattle.change_files.specs.FilesAfter.{database_name, is_kept, is_left_over, aside_listing_at, may_be_kept, path_beside, world_name}
+use Rattle.change_files.specs.FilesAfter.{database_name, is_kept, is_no_longer_listed, aside_claim_at, may_be_kept, path_beside, world_name}
 use Rattle.change_files.specs.NamesAfter.{added_paths, is_released, counts_as_written, name_change}
 use Rattle.own_core.specs.ClaimEntries.{claim_entry, is_added_at, is_added_if_any, is_of_added_owner}
 use Rattle.own_core.specs.Fates.{claim_fate}
 use Rattle.own_core.specs.Found.{said_of}
 use Rattle.own_core.specs.Going.{is_file_kept, is_beside}
-use Rattle.own_core.specs.Parts.{AreParts, asides_of, kept_of_parts, left_over_claims_by}
+use Rattle.own_core.specs.Parts.{AreFilesByFate, asides_of, kept_of_parts, left_over_claims_by}
 use Rattle.own_core.specs.Sides.{HasClaims, claims_after, claims_before, file_change_of}
 use Rattle.own_core.specs.declared.change.Change.{Change}
 use Rattle.own_core.specs.declared.parts.Parts.{Parts}
@@ -131,7 +131,7 @@ all_written change besides =
     (database_name ∷ world_name ∷ []) ++ map (λ c. c.path) (filter (λ c. is_added_at (members_of change.members.now) c.member) (claims_after change)) ++ besides
 
 module _ (change : Change) (claims : HasClaims change) (coming : List PathClaim) (firsts : HasFirsts (filter (is_of_added_owner (members_of change.members.now)) (claims_after change)) coming)
-    (parts : Parts) (history : List TreeState) (are : AreParts change history coming parts) (files : Files)
+    (parts : Parts) (history : List TreeState) (are : AreFilesByFate change history coming parts) (files : Files)
     (fates_are : are.fates ≡ said_of (claim_fate (file_change_of change)) files coming) (stays_are : are.stays ≡ said_of (is_file_kept (file_change_of change)) files (left_over_claims_by change (asides_of parts))) where
   written_is : (name : List ℕ) → list_any (bytes_eq name) (sorted_by bytes_cmp (all_written change (map (λ c. aside_name c.path) (asides_of parts)))) ≡ counts_as_written (file_change_of change) files name
   unfolding counts_as_written
@@ -144,7 +144,7 @@ module _ (change : Change) (claims : HasClaims change) (coming : List PathClaim)
           ≡ list_any (bytes_eq name) (database_name ∷ world_name ∷ added_paths (members_of change.members.now))
       front = ap (λ r. bytes_eq name database_name || (bytes_eq name world_name || r)) (any_coming (members_of change.members.now) (bytes_eq name) (claims_after change) claims.after)
 
-      back : list_any (bytes_eq name) (map (λ c. aside_name c.path) (asides_of parts)) ≡ is_some (option_and_then (aside_listing_at (file_change_of change) files) (path_beside name))
+      back : list_any (bytes_eq name) (map (λ c. aside_name c.path) (asides_of parts)) ≡ is_some (option_and_then (aside_claim_at (file_change_of change) files) (path_beside name))
       back = any_beside name (asides_of parts) ∙ beside_parts change claims coming firsts parts history are files fates_are stays_are name
 
   goes_is : (name : List ℕ) → (is_some (find (is_of_path name) (claims_before change))
@@ -157,7 +157,7 @@ module _ (change : Change) (claims : HasClaims change) (coming : List PathClaim)
       listed = sym (mapped_some (claim_entry (members_of_kept (file_change_of change).old)) (find (is_of_path name) (claims_before change)))
           ∙ ap is_some (entries_are (file_change_of change) files (claims_before change) (before_up change claims coming firsts parts history are files fates_are stays_are) (before_each change claims coming firsts parts history are files fates_are stays_are) (asides_of parts) (beside_parts change claims coming firsts parts history are files fates_are stays_are) name)
 
-      kept : is_some (find (is_of_path name) (kept_of_parts parts)) ≡ (is_left_over (file_change_of change) files name && may_be_kept (file_change_of change) name (files name) (old_entry (file_change_of change) name))
+      kept : is_some (find (is_of_path name) (kept_of_parts parts)) ≡ (is_no_longer_listed (file_change_of change) files name && may_be_kept (file_change_of change) name (files name) (old_entry (file_change_of change) name))
       kept = ap (λ cs. is_some (find (is_of_path name) cs)) (kept_parts change claims coming firsts parts history are files fates_are stays_are)
           ∙ going_is (file_change_of change) files (claims_before change) (before_up change claims coming firsts parts history are files fates_are stays_are) (before_each change claims coming firsts parts history are files fates_are stays_are) (asides_of parts) (beside_parts change claims coming firsts parts history are files fates_are stays_are) true name
 

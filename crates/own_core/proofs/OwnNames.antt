@@ -13,7 +13,7 @@ use Rattle.db_core.specs.Members.{Listing, member_listings, member_of_kept}
 use Rattle.file_guard.specs.AsListed.{is_as_listed}
 use Rattle.change_files.specs.Fate.{agrees_with_old, aside_name, fate_beside, fate_by, fate_of, gives_way, goes_aside, goes_in, is_as_old, is_guarded}
 use Rattle.change_files.specs.FileChange.{FileChange, is_claimed, old_entry, old_listings}
-use Rattle.change_files.specs.FilesAfter.{is_removed, is_written, aside_listing_at, written_as}
+use Rattle.change_files.specs.FilesAfter.{is_removed, is_written, aside_claim_at, written_as}
 use Rattle.change_files.specs.PlanLists.{FileWrite, file_writes_of, first_reserved, removals_of}
 use Rattle.change_files.specs.Touched.{IsWriteOf}
 use Rattle.change_files.proofs.LeftOver.{removed_unreserved}
@@ -67,7 +67,7 @@ aside_free change path entry (Some bytes) e = by_tests (not (is_guarded path) ||
 pub is_short : (change : FileChange) (path : List ℕ) → is_free_beside change path ≡ true → length (aside_name path) ≤ 1024
 is_short change path room = leb-true (length (aside_name path)) 1024 (and_parts (nat_le (length (aside_name path)) 1024) (not (is_claimed change (aside_name path))) room).0
 
-named_beside : (change : FileChange) (files : Files) (l : Listing) → IsName l.path → aside_listing_at change files l.path ≡ Some l → IsName (aside_name l.path)
+named_beside : (change : FileChange) (files : Files) (l : Listing) → IsName l.path → aside_claim_at change files l.path ≡ Some l → IsName (aside_name l.path)
 unfolding fate_of
 named_beside change files l named laid =
     let (comes, aside) = aside_found change files l.path l laid in

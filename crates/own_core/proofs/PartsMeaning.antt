@@ -19,13 +19,13 @@ use Rattle.file_owners.specs.Owners.{claims_in}
 use Rattle.change_files.specs.Fate as Fates
 use Rattle.change_files.specs.Fate.{gives_way, goes_aside, goes_in}
 use Rattle.change_files.specs.FileChange.{FileChange}
-use Rattle.change_files.specs.FilesAfter.{aside_listing_at, path_beside}
+use Rattle.change_files.specs.FilesAfter.{aside_claim_at, path_beside}
 use Rattle.own_core.specs.ClaimEntries.{AreClaimsOf, claim_entry, is_of_added_owner}
 use Rattle.own_core.specs.Fates.{claim_fate, is_fate, is_flag, is_free_beside, marked_claims}
-use Rattle.own_core.specs.Found.{AreByFiles, said_of}
+use Rattle.own_core.specs.Found.{AreAnswersByFiles, said_of}
 use Rattle.own_core.specs.Going.{is_file_kept, is_beside, is_path_left_over}
 use Rattle.own_core.specs.ListsSeen.{AreListsOfParts}
-use Rattle.own_core.specs.Parts.{AreParts, asides_of, ins_of, kept_of_parts, left_over_claims_by, removed_of}
+use Rattle.own_core.specs.Parts.{AreFilesByFate, asides_of, ins_of, kept_of_parts, left_over_claims_by, removed_of}
 use Rattle.own_core.specs.Planned.{ArePlanLists}
 use Rattle.own_core.specs.Sides.{HasClaims, claims_after, claims_before, file_change_of}
 use Rattle.own_core.specs.WritesSeen.{HaveNamesBeside, aside_write, claim_write, write_cmp}
@@ -59,20 +59,20 @@ coming_claims_of change h coming firsts i c g =
 names_marked : {Y : Type 0} (test : Y → Bool) (cs xs : List PathClaim) (ms : List Y) → HaveNames cs → xs ≡ marked_claims test cs ms → HaveNames xs
 names_marked test cs xs ms h e i c g = let f = marked_from test cs ms i c (ap (λ ys. slice_get ys i) (sym e) ∙ g) in h f.0 c f.1
 
-pub ins_named : (change : Change) (history : List TreeState) (coming : List PathClaim) (parts : Parts) → AreClaimsOf (members_of change.members.now) coming → AreParts change history coming parts → HaveNames (ins_of parts)
+pub ins_named : (change : Change) (history : List TreeState) (coming : List PathClaim) (parts : Parts) → AreClaimsOf (members_of change.members.now) coming → AreFilesByFate change history coming parts → HaveNames (ins_of parts)
 ins_named change history coming parts h p = names_marked (is_fate goes_in) coming (ins_of parts) p.fates (λ i c g. (h i c g).name) p.ins
 
 left_named : (change : Change) → HasClaims change → (asides : List PathClaim) → HaveNames (left_over_claims_by change asides)
 left_named change h asides i c g =
     let f = filter_from (λ d. is_path_left_over (file_change_of change) asides d.path) (claims_before change) i c g in (h.old_files f.0 c f.1).name
 
-pub removed_named : (change : Change) (history : List TreeState) (coming : List PathClaim) (parts : Parts) → HasClaims change → AreParts change history coming parts → HaveNames (removed_of parts)
+pub removed_named : (change : Change) (history : List TreeState) (coming : List PathClaim) (parts : Parts) → HasClaims change → AreFilesByFate change history coming parts → HaveNames (removed_of parts)
 removed_named change history coming parts h p = names_marked (is_flag false) (left_over_claims_by change (asides_of parts)) (removed_of parts) p.stays (left_named change h (asides_of parts)) p.removed
 
-pub kept_named : (change : Change) (history : List TreeState) (coming : List PathClaim) (parts : Parts) → HasClaims change → AreParts change history coming parts → HaveNames (kept_of_parts parts)
+pub kept_named : (change : Change) (history : List TreeState) (coming : List PathClaim) (parts : Parts) → HasClaims change → AreFilesByFate change history coming parts → HaveNames (kept_of_parts parts)
 kept_named change history coming parts h p = names_marked (is_flag true) (left_over_claims_by change (asides_of parts)) (kept_of_parts parts) p.stays (left_named change h (asides_of parts)) p.kept
 
-room_of : (change : FileChange) (h : List TreeState) (cs : List PathClaim) (fs : List Fates.Fate) → AreByFiles (claim_fate change) h cs fs
+room_of : (change : FileChange) (h : List TreeState) (cs : List PathClaim) (fs : List Fates.Fate) → AreAnswersByFiles (claim_fate change) h cs fs
     → (i : ℕ) (c : PathClaim) → slice_get (marked_claims (is_fate goes_aside) cs fs) i ≡ Some c → is_free_beside change c.path ≡ true
 room_of change h [] fs are i c g = absurd (no_some c g)
 room_of change h (d ∷ cs) [] are i c g = absurd are
@@ -89,13 +89,13 @@ room_of change h (d ∷ cs) (f ∷ fs) are i c g = go (is_fate goes_aside f) ref
     go true e (suc i) rest k = rest i k
     go false e i rest k = rest i k
 
-pub asides_named : (change : Change) (history : List TreeState) (coming : List PathClaim) (parts : Parts) → AreClaimsOf (members_of change.members.now) coming → AreParts change history coming parts → HaveNamesBeside (asides_of parts)
+pub asides_named : (change : Change) (history : List TreeState) (coming : List PathClaim) (parts : Parts) → AreClaimsOf (members_of change.members.now) coming → AreFilesByFate change history coming parts → HaveNamesBeside (asides_of parts)
 asides_named change history coming parts h p i c g =
     let k = ap (λ ys. slice_get ys i) (sym p.asides) ∙ g in
     let f = marked_from (is_fate goes_aside) coming p.fates i c k in
     record { name = (h f.0 c f.1).name; short = is_short (file_change_of change) c.path (room_of (file_change_of change) history coming p.fates p.fates_found i c k) }
 
-pub kept_sorted : (change : Change) (history : List TreeState) (coming : List PathClaim) (parts : Parts) → HasClaims change → AreParts change history coming parts → IsSorted claim_cmp (kept_of_parts parts)
+pub kept_sorted : (change : Change) (history : List TreeState) (coming : List PathClaim) (parts : Parts) → HasClaims change → AreFilesByFate change history coming parts → IsSorted claim_cmp (kept_of_parts parts)
 kept_sorted change history coming parts h p =
     rising_sorted (kept_of_parts parts)
     (Names.pairs_from_rises (paths (kept_of_parts parts))
@@ -106,7 +106,7 @@ kept_sorted change history coming parts h p =
 -- ---- over files under whose paths the values were found
 
 module _ (change : Change) (claims : HasClaims change) (coming : List PathClaim) (firsts : HasFirsts (filter (is_of_added_owner (members_of change.members.now)) (claims_after change)) coming)
-    (parts : Parts) (history : List TreeState) (are : AreParts change history coming parts) (files : Files)
+    (parts : Parts) (history : List TreeState) (are : AreFilesByFate change history coming parts) (files : Files)
     (fates_are : are.fates ≡ said_of (claim_fate (file_change_of change)) files coming) (stays_are : are.stays ≡ said_of (is_file_kept (file_change_of change)) files (left_over_claims_by change (asides_of parts))) where
   pub up : Names.Rises (paths coming)
   up = Names.rises_from_pairs (paths coming) firsts.rising
@@ -123,7 +123,7 @@ module _ (change : Change) (claims : HasClaims change) (coming : List PathClaim)
   pub ins_are : ins_of parts ≡ with_fate (file_change_of change) files coming up each goes_in
   ins_are = by_fate goes_in (ins_of parts) are.ins
 
-  pub beside_parts : (q : List ℕ) → is_beside (asides_of parts) q ≡ is_some (option_and_then (aside_listing_at (file_change_of change) files) (path_beside q))
+  pub beside_parts : (q : List ℕ) → is_beside (asides_of parts) q ≡ is_some (option_and_then (aside_claim_at (file_change_of change) files) (path_beside q))
   beside_parts q = ap (λ cs. is_beside cs q) asides_are ∙ beside_is (file_change_of change) files coming up each q
 
   pub before_up : Names.Rises (paths (claims_before change))

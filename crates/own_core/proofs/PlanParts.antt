@@ -30,7 +30,7 @@ use Rattle.change_files.specs.NamesAfter.{name_change}
 use Rattle.own_core.specs.ClaimEntries.{AreClaimsOf, is_added_at, is_of_added_owner}
 use Rattle.own_core.specs.Fates.{claim_fate}
 use Rattle.own_core.specs.Going.{is_file_kept}
-use Rattle.own_core.specs.Parts.{AreParts, asides_of, kept_of_parts, left_over_claims_by}
+use Rattle.own_core.specs.Parts.{AreFilesByFate, asides_of, kept_of_parts, left_over_claims_by}
 use Rattle.own_core.specs.NamesChanged.{is_released_by, names_changed_by, names_written_by}
 use Rattle.own_core.specs.Sides.{HasClaims, claims_after, claims_before, file_change_of}
 use Rattle.own_core.specs.WritesSeen.{HaveNamesBeside}
@@ -90,7 +90,7 @@ written_named change claims asides beside xs e =
 -- ---- the clash that is told
 
 pub clash_is : (change : Change) → HasClaims change → (coming : List PathClaim) → HasFirsts (filter (is_of_added_owner (members_of change.members.now)) (claims_after change)) coming
-    → (parts : Parts) (h : List TreeState) → AreParts change h coming parts → (counts lets : List ℕ → Bool)
+    → (parts : Parts) (h : List TreeState) → AreFilesByFate change h coming parts → (counts lets : List ℕ → Bool)
     → ((name : List ℕ) → counts name ≡ list_any (bytes_eq name) (sorted_by bytes_cmp (all_written change (map (λ c. aside_name c.path) (asides_of parts)))))
     → ((name : List ℕ) → lets name ≡ (is_some (find (is_of_path name) (claims_before change)) && not (is_some (find (is_of_path name) (claims_after change)) || is_some (find (is_of_path name) (kept_of_parts parts)))))
     → (r : Result (Option Clash) TreeFault)

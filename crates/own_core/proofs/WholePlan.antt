@@ -28,7 +28,7 @@ use Rattle.own_core.specs.ClaimEntries.{AreClaimsOf, is_of_added_owner}
 use Rattle.own_core.specs.Fates.{claim_fate}
 use Rattle.own_core.specs.Going.{is_file_kept, is_beside, is_path_left_over}
 use Rattle.own_core.specs.ListsSeen.{AreListsOfParts}
-use Rattle.own_core.specs.Parts.{AreParts, asides_of, left_over_claims_by}
+use Rattle.own_core.specs.Parts.{AreFilesByFate, asides_of, left_over_claims_by}
 use Rattle.own_core.specs.NamesChanged.{names_changed_by}
 use Rattle.own_core.specs.Planned.{IsClashBySome, IsOwnedBy, IsPlanOf, MayBeRefusalOf}
 use Rattle.own_core.specs.Sides.{HasClaims, claims_after, claims_before, file_change_of}
@@ -87,7 +87,7 @@ left_unlisted change asides q here =
 -- ---- the plan
 
 module _ (change : Change) (claims : HasClaims change) (coming : List PathClaim) (firsts : HasFirsts (filter (is_of_added_owner (members_of change.members.now)) (claims_after change)) coming)
-    (parts : Parts) (h : List TreeState) (are : AreParts change h coming parts) where
+    (parts : Parts) (h : List TreeState) (are : AreFilesByFate change h coming parts) where
   over_files : AreFilesFound (claim_fate (file_change_of change)) (is_file_kept (file_change_of change)) h coming (left_over_claims_by change (asides_of parts)) are.fates are.stays
   over_files = files_found (claim_fate (file_change_of change)) (is_file_kept (file_change_of change)) h coming (left_over_claims_by change (asides_of parts)) are.fates are.stays
       (Names.rises_from_pairs (paths coming) firsts.rising)

@@ -22,7 +22,7 @@ use Rattle.change_files.specs.Fate as Fates
 use Rattle.change_files.specs.Fate.{agrees_with_old, aside_name, fate_by, fate_of, goes_aside, goes_in, gives_way, is_as_old, is_guarded}
 use Rattle.file_guard.specs.AsListed.{is_as_listed}
 use Rattle.change_files.specs.FileChange.{FileChange, added_owner_listing, is_claimed, old_entry}
-use Rattle.change_files.specs.FilesAfter.{if_aside, if_in, aside_listing_at, path_beside, written_as, written_in}
+use Rattle.change_files.specs.FilesAfter.{if_aside, if_in, aside_claim_at, path_beside, written_as, written_in}
 use Rattle.std.specs.Option.{option_or}
 use Rattle.base_core.proofs.Orderings.{is_less}
 use Rattle.base_core.proofs.Listed.{in_both}
@@ -265,16 +265,16 @@ module _ (change : FileChange) (files : Files) (coming : List PathClaim) (up : N
   in_as_written c h = go (added_owner_listing change c.path) refl (owner_claim c h.0)
     where
       go : (a : Option Listing) → added_owner_listing change c.path ≡ a → GoTogether a (Some c)
-          → option_map (write_to c.path) (option_or (option_and_then (λ l. if_in l (fate_of change files l)) a) (option_and_then (aside_listing_at change files) (path_beside c.path))) ≡ Some (claim_write c)
+          → option_map (write_to c.path) (option_or (option_and_then (λ l. if_in l (fate_of change files l)) a) (option_and_then (aside_claim_at change files) (path_beside c.path))) ≡ Some (claim_write c)
       go None e k = absurd k
       go (Some l) e k =
-          ap (λ f. option_map (write_to c.path) (option_or (if_in l f) (option_and_then (aside_listing_at change files) (path_beside c.path)))) (sym (same_fate change files c.path l c e k) ∙ is_in (claim_fate change c (files c.path)) h.1)
+          ap (λ f. option_map (write_to c.path) (option_or (if_in l f) (option_and_then (aside_claim_at change files) (path_beside c.path)))) (sym (same_fate change files c.path l c e k) ∙ is_in (claim_fate change c (files c.path)) h.1)
           ∙ ap Some (same_write c.path l c k)
 
   aside_as_written : (c : PathClaim) → (find (is_of_path c.path) coming ≡ Some c) × (is_fate goes_aside (claim_fate change c (files c.path)) ≡ true) → as_written (aside_name c.path) ≡ Some (aside_write c)
   unfolding written_as
   aside_as_written c h =
-      (λ j. option_map (write_to (aside_name c.path)) (option_or (option_and_then (λ l. if_in l (fate_of change files l)) (no_owner change (aside_name c.path) (free_beside change files c h.1) j)) (option_and_then (aside_listing_at change files) (front_of c.path j))))
+      (λ j. option_map (write_to (aside_name c.path)) (option_or (option_and_then (λ l. if_in l (fate_of change files l)) (no_owner change (aside_name c.path) (free_beside change files c h.1) j)) (option_and_then (aside_claim_at change files) (front_of c.path j))))
       ∙ go (added_owner_listing change c.path) refl (owner_claim c h.0)
     where
       go : (a : Option Listing) → added_owner_listing change c.path ≡ a → GoTogether a (Some c)
@@ -371,21 +371,21 @@ module _ (change : FileChange) (files : Files) (coming : List PathClaim) (up : N
   unfolding written_as
   back q here t = in_write_names q (by_in (is_some (written_in change files q)) refl)
     where
-      w : is_some (option_or (written_in change files q) (option_and_then (aside_listing_at change files) (path_beside q))) ≡ true
-      w = sym (mapped_some q (option_or (written_in change files q) (option_and_then (aside_listing_at change files) (path_beside q)))) ∙ t
+      w : is_some (option_or (written_in change files q) (option_and_then (aside_claim_at change files) (path_beside q))) ≡ true
+      w = sym (mapped_some q (option_or (written_in change files q) (option_and_then (aside_claim_at change files) (path_beside q)))) ∙ t
 
       skip : (a b : Option Listing) → is_some a ≡ false → is_some (option_or a b) ≡ true → is_some b ≡ true
       skip None b e h = h
       skip (Some l) b e h = absurd (true≢false e)
 
-      by_front : (p : Option (List ℕ)) → path_beside q ≡ p → is_some (option_and_then (aside_listing_at change files) p) ≡ true → Names.IsIn q (map aside_name (paths asides))
+      by_front : (p : Option (List ℕ)) → path_beside q ≡ p → is_some (option_and_then (aside_claim_at change files) p) ≡ true → Names.IsIn q (map aside_name (paths asides))
       by_front None e h = absurd (true≢false (sym h))
       by_front (Some p) e h =
           subst (λ z. Names.IsIn z (map aside_name (paths asides))) (sym (found_front q p e)) (aside_in p (paths asides) (there_is asides p (sym (laid_is change files coming up each p) ∙ h)))
 
       by_in : (b : Bool) → is_some (written_in change files q) ≡ b → Names.IsIn q (paths ins) ⊎ Names.IsIn q (map aside_name (paths asides))
       by_in true e = inl (there_is ins q (sym (in_is change files coming up each q) ∙ e))
-      by_in false e = inr (by_front (path_beside q) refl (skip (written_in change files q) (option_and_then (aside_listing_at change files) (path_beside q)) e w))
+      by_in false e = inr (by_front (path_beside q) refl (skip (written_in change files q) (option_and_then (aside_claim_at change files) (path_beside q)) e w))
 
   pub writes_are : sorted_by write_cmp all_writes ≡ file_writes_of change files
   unfolding file_writes_of

@@ -16,12 +16,12 @@ pub record IsByFile {Y : Type 0} (said : PathClaim → Option (List ℕ) → Y) 
   pub is : y ≡ said c found
 
 -- each value is what `said` says of its claim and of what is found under the claim's path
-abbrev pub AreByFiles :
+abbrev pub AreAnswersByFiles :
     {Y : Type 0} → (PathClaim → Option (List ℕ) → Y) → List TreeState → List PathClaim → List Y → Type 0
-AreByFiles said history [] [] = Unit {0}
-AreByFiles said history [] (y ∷ ys) = ⊥
-AreByFiles said history (c ∷ cs) [] = ⊥
-AreByFiles said history (c ∷ cs) (y ∷ ys) = IsByFile said history c y × AreByFiles said history cs ys
+AreAnswersByFiles said history [] [] = Unit {0}
+AreAnswersByFiles said history [] (y ∷ ys) = ⊥
+AreAnswersByFiles said history (c ∷ cs) [] = ⊥
+AreAnswersByFiles said history (c ∷ cs) (y ∷ ys) = IsByFile said history c y × AreAnswersByFiles said history cs ys
 
 -- what `said` says of some claims, given known files
 abbrev pub said_of : {Y : Type 0} → (PathClaim → Option (List ℕ) → Y) → Files → List PathClaim → List Y

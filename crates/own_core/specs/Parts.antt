@@ -9,7 +9,7 @@ use Rattle.path_claims.specs.Seen.{claim_seen}
 use Rattle.change_files.specs.Fate as Fates
 use Rattle.change_files.specs.Fate.{goes_aside, goes_in}
 use Rattle.own_core.specs.Fates.{claim_fate, is_fate, is_flag, marked_claims}
-use Rattle.own_core.specs.Found.{AreByFiles}
+use Rattle.own_core.specs.Found.{AreAnswersByFiles}
 use Rattle.own_core.specs.Going.{is_file_kept, is_path_left_over}
 use Rattle.own_core.specs.Sides.{claims_before, file_change_of}
 use Rattle.own_core.specs.declared.change.Change.{Change}
@@ -38,12 +38,12 @@ left_over_claims_by change asides =
 
 -- The files of a change are divided. Of the added files some go in and some are laid beside. Of those
 -- that are left over some are removed and some are kept.
-pub record AreParts (change : Change) (history : List TreeState) (coming : List PathClaim)
+pub record AreFilesByFate (change : Change) (history : List TreeState) (coming : List PathClaim)
     (parts : Parts) : Type 0 where
   pub fates : List Fates.Fate
   pub stays : List Bool
-  pub fates_found : AreByFiles (claim_fate (file_change_of change)) history coming fates
-  pub stays_found : AreByFiles (is_file_kept (file_change_of change)) history
+  pub fates_found : AreAnswersByFiles (claim_fate (file_change_of change)) history coming fates
+  pub stays_found : AreAnswersByFiles (is_file_kept (file_change_of change)) history
       (left_over_claims_by change (asides_of parts)) stays
   pub ins : ins_of parts ≡ marked_claims (is_fate goes_in) coming fates
   pub asides : asides_of parts ≡ marked_claims (is_fate goes_aside) coming fates

@@ -13,7 +13,7 @@ ghost use Rattle.file_guard.specs.Listed.{IsOfEntry};
 ghost use Rattle.path_claims.specs.Seen.{claim_seen};
 ghost use Rattle.own_core.specs.ClaimEntries.{AreClaimsOf, IsClaimOf};
 ghost use Rattle.own_core.specs.Fates.{IsOfEntryIfAny, claim_fate, fate_seen, is_free_beside};
-ghost use Rattle.own_core.specs.Found.{AreByFiles, IsByFile};
+ghost use Rattle.own_core.specs.Found.{AreAnswersByFiles, IsByFile};
 ghost use Rattle.own_core.specs.Sides.{HasClaims, file_change_of};
 
 use crate::change::Change;
@@ -179,7 +179,7 @@ pub(crate) fn fates_of<T: Tree>(
 ) -> Result<Vec<Fate>, TreeFault>
     requires claims { HasClaims change.now }
     requires files { AreClaimsOf (members_of change.now.members.now) (map claim_seen coming.now) }
-    ensures fates { IfOk result (λ fates. AreByFiles (claim_fate (file_change_of change.now))
+    ensures fates { IfOk result (λ fates. AreAnswersByFiles (claim_fate (file_change_of change.now))
         (T.history tree.old) (map claim_seen coming.now) (map fate_seen fates.items)) }
     ensures tree { OnlyReads TreeFault.Disk (T.history tree.old) (T.history tree.new)
         (T.counts tree.old) (T.counts tree.new) result }

@@ -14,9 +14,9 @@ ghost use Rattle.path_claims.specs.Claims.{claim_cmp};
 ghost use Rattle.path_claims.specs.Seen.{claim_seen};
 ghost use Rattle.own_core.specs.ClaimEntries.{AreClaimsOf, IsClaimOf};
 ghost use Rattle.own_core.specs.Fates.{fate_seen, is_fate, is_flag, marked_claims};
-ghost use Rattle.own_core.specs.Found.{AreByFiles, IsByFile};
+ghost use Rattle.own_core.specs.Found.{AreAnswersByFiles, IsByFile};
 ghost use Rattle.own_core.specs.Going.{is_file_kept, is_beside, is_path_left_over};
-ghost use Rattle.own_core.specs.Parts.{AreParts};
+ghost use Rattle.own_core.specs.Parts.{AreFilesByFate};
 ghost use Rattle.own_core.specs.Sides.{HasClaims, claims_before, file_change_of};
 
 use crate::change::Change;
@@ -161,7 +161,8 @@ fn stays_of<T: Tree>(
 ) -> Result<Vec<bool>, TreeFault>
     requires { AreClaimsOf (members_of_kept (packages_of change.now.db.now))
         (map claim_seen left.now) }
-    ensures stays { IfOk result (λ stays. AreByFiles (is_file_kept (file_change_of change.now))
+    ensures stays { IfOk result (λ stays. AreAnswersByFiles
+        (is_file_kept (file_change_of change.now))
         (T.history tree.old) (map claim_seen left.now) stays.items) }
     ensures tree { OnlyReads TreeFault.Disk (T.history tree.old) (T.history tree.new)
         (T.counts tree.old) (T.counts tree.new) result }
@@ -226,7 +227,7 @@ pub fn parts_of<'o, 'n, T: Tree>(
     requires files { AreClaimsOf (members_of change.now.members.now) (map claim_seen coming.now) }
     requires rising { IsRising (map (λ c. c.path) (map claim_seen coming.now)) }
     ensures parts { IfOk result
-        (AreParts change.now (T.history tree.old) (map claim_seen coming.now)) }
+        (AreFilesByFate change.now (T.history tree.old) (map claim_seen coming.now)) }
     ensures tree { OnlyReads TreeFault.Disk (T.history tree.old) (T.history tree.new)
         (T.counts tree.old) (T.counts tree.new) result }
 {

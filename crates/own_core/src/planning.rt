@@ -23,7 +23,7 @@ ghost use Rattle.path_clashes.specs.ClashSeen.{clash_seen};
 ghost use Rattle.path_clashes.specs.FirstClash.{IsClashOf, MayBeClashOf};
 ghost use Rattle.own_core.specs.ClaimEntries.{AreClaimsOf, IsClaimOf, is_of_added_owner, is_added_and_reserved};
 ghost use Rattle.own_core.specs.ListsSeen.{AreListsOfParts};
-ghost use Rattle.own_core.specs.Parts.{AreParts, asides_of, ins_of, kept_of_parts, removed_of};
+ghost use Rattle.own_core.specs.Parts.{AreFilesByFate, asides_of, ins_of, kept_of_parts, removed_of};
 ghost use Rattle.own_core.specs.NamesChanged.{names_changed_by};
 ghost use Rattle.own_core.specs.Planned.{HasOwnNames, HasSources, IsOwnedBy, IsPlanFor, IsPlanOf, IsRefusalFor, IsRefusalOf, MayBeRefusalOf, change_by, member_name_at};
 ghost use Rattle.own_core.specs.Sides.{HasClaims, claims_after, file_change_of};
@@ -110,7 +110,7 @@ fn clash_of<T: Tree>(
     requires firsts { HasFirsts
         (filter (is_of_added_owner (members_of change.now.members.now)) (claims_after change.now))
         (map claim_seen coming.now) }
-    requires parts { AreParts change.now (T.history tree.old) (map claim_seen coming.now)
+    requires parts { AreFilesByFate change.now (T.history tree.old) (map claim_seen coming.now)
         parts.now }
     // If the tree's files are observable, the answer is the first clash.
     ensures clash { IfOk result (λ found. IfObservable (T.history tree.old) (λ v. IsClashOf

@@ -10,7 +10,7 @@ use Rattle.std.proofs.lemmas.List.Sorted.{IsPermutation-append_right, IsPermutat
 use Rattle.std.proofs.lemmas.List.Sums.{suffix_len_is}
 use Rattle.std.proofs.lemmas.Map.Text.{is_eq-slice_cmp}
 use Rattle.std.proofs.lemmas.Slice.Eq.{bytes_eq-Decides}
-use Rattle.package_files.specs.Folders.{FolderListing, before_slashes, folder_names, folder_of, folders_of, folders_above, is_slash, listing_of, names_in_folder, path_below, with_folder, with_folder_by, with_folders}
+use Rattle.package_files.specs.Folders.{FolderListing, before_slashes, all_folders_above, folder_of, folders_of, folders_above, is_slash, listing_of, names_in_folder, path_below, with_folder, with_folder_by, with_folders}
 use Rattle.package_files.proofs.FolderLemmas.{cmp, placed_sorted, turned}
 use Rattle.package_files.proofs.PlaceLemmas.{differs}
 
@@ -131,13 +131,13 @@ none_sorted = tt
 
 -- ---- the folders of paths
 
-pub rising : (paths : List (List ℕ)) → IsStrictlySortedBy cmp (folder_names paths)
+pub rising : (paths : List (List ℕ)) → IsStrictlySortedBy cmp (all_folders_above paths)
 rising paths = all_sorted [] (flat_map folders_above paths) none_sorted
 
-pub folder_there : (paths : List (List ℕ)) (path folder : List ℕ) → Contains paths path → Contains (folders_above path) folder → Contains (folder_names paths) folder
+pub folder_there : (paths : List (List ℕ)) (path folder : List ℕ) → Contains paths path → Contains (folders_above path) folder → Contains (all_folders_above paths) folder
 folder_there paths path folder h g = all_there [] (flat_map folders_above paths) folder (inr (in_flat folders_above path folder paths h g))
 
-pub folder_over : (paths : List (List ℕ)) (folder : List ℕ) → Contains (folder_names paths) folder → Any (λ path. Contains (folders_above path) folder) paths
+pub folder_over : (paths : List (List ℕ)) (folder : List ℕ) → Contains (all_folders_above paths) folder → Any (λ path. Contains (folders_above path) folder) paths
 folder_over paths folder h =
     ⊎_elim (λ g. absurd (none_in folder g)) (from_flat folders_above folder paths) (all_from [] (flat_map folders_above paths) folder h)
 
@@ -264,8 +264,8 @@ unfolding folders_of
 each_in_one dir names =
     let paths = map (path_below dir) names in
     let key : List ℕ → List ℕ = λ n. folder_of (path_below dir n) in
-    subst (IsPermutation names) (sym (files_in dir names (folder_names paths)))
-    (parted key names (folder_names paths) (rising paths)
+    subst (IsPermutation names) (sym (files_in dir names (all_folders_above paths)))
+    (parted key names (all_folders_above paths) (rising paths)
     (λ n t. folder_there paths (path_below dir n) (key n) (mapped (path_below dir) n names t) (in_folder (path_below dir n))))
 
 names_are : (dir : List ℕ) (names ks : List (List ℕ)) → map (λ (f : FolderListing). f.name) (map (listing_of dir names) ks) ≡ ks
@@ -275,4 +275,4 @@ names_are dir names (k ∷ ks) = ap (λ l. k ∷ l) (names_are dir names ks)
 pub folders_rise : (dir : List ℕ) (names : List (List ℕ)) → IsStrictlySortedBy cmp (map (λ (f : FolderListing). f.name) (folders_of dir names))
 unfolding folders_of
 folders_rise dir names =
-    subst (IsStrictlySortedBy cmp) (sym (names_are dir names (folder_names (map (path_below dir) names)))) (rising (map (path_below dir) names))
+    subst (IsStrictlySortedBy cmp) (sym (names_are dir names (all_folders_above (map (path_below dir) names)))) (rising (map (path_below dir) names))

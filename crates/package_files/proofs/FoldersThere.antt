@@ -11,7 +11,7 @@ use Rattle.std.proofs.lemmas.List.Concat.{flat_map-append}
 use Rattle.std.proofs.lemmas.Option.{get_or_from_slice_get, slice_get_within}
 use Rattle.std.proofs.lemmas.Slice.Eq.{bytes_eq-Decides}
 use borrow.Author.Tests.{eq-eqb}
-use Rattle.package_files.specs.Folders.{before_slashes, folder_names, folder_of, folders_above, is_slash, path_below, with_byte, with_folder, with_folders}
+use Rattle.package_files.specs.Folders.{all_folders_above, before_slashes, folder_of, folders_above, is_slash, path_below, with_byte, with_folder, with_folders}
 use Rattle.package_files.specs.BorrowedNames.{IsIndexOf}
 use Rattle.package_files.proofs.FolderLemmas.{all_placed_append, cmp, placed_as, turned}
 use Rattle.package_files.proofs.PlaceLemmas.{Tri, tri}
@@ -149,7 +149,7 @@ over_both path other z h g = by (either z [] (before_slashes path) g)
     by (inr t) = own (own_or_over path z t)
 
 -- where the folder of a path is a folder of the package, so is each folder over the path
-all_over_there : (paths : List (List ℕ)) (path z : List ℕ) → Contains (folder_names paths) (folder_of path) → Contains (folders_above path) z → Contains (folder_names paths) z
+all_over_there : (paths : List (List ℕ)) (path z : List ℕ) → Contains (all_folders_above paths) (folder_of path) → Contains (folders_above path) z → Contains (all_folders_above paths) z
 all_over_there paths path z h g =
     let (k, other, l, e, t) = folder_over paths (folder_of path) h in
     folder_there paths other z (k, l, e) (over_both path other z t g)
@@ -163,7 +163,7 @@ found_there folders folder (Some at) h e =
     (at, h.0, get_or_default folders at folder [] h.0 ∙ sym same)
 
 abbrev names_upto : List ℕ → List (List ℕ) → ℕ → List (List ℕ)
-names_upto dir names i = folder_names (map (path_below dir) (take i names))
+names_upto dir names i = all_folders_above (map (path_below dir) (take i names))
 
 next_names : (dir : List ℕ) (names : List (List ℕ)) (i : ℕ) (name : List ℕ) → slice_get names i ≡ Some name
     → names_upto dir names (i + 1) ≡ with_folders (names_upto dir names i) (folders_above (path_below dir name))
@@ -172,10 +172,10 @@ next_names dir names i name at =
     let more : map (path_below dir) (take (i + 1) names) ≡ paths ++ path_below dir name ∷ [] =
     map_more (path_below dir) names i [] (slice_get_within names i name at)
     ∙ ap (λ n. paths ++ path_below dir n ∷ []) (get_or_from_slice_get names i name [] at) in
-    ap folder_names more
+    ap all_folders_above more
     ∙ ap (with_folders []) (flat_map-append folders_above paths (path_below dir name ∷ []))
     ∙ all_placed_append [] (flat_map folders_above paths) (folders_above (path_below dir name) ++ [])
-    ∙ ap (with_folders (folder_names paths)) (append-nil (folders_above (path_below dir name)))
+    ∙ ap (with_folders (all_folders_above paths)) (append-nil (folders_above (path_below dir name)))
 
 pub added_next : (dir : List ℕ) (names before later : List (List ℕ)) (i : ℕ) (name path : List ℕ) → slice_get names i ≡ Some name → path ≡ path_below dir name
     → before ≡ names_upto dir names i → later ≡ with_folders before (folders_above path) → later ≡ names_upto dir names (i + 1)
@@ -188,8 +188,8 @@ pub kept_next : (dir : List ℕ) (names before later : List (List ℕ)) (i : ℕ
 kept_next dir names before later i name path folder o at is so_far own index some same =
     let paths = map (path_below dir) (take i names) in
     let found : Contains before folder = found_there before folder o index some in
-    let in_names : Contains (folder_names paths) folder = subst (λ l. Contains l folder) so_far found in
-    let of_path : Contains (folder_names paths) (folder_of (path_below dir name)) = subst (Contains (folder_names paths)) (own ∙ ap folder_of is) in_names in
+    let in_names : Contains (all_folders_above paths) folder = subst (λ l. Contains l folder) so_far found in
+    let of_path : Contains (all_folders_above paths) (folder_of (path_below dir name)) = subst (Contains (all_folders_above paths)) (own ∙ ap folder_of is) in_names in
     same ∙ so_far
-    ∙ sym (folders_kept (folder_names paths) (folders_above (path_below dir name)) (rising paths) (λ z t. all_over_there paths (path_below dir name) z of_path t))
+    ∙ sym (folders_kept (all_folders_above paths) (folders_above (path_below dir name)) (rising paths) (λ z t. all_over_there paths (path_below dir name) z of_path t))
     ∙ sym (next_names dir names i name at)

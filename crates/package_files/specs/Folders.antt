@@ -74,8 +74,8 @@ path_below folder name = drop (length folder + 1) name
 
 -- the names of a package's folders, given the paths of its files: the root and each folder that
 -- contains a path at any depth, in byte order; no folder if there is no path
-abbrev pub folder_names : List (List ℕ) → List (List ℕ)
-folder_names paths = sorted_names (flat_map folders_above paths)
+abbrev pub all_folders_above : List (List ℕ) → List (List ℕ)
+all_folders_above paths = sorted_names (flat_map folders_above paths)
 
 -- the names listed below `dir` of the tree whose paths are in a folder of the package, in the listed
 -- order
@@ -89,4 +89,4 @@ listing_of dir names folder = record { name = folder; files = names_in_folder di
 
 -- the folders of a package, by the names that are listed below a folder of the tree
 unfoldable pub folders_of : List ℕ → List (List ℕ) → List FolderListing
-folders_of dir names = map (listing_of dir names) (folder_names (map (path_below dir) names))
+folders_of dir names = map (listing_of dir names) (all_folders_above (map (path_below dir) names))

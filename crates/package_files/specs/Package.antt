@@ -5,7 +5,7 @@
 use Rattle.std.specs.Prelude.{ℕ, ◌+◌, ◌*◌, ◌^◌, ◌==◌, nat_lt, Bool, not, ◌&&◌, if◌then◌else◌, List, [], ◌∷◌, ◌++◌, length, take, drop, map, codes, bytes_eq, sum_by, Option}
 use Rattle.std.specs.Str.{is_utf8}
 use Rattle.sha2.specs.Sha256.{sha256}
-use Rattle.adb_view.specs.Plain.{Plain, Plains, null, int, none, more, blob_value, arr_value, obj_value}
+use Rattle.adb_view.specs.Plain.{Plain, Plains, null, int, none, more, blob_or_null, arr_value, obj_value}
 use Rattle.pkg_core.specs.Contents.{Contents}
 use Rattle.command_core.specs.Values.{script_types}
 use Rattle.make_info.specs.Values.{number_value, plains_of_list, size_value}
@@ -69,7 +69,7 @@ target_of_kind (Regular size hash) = []
 abbrev pub access_value : ℕ → Plain
 access_value mode =
     obj_value
-    (more (int mode) (more (blob_value (codes "root")) (more (blob_value (codes "root")) none)))
+    (more (int mode) (more (blob_or_null (codes "root")) (more (blob_or_null (codes "root")) none)))
 
 -- the mode that `mkpkg` gives a file: octal 644, by its digits (all may read, and root may write);
 -- it is 420
@@ -84,9 +84,9 @@ FOLDER_MODE = 7 * 8 ^ 2 + 5 * 8 + 5
 -- the fields of a file's entry: name, access list, size, time (which is left out), hash and target
 abbrev pub file_fields : List ℕ → FileKind → Plains
 file_fields name kind =
-    more (blob_value name) (more (access_value FILE_MODE) (more (size_value (size_of_kind kind))
-    (more null (more (blob_value (hash_of_kind kind))
-    (more (blob_value (target_of_kind kind)) none)))))
+    more (blob_or_null name) (more (access_value FILE_MODE) (more (size_value (size_of_kind kind))
+    (more null (more (blob_or_null (hash_of_kind kind))
+    (more (blob_or_null (target_of_kind kind)) none)))))
 
 -- the entry of a file, given what it is
 abbrev pub value_of_kind : List ℕ → FileKind → Plain
@@ -99,7 +99,7 @@ value_of_file file = value_of_kind file.name (kind_of_file file.bytes)
 -- the fields of a folder's entry: name, access list and files
 abbrev pub folder_fields : List ℕ → List Plain → Plains
 folder_fields name files =
-    more (blob_value name) (more (access_value FOLDER_MODE)
+    more (blob_or_null name) (more (access_value FOLDER_MODE)
     (more (arr_value (plains_of_list files)) none))
 
 -- the entry of a folder, with the entries of its files
@@ -130,7 +130,7 @@ script_in (script ∷ scripts) field =
 -- the fields of a package's scripts, in the order of their table; a type without script is Null
 abbrev pub script_fields : List Script → Plains
 script_fields scripts =
-    plains_of_list (map (λ field. blob_value (script_in scripts field)) script_types)
+    plains_of_list (map (λ field. blob_or_null (script_in scripts field)) script_types)
 
 -- the scripts of a package as an object; Null if the package has no script at all
 abbrev pub value_of_scripts : List Script → Plain
@@ -142,7 +142,7 @@ value_of_scripts scripts = obj_value (script_fields scripts)
 abbrev pub package_fields : Plain → List Plain → List Script → List (List ℕ) → Option ℕ → Plains
 package_fields info paths scripts triggers priority =
     more info (more (arr_value (plains_of_list paths)) (more (value_of_scripts scripts)
-    (more (arr_value (plains_of_list (map blob_value triggers))) (more (number_value priority) none))))
+    (more (arr_value (plains_of_list (map blob_or_null triggers))) (more (number_value priority) none))))
 
 -- the value of a package, by its parts
 abbrev pub package_with : Plain → List Plain → List Script → List (List ℕ) → Option ℕ → Plain

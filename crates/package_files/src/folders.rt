@@ -3,7 +3,7 @@
 //! the root and each folder that holds a file at any depth, in byte order".
 ghost use Rattle.std.specs.Prelude.{◌≡◌, ◌<◌, ◌≤◌, ◌+◌, ◌-◌, not, [], length, drop, map, replicate, slice_get, OnOk, IfOk};
 ghost use Rattle.std.specs.List.{suffix_len};
-ghost use Rattle.package_files.specs.Folders.{is_slash, folder_of, last_part_of, folders_above, with_folders, with_folder, path_below, folder_names, names_in_folder};
+ghost use Rattle.package_files.specs.Folders.{is_slash, folder_of, last_part_of, folders_above, with_folders, with_folder, path_below, all_folders_above, names_in_folder};
 ghost use Rattle.package_files.specs.BorrowedNames.{IsIndexOf, names_borrowed};
 
 use base_core::{Name, Names};
@@ -91,12 +91,13 @@ impl<'a> FolderNames<'a> {
 
 /// The folders of a package, given the names that are listed below a folder of the tree. If the
 /// folder of a path is there, so are all above the path: they are not searched for again.
-pub(crate) fn folder_names<'a>(
+pub(crate) fn all_folders_above<'a>(
     alloc: Global,
     dir: &[u8],
     names: &'a Names,
 ) -> Result<FolderNames<'a>, AllocError>
-    ensures { IfOk result (λ folders. folders ≡ folder_names (map (path_below dir.now) names.now)) }
+    ensures { IfOk result
+        (λ folders. folders ≡ all_folders_above (map (path_below dir.now) names.now)) }
 {
     let mut folders = FolderNames::new(alloc);
     for i in 0..names.len() {

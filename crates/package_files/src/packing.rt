@@ -18,7 +18,7 @@ ghost use Rattle.std.specs.Option.{option_map};
 ghost use Rattle.std.specs.Prelude.{◌≡◌, ◌++◌, ◌≤◌, ◌-◌, length, take, drop, replicate, OnOk, IfOk, IfSome, [], ◌∷◌, ℕ, map, true, false};
 
 use crate::file::{File, FileKind, Folder, Packing};
-use crate::folders::{FolderNames, folder_names, last_part_of, names_in_folders};
+use crate::folders::{FolderNames, all_folders_above, last_part_of, names_in_folders};
 use adb_block::{BlockKind, block_head};
 use base_core::{Name, Names, Tree, TreeFault, append_file_to, read_all};
 use make_info::MakeFault;
@@ -101,7 +101,7 @@ pub fn pack_names<'a, T: Tree>(
         IsAnswer IsPacking result (source_folders_from place read n
         (folders_of dir.now names.now))) }
 {
-    let folders = folder_names(alloc, dir, names)?;
+    let folders = all_folders_above(alloc, dir, names)?;
     let files = names_in_folders(alloc, dir, names, &folders)?;
     let packing = pack_folders(alloc, tree, place, &folders, &files)?;
     Ok(packing)

@@ -11,7 +11,7 @@ use Rattle.adb_view.specs.declared.tables.Which.TheVariants.{Package}
 use Rattle.adb_schema.specs.Soundness.{blocks_fault, file_fault, first_payload, payload_after_header, payload_fault, payload_in, root_value, schema_fault}
 use Rattle.pkg_core.specs.Contents.{Contents, Expected, bytes_of_file, bytes_or_none, contents_in, expected_contents, hash_fault, is_of_file}
 use Rattle.pkg_core.specs.GoodContents.{AreContentsOf, IsContentsOf}
-use Rattle.pkg_core.specs.Opened.{expected_with_positions, has_positions}
+use Rattle.pkg_core.specs.Opened.{expected_file_at, has_positions}
 use Rattle.pkg_core.specs.Whole.{fault_after_first, files_after_first, files_by_header, files_in_file, package_fault, whole_fault}
 use Rattle.pkg_core.proofs.Given.{files_right, nothing_expected}
 use Rattle.pkg_core.specs.Seen.{HasAt}
@@ -44,7 +44,7 @@ record IsFoundThere (pkg : List ℕ) (folder file at : ℕ) (cs : List Contents)
   contents : Contents
   expected : Expected
   found : find (is_of_file folder file) cs ≡ Some contents
-  due : expected_with_positions folder file es ≡ Some expected
+  due : expected_file_at folder file es ≡ Some expected
   located : HasAt pkg at contents.bytes
   of : IsContentsOf expected contents
 
@@ -92,21 +92,21 @@ off_there pkg folder file (p ∷ ps) (c ∷ cs) stand is =
 -- ---- what a tested package gives
 
 abbrev pub IsReadFrom : (List ℕ → List ℕ → Type 0) → ℕ → Plain → ℕ → ℕ → Option ℕ → Type 0
-IsReadFrom Reads len value folder file at = (pkg bytes : List ℕ) (e : Expected) (start : ℕ) → length pkg ≡ len → at ≡ Some start → expected_with_positions folder file (expected_contents value) ≡ Some e → HasAt pkg start bytes → length bytes ≡ e.size → hash_fault e.hash bytes ≡ None → Reads pkg bytes
+IsReadFrom Reads len value folder file at = (pkg bytes : List ℕ) (e : Expected) (start : ℕ) → length pkg ≡ len → at ≡ Some start → expected_file_at folder file (expected_contents value) ≡ Some e → HasAt pkg start bytes → length bytes ≡ e.size → hash_fault e.hash bytes ≡ None → Reads pkg bytes
 
-none_due : (folder file : ℕ) (cs : List Contents) (es : List Expected) → AreContentsOf es cs → find (is_of_file folder file) cs ≡ None → expected_with_positions folder file es ≡ None
+none_due : (folder file : ℕ) (cs : List Contents) (es : List Expected) → AreContentsOf es cs → find (is_of_file folder file) cs ≡ None → expected_file_at folder file es ≡ None
 none_due folder file [] [] are is = refl
 none_due folder file [] (e ∷ es) are is = absurd are
 none_due folder file (c ∷ cs) [] are is = absurd are
 none_due folder file (c ∷ cs) (e ∷ es) are is =
     by_test (is_of_file folder file c) (sym (same_pair c.folder c.file e.folder e.file folder file are.0.folder are.0.file)) is (none_due folder file cs es are.1)
   where
-    by_test : (b : Bool) → has_positions folder file e ≡ b → cond b (Some c) (find (is_of_file folder file) cs) ≡ None → (find (is_of_file folder file) cs ≡ None → expected_with_positions folder file es ≡ None) → cond (has_positions folder file e) (Some e) (find (has_positions folder file) es) ≡ None
+    by_test : (b : Bool) → has_positions folder file e ≡ b → cond b (Some c) (find (is_of_file folder file) cs) ≡ None → (find (is_of_file folder file) cs ≡ None → expected_file_at folder file es ≡ None) → cond (has_positions folder file e) (Some e) (find (has_positions folder file) es) ≡ None
     by_test true t here others = absurd (let s : Some c ≡ None = here in (cc))
     by_test false t here others = ap (λ (b : Bool). cond b (Some e) (find (has_positions folder file) es)) t ∙ others here
 
 pub gives_bytes : (Reads : List ℕ → List ℕ → Type 0) (due : Option Expected) (len folder file : ℕ) (at : Option ℕ) (value : Plain) (pkg : List ℕ) (places : List FilePlace) → package_fault pkg ≡ None → value ≡ root_value Package (payload_in pkg) → length pkg ≡ len → AreAtPlaces pkg places (contents_in (files_in_file pkg))
-    → (AreInFileOrder places → at ≡ offset_of_file folder file places) → due ≡ expected_with_positions folder file (expected_contents value) → IsReadFrom Reads len value folder file at → ((pkg : List ℕ) → due ≡ None → Reads pkg [])
+    → (AreInFileOrder places → at ≡ offset_of_file folder file places) → due ≡ expected_file_at folder file (expected_contents value) → IsReadFrom Reads len value folder file at → ((pkg : List ℕ) → due ≡ None → Reads pkg [])
     → Reads pkg (bytes_of_file folder file (contents_in (files_in_file pkg)))
 gives_bytes Reads due len folder file at value pkg places sound same long stand offset is reads empty = by at refl
   where

@@ -29,9 +29,9 @@ pub struct TestedPackage {
 impl TestedPackage {
     ghost use Rattle.std.specs.Prelude.{◌≡◌, [], ℕ, List};
     ghost use Rattle.package_test.specs.Tested.{IsTestedOf, tested_id, tested_len, tested_name, tested_payload, tested_value};
-    ghost use Rattle.piece_reader.specs.FileReading.{HaveBeenReturned, IsFileReading, expected_file_of, len_around_file, package_name_of_file};
+    ghost use Rattle.piece_reader.specs.FileReading.{HasUnreadBytes, HaveBeenReturned, expected_file_of, len_around_file, package_name_of_file};
     ghost use Rattle.pkg_core.specs.Contents.{bytes_of_file, contents_in, expected_contents};
-    ghost use Rattle.pkg_core.specs.Opened.{expected_with_positions};
+    ghost use Rattle.pkg_core.specs.Opened.{expected_file_at};
     ghost use Rattle.pkg_core.specs.Whole.{files_in_file};
     ghost use Rattle.pkg_core.specs.Values.{payload_of_contents, value_of_contents};
     ghost use Rattle.sha2.specs.Sha256.{sha256};
@@ -59,10 +59,10 @@ impl TestedPackage {
         ensures len { len_around_file result ≡ tested_len self.now }
         // Whatever the tree has, its bytes are compared with the size and the digest that the
         // package's value lists for it.
-        ensures due { expected_file_of result ≡ expected_with_positions folder file
+        ensures due { expected_file_of result ≡ expected_file_at folder file
             (expected_contents (tested_value self.now)) }
         ensures begun { HaveBeenReturned result [] }
-        ensures reading { (name pkg : List ℕ) → IsTestedOf name pkg self.now → IsFileReading
+        ensures reading { (name pkg : List ℕ) → IsTestedOf name pkg self.now → HasUnreadBytes
             result pkg (bytes_of_file folder file (contents_in (files_in_file pkg))) }
     {
         let len = self.front.file_len();

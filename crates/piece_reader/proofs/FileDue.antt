@@ -11,7 +11,7 @@ use Rattle.adb_fields.specs.Repeated.{files_in, folders_in}
 use Rattle.adb_schema.specs.Texts.{is_with_contents}
 use Rattle.adb_view.specs.Values.{entry_in, int_in, text_in}
 use Rattle.pkg_core.specs.Contents.{Expected, expected_at, expected_contents, expected_files, expected_folders, hash_fault}
-use Rattle.pkg_core.specs.Opened.{expected_of, expected_with_positions, has_positions}
+use Rattle.pkg_core.specs.Opened.{expected_file_at, expected_of, has_positions}
 use Rattle.pkg_core.specs.declared.walk.Wanted.{Wanted}
 use Rattle.pkg_core.specs.Pieces.{PiecesRead, no_piece, pieces_from, refusal, whole_pieces}
 use Rattle.pkg_core.specs.Taking.{HasTaken, IsTaken, file_bytes_left, next_len}
@@ -42,15 +42,15 @@ folders_sizes : (i : ℕ) (folders : List Plain) → HaveSizes (expected_folders
 folders_sizes i [] = tt
 folders_sizes i (folder ∷ folders) = more_sizes (expected_files i 1 (files_in folder)) (expected_folders (i + 1) folders) (files_sizes i 1 (files_in folder)) (folders_sizes (i + 1) folders)
 
-found_size : (folder file : ℕ) (es : List Expected) (e : Expected) → HaveSizes es → expected_with_positions folder file es ≡ Some e → 0 < e.size
+found_size : (folder file : ℕ) (es : List Expected) (e : Expected) → HaveSizes es → expected_file_at folder file es ≡ Some e → 0 < e.size
 found_size folder file [] e sizes is = (cc)
 found_size folder file (d ∷ es) e sizes is = by (has_positions folder file d) is (found_size folder file es e sizes.1)
   where
-    by : (b : Bool) → cond b (Some d) (find (has_positions folder file) es) ≡ Some e → (expected_with_positions folder file es ≡ Some e → 0 < e.size) → 0 < e.size
+    by : (b : Bool) → cond b (Some d) (find (has_positions folder file) es) ≡ Some e → (expected_file_at folder file es ≡ Some e → 0 < e.size) → 0 < e.size
     by true h others = subst (λ (x : Expected). 0 < x.size) (let s : Some d ≡ Some e = h in let t : d ≡ e = (cc) in t) sizes.0
     by false h others = others h
 
-pub wanted_size : (value : Plain) (folder file : ℕ) (found : Option Wanted) (w : Wanted) → option_map expected_of found ≡ expected_with_positions folder file (expected_contents value) → found ≡ Some w → 0 < w.size
+pub wanted_size : (value : Plain) (folder file : ℕ) (found : Option Wanted) (w : Wanted) → option_map expected_of found ≡ expected_file_at folder file (expected_contents value) → found ≡ Some w → 0 < w.size
 wanted_size value folder file found w is some =
     found_size folder file (expected_contents value) (expected_of w) (folders_sizes 1 (folders_in value)) (sym is ∙ ap (option_map expected_of) some)
 

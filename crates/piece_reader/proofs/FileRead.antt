@@ -12,7 +12,7 @@ use Rattle.pkg_core.specs.Seen.{HasAt, IsSeen}
 use Rattle.pkg_core.specs.Pieces.{PiecesRead, no_piece, pieces_from, refusal, whole_pieces}
 use Rattle.pkg_core.specs.Taking.{file_bytes_left, pieces_in}
 use Rattle.pkg_core.specs.declared.file.Part.{Part}
-use Rattle.piece_reader.specs.FileReading.{GivesBytes, IsFileReading, package_name_of_file}
+use Rattle.piece_reader.specs.FileReading.{GivesBytes, HasUnreadBytes, package_name_of_file}
 use Rattle.piece_reader.specs.Opened.{AreLeftOf, AreUnreadBytes, IsNextPiece, IsOpenFile, IsPieceOf, NotDisk, unread_bytes, open_end}
 use Rattle.piece_reader.specs.declared.piece.PieceFault.{PieceFault}
 use Rattle.piece_reader.specs.declared.piece.PieceFault.TheVariants.{Bad, Disk}
@@ -76,7 +76,7 @@ abbrev pub IsAnswerOf : OpenFile → List ℕ → Result (Part × Option OpenFil
 IsAnswerOf o bytes result = (file so_far : List ℕ) (further before : PiecesRead) → HasAt file o.at bytes → o.at + file_bytes_left o.file ≤ length file → IsOpenFile o so_far file further before → IsNextPiece so_far file bytes further before result
 
 abbrev GivesBytesOf : List TreeState → FilePieces → (List ℕ → List ℕ → Type 0) → List ℕ → Result Bool PieceFault → Type 0
-GivesBytesOf h old Then bytes r = IfObservable h (λ v. (pkg left : List ℕ) → files_of v (package_name_of_file old) ≡ Some pkg → IsFileReading old pkg left → GivesBytes (Then pkg) left bytes r)
+GivesBytesOf h old Then bytes r = IfObservable h (λ v. (pkg left : List ℕ) → files_of v (package_name_of_file old) ≡ Some pkg → HasUnreadBytes old pkg left → GivesBytes (Then pkg) left bytes r)
 
 last_given : (o : OpenFile) (pkg left bytes : List ℕ) → AreLeftOf o pkg left → HasAt pkg o.at bytes → length bytes ≡ file_bytes_left o.file → left ≡ bytes ++ []
 last_given o pkg left bytes is has all = is.come ∙ (ap (λ (n : ℕ). take n (drop o.at pkg)) (sym all) ∙ (has ∙ sym (append-nil bytes)))

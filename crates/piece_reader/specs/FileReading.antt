@@ -43,8 +43,8 @@ kept_fault file = file.refused
 
 -- no test of a file failed, and from a package of these bytes the bytes `left` of the file are still to
 -- be read
-abbrev pub IsFileReading : FilePieces → List ℕ → List ℕ → Type 0
-IsFileReading file pkg left = (file.refused ≡ None) × AreUnreadBytes file.opened pkg left
+abbrev pub HasUnreadBytes : FilePieces → List ℕ → List ℕ → Type 0
+HasUnreadBytes file pkg left = (file.refused ≡ None) × AreUnreadBytes file.opened pkg left
 
 -- ---- the results
 

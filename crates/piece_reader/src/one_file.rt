@@ -38,10 +38,10 @@ impl<'a> FilePieces<'a> {
     ghost use Rattle.base_core.specs.Calls.{IfObservable};
     ghost use Rattle.base_core.specs.Tree.{files_of};
     ghost use Rattle.pkg_core.specs.Contents.{Expected, expected_contents, hash_fault};
-    ghost use Rattle.pkg_core.specs.Opened.{expected_of, expected_with_positions};
+    ghost use Rattle.pkg_core.specs.Opened.{expected_file_at, expected_of};
     ghost use Rattle.pkg_core.specs.Seen.{HasAt, ReadsFile};
     ghost use Rattle.pkg_core.specs.Values.{value_of_contents};
-    ghost use Rattle.piece_reader.specs.FileReading.{IsTestedReturn, GivesBytes, HasFewerLeft, RemembersFileFault, HaveBeenReturned, IsFileReading, bytes_left_of, expected_file_of, kept_fault, len_around_file, package_name_of_file};
+    ghost use Rattle.piece_reader.specs.FileReading.{IsTestedReturn, GivesBytes, HasFewerLeft, RemembersFileFault, HaveBeenReturned, HasUnreadBytes, bytes_left_of, expected_file_of, kept_fault, len_around_file, package_name_of_file};
     ghost use Rattle.piece_reader.specs.Opened.{place_fault};
     ghost use Rattle.piece_reader.specs.declared.piece.PieceFault.TheVariants.{Bad, Disk as DiskFault};
 
@@ -59,17 +59,17 @@ impl<'a> FilePieces<'a> {
         ensures name { package_name_of_file result ≡ name.entry.now }
         ensures len { len_around_file result ≡ len }
         // The size and the digest that are compared are those that the values list for the file.
-        ensures due { expected_file_of result ≡ expected_with_positions folder file
+        ensures due { expected_file_of result ≡ expected_file_at folder file
             (expected_contents (value_of_contents contents.entry)) }
         ensures begun { HaveBeenReturned result [] }
         ensures fault { kept_fault result ≡ place_fault (expected_file_of result) at len }
         ensures reading { (pkg bytes : List ℕ) (e : Expected) (start : ℕ) → length pkg ≡ len
-            → at ≡ Some start → expected_with_positions folder file
+            → at ≡ Some start → expected_file_at folder file
             (expected_contents (value_of_contents contents.entry)) ≡ Some e
             → HasAt pkg start bytes → length bytes ≡ e.size → hash_fault e.hash bytes ≡ None
-            → IsFileReading result pkg bytes }
+            → HasUnreadBytes result pkg bytes }
         ensures empty { (pkg : List ℕ) → expected_file_of result ≡ None
-            → IsFileReading result pkg [] }
+            → HasUnreadBytes result pkg [] }
     {
         let view = contents.view();
         match wanted_file(&view, folder, file) {
@@ -102,7 +102,7 @@ impl<'a> FilePieces<'a> {
         ensures fault { kept_fault result ≡ place_fault (expected_file_of result) at len }
         ensures reading { (pkg bytes : List ℕ) (start : ℕ) → length pkg ≡ len → at ≡ Some start
             → HasAt pkg start bytes → length bytes ≡ wanted.entry.size
-            → hash_fault wanted.entry.hash.now bytes ≡ None → IsFileReading result pkg bytes }
+            → hash_fault wanted.entry.hash.now bytes ≡ None → HasUnreadBytes result pkg bytes }
     {
         let due = Some(wanted);
         match open_at(wanted, at, len) {
@@ -143,8 +143,8 @@ impl<'a> FilePieces<'a> {
         // are left.
         ensures piece { IfObservable (T.history tree.old) (λ v. (pkg left : List ℕ)
             → files_of v (package_name_of_file self.old) ≡ Some pkg
-            → IsFileReading self.old pkg left
-            → GivesBytes (IsFileReading self.new pkg) left piece.new result) }
+            → HasUnreadBytes self.old pkg left
+            → GivesBytes (HasUnreadBytes self.new pkg) left piece.new result) }
         // For each package, also one that was changed since: the last piece and the end are
         // returned only if all bytes together have the expected size and digest.
         ensures tested { (so_far : List ℕ) → HaveBeenReturned self.old so_far
@@ -183,8 +183,8 @@ impl<'a> FilePieces<'a> {
         // are left.
         ensures piece { IfObservable (T.history tree.old) (λ v. (pkg left : List ℕ)
             → files_of v (package_name_of_file self.old) ≡ Some pkg
-            → IsFileReading self.old pkg left
-            → GivesBytes (IsFileReading self.new pkg) left piece.new result) }
+            → HasUnreadBytes self.old pkg left
+            → GivesBytes (HasUnreadBytes self.new pkg) left piece.new result) }
         ensures tested { (so_far : List ℕ) → HaveBeenReturned self.old so_far
             → IsTestedReturn self.old so_far piece.new result self.new }
         ensures due { expected_file_of self.new ≡ expected_file_of self.old }

@@ -5,7 +5,7 @@
 #![tactic(auto)]
 
 ghost use Rattle.std.specs.Prelude.{◌≡◌, IfSome};
-ghost use Rattle.adb_schema.specs.Checked.{which_of};
+ghost use Rattle.adb_schema.specs.Checked.{table_of_checked};
 ghost use Rattle.adb_view.specs.declared.tables.Which.TheVariants as Tables;
 
 mod made;
@@ -97,7 +97,7 @@ fn positions(folder: u32, file: u32) -> [u8; 8] {
 
 /// The values of a package with this payload; None if a test fails.
 fn values(alloc: Global, payload: &[u8]) -> Option<Checked<'_>>
-    ensures { IfSome result (λ checked. which_of checked ≡ Tables.Package) }
+    ensures { IfSome result (λ checked. table_of_checked checked ≡ Tables.Package) }
 {
     let adb = Adb::new(payload).ok()?;
     let shaped = shape(adb, Which::Package).ok()?;

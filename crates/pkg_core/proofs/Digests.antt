@@ -16,7 +16,7 @@ use Rattle.adb_view.specs.Plain.{Plain, null, Plains, none, more, Shape, hash, a
 use Rattle.adb_fields.specs.Repeated.{list_of, files_in}
 use Rattle.adb_schema.specs.Rules.{is_digest_length, is_digest_length_or_none}
 use Rattle.adb_view.specs.Schema.{shape_of, shapes_of, table}
-use Rattle.adb_schema.specs.Texts.{Surroundings, Leaf, text_leaf, keeps_rule, leaves, field_leaves, each_leaf, inside_of, at_root, leaves_of, text_fault, text_rule, is_with_contents, needs_hash}
+use Rattle.adb_schema.specs.Texts.{Surroundings, Leaf, text_leaf, keeps_rule, leaves, field_leaves, each_leaf, surroundings_of_fields, surroundings_of_root, leaves_of, text_fault, text_rule, is_with_contents, needs_hash}
 use Rattle.adb_schema.specs.FirstBad.{IsFirstBadOf}
 use Rattle.adb_view.specs.Values.{nth, entries_in, entry_in, int_in, text_in}
 use Rattle.adb_view.specs.declared.tables.Which.{Which}
@@ -75,8 +75,8 @@ is_needed root has_contents n e c h =
 file_has : (place : ℕ) (around : Surroundings) (f : Plain) → around.root ≡ Tables.Package → is_with_contents f ≡ true → Keep (leaves (shape_of (Obj Tables.File)) place around f) → is_digest_length (length (text_in (entry_in f 4))) ≡ true
 unfolding shape_of leaves text_rule
 file_has place around f root c h =
-    let leaf = field_keeps (shapes_of (table Tables.File)) 4 401 (inside_of 4 around f) (entries_in f) hash refl h in
-    is_needed around.root (is_with_contents f) (length (text_in (entry_in f 4))) root c (leaf_keeps (text_leaf 405 (inside_of 4 around f) (text_in (entry_in f 4))) leaf)
+    let leaf = field_keeps (shapes_of (table Tables.File)) 4 401 (surroundings_of_fields 4 around f) (entries_in f) hash refl h in
+    is_needed around.root (is_with_contents f) (length (text_in (entry_in f 4))) root c (leaf_keeps (text_leaf 405 (surroundings_of_fields 4 around f) (text_in (entry_in f 4))) leaf)
 
 -- ---- the digests of all
 
@@ -100,8 +100,8 @@ files_digests d i place around (more f vs) root h =
 folder_digests : (d place : ℕ) (around : Surroundings) (folder : Plain) → around.root ≡ Tables.Package → Keep (leaves (shape_of (Obj Tables.Dir)) place around folder) → HaveDigests (expected_files d 1 (files_in folder))
 unfolding shape_of leaves
 folder_digests d place around folder root h =
-    let files = field_keeps (shapes_of (table Tables.Dir)) 2 501 (inside_of 5 around folder) (entries_in folder) (array (shape_of (Obj Tables.File))) refl h in
-    files_digests d 1 503 (inside_of 5 around folder) (entries_in (entry_in folder 2)) root files
+    let files = field_keeps (shapes_of (table Tables.Dir)) 2 501 (surroundings_of_fields 5 around folder) (entries_in folder) (array (shape_of (Obj Tables.File))) refl h in
+    files_digests d 1 503 (surroundings_of_fields 5 around folder) (entries_in (entry_in folder 2)) root files
 
 folders_digests : (i place : ℕ) (around : Surroundings) (vs : Plains) → around.root ≡ Tables.Package → Keep (each_leaf (leaves (shape_of (Obj Tables.Dir)) place around) vs) → HaveDigests (expected_folders i (list_of vs))
 folders_digests i place around none root h = tt
@@ -112,8 +112,8 @@ folders_digests i place around (more d vs) root h =
 texts_keep : (v : Plain) → Keep (leaves_of Tables.Package v) → HaveDigests (expected_contents v)
 unfolding shape_of leaves
 texts_keep v h =
-    let folders = field_keeps (shapes_of (table Tables.Package)) 1 701 (inside_of 7 (at_root Tables.Package) v) (entries_in v) (array (shape_of (Obj Tables.Dir))) refl h in
-    folders_digests 1 702 (inside_of 7 (at_root Tables.Package) v) (entries_in (entry_in v 1)) refl folders
+    let folders = field_keeps (shapes_of (table Tables.Package)) 1 701 (surroundings_of_fields 7 (surroundings_of_root Tables.Package) v) (entries_in v) (array (shape_of (Obj Tables.Dir))) refl h in
+    folders_digests 1 702 (surroundings_of_fields 7 (surroundings_of_root Tables.Package) v) (entries_in (entry_in v 1)) refl folders
 
 pub texts_give_digests : HasFirstValue → (v : Plain) → text_fault Tables.Package v ≡ None → HaveDigests (expected_contents v)
 texts_give_digests told v h = texts_keep v (none_told (leaves_of Tables.Package v) (text_fault Tables.Package v) (told Tables.Package v) h)

@@ -60,8 +60,8 @@ abbrev pub has_positions : ℕ → ℕ → Expected → Bool
 has_positions folder file e = (e.folder == folder) && (e.file == file)
 
 -- the file with these positions among files that have contents, if it is there
-abbrev pub expected_with_positions : ℕ → ℕ → List Expected → Option Expected
-expected_with_positions folder file es = find (has_positions folder file) es
+abbrev pub expected_file_at : ℕ → ℕ → List Expected → Option Expected
+expected_file_at folder file es = find (has_positions folder file) es
 
 -- ---- the blocks with it
 

@@ -4,7 +4,7 @@
 ghost use Rattle.std.specs.Prelude.{◌≡◌, None, IfOk, IfErr};
 ghost use Rattle.sha2.specs.Sha256.{sha256};
 ghost use Rattle.adb_block.specs.Reading.{reading_of};
-ghost use Rattle.adb_schema.specs.Checked.{which_of};
+ghost use Rattle.adb_schema.specs.Checked.{table_of_checked};
 ghost use Rattle.adb_schema.specs.Soundness.{first_fault, payload_in, root_value};
 ghost use Rattle.adb_view.specs.declared.tables.Which.TheVariants as Tables;
 ghost use Rattle.pkg_core.specs.Contents.{expected_contents, files_by_blocks};
@@ -69,7 +69,7 @@ pub struct Package<'a> {
     rest: Rest<'a>,
     /// The test that failed, if one did.
     refused: Option<Cause>,
-    ghost table: { which_of checked ≡ Tables.Package },
+    ghost table: { table_of_checked checked ≡ Tables.Package },
 }
 
 impl<'a> Package<'a> {

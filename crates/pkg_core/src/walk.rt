@@ -9,7 +9,7 @@ ghost use Rattle.adb_fields.specs.ListValue.{list_value};
 ghost use Rattle.adb_fields.specs.Repeated.{list_of};
 ghost use Rattle.adb_schema.specs.Texts.{is_with_contents};
 ghost use Rattle.pkg_core.specs.Contents.{POSITIONS_LEN, expected_contents, expected_files, expected_folders, contents_bytes, expected_fault, missing_fault};
-ghost use Rattle.pkg_core.specs.Opened.{expected_of, expected_with_positions};
+ghost use Rattle.pkg_core.specs.Opened.{expected_file_at, expected_of};
 
 use crate::checks::hash_fault;
 use adb_block::{BlockKind, Blocks};
@@ -106,7 +106,7 @@ impl<'a> Walk<'a> {
 /// The file of a package with these positions, if it has contents, in constant time. None if and
 /// only if there is no such file, or it has no contents.
 pub fn wanted_file<'a>(view: &PackageView<'a>, folder: u32, file: u32) -> Option<Wanted<'a>>
-    ensures { option_map expected_of result ≡ expected_with_positions folder file
+    ensures { option_map expected_of result ≡ expected_file_at folder file
         (expected_contents (package_value view.now)) }
 {
     wanted_in_folder(view.paths(), folder, file)
@@ -119,7 +119,7 @@ fn wanted_in_folder<'a>(
     folder: u32,
     file: u32,
 ) -> Option<Wanted<'a>>
-    ensures { option_map expected_of result ≡ expected_with_positions folder file
+    ensures { option_map expected_of result ≡ expected_file_at folder file
         (expected_folders 1 (list_of (entries_in (list_value folders.entry)))) }
 {
     let i = folder as usize;
@@ -135,7 +135,7 @@ fn wanted_in_folder<'a>(
 /// The file at this position of a folder, if it has contents; None if there is no such file.
 /// Positions count from 1.
 fn wanted_in<'a>(files: List<'a, FileInfo<'a>>, folder: u32, file: u32) -> Option<Wanted<'a>>
-    ensures { option_map expected_of result ≡ expected_with_positions folder file
+    ensures { option_map expected_of result ≡ expected_file_at folder file
         (expected_files folder 1 (list_of (entries_in (list_value files.entry)))) }
 {
     let i = file as usize;

@@ -5,7 +5,7 @@ use Rattle.std.proofs.lemmas.Bool.{and_parts, ltb-true}
 use Rattle.adb_view.specs.Schema.{shape_of}
 use Rattle.adb_view.specs.declared.tables.Kind.TheVariants.{Obj}
 use Rattle.adb_view.specs.declared.tables.Which.TheVariants as Tables
-use Rattle.adb_view.specs.Plain.{Plain, Shape, Fields, null, int, blob_value, number as number_shape, text as text_shape, hash as hash_shape, array, object, no_fields, field, IsNormal, AreNormal}
+use Rattle.adb_view.specs.Plain.{Plain, Shape, Fields, null, int, blob_or_null, number as number_shape, text as text_shape, hash as hash_shape, array, object, no_fields, field, IsNormal, AreNormal}
 use Rattle.adb_view.specs.Shaped.{Each, HasShape, HaveShapes}
 use Rattle.adb_view.proofs.FoundShapes.{arr_value_shape, blob_value_text, obj_value_shape}
 use Rattle.adb_view.proofs.Normal.{arr_normal, blob_value_normal, obj_normal}
@@ -49,10 +49,10 @@ null_fit hash_shape = (tt, tt)
 null_fit (array s) = (tt, tt)
 null_fit (object n fs) = (tt, tt)
 
-pub text_fit : (b : List ℕ) → IsFit text_shape (blob_value b)
+pub text_fit : (b : List ℕ) → IsFit text_shape (blob_or_null b)
 text_fit b = (blob_value_normal b, blob_value_text b)
 
-pub hash_fit : (b : List ℕ) → IsFit hash_shape (blob_value b)
+pub hash_fit : (b : List ℕ) → IsFit hash_shape (blob_or_null b)
 unfolding HasShape
 hash_fit [] = (blob_value_normal [], tt)
 hash_fit (x ∷ b) = (blob_value_normal (x ∷ b), tt)
@@ -126,7 +126,7 @@ unfolding shape_of
 need_fit d h =
     let parts = and_parts (is_dep_name d.name && is_constraint d.version d.bits) (is_tag_or_none d.tag) h in
     let limit = and_parts (is_dep_name d.name) (is_constraint d.version d.bits) parts.0 in
-    object_fit 1 _ (blob_value d.name ∷ blob_value (unwrap_or d.version []) ∷ number_value (matching_of d.version d.bits d.conflict) ∷ [])
+    object_fit 1 _ (blob_or_null d.name ∷ blob_or_null (unwrap_or d.version []) ∷ number_value (matching_of d.version d.bits d.conflict) ∷ [])
     (text_fit d.name, (text_fit (unwrap_or d.version []), (matching_fit (matching_of d.version d.bits d.conflict) (small_matching d.version d.bits d.conflict limit.1), tt)))
 
 -- ---- what a line says of a field
@@ -200,7 +200,7 @@ needs_good (part ∷ parts) = both (need_in part) (needs_in parts) (need_good pa
 
 values_good : (g : Grammar) (value : List ℕ) → IfSome (values_by_grammar g value) (EachIn (IsOfGrammar g))
 values_good Grammars.Sha1Text value =
-    map_some (λ b. IsFit hash_shape (blob_value b)) (EachIn (IsOfGrammar Grammars.Sha1Text)) one_text (sha1_of value) (λ b h. (h, tt)) (any (λ b. IsFit hash_shape (blob_value b)) (sha1_of value) hash_fit)
+    map_some (λ b. IsFit hash_shape (blob_or_null b)) (EachIn (IsOfGrammar Grammars.Sha1Text)) one_text (sha1_of value) (λ b h. (h, tt)) (any (λ b. IsFit hash_shape (blob_or_null b)) (sha1_of value) hash_fit)
 values_good Grammars.PackageName value = text_good (is_package_name value) value
 values_good Grammars.PackageVersion value = text_good (is_version value) value
 values_good Grammars.AnyText value = text_good true value

@@ -7,7 +7,7 @@ use Rattle.std.proofs.lemmas.Bool.{eqb-true}
 use Rattle.adb_view.specs.Schema.{shape_of}
 use Rattle.adb_view.specs.declared.tables.Kind.TheVariants.{Obj}
 use Rattle.adb_view.specs.declared.tables.Which.TheVariants as Tables
-use Rattle.adb_view.specs.Plain.{Plain, Shape, null, int, blob_value, number as number_shape, hash as hash_shape, array}
+use Rattle.adb_view.specs.Plain.{Plain, Shape, null, int, blob_or_null, number as number_shape, hash as hash_shape, array}
 use Rattle.db_write.proofs.RootParts.{EachIn}
 use Rattle.dep_core.specs.World.{lines_of}
 use Rattle.make_info.specs.Fields.{FieldValue}
@@ -248,7 +248,7 @@ info_fit info h =
 access_fit : (a : Option Access) → IsGoodAccessIfAny a → IsFit (shape_of (Obj Tables.Acl)) (listed_access_value a)
 unfolding shape_of
 access_fit None h = null_fit _
-access_fit (Some a) h = object_fit 2 _ (int a.mode ∷ blob_value a.user ∷ blob_value a.group ∷ []) (int_fit a.mode h, (text_fit a.user, (text_fit a.group, tt)))
+access_fit (Some a) h = object_fit 2 _ (int a.mode ∷ blob_or_null a.user ∷ blob_or_null a.group ∷ []) (int_fit a.mode h, (text_fit a.user, (text_fit a.group, tt)))
 
 hash_value_fit : (hash : Option (List ℕ)) → IsFit hash_shape (listed_hash_value hash)
 hash_value_fit None = null_fit hash_shape
@@ -257,7 +257,7 @@ hash_value_fit (Some hash) = hash_fit hash
 file_fit : (file : ListedFile) → IsGoodFile file → IsFit (shape_of (Obj Tables.File)) (listed_file_value file)
 unfolding shape_of
 file_fit file h =
-    object_fit 4 _ (blob_value file.name ∷ listed_access_value file.access ∷ null ∷ null ∷ listed_hash_value file.hash ∷ [])
+    object_fit 4 _ (blob_or_null file.name ∷ listed_access_value file.access ∷ null ∷ null ∷ listed_hash_value file.hash ∷ [])
     (text_fit file.name, (access_fit file.access h, (null_fit number_shape, (null_fit number_shape, (hash_value_fit file.hash, tt)))))
 
 map_fit : {A : Type 0} (P : A → Type 0) (s : Shape) (f : A → Plain) → ((a : A) → P a → IsFit s (f a)) → (xs : List A) → EachIn P xs → EachIn (IsFit s) (map f xs)
@@ -267,7 +267,7 @@ map_fit P s f g (x ∷ xs) h = (g x h.0, map_fit P s f g xs h.1)
 folder_fit : (folder : ListedFolder) → IsGoodFolder folder → IsFit (shape_of (Obj Tables.Dir)) (listed_folder_value folder)
 unfolding shape_of
 folder_fit folder h =
-    object_fit 5 _ (blob_value folder.name ∷ listed_access_value folder.access ∷ array_of (map listed_file_value folder.files) ∷ [])
+    object_fit 5 _ (blob_or_null folder.name ∷ listed_access_value folder.access ∷ array_of (map listed_file_value folder.files) ∷ [])
     (text_fit folder.name, (access_fit folder.access h.0, (array_fit (shape_of (Obj Tables.File)) (map listed_file_value folder.files) (map_fit IsGoodFile (shape_of (Obj Tables.File)) listed_file_value file_fit folder.files h.1), tt)))
 
 record_fit : (r : Record) → IsGoodRecord r → IsFit (shape_of (Obj Tables.Package)) (record_value r)

@@ -81,7 +81,7 @@ fn add_contents<'a>(
     if !members.is_after_members(name_of(contents, PhantomData)) {
         return Ok(false);
     }
-    members.comes_in_pieces(contents)?;
+    members.push_added_in_pieces(contents)?;
     Ok(true)
 }
 

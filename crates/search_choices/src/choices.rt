@@ -143,7 +143,7 @@ impl<'p> Choices<'p> {
     {
         if let Some(id) = self.choices.last() {
             if let Some(details) = self.pool.at(id) {
-                self.conflicts.take_away(&details.depends());
+                self.conflicts.pop_all(&details.depends());
             }
         }
     }

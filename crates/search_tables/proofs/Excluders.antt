@@ -13,7 +13,7 @@ use Rattle.dep_core.specs.Dependency.{Dependency}
 use Rattle.candidate_core.specs.Candidates.{Candidate, entry, meets_dependency, occupies_name, offers_name}
 use Rattle.candidate_core.specs.Rank.{SealedPool, candidate_at, is_at, meets_at}
 use Rattle.candidate_core.specs.Options.{IsIn}
-use Rattle.search_tables.specs.Selection.{exclude_each_other, depends_at, conflicts_with, is_met, occupied_names_at, occupied_names, keeps_out, share_a_name}
+use Rattle.search_tables.specs.Selection.{exclude_each_other, depends_at, conflicts_with, is_met, occupied_names_at, occupied_names, does_exclude, share_a_name}
 use Rattle.search_tables.specs.Conflicts.{conflicts_in, conflicts_named}
 use Rattle.search_tables.specs.Excluders.{AreListed, IsExcluder, IsFreeAt}
 use Rattle.search_tables.specs.declared.conflicts.Conflicts.{Conflicts}
@@ -66,11 +66,11 @@ module _ (pool : SealedPool) (t : List ℕ) (id : ℕ) (details : Candidate) whe
     | inr n ↦ n.0
   ]
 
-  excludes_by : (IsIn id t → ⊥) → (k : ℕ) → IsIn k t → (keeps_out pool k id ≡ true) → IsExcluder pool t id k
+  excludes_by : (IsIn id t → ⊥) → (k : ℕ) → IsIn k t → (does_exclude pool k id ≡ true) → IsExcluder pool t id k
   excludes_by once k there out = (there, let d = different once k there in rw (d, out) refl)
 
-  excludes_back : (IsIn id t → ⊥) → (k : ℕ) → IsIn k t → (keeps_out pool id k ≡ true) → IsExcluder pool t id k
-  excludes_back once k there out = (there, let d = different once k there in let o : (keeps_out pool k id || keeps_out pool id k) ≡ true = true_or (keeps_out pool k id) (keeps_out pool id k) (inr out) in rw (d, o) refl)
+  excludes_back : (IsIn id t → ⊥) → (k : ℕ) → IsIn k t → (does_exclude pool id k ≡ true) → IsExcluder pool t id k
+  excludes_back once k there out = (there, let d = different once k there in let o : (does_exclude pool k id || does_exclude pool id k) ≡ true = true_or (does_exclude pool k id) (does_exclude pool id k) (inr out) in rw (d, o) refl)
 
   at_id : candidate_at pool id ≡ Some details → (p : Candidate → Bool) → is_at pool p id ≡ p details
   at_id here p = ap (λ (o : Option Candidate). option_map_or p o false) here
@@ -138,7 +138,7 @@ module _ (pool : SealedPool) (t : List ℕ) (id : ℕ) (details : Candidate) whe
   no_excluder here own provides conflicts k there = elim (cases_Bool (exclude_each_other pool k id)) [
     | inr e ↦ e
     | inl apart ↦
-        let both = and_parts (not (k == id)) (keeps_out pool k id || keeps_out pool id k) apart in
+        let both = and_parts (not (k == id)) (does_exclude pool k id || does_exclude pool id k) apart in
         let shared : (name : List ℕ) → IsIn name (occupied_names_at pool id) → is_at pool (occupies_name name) k ≡ true → ⊥ = λ name h occupies.
         elim (subst (λ (z : List (List ℕ)). IsIn name z) (names_of_id here) h) [
           | inl e ↦ both_ways (is_at pool (occupies_name name) k) (subst (λ (n : List ℕ). is_at pool (occupies_name n) k ≡ false) (sym e) (own.1 refl k there)) occupies
@@ -148,7 +148,7 @@ module _ (pool : SealedPool) (t : List ℕ) (id : ℕ) (details : Candidate) whe
               let two = and_parts (not m.0.conflict) (is_some m.0.version) f.1 in
               both_ways (is_at pool (occupies_name name) k) (subst (λ (n : List ℕ). is_at pool (occupies_name n) k ≡ false) (sym m.2) ((provides m.0 f.0 (not_true m.0.conflict two.0)).1 two.1 k there)) occupies
         ] in
-        absurd (elim (or_cases (keeps_out pool k id) (keeps_out pool id k) both.1) [
+        absurd (elim (or_cases (does_exclude pool k id) (does_exclude pool id k) both.1) [
           | inl a ↦ elim (or_cases (conflicts_with pool k id) (share_a_name pool k id) a) [
             | inl x ↦
                 let one = any_one (λ (d : Dependency). d.conflict && is_at pool (meets_dependency d) id) (depends_at pool k) x in

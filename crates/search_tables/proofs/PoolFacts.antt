@@ -10,7 +10,7 @@ use Rattle.dep_core.specs.Dependency.{Dependency}
 use Rattle.candidate_core.specs.Candidates.{Candidate, Need, entry, has_usable_install_if, named}
 use Rattle.candidate_core.specs.Rank.{SealedPool, bytes_cmp, is_eligible_at, is_better, meets_at}
 use Rattle.candidate_core.specs.Options.{IsIn, IsBestFirst, options_for}
-use Rattle.search_tables.specs.Selection.{AreMembers, AreDistinct, exclude_each_other, names_by_install_if, install_if_applies, depends_at, is_met, is_unmet, keeps_out, least_name, lesser_name, needs, positive_needs, next_need, raised_needs}
+use Rattle.search_tables.specs.Selection.{AreMembers, AreDistinct, exclude_each_other, names_by_install_if, install_if_applies, depends_at, is_met, is_unmet, does_exclude, least_name, lesser_name, needs, positive_needs, next_need, raised_needs}
 use Rattle.search_tables.specs.Reasons.{AreCompatible}
 use Rattle.search_tables.specs.Reasons.{HasOptions}
 use Rattle.search_tables.proofs.Theory.{Sorted, sorted_split, in_left, in_right, in_append}
@@ -227,7 +227,7 @@ module _ (pool : SealedPool) where
 
   apart_flip : (a b : ℕ) → exclude_each_other pool a b ≡ true → exclude_each_other pool b a ≡ true
   apart_flip a b h =
-      rw (eq_flip b a) (rw (or_flip (keeps_out pool b a) (keeps_out pool a b)) h)
+      rw (eq_flip b a) (rw (or_flip (does_exclude pool b a) (does_exclude pool a b)) h)
 
   apart_self : (a : ℕ) → exclude_each_other pool a a ≡ true → ⊥
   apart_self a h = let same : (a == a) ≡ true = nat_eq_equiv.refl a in let bad : false ≡ true = rw same at h in none_true bad

@@ -11,7 +11,7 @@ use Rattle.dep_core.specs.Dependency.{Dependency}
 use Rattle.candidate_core.specs.Candidates.{Candidate, Need, named, occupies_name}
 use Rattle.candidate_core.specs.Rank.{SealedPool, candidate_at, is_at}
 use Rattle.candidate_core.specs.Options.{IsIn}
-use Rattle.search_tables.specs.Selection.{IsSatisfying, exclude_each_other, names_by_install_if, depends_at, conflicts_with, occupied_names_at, occupied_names, is_unmet, keeps_out, least_name, needs, positive_needs, next_need, raised_needs, share_a_name}
+use Rattle.search_tables.specs.Selection.{IsSatisfying, exclude_each_other, names_by_install_if, depends_at, conflicts_with, occupied_names_at, occupied_names, is_unmet, does_exclude, least_name, needs, positive_needs, next_need, raised_needs, share_a_name}
 use Rattle.search_tables.specs.Reasons.{IsSolution}
 use Rattle.search_tables.proofs.Theory.{in_left, in_right, in_append}
 use Rattle.search_tables.proofs.PoolFacts.{filter_in, in_filter, in_map, map_in, flat_in, in_flat, next_none}
@@ -82,7 +82,7 @@ module _ (pool : SealedPool) where
       by (Some k) h = occupied_is_listed k name h
 
   module _ (S : List ℕ) where
-    kept_out : IsSatisfying pool S → (a b : ℕ) → IsIn a S → IsIn b S → a ≢ b → keeps_out pool a b ≡ true → ⊥
+    kept_out : IsSatisfying pool S → (a b : ℕ) → IsIn a S → IsIn b S → a ≢ b → does_exclude pool a b ≡ true → ⊥
     kept_out s a b ha hb n h = elim (or_cases (conflicts_with pool a b) (share_a_name pool a b) h) [
       | inl e ↦ let no_way : true ≡ false = sym e ∙ s.no_conflict a b ha hb n in absurd (cc)
       | inr e ↦
@@ -115,10 +115,10 @@ module _ (pool : SealedPool) where
         s.once,
         s.eligible,
         λ a b ha hb h.
-            let both = and_parts (not (a == b)) (keeps_out pool a b || keeps_out pool b a) h in
+            let both = and_parts (not (a == b)) (does_exclude pool a b || does_exclude pool b a) h in
             elim (eqb_tells a b) [
               | inl e ↦ let bad : not (a == b) ≡ false = ap not e.0 in let k : true ≡ false = sym both.0 ∙ bad in absurd (cc)
-              | inr n ↦ elim (or_cases (keeps_out pool a b) (keeps_out pool b a) both.1) [
+              | inr n ↦ elim (or_cases (does_exclude pool a b) (does_exclude pool b a) both.1) [
                 | inl k ↦ kept_out s a b ha hb n.1 k
                 | inr k ↦ kept_out s b a hb ha (λ e. n.1 (sym e)) k
               ]
@@ -127,7 +127,7 @@ module _ (pool : SealedPool) where
       no_need s,
     )
 
-    apart_of : (a b : ℕ) → a ≢ b → keeps_out pool a b ≡ true → exclude_each_other pool a b ≡ true
+    apart_of : (a b : ℕ) → a ≢ b → does_exclude pool a b ≡ true → exclude_each_other pool a b ≡ true
     apart_of a b n k = elim (eqb_tells a b) [
       | inl e ↦ absurd (n e.1)
       | inr f ↦ rw f.0 (rw k refl)

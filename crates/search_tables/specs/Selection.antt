@@ -93,12 +93,12 @@ share_a_name pool a b =
     list_any (λ name. is_at pool (occupies_name name) b) (occupied_names_at pool a)
 
 -- whether one candidate excludes the other: by a conflict that it has, or by a name that both occupy
-abbrev pub keeps_out : SealedPool → ℕ → ℕ → Bool
-keeps_out pool a b = conflicts_with pool a b || share_a_name pool a b
+abbrev pub does_exclude : SealedPool → ℕ → ℕ → Bool
+does_exclude pool a b = conflicts_with pool a b || share_a_name pool a b
 
 -- whether two candidates exclude each other: no satisfying selection has both
 abbrev pub exclude_each_other : SealedPool → ℕ → ℕ → Bool
-exclude_each_other pool a b = not (a == b) && (keeps_out pool a b || keeps_out pool b a)
+exclude_each_other pool a b = not (a == b) && (does_exclude pool a b || does_exclude pool b a)
 
 -- ---- satisfying selections
 

@@ -118,7 +118,7 @@ impl<'p> Conflicts<'p> {
 
     /// Removes the conflicts of the candidate that was added last. In the clause, `front` is the
     /// list for each name before that candidate was added.
-    pub fn take_away(&mut self, depends: &Deps<'_>)
+    pub fn pop_all(&mut self, depends: &Deps<'_>)
         ensures conflicts { (by : ℕ) (front : List ℕ → List (ℕ × Dependency)) →
             ((name : List ℕ) → conflicts_in self.old.by_name name
             ≡ front name ++ conflicts_named name by depends.now) →

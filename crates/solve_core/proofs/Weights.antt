@@ -1,7 +1,7 @@
 -- The weight of a search falls at each step.
 use Rattle.std.proofs.Common.{◌≡◌, ℕ, zero, suc, ◌+◌, ◌*◌, ◌-◌, ◌<◌, ◌≤◌, ◌^◌, List, [], ◌∷◌, ◌++◌, length, refl, sym, subst, ap, ◌∙◌, arith, append_assoc, mul-le-mul, mul-le-mul_right}
 use Rattle.search_tables.specs.Reasons.{FrameValue}
-use Rattle.solve_core.specs.Measure.{power, weight, weight_of, base, rooms, digit, digits}
+use Rattle.solve_core.specs.Measure.{power, weight, weight_of, base, most_digits, digit, digits}
 
 power_pos : (b n : ℕ) → 1 ≤ b → 1 ≤ power b n
 unfolding power
@@ -61,15 +61,15 @@ base_pos : 1 ≤ base
 unfolding base
 base_pos = omega arith
 
-room_for : (n : ℕ) → n + 2 ≤ rooms → (r : ℕ) × (rooms ≡ n + suc (suc r))
-room_for n h = (rooms - n - 2, omega arith)
+room_for : (n : ℕ) → n + 2 ≤ most_digits → (r : ℕ) × (most_digits ≡ n + suc (suc r))
+room_for n h = (most_digits - n - 2, omega arith)
 
 first_of : (rest : List (FrameValue × ℕ)) (top : FrameValue) → (e : ℕ) × (es : List ℕ) × (1 ≤ e) × (digits rest ++ digit top ∷ [] ≡ e ∷ es)
 first_of [] top = (digit top, [], omega arith, refl)
 first_of (x ∷ rest) top = (digit x.0, digits rest ++ digit top ∷ [], omega arith, refl)
 
 -- a step back is lighter: the frame stepped back to has as many options left as before
-pub back_lighter : (turns rest : List (FrameValue × ℕ)) (f g top : FrameValue) (c : ℕ) → length turns + 2 ≤ rooms → g.1 ≡ f.1 → weight_of turns g < weight_of (turns ++ (f, c) ∷ rest) top
+pub back_lighter : (turns rest : List (FrameValue × ℕ)) (f g top : FrameValue) (c : ℕ) → length turns + 2 ≤ most_digits → g.1 ≡ f.1 → weight_of turns g < weight_of (turns ++ (f, c) ∷ rest) top
 unfolding weight_of
 back_lighter turns rest f g top c few same =
     let r = room_for (length turns) few in
@@ -78,27 +78,27 @@ back_lighter turns rest f g top c few same =
     let all : digits (turns ++ (f, c) ∷ rest) ++ digit top ∷ [] ≡ ds ++ (digit f ∷ tail.0 ∷ tail.1) =
     ap (λ (z : List ℕ). z ++ digit top ∷ []) (digits-append turns ((f, c) ∷ rest)) ∙ (append_assoc ds (digit f ∷ digits rest) (digit top ∷ []) ∙ ap (λ (z : List ℕ). ds ++ (digit f ∷ z)) tail.3) in
     let one : digits turns ++ digit g ∷ [] ≡ ds ++ digit f ∷ [] = ap (λ (z : List ℕ). ds ++ suc (length z) ∷ []) same in
-    let room : rooms ≡ length ds + suc (suc r.0) = r.1 ∙ ap (λ (n : ℕ). n + suc (suc r.0)) (sym (length-digits turns)) in
-    subst (λ (z : List ℕ). weight base rooms z < weight base rooms (digits (turns ++ (f, c) ∷ rest) ++ digit top ∷ [])) (sym one)
-    (subst (λ (z : List ℕ). weight base rooms (ds ++ digit f ∷ []) < weight base rooms z) (sym all)
+    let room : most_digits ≡ length ds + suc (suc r.0) = r.1 ∙ ap (λ (n : ℕ). n + suc (suc r.0)) (sym (length-digits turns)) in
+    subst (λ (z : List ℕ). weight base most_digits z < weight base most_digits (digits (turns ++ (f, c) ∷ rest) ++ digit top ∷ [])) (sym one)
+    (subst (λ (z : List ℕ). weight base most_digits (ds ++ digit f ∷ []) < weight base most_digits z) (sym all)
     (subst (λ (n : ℕ). weight base n (ds ++ digit f ∷ []) < weight base n (ds ++ (digit f ∷ tail.0 ∷ tail.1))) (sym room)
     (lighter_drop base r.0 (digit f) tail.0 ds tail.1 base_pos tail.2)))
 
 -- an option is taken and a frame is opened
-pub opened_lighter : (turns : List (FrameValue × ℕ)) (old f top : FrameValue) (c : ℕ) → length turns + 2 ≤ rooms → length f.1 < length old.1 → digit top < base → weight_of (turns ++ (f, c) ∷ []) top < weight_of turns old
+pub opened_lighter : (turns : List (FrameValue × ℕ)) (old f top : FrameValue) (c : ℕ) → length turns + 2 ≤ most_digits → length f.1 < length old.1 → digit top < base → weight_of (turns ++ (f, c) ∷ []) top < weight_of turns old
 unfolding weight_of
 opened_lighter turns old f top c few less small =
     let r = room_for (length turns) few in
     let ds = digits turns in
     let all : digits (turns ++ (f, c) ∷ []) ++ digit top ∷ [] ≡ ds ++ (digit f ∷ digit top ∷ []) =
     ap (λ (z : List ℕ). z ++ digit top ∷ []) (digits-append turns ((f, c) ∷ [])) ∙ append_assoc ds (digit f ∷ []) (digit top ∷ []) in
-    let room : rooms ≡ length ds + suc (suc r.0) = r.1 ∙ ap (λ (n : ℕ). n + suc (suc r.0)) (sym (length-digits turns)) in
-    subst (λ (z : List ℕ). weight base rooms z < weight base rooms (digits turns ++ digit old ∷ [])) (sym all)
+    let room : most_digits ≡ length ds + suc (suc r.0) = r.1 ∙ ap (λ (n : ℕ). n + suc (suc r.0)) (sym (length-digits turns)) in
+    subst (λ (z : List ℕ). weight base most_digits z < weight base most_digits (digits turns ++ digit old ∷ [])) (sym all)
     (subst (λ (n : ℕ). weight base n (ds ++ (digit f ∷ digit top ∷ [])) < weight base n (ds ++ digit old ∷ [])) (sym room)
     (lighter_open base r.0 (digit f) (digit old) (digit top) ds small (omega arith)))
 
-pub few_turns : (n : ℕ) → n < 2 ^ 63 → n + 2 ≤ rooms
-unfolding rooms
+pub few_turns : (n : ℕ) → n < 2 ^ 63 → n + 2 ≤ most_digits
+unfolding most_digits
 few_turns n h = omega arith
 
 pub few_options : (f : FrameValue) → length f.1 < 2 ^ 64 → digit f < base
@@ -110,11 +110,11 @@ not_heavier_top b r e d ds less =
     omega (arith, weight_front b (suc r) ds (e ∷ []), weight_front b (suc r) ds (d ∷ []), weight_cons b r e [], weight_cons b r d [], mul-le-mul_right (power b r) less)
 
 -- options skipped at the top make nothing heavier
-pub not_heavier : (turns : List (FrameValue × ℕ)) (f g : FrameValue) → length turns + 2 ≤ rooms → length f.1 ≤ length g.1 → weight_of turns f ≤ weight_of turns g
+pub not_heavier : (turns : List (FrameValue × ℕ)) (f g : FrameValue) → length turns + 2 ≤ most_digits → length f.1 ≤ length g.1 → weight_of turns f ≤ weight_of turns g
 unfolding weight_of
 not_heavier turns f g few less =
     let r = room_for (length turns) few in
     let ds = digits turns in
-    let room : rooms ≡ length ds + suc (suc r.0) = r.1 ∙ ap (λ (n : ℕ). n + suc (suc r.0)) (sym (length-digits turns)) in
+    let room : most_digits ≡ length ds + suc (suc r.0) = r.1 ∙ ap (λ (n : ℕ). n + suc (suc r.0)) (sym (length-digits turns)) in
     subst (λ (n : ℕ). weight base n (ds ++ digit f ∷ []) ≤ weight base n (ds ++ digit g ∷ [])) (sym room)
     (not_heavier_top base (suc r.0) (digit f) (digit g) ds (omega arith))

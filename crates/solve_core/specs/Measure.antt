@@ -16,8 +16,8 @@ unfoldable pub base : ℕ
 base = 2 ^ 64 + 2
 
 -- how many digits a number has at most: a list has less than 2^64 frames
-unfoldable pub rooms : ℕ
-rooms = 2 ^ 64
+unfoldable pub most_digits : ℕ
+most_digits = 2 ^ 64
 
 -- the digit of a frame: the number of its options that are left, plus one
 abbrev pub digit : FrameValue → ℕ
@@ -36,4 +36,4 @@ digits (turn ∷ turns) = digit turn.0 ∷ digits turns
 
 -- the measure of a search: the number whose digits are those of all frames, with the topmost last
 unfoldable pub weight_of : List (FrameValue × ℕ) → FrameValue → ℕ
-weight_of turns top = weight base rooms (digits turns ++ digit top ∷ [])
+weight_of turns top = weight base most_digits (digits turns ++ digit top ∷ [])

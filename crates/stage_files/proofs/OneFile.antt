@@ -11,7 +11,7 @@ use Rattle.journal_core.specs.Recovery.{is_staged}
 use Rattle.journal_core.specs.Staged.{AreJournalPathsFree, IsEmptyStage, Staging}
 use Rattle.journal_core.proofs.Chain.{by_now}
 use Rattle.journal_core.proofs.History.{History, now_map, now_since}
-use Rattle.piece_reader.specs.FileReading.{AreAsExpected, IsTestedReturn, GivesBytes, HaveBeenReturned, HaveOtherDigest, IsFileReading, expected_file_of, kept_fault, len_around_file, package_name_of_file}
+use Rattle.piece_reader.specs.FileReading.{AreAsExpected, IsTestedReturn, GivesBytes, HaveBeenReturned, HaveOtherDigest, HasUnreadBytes, expected_file_of, kept_fault, len_around_file, package_name_of_file}
 use Rattle.piece_reader.specs.declared.piece.PieceFault.{PieceFault}
 use Rattle.piece_reader.specs.declared.piece.PieceFault.TheVariants.{Bad, Disk}
 use Rattle.piece_reader.specs.declared.one_file.FilePieces.{FilePieces}
@@ -98,18 +98,18 @@ only_disk A left piece Disk g = refl
 
 abbrev Gives : FilePieces → FilePieces → List ℕ → History → Result Bool PieceFault → Type 0
 Gives file next piece now result =
-    IfObservable now (λ w. (pkg left : List ℕ) → files_of w (package_name_of_file file) ≡ Some pkg → IsFileReading file pkg left → GivesBytes (IsFileReading next pkg) left piece result)
+    IfObservable now (λ w. (pkg left : List ℕ) → files_of w (package_name_of_file file) ≡ Some pkg → HasUnreadBytes file pkg left → GivesBytes (HasUnreadBytes next pkg) left piece result)
 
 module _ (start stage : Staging) (whole file next : FilePieces) (piece : List ℕ) (old now later : History) (result : Result Bool PieceFault)
     (read : IsReadOn start stage whole file old now) (gives : Gives file next piece now result) where
   given : (contents : List (List ℕ)) (v : TreeState) (first : List TreeState) (bytes : List ℕ) (half : IsHalfway stage file contents bytes v first now)
-      → GivesBytes (IsFileReading next half.reading.pkg) half.left piece result
+      → GivesBytes (HasUnreadBytes next half.reading.pkg) half.left piece result
   given contents v first bytes half =
-      by_now now (λ w. files_of w (package_name_of_file file) ≡ Some half.reading.pkg) (GivesBytes (IsFileReading next half.reading.pkg) half.left piece result)
+      by_now now (λ w. files_of w (package_name_of_file file) ≡ Some half.reading.pkg) (GivesBytes (HasUnreadBytes next half.reading.pkg) half.left piece result)
       (package_now stage contents (Some half.so_far) v first now (package_name_of_file file) half.reading.pkg half.staging half.reading.there)
       (observed now gives)
     where
-      observed : (h : History) → Gives file next piece h result → IfObservable h (λ w. files_of w (package_name_of_file file) ≡ Some half.reading.pkg → GivesBytes (IsFileReading next half.reading.pkg) half.left piece result)
+      observed : (h : History) → Gives file next piece h result → IfObservable h (λ w. files_of w (package_name_of_file file) ≡ Some half.reading.pkg → GivesBytes (HasUnreadBytes next half.reading.pkg) half.left piece result)
       observed [] g = tt
       observed (w ∷ earlier) g = λ there. g half.reading.pkg half.left there half.reading.reading
 
@@ -118,10 +118,10 @@ module _ (start stage : Staging) (whole file next : FilePieces) (piece : List �
       → (fault : PieceFault) → result ≡ Err fault → fault ≡ Disk
   read_fails contents v first bytes staging reading fault is =
       let half = read contents v first bytes staging reading in
-      only_disk (IsFileReading next half.reading.pkg) half.left piece fault (subst (GivesBytes (IsFileReading next half.reading.pkg) half.left piece) is (given contents v first bytes half))
+      only_disk (HasUnreadBytes next half.reading.pkg) half.left piece fault (subst (GivesBytes (HasUnreadBytes next half.reading.pkg) half.left piece) is (given contents v first bytes half))
 
   module _ (name : package_name_of_file next ≡ package_name_of_file file) (len : len_around_file next ≡ len_around_file file) where
-    next_reading : (v : TreeState) (left rest : List ℕ) (reading : IsReadingIn (files_of v) file left) → IsFileReading next reading.pkg rest → IsReadingIn (files_of v) next rest
+    next_reading : (v : TreeState) (left rest : List ℕ) (reading : IsReadingIn (files_of v) file left) → HasUnreadBytes next reading.pkg rest → IsReadingIn (files_of v) next rest
     next_reading v left rest reading is = record {
       pkg = reading.pkg;
       there = ap (files_of v) name ∙ reading.there;
@@ -135,7 +135,7 @@ module _ (start stage : Staging) (whole file next : FilePieces) (piece : List �
         → IsReadOn start grown whole next old later
     read_more grown is appended contents v first bytes staging reading =
         let half = read contents v first bytes staging reading in
-        let came = subst (GivesBytes (IsFileReading next half.reading.pkg) half.left piece) is (given contents v first bytes half) in
+        let came = subst (GivesBytes (HasUnreadBytes next half.reading.pkg) half.left piece) is (given contents v first bytes half) in
         record {
           so_far = half.so_far ++ piece;
           left = came.0;
@@ -149,7 +149,7 @@ module _ (start stage : Staging) (whole file next : FilePieces) (piece : List �
         → IsStaging stage contents (Some bytes) v first now
     read_whole is contents v first bytes staging reading =
         let half = read contents v first bytes staging reading in
-        let ended = subst (GivesBytes (IsFileReading next half.reading.pkg) half.left piece) is (given contents v first bytes half) in
+        let ended = subst (GivesBytes (HasUnreadBytes next half.reading.pkg) half.left piece) is (given contents v first bytes half) in
         let all : bytes ≡ half.so_far = half.parts ∙ ap (λ l. half.so_far ++ l) ended.0 ∙ append-nil half.so_far in
         subst (λ (b : List ℕ). IsStaging stage contents (Some b) v first now) (sym all) half.staging
 

@@ -27,7 +27,7 @@ use Rattle.base_core.specs.declared.cause.Digest.TheVariants.{Sha1, Sha256, Sha5
 use Rattle.base_core.proofs.Causes.{both_none}
 use Rattle.pkg_core.proofs.Opened.{pair_alike}
 use Rattle.pkg_core.specs.Contents.{Expected, FilesRead, contents_block_fault, contents_bytes, contents_by, contents_fault, digest_fault, expected_contents, fault_in, files_at_block, files_by_blocks, given, has_positions_of, hash_fault, next_fault, no_more, unless_fault}
-use Rattle.pkg_core.specs.Opened.{expected_with_positions, has_positions}
+use Rattle.pkg_core.specs.Opened.{expected_file_at, has_positions}
 use Rattle.pkg_core.specs.Whole.{fault_after_first, package_fault, whole_fault}
 use Rattle.pkg_core.proofs.Given.{nothing_expected, size_right}
 use Rattle.stage_files.specs.Spoiled.{IsSpoiledFile}
@@ -253,7 +253,7 @@ passed_block x xs payload passes at r =
     ap (λ (o : Option Cause). fault_in (unless_fault o (given (contents_by payload x) (files_by_blocks xs r)))) (block_comes_to payload at x xs passes.enough passes.positions passes.size ∙ passes.digest)
 
 abbrev Finds : ℕ → ℕ → Expected → Reading → Type 0
-Finds folder file e r = (left : List Expected) → contents_fault left r ≡ None → expected_with_positions folder file left ≡ Some e → HasContents e left r
+Finds folder file e r = (left : List Expected) → contents_fault left r ≡ None → expected_file_at folder file left ≡ Some e → HasContents e left r
 
 at_adb : (folder file : ℕ) (e : Expected) (payload : List ℕ) (at : ℕ) (r : Reading) → Finds folder file e r → Finds folder file e (more (record { kind = Kinds.Adb; payload = payload }) at r)
 unfolding files_by_blocks
@@ -371,12 +371,12 @@ blocks_from_start : (file : List ℕ) (schema : ℕ) (bs : List Piece) → heade
 unfolding rest_of
 blocks_from_start file schema bs header are = whole_from file schema header ∙ are
 
-spoiled_by : (tested : List ℕ) (folder file : ℕ) (e : Expected) (bytes : List ℕ) (c : Cause) → IsGoodPackage tested → expected_with_positions folder file (expected_contents (root_value Package (payload_in tested))) ≡ Some e → length bytes ≡ e.size → hash_fault e.hash bytes ≡ Some c
+spoiled_by : (tested : List ℕ) (folder file : ℕ) (e : Expected) (bytes : List ℕ) (c : Cause) → IsGoodPackage tested → expected_file_at folder file (expected_contents (root_value Package (payload_in tested))) ≡ Some e → length bytes ≡ e.size → hash_fault e.hash bytes ≡ Some c
     → (other : List ℕ) × IsSpoiledFile tested other c
 spoiled_by tested folder file e bytes c g found size bad =
     let es : List Expected = expected_contents (root_value Package g.block.payload) in
     let payload = payload_by tested g.schema (more g.block g.at g.further) g.header g.reading in
-    let h = finds folder file e g.further es g.contents (subst (λ (p : List ℕ). expected_with_positions folder file (expected_contents (root_value Package p)) ≡ Some e) payload found) in
+    let h = finds folder file e g.further es g.contents (subst (λ (p : List ℕ). expected_file_at folder file (expected_contents (root_value Package p)) ≡ Some e) payload found) in
     let own : List ℕ = take 8 h.block.payload ++ bytes in
     let all = length-append (take 8 h.block.payload) bytes in
     let long = h.long in
@@ -399,10 +399,10 @@ spoiled_by tested folder file e bytes c g found size bad =
     )
 
 -- a package that was tested is spoiled where bytes of one of its files have another digest
-pub spoiled : (tested : List ℕ) (folder file : ℕ) (e : Expected) (bytes : List ℕ) (c : Cause) → package_fault tested ≡ None → expected_with_positions folder file (expected_contents (root_value Package (payload_in tested))) ≡ Some e → length bytes ≡ e.size → hash_fault e.hash bytes ≡ Some c
+pub spoiled : (tested : List ℕ) (folder file : ℕ) (e : Expected) (bytes : List ℕ) (c : Cause) → package_fault tested ≡ None → expected_file_at folder file (expected_contents (root_value Package (payload_in tested))) ≡ Some e → length bytes ≡ e.size → hash_fault e.hash bytes ≡ Some c
     → (other : List ℕ) × IsSpoiledFile tested other c
 spoiled tested folder file e bytes c sound found size bad = by (good tested sound)
   where
     by : IsGood tested → (other : List ℕ) × IsSpoiledFile tested other c
     by (inl g) = spoiled_by tested folder file e bytes c g found size bad
-    by (inr none) = absurd (let found_none : expected_with_positions folder file [] ≡ Some e = subst (λ (es : List Expected). expected_with_positions folder file es ≡ Some e) none found in cc (found_none))
+    by (inr none) = absurd (let found_none : expected_file_at folder file [] ≡ Some e = subst (λ (es : List Expected). expected_file_at folder file es ≡ Some e) none found in cc (found_none))

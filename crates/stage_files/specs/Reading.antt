@@ -2,7 +2,7 @@
 -- `src/file.rt`; how pieces are tested is in `docs/formats.md`, "The other blocks".
 use Rattle.std.specs.Prelude.{◌≡◌, ℕ, List, Some, length}
 use Rattle.base_core.specs.Files.{Files}
-use Rattle.piece_reader.specs.FileReading.{IsFileReading, len_around_file, package_name_of_file}
+use Rattle.piece_reader.specs.FileReading.{HasUnreadBytes, len_around_file, package_name_of_file}
 use Rattle.piece_reader.specs.declared.one_file.FilePieces.{FilePieces}
 
 -- these files have a package, and these bytes of one of its files are still to be read
@@ -10,4 +10,4 @@ pub record IsReadingIn (files : Files) (file : FilePieces) (bytes : List ℕ) : 
   pub pkg : List ℕ
   pub there : files (package_name_of_file file) ≡ Some pkg
   pub long : length pkg ≡ len_around_file file
-  pub reading : IsFileReading file pkg bytes
+  pub reading : HasUnreadBytes file pkg bytes

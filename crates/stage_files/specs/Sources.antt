@@ -6,7 +6,7 @@ use Rattle.file_guard.specs.AsListed.{link_to}
 use Rattle.package_test.specs.Tested.{IsTestedOf, tested_value}
 use Rattle.piece_reader.specs.FileReading.{AreAsExpected}
 use Rattle.pkg_core.specs.Contents.{bytes_of_file, contents_in, expected_contents}
-use Rattle.pkg_core.specs.Opened.{expected_with_positions}
+use Rattle.pkg_core.specs.Opened.{expected_file_at}
 use Rattle.pkg_core.specs.Whole.{files_in_file}
 use Rattle.stage_files.specs.declared.writes.PackagedFile.{PackagedFile}
 use Rattle.stage_files.specs.declared.writes.Source.{Source}
@@ -33,7 +33,7 @@ DenotesBytes files (File f) bytes = IsFileSource files f bytes
 -- no contents
 abbrev pub AreListedFor : PackagedFile → List ℕ → Type 0
 AreListedFor f bytes =
-    AreAsExpected (expected_with_positions f.folder f.file (expected_contents (tested_value
+    AreAsExpected (expected_file_at f.folder f.file (expected_contents (tested_value
     f.package.now)))
     bytes
 

@@ -4,7 +4,7 @@ use Rattle.base_core.specs.Calls.{HoldsNow, IfObservable}
 use Rattle.base_core.specs.Crash.{Since}
 use Rattle.base_core.specs.Undone.{IsDurable}
 use Rattle.base_core.specs.Files.{Files}
-use Rattle.base_core.specs.Restart.{EachMoment, SinceBy}
+use Rattle.base_core.specs.Restart.{EachMoment, SinceGivenEarlier}
 use Rattle.base_core.specs.Tree.{TreeState, File, bytes_at, files_of}
 use Rattle.journal_core.specs.Kept.{HasOldOrNewBytes, IsInNoMap, KeepsFilesExcept, KeepsMapsExcept, KeepsOldOrNewBytes, RecoversTo, ShownNamesAreDurable}
 use Rattle.journal_core.specs.Quiet.{StateIsUnchanged}
@@ -47,11 +47,11 @@ module _ (stage : Staging) (contents : List (List ℕ)) (v : TreeState) (first m
 
   module _ (now : History) where
     abbrev pub IsCommittedFor : Type 0
-    IsCommittedFor = IfObservable mid (λ u. (ignored : List ℕ → Bool) (cs : List (List ℕ)) (base : Files) → IsDurable (StateDependsOn ignored) u → IsStaged stage cs None base u → SinceBy (IsOldUntilCommit ignored (after_actions stage.intent (files_of u)) u) mid now)
+    IsCommittedFor = IfObservable mid (λ u. (ignored : List ℕ → Bool) (cs : List (List ℕ)) (base : Files) → IsDurable (StateDependsOn ignored) u → IsStaged stage cs None base u → SinceGivenEarlier (IsOldUntilCommit ignored (after_actions stage.intent (files_of u)) u) mid now)
 
     publish_way : IsCommittedFor → Way stage contents v first mid s now
-    publish_way moments = observable_map mid _ (λ u. (ignored : List ℕ → Bool) → IsDurable (StateDependsOn ignored) u → W u → SinceBy (IsOldUntilCommit ignored H u) mid now) moments (λ u t ignored is_durable waits.
-        subst (λ (F : Files). SinceBy (IsOldUntilCommit ignored F u) mid now) (same u waits) (t ignored contents (files_of v) is_durable waits))
+    publish_way moments = observable_map mid _ (λ u. (ignored : List ℕ → Bool) → IsDurable (StateDependsOn ignored) u → W u → SinceGivenEarlier (IsOldUntilCommit ignored H u) mid now) moments (λ u t ignored is_durable waits.
+        subst (λ (F : Files). SinceGivenEarlier (IsOldUntilCommit ignored F u) mid now) (same u waits) (t ignored contents (files_of v) is_durable waits))
 
     abbrev pub PublishReads : Type 0
     PublishReads = IfObservable mid (λ u. (cs : List (List ℕ)) (base : Files) → IsStaged stage cs None base u → Since (λ w. IsSome (w.names intent_name) → RecoversTo (after_actions stage.intent (files_of u)) w) mid now)
@@ -110,9 +110,9 @@ module _ (stage : Staging) (contents : List (List ℕ)) (v : TreeState) (first m
             (subst (λ (l : History). HoldsNow l (λ x. IsDurable (StateDependsOn ignored) x × (u.made ≤ x.made))) (sym by_publish.is) (way_now ignored H u by_publish.added mid by_publish.published by_publish.each))
             (now_both now (EachCrashLeaves ignored H) Acts here acts_now)
 
-        enact_way_at : EnactMoments → SinceBy (IsOldUntilCommit ignored H u) mid new
-        enact_way_at moments = by_now now Here (SinceBy (IsOldUntilCommit ignored H u) mid new) all_here
-            (observable_map now _ (λ x. Here x → SinceBy (IsOldUntilCommit ignored H u) mid new) moments (λ x t at. way_after ignored H u x at.1.0 at.0.1 mid now new by_publish (t ignored H at.0.0 at.1.1)))
+        enact_way_at : EnactMoments → SinceGivenEarlier (IsOldUntilCommit ignored H u) mid new
+        enact_way_at moments = by_now now Here (SinceGivenEarlier (IsOldUntilCommit ignored H u) mid new) all_here
+            (observable_map now _ (λ x. Here x → SinceGivenEarlier (IsOldUntilCommit ignored H u) mid new) moments (λ x t at. way_after ignored H u x at.1.0 at.0.1 mid now new by_publish (t ignored H at.0.0 at.1.1)))
 
         durable_at : HoldsNow now (IsDurable (StateDependsOn ignored))
         durable_at = now_map now Here (IsDurable (StateDependsOn ignored)) all_here (λ x at. at.0.0)
@@ -124,7 +124,7 @@ module _ (stage : Staging) (contents : List (List ℕ)) (v : TreeState) (first m
       settled_at ignored u waits here = subst (λ (F : Files). HoldsNow now (EachCrashLeaves ignored F)) (same u waits) here
 
       enact_way : EnactMoments → Way stage contents v first mid s new
-      enact_way moments = both mid _ _ (λ u. (ignored : List ℕ → Bool) → IsDurable (StateDependsOn ignored) u → W u → SinceBy (IsOldUntilCommit ignored H u) mid new) published settled (λ u p h ignored is_durable waits.
+      enact_way moments = both mid _ _ (λ u. (ignored : List ℕ → Bool) → IsDurable (StateDependsOn ignored) u → W u → SinceGivenEarlier (IsOldUntilCommit ignored H u) mid new) published settled (λ u p h ignored is_durable waits.
           enact_way_at ignored u waits (published_at ignored u waits (p ignored contents (files_of v) is_durable waits)) (settled_at ignored u waits (h ignored contents (files_of v) is_durable waits)) moments)
 
       abbrev pub EnactReads : Type 0

@@ -6,7 +6,7 @@ use Rattle.base_core.specs.Calls.{HoldsNow}
 use Rattle.base_core.specs.Crash.{Since}
 use Rattle.base_core.specs.Undone.{IsDurable}
 use Rattle.base_core.specs.Files.{Files}
-use Rattle.base_core.specs.Restart.{SinceBy}
+use Rattle.base_core.specs.Restart.{SinceGivenEarlier}
 use Rattle.base_core.specs.Tree.{TreeState, files_of}
 use Rattle.journal_core.specs.Kept.{HasOldOrNewBytes, IsInNoMap, ShownNamesAreDurable}
 use Rattle.journal_core.specs.Quiet.{StateIsUnchanged}
@@ -43,7 +43,7 @@ NamesAreDurableWithoutIntent w = w.names intent_name ≡ None → ShownNamesAreD
 -- is published.
 pub record IsStageRun (files : Files) (v : TreeState) (old now : List TreeState) : Type 0 where
   pub moments : (ignored : List ℕ → Bool) → IsDurable (StateDependsOn ignored) v
-      → SinceBy (IsOldUntilCommit ignored files v) old now
+      → SinceGivenEarlier (IsOldUntilCommit ignored files v) old now
   pub reads : Since (IsReadDuringChange files (files_of v)) old now
   pub last : ShownNamesAreDurable v → Since NamesAreDurableWithoutIntent old now
 

@@ -9,7 +9,7 @@ use Rattle.base_core.specs.Calls.{IsCounted}
 use Rattle.base_core.specs.Faults.{CountsOnlyRise, HasCause}
 use Rattle.base_core.proofs.Booleans.{or_weaker}
 use Rattle.tree_memory.specs.Plans.{PlanState, is_listed, is_stopped, is_next, has_more, listed_on, one_on}
-use Rattle.tree_memory.specs.Tallies.{with_call, with_fault, with_misuse, with_memory_fault, with_begun_call, goes_on, HasGrown}
+use Rattle.tree_memory.specs.Tallies.{with_call, with_fault, with_misuse, with_memory_fault, with_begun_call, goes_on, HasNotFallen}
 use Rattle.tree_memory.specs.Memory.{counts_by}
 use Rattle.tree_memory.specs.declared.calls.Calls.{Calls}
 use Rattle.tree_memory.specs.declared.calls.Tally.{Tally}
@@ -60,7 +60,7 @@ more_is_more plan is = or_weaker (is_ahead (listed_on plan.listed)) (is_some (op
 pub record IsBegun (b : Bool) (writes : ℕ) (old new : Calls) : Type 0 where
   pub plan : new.plan ≡ one_on old.plan
   pub tally : new.tally ≡ with_begun_call b (is_next old.plan) (record old.tally { writes = writes })
-  pub grown : HasGrown old.tally new.tally
+  pub grown : HasNotFallen old.tally new.tally
 
 -- b is the answer to whether it is no misuse
 pub record Says (b : Bool) (P : Type 0) : Type 0 where
@@ -73,7 +73,7 @@ says b P both = record { good = both.0; back = both.1 }
 pub always : (v : TreeState) → Says true (Unit {0})
 always v = record { good = λ _. tt; back = λ _. refl }
 
-on : (old new : Calls) → HasGrown old.tally new.tally → new.plan ≡ one_on old.plan → CountsOnlyRise (counts_by old) (counts_by new)
+on : (old new : Calls) → HasNotFallen old.tally new.tally → new.plan ≡ one_on old.plan → CountsOnlyRise (counts_by old) (counts_by new)
 on old new grown nearer = record { faults = grown.faults; misuses = grown.misuses; memory_faults = grown.memory_faults; fallible = λ f. more_is_more old.plan (subst (λ (p : PlanState). has_more p ≡ true) nearer f) }
 
 -- ---- one that goes on
@@ -164,7 +164,7 @@ module _ (can : TreeState → Type 0) (v : TreeState) (earlier : List TreeState)
 pub record IsEnded (there : Bool) (mid new : Calls) : Type 0 where
   pub plan : new.plan ≡ mid.plan
   pub tally : new.tally ≡ cond there mid.tally (with_memory_fault mid.tally)
-  pub grown : HasGrown mid.tally new.tally
+  pub grown : HasNotFallen mid.tally new.tally
 
 module _ (can : TreeState → Type 0) (v : TreeState) (earlier : List TreeState) (b : Bool) (s : Says b (can v)) (writes : ℕ) (old mid new : Calls) (h : IsBegun b writes old mid) (goes : goes_on b (is_next old.plan) ≡ true) where
   can_do : can v

@@ -18,7 +18,7 @@ use Rattle.base_core.specs.Files.{IsFolderOf, HasNoFileAsFolder, NameMap, put_na
 use Rattle.base_core.proofs.Orderings.{is_less, tied_then}
 use Rattle.base_core.proofs.AtName.{other_name, name_cases, off_name}
 use Rattle.base_core.proofs.Folders.{at_folder}
-use Rattle.tree_memory.specs.Table.{IsTable, lookup, IsStart, IsFit, IsBelow, HasBelowBut}
+use Rattle.tree_memory.specs.Table.{IsTable, lookup, IsStart, MakesNoFolderOfAnother, IsBelow, HasBelowBut}
 use Rattle.tree_memory.proofs.AtName.{put-at, put-off, drop_name-at, drop_name-off}
 use Rattle.tree_memory.proofs.Placed.{searchable, located, looked_up}
 use Rattle.tree_memory.specs.declared.table.NameAndFile.{NameAndFile}
@@ -255,13 +255,13 @@ put_anyway names name n q = by (bytes_eq q name) (names q)
     by false r = refl
 
 module _ (names : NameMap) (es : List NameAndFile) (same : (q : List ℕ) → names q ≡ lookup es q) where
-  pub fits_moved : (from to : List ℕ) (n : ℕ) → HasNoFileAsFolder names → IsFit es to from → HasNoFileAsFolder (put_name (drop_name names from) to n)
+  pub fits_moved : (from to : List ℕ) (n : ℕ) → HasNoFileAsFolder names → MakesNoFolderOfAnother es to from → HasNoFileAsFolder (put_name (drop_name names from) to n)
   fits_moved from to n folders fit =
       folder_like_put (drop_name names from) to n (folder_like_fewer names (drop_name names from) (fewer_dropped names from) folders)
       (λ q some ne. let was = some_dropped names from q some in let here : IsSome (lookup es q) = subst IsSome (same q) was.0 in
       (λ above. fit.above (q, above, (here, other_name q from was.1)), λ below. fit.below (q, below, (here, other_name q from was.1))))
 
-  pub moved_fits : (from to : List ℕ) (n : ℕ) → HasNoFileAsFolder (put_name (drop_name names from) to n) → IsFit es to from
+  pub moved_fits : (from to : List ℕ) (n : ℕ) → HasNoFileAsFolder (put_name (drop_name names from) to n) → MakesNoFolderOfAnother es to from
   moved_fits from to n folders = record {
     above = λ (q, above, (some, off)). (apart_from_put (drop_name names from) to n folders q (there q some off)).0 above;
     below = λ (q, below, (some, off)). (apart_from_put (drop_name names from) to n folders q (there q some off)).1 below;
@@ -270,8 +270,8 @@ module _ (names : NameMap) (es : List NameAndFile) (same : (q : List ℕ) → na
       there : (q : List ℕ) → IsSome (lookup es q) → bytes_eq q from ≡ false → IsSome (drop_name names from q)
       there q some off = subst IsSome (sym (drop_name-off names from q (off_name q from off) ∙ same q)) some
 
-  pub fits_put : (name : List ℕ) (n : ℕ) → HasNoFileAsFolder names → IsFit es name name → HasNoFileAsFolder (put_name names name n)
+  pub fits_put : (name : List ℕ) (n : ℕ) → HasNoFileAsFolder names → MakesNoFolderOfAnother es name name → HasNoFileAsFolder (put_name names name n)
   fits_put name n folders fit = folder_like_fewer (put_name (drop_name names name) name n) (put_name names name n) (λ q some. subst IsSome (sym (put_anyway names name n q)) some) (fits_moved name name n folders fit)
 
-  pub put_fits : (name : List ℕ) (n : ℕ) → HasNoFileAsFolder (put_name names name n) → IsFit es name name
+  pub put_fits : (name : List ℕ) (n : ℕ) → HasNoFileAsFolder (put_name names name n) → MakesNoFolderOfAnother es name name
   put_fits name n folders = moved_fits name name n (folder_like_fewer (put_name names name n) (put_name (drop_name names name) name n) (λ q some. subst IsSome (put_anyway names name n q) some) folders)

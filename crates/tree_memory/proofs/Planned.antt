@@ -3,7 +3,7 @@ use Rattle.std.proofs.Common.{◌≡◌, ℕ, zero, suc, ◌+◌, ◌-◌, ◌||
 use Rattle.std.specs.List.{list_any}
 use Rattle.std.specs.Option.{option_map}
 use Rattle.std.proofs.lemmas.Bool.Decides.{nat_tests}
-use Rattle.tree_memory.specs.Plans.{PlanState, is_behind, is_listed, is_next, is_stopped, is_to_fail, listed_on, one_on, plan_after}
+use Rattle.tree_memory.specs.Plans.{PlanState, is_after_stop, is_listed, is_next, is_stopped, is_to_fail, listed_on, one_on, plan_after}
 
 -- the number k + 2 is one less behind the next call
 less_at : (n k : ℕ) → ltb 0 (n - 1) ≡ true → eqb (n - 1) (k + 1) ≡ eqb n (k + 2)
@@ -21,14 +21,14 @@ listed_later (n ∷ listed) k = by (ltb 0 (n - 1)) refl (listed_later listed k)
     by true is rest = ap₂ ◌||◌ (less_at n k is) rest
     by false is rest = rest ∙ sym (ap (λ b. b || list_any (λ m. eqb m (k + 2)) listed) (not_at n k is))
 
-after_later : (stop : Option ℕ) (k : ℕ) → is_behind (option_map (λ n. n - 1) stop) (k + 1) ≡ is_behind stop (k + 2)
+after_later : (stop : Option ℕ) (k : ℕ) → is_after_stop (option_map (λ n. n - 1) stop) (k + 1) ≡ is_after_stop stop (k + 2)
 after_later None k = refl
 after_later (Some n) k = less n k
   where
     less : (n k : ℕ) → ltb (n - 1) (k + 1) ≡ ltb n (k + 2)
     less n k = grind (arith, nat_tests)
 
-stopped_first : (stop : Option ℕ) → is_stopped stop ≡ is_behind stop 1
+stopped_first : (stop : Option ℕ) → is_stopped stop ≡ is_after_stop stop 1
 stopped_first None = refl
 stopped_first (Some n) = first n
   where

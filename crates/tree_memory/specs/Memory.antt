@@ -66,7 +66,7 @@ pub record IsRead {T E : Type 0} (old new : MemoryTree) (result : Result T E) : 
 -- ---- a call that writes
 
 -- a call that has no reason to fail: no failure is planned for it, and it is no misuse
-pub record IsFree (can : TreeState → Type 0) (old : MemoryTree) : Type 0 where
+pub record HasNoReasonToFail (can : TreeState → Type 0) (old : MemoryTree) : Type 0 where
   pub unplanned : is_next (plan_of old) ≡ false
   pub proper : can (tree_state old)
 
@@ -77,7 +77,7 @@ pub record HadToFail (can : TreeState → Type 0) (old new : MemoryTree) : Type 
 
 -- a call failed only because the tree was out of memory
 pub record FailedForMemory (can : TreeState → Type 0) (old new : MemoryTree) : Type 0 where
-  pub free : IsFree can old
+  pub free : HasNoReasonToFail can old
   pub memory_faults : (counts_of new).memory_faults ≡ next_count (counts_of old).memory_faults
 
 -- a call that writes: it is counted, and the plan is one call nearer; an error is a fault, has one of
@@ -90,7 +90,7 @@ pub record IsWrite {T E : Type 0} (can : TreeState → Type 0) (old new : Memory
   pub longest : longest_of new ≡ longest_of old
   pub faults : (counts_of new).faults ≡ (if is_ok result then (counts_of old).faults else next_count
       (counts_of old).faults)
-  pub free : OnOk result (IsFree can old)
+  pub free : OnOk result (HasNoReasonToFail can old)
   pub memory_faults : OnOk result ((counts_of new).memory_faults ≡ (counts_of old).memory_faults)
   pub reason : OnErr result (HadToFail can old new ⊎ FailedForMemory can old new)
   pub unchanged : OnErr result (history_of new ≡ history_of old)

@@ -52,10 +52,10 @@ plan_after (suc k) plan = plan_after k (one_on plan)
 -- ---- as it was made
 
 -- whether call k, counted from 1, is after the planned stop, which follows n more calls; false without one
-abbrev pub is_behind : Option ℕ → ℕ → Bool
-is_behind None k = false
-is_behind (Some n) k = nat_lt n k
+abbrev pub is_after_stop : Option ℕ → ℕ → Bool
+is_after_stop None k = false
+is_after_stop (Some n) k = nat_lt n k
 
 -- whether call k, counted from 1, is to fail: it is listed, or is after the stop
 abbrev pub is_to_fail : PlanState → ℕ → Bool
-is_to_fail plan k = list_any (λ n. n == k) plan.listed || is_behind plan.stop k
+is_to_fail plan k = list_any (λ n. n == k) plan.listed || is_after_stop plan.stop k

@@ -64,6 +64,6 @@ HasBelowBut entries folder but =
 
 -- no name of the table, other than the one left out, is a folder of this one or below it. Left out is
 -- the name that a rename removes, or the name itself
-pub record IsFit (entries : List NameAndFile) (name but : List ℕ) : Type 0 where
+pub record MakesNoFolderOfAnother (entries : List NameAndFile) (name but : List ℕ) : Type 0 where
   pub above : HasFolderBut entries name but → ⊥
   pub below : HasBelowBut entries name but → ⊥

@@ -44,7 +44,7 @@ goes_on true true = false
 goes_on true false = true
 
 -- no count of failures fell
-pub record HasGrown (old new : Tally) : Type 0 where
+pub record HasNotFallen (old new : Tally) : Type 0 where
   pub faults : old.faults ≤ new.faults
   pub misuses : old.misuses ≤ new.misuses
   pub memory_faults : old.memory_faults ≤ new.memory_faults

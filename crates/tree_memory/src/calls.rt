@@ -4,7 +4,7 @@
 ghost use Rattle.std.specs.Prelude.{◌≡◌, [], None, Some, OnOk, OnErr, is_ok, if◌then◌else◌, ◌⊎◌, ◌+◌, ℕ, false};
 ghost use Rattle.base_core.specs.Faults.{next_count, HasCause, Rose};
 ghost use Rattle.tree_memory.specs.Plans.{PlanState, no_plan, is_next, is_listed, one_on, listed_on, has_more, is_to_fail, plan_after};
-ghost use Rattle.tree_memory.specs.Tallies.{no_calls, with_call, with_fault, with_misuse, with_memory_fault, with_begun_call, goes_on, HasGrown};
+ghost use Rattle.tree_memory.specs.Tallies.{no_calls, with_call, with_fault, with_misuse, with_memory_fault, with_begun_call, goes_on, HasNotFallen};
 ghost use Rattle.tree_memory.specs.Memory.{plan_of, counts_of};
 ghost use Rattle.tree_memory.specs.Sink.{SinkState, sink_counts};
 ghost use Rattle.tree_memory.specs.declared.tree.MemoryTree.{MemoryTree};
@@ -136,7 +136,7 @@ impl Tally {
     /// Counts the call as one that failed.
     pub fn fault(&mut self)
         ensures is { self.new ≡ with_fault self.old }
-        ensures grown { HasGrown self.old self.new }
+        ensures grown { HasNotFallen self.old self.new }
     {
         self.faults = self.faults.saturating_add(1);
     }
@@ -144,7 +144,7 @@ impl Tally {
     /// Counts the call as a misuse, which is a fault too.
     pub fn misuse(&mut self)
         ensures is { self.new ≡ with_misuse self.old }
-        ensures grown { HasGrown self.old self.new }
+        ensures grown { HasNotFallen self.old self.new }
     {
         self.fault();
         self.misuses = self.misuses.saturating_add(1);
@@ -153,7 +153,7 @@ impl Tally {
     /// Counts the call as out of memory, which is a fault too.
     pub fn want(&mut self)
         ensures is { self.new ≡ with_memory_fault self.old }
-        ensures grown { HasGrown self.old self.new }
+        ensures grown { HasNotFallen self.old self.new }
     {
         self.fault();
         self.memory_faults = self.memory_faults.saturating_add(1);
@@ -187,7 +187,7 @@ impl Calls {
         ensures plan { self.new.plan ≡ one_on self.old.plan }
         ensures tally { self.new.tally ≡ with_begun_call can
             (is_next self.old.plan) self.old.tally }
-        ensures grown { HasGrown self.old.tally self.new.tally }
+        ensures grown { HasNotFallen self.old.tally self.new.tally }
         ensures when { is_ok result ≡ goes_on can (is_next self.old.plan) }
     {
         self.tally.call();
@@ -208,7 +208,7 @@ impl Calls {
         ensures plan { self.new.plan ≡ one_on self.old.plan }
         ensures tally { self.new.tally ≡ with_begun_call can (is_next self.old.plan)
             (record self.old.tally { writes = next_count self.old.tally.writes }) }
-        ensures grown { HasGrown self.old.tally self.new.tally }
+        ensures grown { HasNotFallen self.old.tally self.new.tally }
         ensures when { is_ok result ≡ goes_on can (is_next self.old.plan) }
     {
         self.tally.write();
@@ -220,7 +220,7 @@ impl Calls {
         ensures plan { self.new.plan ≡ self.old.plan }
         ensures tally { self.new.tally
             ≡ (if is_ok done then self.old.tally else with_memory_fault self.old.tally) }
-        ensures grown { HasGrown self.old.tally self.new.tally }
+        ensures grown { HasNotFallen self.old.tally self.new.tally }
         ensures when { is_ok result ≡ is_ok done }
     {
         match done {

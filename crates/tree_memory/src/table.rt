@@ -6,7 +6,7 @@ ghost use Rattle.std.specs.Ordering.{nat_cmp, is_lt};
 ghost use Rattle.std.specs.Str.{bytes_eq};
 ghost use Rattle.std.specs.Cmp.Lexicographic.{slice_cmp};
 ghost use Rattle.base_core.specs.Files.{put_name, drop_name};
-ghost use Rattle.tree_memory.specs.Table.{IsTable, IsFit, lookup, names_of, IsNamed, IsPlace, IsStart, IsBelow, HasFolderBut, HasBelowBut};
+ghost use Rattle.tree_memory.specs.Table.{IsTable, MakesNoFolderOfAnother, lookup, names_of, IsNamed, IsPlace, IsStart, IsBelow, HasFolderBut, HasBelowBut};
 
 use base_core::{Name, Names, is_folder_of};
 use std::alloc::{AllocError, Global};
@@ -86,7 +86,7 @@ impl NameTable {
     /// has none of them as its folder. `but` is the name that a rename removes; for a put it is the
     /// name itself.
     pub fn fits(&self, name: &[u8], but: &[u8]) -> bool
-        ensures { IsTrue result ↔ IsFit self.now.entries.items name.now but.now }
+        ensures { IsTrue result ↔ MakesNoFolderOfAnother self.now.entries.items name.now but.now }
     {
         if self.has_folder_of(name, but) {
             return false;

@@ -8,7 +8,7 @@ ghost use Rattle.base_core.specs.Restart.{IsAfterCrashInOrder};
 ghost use Rattle.base_core.specs.Faults.{CountsOnlyRise, HasCause, IsNoFault, next_count};
 ghost use Rattle.base_core.specs.Files.{put_name};
 ghost use Rattle.base_core.specs.Listed.{AreNamesBelow, IsNamesOf, IsListOf};
-ghost use Rattle.base_core.specs.Tree.{files_of, after_create, after_append, after_failed_append, after_sync, after_rename, after_remove, after_sync_names, same_state, IsAlwaysAllowed, HasName, CanRead, CanCreate, CanRename};
+ghost use Rattle.base_core.specs.Tree.{files_of, after_create, after_append, after_failed_append, after_sync, after_rename, after_remove, after_sync_names, after_failed_call, IsAlwaysAllowed, HasName, CanRead, CanCreate, CanRename};
 ghost use Rattle.base_core.specs.declared.tree.TreeFault.TheVariants.{Memory, Disk as DiskFault};
 ghost use Rattle.tree_memory.specs.Changes.{empty_state, after_put};
 ghost use Rattle.tree_memory.specs.Images.{maps_of, image_of};
@@ -233,7 +233,7 @@ impl Tree for MemoryTree {
         // It fails exactly if that is planned, or if it is a misuse.
         ensures when { IsOk result ↔ ((is_next (plan_of self.old) ≡ false)
             × CanRead name.now at (length into.old) (tree_state self.old)) }
-        ensures same_state { OnErr result (into.new ≡ into.old) }
+        ensures after_failed_call { OnErr result (into.new ≡ into.old) }
         ensures call { IsRead self.old self.new result }
         ensures longest { longest_of self.new ≡ max (longest_of self.old) (length into.old) }
     {
@@ -278,7 +278,7 @@ impl Tree for MemoryTree {
 
     /// Makes the bytes of a file durable.
     fn sync(&mut self, name: &Name) -> Result<(), Disk>
-        ensures moves { ChangesHistory (HasName name.now) (after_sync name.now) same_state
+        ensures moves { ChangesHistory (HasName name.now) (after_sync name.now) after_failed_call
             (history_of self.old) (history_of self.new) result }
         ensures counts { IsCounted (HasName name.now) (history_of self.old) (counts_of self.old)
             (counts_of self.new) result }
@@ -320,9 +320,8 @@ impl Tree for MemoryTree {
 
     /// Makes all names durable.
     fn sync_names(&mut self) -> Result<(), Disk>
-        ensures moves { ChangesHistory IsAlwaysAllowed after_sync_names same_state (history_of
-            self.old)
-            (history_of self.new) result }
+        ensures moves { ChangesHistory IsAlwaysAllowed after_sync_names after_failed_call
+            (history_of self.old) (history_of self.new) result }
         ensures counts { IsCounted IsAlwaysAllowed (history_of self.old) (counts_of self.old)
             (counts_of self.new) result }
         ensures call { IsWrite IsAlwaysAllowed self.old self.new result }

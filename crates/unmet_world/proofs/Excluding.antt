@@ -7,7 +7,7 @@ use Rattle.std.proofs.lemmas.Bool.{cases_Bool}
 use Rattle.dep_core.specs.Dependency.{Dependency}
 use Rattle.candidate_core.specs.Candidates.{Candidate, meets_dependency, occupies_name}
 use Rattle.candidate_core.specs.Rank.{SealedPool, candidate_at}
-use Rattle.search_tables.specs.Selection.{conflicts_with, exclude_each_other, keeps_out, occupied_names, share_a_name}
+use Rattle.search_tables.specs.Selection.{conflicts_with, does_exclude, exclude_each_other, occupied_names, share_a_name}
 use Rattle.unmet_world.specs.Exclusion.{conflict_between, conflict_with, is_conflict_met_by, name_of_both, occupied_among, shared_name}
 
 found_any : {X : Type 0} (p : X → Bool) (xs : List X) (x : X) → find p xs ≡ Some x → list_any p xs ≡ true
@@ -57,17 +57,17 @@ name_held (Some one) (Some other) name e = elim (cases_Bool (occupies_name one.n
 -- ---- both
 
 module _ (pool : SealedPool) (a b : ℕ) (apart : (a == b) ≡ false) where
-  kept_out : keeps_out pool a b ≡ true → exclude_each_other pool a b ≡ true
+  kept_out : does_exclude pool a b ≡ true → exclude_each_other pool a b ≡ true
   kept_out h = rw (apart, h) refl
 
-  kept_out_back : keeps_out pool b a ≡ true → exclude_each_other pool a b ≡ true
-  kept_out_back h = rw (apart, h) (or_true (keeps_out pool a b))
+  kept_out_back : does_exclude pool b a ≡ true → exclude_each_other pool a b ≡ true
+  kept_out_back h = rw (apart, h) (or_true (does_exclude pool a b))
     where
       or_true : (x : Bool) → (x || true) ≡ true
       or_true true = refl
       or_true false = refl
 
-  conflicts : (c d : ℕ) → is_some (conflict_between pool c d) ≡ true → keeps_out pool c d ≡ true
+  conflicts : (c d : ℕ) → is_some (conflict_between pool c d) ≡ true → does_exclude pool c d ≡ true
   conflicts c d h =
       let found = some_is (conflict_between pool c d) h in
       let held : conflicts_with pool c d ≡ true = conflict_held (candidate_at pool c) (candidate_at pool d) found.0 found.1 in

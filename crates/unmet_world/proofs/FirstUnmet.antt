@@ -9,7 +9,7 @@ use Rattle.candidate_core.specs.Candidates.{entry}
 use Rattle.candidate_core.specs.Rank.{SealedPool}
 use Rattle.candidate_core.specs.Options.{IsIn, options_for}
 use Rattle.dep_core.specs.Dependency.{Dependency}
-use Rattle.unmet_world.specs.Refutation.{AreSteps, IsFirstUnmet, IsMetOnlyBy, IsRefutation, IsSure, IsUnmet, if_positive, made_sure, ruled_out, wanted, world_want}
+use Rattle.unmet_world.specs.Refutation.{AreSteps, IsFirstUnmetOfWorld, IsMetOnlyBy, IsRefutation, IsSure, IsUnmet, if_positive, made_sure, ruled_out, wanted, world_want}
 use Rattle.unmet_world.specs.declared.refutation.Refutation.{Refutation}
 use Rattle.unmet_world.specs.declared.refutation.Step.{Step}
 use Rattle.unmet_world.specs.declared.refutation.Want.{Want}
@@ -38,7 +38,7 @@ past pool index unmet = by pool.world index unmet.0 unmet.1
     by (x ∷ world) (suc i) d e = let h = by world i d e in omega (arith, h)
 
 -- of two first ones, both are the same
-pub one_first : (pool : SealedPool) (i j : ℕ) → IsFirstUnmet pool i → IsFirstUnmet pool j → i ≡ j
+pub one_first : (pool : SealedPool) (i j : ℕ) → IsFirstUnmetOfWorld pool i → IsFirstUnmetOfWorld pool j → i ≡ j
 one_first pool i j one other = elim (cases i j) [
   | inl less ↦ absurd (other.first i less one.unmet)
   | inr more ↦ elim more [
@@ -57,7 +57,7 @@ one_first pool i j one other = elim (cases i j) [
     ]
 
 -- an unmet entry is a refutation without steps
-pub alone : (pool : SealedPool) (r : Refutation) (index : ℕ) → r.steps.items ≡ [] → r.end ≡ world_want index → IsFirstUnmet pool index → IsRefutation pool r
+pub alone : (pool : SealedPool) (r : Refutation) (index : ℕ) → r.steps.items ≡ [] → r.end ≡ world_want index → IsFirstUnmetOfWorld pool index → IsRefutation pool r
 alone pool r index none is first = record {
   steps = subst (AreSteps pool) (sym none) tt;
   sure = subst (λ (w : Want). IsSure (made_sure r.steps.items) w.owner) (sym is) tt;
@@ -65,14 +65,14 @@ alone pool r index none is first = record {
 }
 
 -- what the search for the first one tells
-pub found_first : (pool : SealedPool) (found : Option ℕ) (index : ℕ) → found ≡ Some index → MatchOption found ((k : ℕ) → IsUnmet pool (world_want k) → ⊥) (IsFirstUnmet pool) → IsFirstUnmet pool index
+pub found_first : (pool : SealedPool) (found : Option ℕ) (index : ℕ) → found ≡ Some index → MatchOption found ((k : ℕ) → IsUnmet pool (world_want k) → ⊥) (IsFirstUnmetOfWorld pool) → IsFirstUnmetOfWorld pool index
 found_first pool found index is told = rw is at told
 
-pub not_found : (pool : SealedPool) (found : Option ℕ) → found ≡ None → MatchOption found ((k : ℕ) → IsUnmet pool (world_want k) → ⊥) (IsFirstUnmet pool) → (k : ℕ) → IsUnmet pool (world_want k) → ⊥
+pub not_found : (pool : SealedPool) (found : Option ℕ) → found ≡ None → MatchOption found ((k : ℕ) → IsUnmet pool (world_want k) → ⊥) (IsFirstUnmetOfWorld pool) → (k : ℕ) → IsUnmet pool (world_want k) → ⊥
 not_found pool found is told = rw is at told
 
 -- where no entry is unmet, nothing is said of the first one
-pub never : {E : Type 0} (pool : SealedPool) (r : Result (Option Refutation) E) → ((k : ℕ) → IsUnmet pool (world_want k) → ⊥) → IfOk r (λ found. (index : ℕ) → IsFirstUnmet pool index → MatchOption found ⊥ (λ x. (x.steps.items ≡ []) × (x.end ≡ world_want index)))
+pub never : {E : Type 0} (pool : SealedPool) (r : Result (Option Refutation) E) → ((k : ℕ) → IsUnmet pool (world_want k) → ⊥) → IfOk r (λ found. (index : ℕ) → IsFirstUnmetOfWorld pool index → MatchOption found ⊥ (λ x. (x.steps.items ≡ []) × (x.end ≡ world_want index)))
 never pool (Ok found) none = λ index first. absurd (none index first.unmet)
 never pool (Err e) none = tt
 

@@ -28,13 +28,13 @@ origin_text repositories (Some number) =
     option_map_or (λ (r : Repository). r.path) (slice_get repositories (number - 1)) []
 
 -- a package: `app-2.1-r0`
-abbrev pub package_text : Candidate → List ℕ
-package_text c = c.name ++ codes "-" ++ unwrap_or c.version []
+abbrev pub name_and_version_text : Candidate → List ℕ
+name_and_version_text c = c.name ++ codes "-" ++ unwrap_or c.version []
 
 -- a package with where it is from: `app-2.1-r0 (edge/index.adb)`
 abbrev pub candidate_text : List Repository → Candidate → List ℕ
 candidate_text repositories c =
-    package_text c ++ codes " (" ++ origin_text repositories c.repository ++ codes ")"
+    name_and_version_text c ++ codes " (" ++ origin_text repositories c.repository ++ codes ")"
 
 -- the candidate at a place
 abbrev pub text_at : SealedPool → List Repository → ℕ → List ℕ
@@ -42,14 +42,14 @@ text_at pool repositories c =
     option_map_or (candidate_text repositories) (candidate_at pool c) []
 
 -- who has a dependency
-abbrev pub owner_text : SealedPool → List Repository → Owner → List ℕ
-owner_text pool repositories World = codes "world"
-owner_text pool repositories (Package c) = text_at pool repositories c
+abbrev pub dependency_owner_text : SealedPool → List Repository → Owner → List ℕ
+dependency_owner_text pool repositories World = codes "world"
+dependency_owner_text pool repositories (Package c) = text_at pool repositories c
 
 -- an owner needs a dependency: `world needs app>=2`
 abbrev pub needs_text : SealedPool → List Repository → Owner → Dependency → List ℕ
 needs_text pool repositories owner d =
-    owner_text pool repositories owner ++ codes " needs " ++ dep_text d
+    dependency_owner_text pool repositories owner ++ codes " needs " ++ dep_text d
 
 -- ---- what there is of a name
 
@@ -60,8 +60,8 @@ bar_text (Some d) = codes " (world has " ++ dep_text d ++ codes ")"
 
 -- why a candidate may not be selected: its tag, which world does not use, or a conflict of world;
 -- nothing if it may
-abbrev pub refusal_text : List Dependency → Candidate → List ℕ
-refusal_text world c =
+abbrev pub bar_reason_text : List Dependency → Candidate → List ℕ
+bar_reason_text world c =
     if is_allowed world c then
     bar_text (find (is_conflict_met_by c) world) else
     codes " (tagged @" ++ unwrap_or c.tag [] ++ codes ")"
@@ -69,8 +69,8 @@ refusal_text world c =
 -- a candidate that offers a name: its version, or the package if it has another name
 abbrev pub offer_text : List Dependency → List ℕ → Candidate → List ℕ
 offer_text world name c =
-    (if bytes_eq name c.name then unwrap_or c.version [] else package_text c)
-    ++ refusal_text world c
+    (if bytes_eq name c.name then unwrap_or c.version [] else name_and_version_text c)
+    ++ bar_reason_text world c
 
 -- the candidate at a place, which offers a name
 abbrev pub offer_text_at : SealedPool → List ℕ → ℕ → List ℕ

@@ -44,7 +44,7 @@ abbrev pub world_want : ℕ → Want
 world_want index = record { owner = World; index = index }
 
 -- the entry of world at an index is the first that no candidate meets which may be selected
-pub record IsFirstUnmet (pool : SealedPool) (index : ℕ) : Type 0 where
+pub record IsFirstUnmetOfWorld (pool : SealedPool) (index : ℕ) : Type 0 where
   pub unmet : IsUnmet pool (world_want index)
   pub first : (before : ℕ) → before < index → IsUnmet pool (world_want before) → ⊥
 

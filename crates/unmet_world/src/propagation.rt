@@ -228,8 +228,8 @@ impl<'p> Propagation<'p> {
     fn list_all(&mut self, open: usize, options: &Options) -> Result<usize, AllocError> {
         let mut left: usize = 0;
         for i in 0..options.len() {
-            let is_path_left_over = self.list(open, options.get(i))?;
-            if is_path_left_over {
+            let is_left = self.list(open, options.get(i))?;
+            if is_left {
                 left = left.saturating_add(1);
             }
         }

@@ -197,7 +197,7 @@ fn are_left(options: &Options, kept: &Option<CandId>, out: &CandidateSet) -> boo
     ensures { result ≡ true → AreMembers options.now (option_to_list kept.now ++ out.now) }
 {
     for i in 0..options.len() {
-        if !is_path_left_over(options.get(i), kept, out) {
+        if !is_left(options.get(i), kept, out) {
             return false;
         }
     }
@@ -205,7 +205,7 @@ fn are_left(options: &Options, kept: &Option<CandId>, out: &CandidateSet) -> boo
 }
 
 // Whether a candidate is ruled out, or is the one that is kept.
-fn is_path_left_over(id: CandId, kept: &Option<CandId>, out: &CandidateSet) -> bool
+fn is_left(id: CandId, kept: &Option<CandId>, out: &CandidateSet) -> bool
     ensures { result ≡ true → IsIn id (option_to_list kept.now ++ out.now) }
 {
     match kept {

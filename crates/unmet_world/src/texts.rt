@@ -7,7 +7,7 @@ ghost use Rattle.dep_core.specs.DependencyText.{dep_text};
 ghost use Rattle.dep_core.specs.Meets.{dependency};
 ghost use Rattle.candidate_core.specs.Candidates.{uses_tag, is_allowed};
 ghost use Rattle.unmet_world.specs.Exclusion.{is_conflict_met_by};
-ghost use Rattle.unmet_world.specs.Lines.{origin_text, package_text, candidate_text, text_at, owner_text, bar_text, refusal_text, offer_text, offer_text_at, with_text, with_texts, joined_texts, most_offers, dots_if, offered_text, offers_line};
+ghost use Rattle.unmet_world.specs.Lines.{origin_text, name_and_version_text, candidate_text, text_at, dependency_owner_text, bar_text, bar_reason_text, offer_text, offer_text_at, with_text, with_texts, joined_texts, most_offers, dots_if, offered_text, offers_line};
 
 use crate::exclusion::is_conflict_met_by;
 use crate::refutation::{Owner, candidate};
@@ -61,7 +61,7 @@ fn add_path(text: &mut Vec<u8>, repositories: &Repos, number: u64) -> Result<(),
 
 // Adds the name and the version of a package.
 fn add_package(text: &mut Vec<u8>, details: &Details<'_>) -> Result<(), AllocError>
-    ensures { OnOk result (text.new.items ≡ text.old.items ++ package_text details.now) }
+    ensures { OnOk result (text.new.items ≡ text.old.items ++ name_and_version_text details.now) }
 {
     text.extend_from_slice(details.name())?;
     text.extend_from_slice(b"-")?;
@@ -116,7 +116,7 @@ pub(crate) fn add_owner(
     owner: Owner,
 ) -> Result<(), AllocError>
     ensures { OnOk result (text.new.items ≡ text.old.items
-        ++ owner_text sources.now.pool.now sources.now.repositories.now owner) }
+        ++ dependency_owner_text sources.now.pool.now sources.now.repositories.now owner) }
 {
     match owner {
         Owner::World => text.extend_from_slice(b"world"),
@@ -185,7 +185,8 @@ fn bar<'a>(world: &'a World, details: &Details<'_>) -> Option<Dep<'a>>
 
 // Adds why a candidate may not be selected; nothing if it may.
 fn add_refusal(text: &mut Vec<u8>, world: &World, details: &Details<'_>) -> Result<(), AllocError>
-    ensures { OnOk result (text.new.items ≡ text.old.items ++ refusal_text world.now details.now) }
+    ensures { OnOk result (text.new.items
+        ≡ text.old.items ++ bar_reason_text world.now details.now) }
 {
     if is_allowed(world, details) {
         return add_bar(text, bar(world, details));

@@ -3,7 +3,7 @@
 -- paragraph on the value of records; the order of fields in "Schemas", tables 2 to 5, 7 and 9.
 use Rattle.std.specs.Prelude.{ℕ, List, [], ◌∷◌, map, Option, Some, None, if◌then◌else◌}
 use Rattle.std.specs.List.{find, flat_map}
-use Rattle.adb_view.specs.Plain.{Plain, null, int, blob_value, arr_value, obj_value}
+use Rattle.adb_view.specs.Plain.{Plain, null, int, blob_or_null, arr_value, obj_value}
 use Rattle.make_info.specs.Fields.{FieldValue}
 use Rattle.make_info.specs.Information.{plain_value}
 use Rattle.make_info.specs.Values.{plains_of_list}
@@ -64,26 +64,26 @@ record_info_value info =
 -- the object of an access (table 2): mode, user, group; Null if no line gives one
 abbrev pub listed_access_value : Option Access → Plain
 listed_access_value None = null
-listed_access_value (Some a) = object_of (int a.mode ∷ blob_value a.user ∷ blob_value a.group ∷ [])
+listed_access_value (Some a) = object_of (int a.mode ∷ blob_or_null a.user ∷ blob_or_null a.group ∷ [])
 
 -- the blob of a file's hash; Null if no line gives it
 abbrev pub listed_hash_value : Option (List ℕ) → Plain
 listed_hash_value None = null
-listed_hash_value (Some hash) = blob_value hash
+listed_hash_value (Some hash) = blob_or_null hash
 
 -- the object of a file (table 4): name, acl, size, mtime, hashes; size and mtime are Null, since the
 -- text does not have them
 abbrev pub listed_file_value : ListedFile → Plain
 listed_file_value file =
     object_of
-    (blob_value file.name ∷ listed_access_value file.access ∷ null ∷ null
+    (blob_or_null file.name ∷ listed_access_value file.access ∷ null ∷ null
     ∷ listed_hash_value file.hash ∷ [])
 
 -- the object of a folder (table 5): name, acl, files
 abbrev pub listed_folder_value : ListedFolder → Plain
 listed_folder_value folder =
     object_of
-    (blob_value folder.name ∷ listed_access_value folder.access
+    (blob_or_null folder.name ∷ listed_access_value folder.access
     ∷ array_of (map listed_file_value folder.files) ∷ [])
 
 -- ---- packages

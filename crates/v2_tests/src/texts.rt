@@ -2,7 +2,7 @@
 //! in `docs/formats.md`, "Text database of version 2".
 
 ghost use Rattle.std.specs.Prelude.{◌≡◌, IfOk};
-ghost use Rattle.adb_schema.specs.Checked.{which_of};
+ghost use Rattle.adb_schema.specs.Checked.{table_of_checked};
 ghost use Rattle.adb_view.specs.declared.tables.Which.TheVariants as Tables;
 
 use adb_dump::dump;
@@ -81,7 +81,7 @@ fn add_count(alloc: Global, payload: &[u8], answer: &mut Vec<u8>) -> Result<(), 
 
 /// The database in a payload, which passes all tests.
 fn checked_database(alloc: Global, payload: &[u8]) -> Result<Checked<'_>, ReadFault>
-    ensures { IfOk result (λ checked. which_of checked ≡ Tables.Idb) }
+    ensures { IfOk result (λ checked. table_of_checked checked ≡ Tables.Idb) }
 {
     let shaped = shape(Adb::new(payload)?, Which::Idb)?;
     Checked::new(alloc, shaped)

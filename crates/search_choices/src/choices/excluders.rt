@@ -74,10 +74,10 @@ impl<'p> Choices<'p> {
             (λ k. IsExcluder (pool_of self.now) (choices_of self.now) id k)) }
         ensures matches { OnOk result (AreMatchesAmong (pool_of self.now).candidates matches.new) }
     {
-        let provided = self.excluder_provided(details, id, matches)?;
+        let provided = self.excluder_by_provides(details, id, matches)?;
         match provided {
             Some(excluder) => Ok(Some(excluder)),
-            None => self.excluder_meeting(details, id, matches),
+            None => self.excluder_by_conflicts(details, id, matches),
         }
     }
 
@@ -125,7 +125,7 @@ impl<'p> Choices<'p> {
 
     // A choice that excludes the candidate by the name of one of its entries of provides. It has a
     // conflict that the entry meets, or occupies the name if the entry has a version.
-    fn excluder_provided(
+    fn excluder_by_provides(
         &self,
         details: &Details<'_>,
         id: CandId,
@@ -185,7 +185,7 @@ impl<'p> Choices<'p> {
     }
 
     // A choice that meets a conflict of the candidate.
-    fn excluder_meeting(
+    fn excluder_by_conflicts(
         &self,
         details: &Details<'_>,
         id: CandId,

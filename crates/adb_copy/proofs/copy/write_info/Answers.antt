@@ -7,7 +7,7 @@ use Rattle.adb_view.specs.declared.tables.Kind.TheVariants as Kinds
 use Rattle.adb_values.specs.Drafts.{draft_with, draft_with_all, draft_with_open_list}
 use Rattle.adb_values.proofs.Lists.{closed_as, on_ok}
 use Rattle.adb_copy.specs.Fields.{int_plains}
-use Rattle.adb_copy.specs.Zeros.{info_with, int_value, without_zeros}
+use Rattle.adb_copy.specs.Zeros.{info_with, int_or_null, without_zeros}
 use Rattle.adb_copy.proofs.Known.{known_all, known_closed_object, known_more, known_opened}
 use Rattle.adb_copy.proofs.Shapes.{value_shape}
 use Rattle.adb_copy.proofs.Fields.{info_fields, info_written}
@@ -25,7 +25,7 @@ write_deps-requires-clause-known c =
 
 pub write_text_list-requires-clause-known : goal.write_text_list-requires-clause-known
 write_text_list-requires-clause-known c =
-    known_more (payload_of c.args.adb) c.write_deps-5.new.known c.write_deps-5.new.draft c.write_int.new.draft c.in_ok-write_deps-5.ensures.known (int_value c.int_field-4.result) c.in_ok-write_int.ensures
+    known_more (payload_of c.args.adb) c.write_deps-5.new.known c.write_deps-5.new.draft c.write_int.new.draft c.in_ok-write_deps-5.ensures.known (int_or_null c.int_field-4.result) c.in_ok-write_int.ensures
 
 pub returns : goal.returns
 returns c =
@@ -60,7 +60,7 @@ returns c =
       known =
           on_ok _ _
           (λ closed. known_closed_object p texts c.write_int-2.new.draft c.close_object.new.self
-          (known_more p texts c.write_text_list.new.draft c.write_int-2.new.draft c.in_ok-write_text_list.ensures.known (int_value c.int_field-5.result) c.in_ok-write_int-2.ensures)
+          (known_more p texts c.write_text_list.new.draft c.write_int-2.new.draft c.in_ok-write_text_list.ensures.known (int_or_null c.int_field-5.result) c.in_ok-write_int-2.ensures)
           vs c.args.draft.now given (closed vs c.args.draft.now given))
           c.close_object.result c.close_object.ensures.ok;
     }

@@ -5,7 +5,7 @@ use Rattle.adb_fields.proofs.FirstPair.{step_pair, no_next_pair}
 use Rattle.adb_fields.proofs.pairs.first_of_neighbours.Goals as goal
 
 pub loop-i-preserved : goal.loop-i-preserved
-loop-i-preserved c = (omega arith, step_pair named_by c.args.entries.now c.loop-i.i _ c.loop-i.first c.earlier-first.result _ c.pair_of.result c.loop-i.invariant.0 c.loop-i-test.true c.pair_of.ensures c.earlier-first.ensures c.loop-i.invariant.1)
+loop-i-preserved c = (omega arith, step_pair named_by c.args.entries.now c.loop-i.i _ c.loop-i.first c.reported_of_two-first.result _ c.pair_of.result c.loop-i.invariant.0 c.loop-i-test.true c.pair_of.ensures c.reported_of_two-first.ensures c.loop-i.invariant.1)
 
 pub returns : goal.returns
 returns c = no_next_pair named_by c.args.entries.now (c.loop-i.i - 1) c.loop-i.first _ (omega arith) c.loop-i.invariant.1

@@ -1,7 +1,7 @@
 use Rattle.std.proofs.Common.{◌≡◌, ℕ, suc, ◌+◌, ◌*◌, true, drop, get_or, None}
 use Rattle.adb_view.specs.Adb.{payload_of}
 use Rattle.adb_view.specs.Entries.{array_entries}
-use Rattle.adb_view.specs.Schema.{schema_number, table, shape_of, shapes_of}
+use Rattle.adb_view.specs.Schema.{table_number, table, shape_of, shapes_of}
 use Rattle.adb_fields.specs.Fields.{are_all_sound, values_at}
 use Rattle.adb_view.specs.Rank.{rank, rank_of_all}
 use Rattle.adb_view.specs.Values.{entries_in, value_at}
@@ -31,6 +31,6 @@ invariant-check_entries-loop-i l = record {
 abbrev pub invariant-check_fields-loop-i : goal.invariant-check_fields-loop-i
 invariant-check_fields-loop-i l = record {
   payload : l.judged.adb ≡ l.fn.judged.adb;
-  field_number : l.field_number ≡ 100 * schema_number l.fn.which + l.i;
-  so_far : first_bad (field_leaves (shapes_of (drop l.i (table l.fn.which))) (l.field_number + 1) (surroundings_of l.around) (behind l.i (entries_in (value_at (payload_of l.adb) (Obj l.fn.which) l.fn.object)))) ≡ first_bad (field_leaves (shapes_of (table l.fn.which)) (100 * schema_number l.fn.which + 1) (surroundings_of l.around) (entries_in (value_at (payload_of l.adb) (Obj l.fn.which) l.fn.object)));
+  field_number : l.field_number ≡ 100 * table_number l.fn.which + l.i;
+  so_far : first_bad (field_leaves (shapes_of (drop l.i (table l.fn.which))) (l.field_number + 1) (surroundings_of l.around) (behind l.i (entries_in (value_at (payload_of l.adb) (Obj l.fn.which) l.fn.object)))) ≡ first_bad (field_leaves (shapes_of (table l.fn.which)) (100 * table_number l.fn.which + 1) (surroundings_of l.around) (entries_in (value_at (payload_of l.adb) (Obj l.fn.which) l.fn.object)));
 }

@@ -8,5 +8,5 @@ stays-requires-clause-behind c = stays_after (packages_before c.args.members.now
 pub returns-in-Stays-clause-added : goal.returns-in-Stays-clause-added
 returns-in-Stays-clause-added c = stays_added (packages_before c.args.members.now) _ _ c.args.read.now _ c.stays.result c.in-Stays.is c.requires.placed c.stays.ensures.ok
 
-pub comes_in_pieces-requires-clause-behind : goal.comes_in_pieces-requires-clause-behind
-comes_in_pieces-requires-clause-behind c = comes_next (packages_before c.args.members.now) (members_of c.args.members.now) c.args.read.now c.in-Comes.pkg _ c.in-Comes.is c.contents.ensures.value c.requires.behind
+pub push_added_in_pieces-requires-clause-behind : goal.push_added_in_pieces-requires-clause-behind
+push_added_in_pieces-requires-clause-behind c = comes_next (packages_before c.args.members.now) (members_of c.args.members.now) c.args.read.now c.in-Comes.pkg _ c.in-Comes.is c.contents.ensures.value c.requires.behind

@@ -2,7 +2,7 @@ use Rattle.std.proofs.Common.{◌≡◌, ℕ, List, ap, refl, ◌∙◌}
 use Rattle.adb_view.specs.Adb.{payload_of}
 use Rattle.adb_view.specs.declared.tables.Kind.TheVariants as Kinds
 use Rattle.adb_view.specs.declared.tables.Which.TheVariants as Tables
-use Rattle.adb_view.specs.Plain.{Plain, Plains, none, more, blob_value, arr_value, obj_value}
+use Rattle.adb_view.specs.Plain.{Plain, Plains, none, more, blob_or_null, arr_value, obj_value}
 use Rattle.adb_fields.specs.Repeated.{files_in, list_of, name_of}
 use Rattle.adb_view.specs.Values.{entries_in, entry_in, value_at}
 use Rattle.adb_copy.specs.Zeros.{without_zeros}
@@ -20,7 +20,7 @@ pub returns : goal.returns
 returns c =
     let p : List ℕ = payload_of c.args.adb in
     let v : Plain = value_at p (Kinds.Obj Tables.Dir) c.args.folder in
-    let vs : Plains = more (blob_value (name_of v)) (more (without_zeros (entry_in v 1)) (more (arr_value (owned_entries (files_in v) c.args.flags.now)) none)) in
+    let vs : Plains = more (blob_or_null (name_of v)) (more (without_zeros (entry_in v 1)) (more (arr_value (owned_entries (files_in v) c.args.flags.now)) none)) in
     let acl : c.write_acl.new.draft ≡ draft_with (without_zeros (entry_in v 1)) c.write_field.new.draft =
     c.in_ok-write_acl.ensures.acl ∙ ap (λ (u : Plain). draft_with (without_zeros u) c.write_field.new.draft) (c.field_word-acl.ensures (Kinds.Obj Tables.Acl) refl).1 in
     let files : c.write_files.new.draft ≡ draft_with (arr_value (owned_entries (files_in v) c.args.flags.now)) c.write_acl.new.draft =

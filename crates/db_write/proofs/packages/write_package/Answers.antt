@@ -5,7 +5,7 @@ use Rattle.adb_fields.specs.Repeated.{folders_in}
 use Rattle.adb_view.specs.Values.{entry_in, value_at}
 use Rattle.adb_view.specs.declared.tables.Kind.TheVariants as Kinds
 use Rattle.adb_view.specs.declared.tables.Which.TheVariants as Tables
-use Rattle.adb_copy.specs.Zeros.{int_value, without_zeros}
+use Rattle.adb_copy.specs.Zeros.{int_or_null, without_zeros}
 use Rattle.adb_copy.proofs.Known.{known_closed_object, known_more, known_opened}
 use Rattle.adb_values.specs.Drafts.{draft_with, draft_with_all, draft_with_open_list}
 use Rattle.adb_values.proofs.Lists.{closed_as, on_ok}
@@ -23,7 +23,7 @@ returns c =
     let priority = c.int_field-priority.ensures in
     let vs : Plains =
     more (info_after c.args.id (entry_in v 0)) (more (arr_value (folders_after (folders_in v) c.args.flags.now))
-    (more (without_zeros (entry_in v 2)) (more (without_zeros (entry_in v 3)) (more (int_value c.int_field-priority.result) none)))) in
+    (more (without_zeros (entry_in v 2)) (more (without_zeros (entry_in v 3)) (more (int_or_null c.int_field-priority.result) none)))) in
     let scripts : c.write_scripts.new.draft ≡ draft_with (without_zeros (entry_in v 2)) c.write_folders.new.draft =
     c.in_ok-write_scripts.ensures.scripts ∙ ap (λ (u : Plain). draft_with (without_zeros u) c.write_folders.new.draft) (c.field_word-scripts.ensures (Kinds.Obj Tables.Scripts) refl).1 in
     let triggers : c.write_text_list.new.draft ≡ draft_with (without_zeros (entry_in v 3)) c.write_scripts.new.draft =
@@ -35,12 +35,12 @@ returns c =
       value =
           closed_as obj_value (package_after (record { pkg = v; id = c.args.id }) c.args.flags.now) vs c.args.draft.now _ _ c.close_object.result
           (sym (λ j. obj_value (more (info_after c.args.id (entry_in v 0)) (more (arr_value (folders_after (folders_in v) c.args.flags.now))
-          (more (without_zeros (entry_in v 2)) (more (without_zeros (entry_in v 3)) (more (int_value (priority j)) none)))))))
+          (more (without_zeros (entry_in v 2)) (more (without_zeros (entry_in v 3)) (more (int_or_null (priority j)) none)))))))
           c.close_object.ensures.ok given;
       known =
           on_ok _ _
           (λ closed. known_closed_object p texts c.write_int.new.draft c.close_object.new.self
-          (known_more p texts c.write_text_list.new.draft c.write_int.new.draft c.in_ok-write_text_list.ensures.known (int_value c.int_field-priority.result) c.in_ok-write_int.ensures)
+          (known_more p texts c.write_text_list.new.draft c.write_int.new.draft c.in_ok-write_text_list.ensures.known (int_or_null c.int_field-priority.result) c.in_ok-write_int.ensures)
           vs c.args.draft.now given (closed vs c.args.draft.now given))
           c.close_object.result c.close_object.ensures.ok;
     }

@@ -1,5 +1,5 @@
 use Rattle.std.proofs.Common.{◌≡◌, List, ℕ, ap, refl, ◌∙◌}
-use Rattle.adb_view.specs.Plain.{blob_value, obj_value}
+use Rattle.adb_view.specs.Plain.{blob_or_null, obj_value}
 use Rattle.adb_values.specs.Drafts.{DraftState, draft_with}
 use Rattle.adb_values.proofs.Lists.{closed}
 use Rattle.package_files.specs.Package.{script_fields}
@@ -7,8 +7,8 @@ use Rattle.make_package.specs.Scripts.{scripts_view}
 use Rattle.make_package.proofs.writing.write_scripts.Goals as goal
 
 -- a blob of what is found is one of what is wanted
-found_as : (old new : DraftState) (found wanted : List ℕ) → new ≡ draft_with (blob_value found) old → found ≡ wanted → new ≡ draft_with (blob_value wanted) old
-found_as old new found wanted one e = one ∙ ap (λ (b : List ℕ). draft_with (blob_value b) old) e
+found_as : (old new : DraftState) (found wanted : List ℕ) → new ≡ draft_with (blob_or_null found) old → found ≡ wanted → new ≡ draft_with (blob_or_null wanted) old
+found_as old new found wanted one e = one ∙ ap (λ (b : List ℕ). draft_with (blob_or_null b) old) e
 
 pub returns : goal.returns
 returns c =

@@ -1,6 +1,6 @@
 use Rattle.command_core.specs.declared.values.TheConstants.{TRIGGER}
 use Rattle.std.proofs.Common.{◌∙◌, ap, List, ℕ, arith, refl}
-use Rattle.adb_view.specs.Plain.{arr_value, blob_value}
+use Rattle.adb_view.specs.Plain.{arr_value, blob_or_null}
 use Rattle.adb_values.specs.Drafts.{draft_with}
 use Rattle.adb_values.proofs.Lists.{closed, list_given}
 use Rattle.package_files.specs.Sources.{values_with}
@@ -13,7 +13,7 @@ loop-i-preserved c =
     elim c.if-value-eq-TRIGGER.branch [
       | then-value-eq-TRIGGER+in_ok-blob w ↦
           blob_given TRIGGER c.args.values.now c.loop-i.i c.get-value.result.now c.loop-i.draft _ _ c.get-value.ensures c.loop-i.invariant w.if-value-eq-TRIGGER.true
-          (w.draft-is ∙ w.in_ok-blob.ensures.ok ∙ ap (λ (b : List ℕ). draft_with (blob_value b) c.loop-i.draft) w.as_bytes.ensures)
+          (w.draft-is ∙ w.in_ok-blob.ensures.ok ∙ ap (λ (b : List ℕ). draft_with (blob_or_null b) c.loop-i.draft) w.as_bytes.ensures)
       | else-value-eq-TRIGGER w ↦
           blob_passed TRIGGER c.args.values.now c.loop-i.i c.get-value.result.now c.loop-i.draft _ _ c.get-value.ensures c.loop-i.invariant w.if-value-eq-TRIGGER.false w.draft-is
     ]

@@ -16,4 +16,4 @@ pub loop-i-preserved : goal.loop-i-preserved
 loop-i-preserved c =
     let ids : List ℕ = option_to_list c.args.kept.now ++ c.args.out.now in
     let one = take_one_more c.args.options.now c.loop-i.i c.get.result c.get.ensures in
-    λ k h. in_more (λ j. IsIn j ids) (take c.loop-i.i c.args.options.now) c.get.result c.loop-i.invariant (c.is_path_left_over.ensures c.if-not-is_path_left_over.false) k (subst (λ (z : List ℕ). IsIn k z) one h)
+    λ k h. in_more (λ j. IsIn j ids) (take c.loop-i.i c.args.options.now) c.get.result c.loop-i.invariant (c.is_left.ensures c.if-not-is_left.false) k (subst (λ (z : List ℕ). IsIn k z) one h)

@@ -1,6 +1,6 @@
 use Rattle.std.proofs.Common.{ℕ, List, sym, subst}
 use Rattle.adb_view.specs.Adb.{payload_of}
-use Rattle.adb_view.specs.Plain.{blob_value}
+use Rattle.adb_view.specs.Plain.{blob_or_null}
 use Rattle.adb_view.specs.Values.{text_in, value_at}
 use Rattle.adb_view.specs.declared.tables.Kind.TheVariants as Kinds
 use Rattle.adb_values.specs.Words.{HasBlob}
@@ -22,6 +22,6 @@ returns-clause-known c =
     (subst (λ (w : ℕ). HasBlob d c.text_word.result.now w) (sym c.word-2.ensures) c.in_ok-known.ensures.word)) in
     on_ok _ _ (λ kept. record {
       known = known_inserted p texts.words c.insert.new.self c.word.result c.word-2.result d
-          (known_more p texts c.args.draft.now d c.requires.known (blob_value c.text_word.result.now) c.in_ok-known.ensures.ok).known c.in_ok-insert.ensures.updates.0 has;
+          (known_more p texts c.args.draft.now d c.requires.known (blob_or_null c.text_word.result.now) c.in_ok-known.ensures.ok).known c.in_ok-insert.ensures.updates.0 has;
       periodic = kept;
     }) c.keep.result c.keep.ensures

@@ -1,7 +1,7 @@
 use Rattle.std.proofs.Common.{ap, ◌≡◌, IsSome, refl}
 use Rattle.base_core.specs.Calls.{HoldsNow}
 use Rattle.base_core.specs.Crash.{Since}
-use Rattle.base_core.specs.Restart.{SinceBy}
+use Rattle.base_core.specs.Restart.{SinceGivenEarlier}
 use Rattle.base_core.specs.Tree.{files_of}
 use Rattle.journal_core.specs.Acting.{acting_stage}
 use Rattle.journal_core.specs.Recovery.{EachCrashLeaves, after_actions, intent_name}
@@ -12,7 +12,7 @@ use Rattle.journal_core.proofs.stage.Stage.publish.Goals as goal
 
 pub returns-in_err-publish_intent-clause-moments : goal.returns-in_err-publish_intent-clause-moments
 returns-in_err-publish_intent-clause-moments g c =
-    publish_durable (λ ignored i v. SinceBy (IsOldUntilCommit ignored (after_actions i (files_of v)) v) (g.T.Tree.history c.args.tree.now) (g.T.Tree.history c.publish_intent.new.tree)) c.self.inside.intent c.args.self.now _ (ap (λ (s : Staging). s.intent) c.self.view_is) c.requires.all c.in_err-publish_intent.ensures.moments
+    publish_durable (λ ignored i v. SinceGivenEarlier (IsOldUntilCommit ignored (after_actions i (files_of v)) v) (g.T.Tree.history c.args.tree.now) (g.T.Tree.history c.publish_intent.new.tree)) c.self.inside.intent c.args.self.now _ (ap (λ (s : Staging). s.intent) c.self.view_is) c.requires.all c.in_err-publish_intent.ensures.moments
 
 pub returns-in_err-publish_intent-clause-proper : goal.returns-in_err-publish_intent-clause-proper
 returns-in_err-publish_intent-clause-proper g c =
@@ -20,7 +20,7 @@ returns-in_err-publish_intent-clause-proper g c =
 
 pub returns-clause-moments : goal.returns-clause-moments
 returns-clause-moments g c =
-    publish_durable (λ ignored i v. SinceBy (IsOldUntilCommit ignored (after_actions i (files_of v)) v) (g.T.Tree.history c.args.tree.now) (g.T.Tree.history c.publish_intent.new.tree)) c.self.inside.intent c.args.self.now _ (ap (λ (s : Staging). s.intent) c.self.view_is) c.requires.all c.in_ok-publish_intent.ensures.moments
+    publish_durable (λ ignored i v. SinceGivenEarlier (IsOldUntilCommit ignored (after_actions i (files_of v)) v) (g.T.Tree.history c.args.tree.now) (g.T.Tree.history c.publish_intent.new.tree)) c.self.inside.intent c.args.self.now _ (ap (λ (s : Staging). s.intent) c.self.view_is) c.requires.all c.in_ok-publish_intent.ensures.moments
 
 pub returns-clause-proper : goal.returns-clause-proper
 returns-clause-proper g c =

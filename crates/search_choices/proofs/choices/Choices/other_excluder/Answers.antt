@@ -15,4 +15,4 @@ pub returns-in-None-clause-found : goal.returns-in-None-clause-found
 returns-in-None-clause-found c =
     let free : (p : Dependency) → IsIn p c.args.details.now.provides → p.conflict ≡ false → IsFreeAt (pool_of c.args.self.now) (choices_of c.args.self.now) c.args.details.now p.name (is_some p.version) =
     rw c.in-None.is at c.in_ok-provided.ensures.found in
-    if_ok_map _ _ (λ found h. match_none found _ _ _ (λ conflicts. (free, conflicts)) h) c.excluder_meeting.result c.excluder_meeting.ensures.found
+    if_ok_map _ _ (λ found h. match_none found _ _ _ (λ conflicts. (free, conflicts)) h) c.excluder_by_conflicts.result c.excluder_by_conflicts.ensures.found

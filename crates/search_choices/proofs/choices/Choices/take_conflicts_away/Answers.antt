@@ -17,9 +17,9 @@ returns-in-Some-at-clause-listed c = λ rest last e.
     let same : c.in-Some.id ≡ last = cc in
     let here : candidate_at pool last ≡ Some c.in-Some-at.details = subst (λ (k : ℕ). candidate_at pool k ≡ Some c.in-Some-at.details) same (sym c.in-Some-at.ensures) in
     let deps : depends_at pool last ≡ c.depends.result = ap (λ (o : Option Candidate). option_map_or (λ (k : Candidate). k.depends) o []) here ∙ sym c.depends.ensures in
-    c.take_away.ensures.conflicts last (conflicts_among pool rest)
+    c.pop_all.ensures.conflicts last (conflicts_among pool rest)
     (λ name. c.requires name ∙ (ap (λ (t : List ℕ). conflicts_among pool t name) e ∙ (among_more pool rest last name
     ∙ ap (λ (z : List Dependency). conflicts_among pool rest name ++ conflicts_named name last z) deps)))
 
 pub returns-in-Some-at-clause-conflicts : goal.returns-in-Some-at-clause-conflicts
-returns-in-Some-at-clause-conflicts c = c.take_away.ensures.listed
+returns-in-Some-at-clause-conflicts c = c.pop_all.ensures.listed

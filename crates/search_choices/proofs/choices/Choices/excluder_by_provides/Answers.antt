@@ -7,7 +7,7 @@ use Rattle.search_choices.specs.Choices.{choices_of, pool_of}
 use Rattle.search_tables.specs.Excluders.{IsFreeAt}
 use Rattle.search_tables.proofs.Places.{there_is}
 use Rattle.search_tables.proofs.Offered.{each_all, each_on}
-use Rattle.search_choices.proofs.choices.Choices.excluder_provided.Goals as goal
+use Rattle.search_choices.proofs.choices.Choices.excluder_by_provides.Goals as goal
 
 pub loop-i-init : goal.loop-i-init
 loop-i-init c = record {

@@ -4,7 +4,7 @@ use Rattle.dep_core.specs.Dependency.{Dependency}
 use Rattle.dep_core.specs.Meets.{dependency}
 use Rattle.search_tables.specs.Conflicts.{conflicts_in, conflicts_named}
 use Rattle.search_tables.proofs.ConflictTables.{front_of_last, nothing_left}
-use Rattle.search_tables.proofs.conflicts.Conflicts.take_away.Goals as goal
+use Rattle.search_tables.proofs.conflicts.Conflicts.pop_all.Goals as goal
 
 pub loop-left-init : goal.loop-left-init
 loop-left-init c =

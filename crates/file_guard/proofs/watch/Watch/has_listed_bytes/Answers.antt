@@ -3,7 +3,7 @@ use Rattle.std.proofs.Common.{◌∙◌, sym, subst}
 use Rattle.file_guard.specs.Watching.{Watches}
 use Rattle.file_guard.specs.declared.watch.Watch.{Watch}
 use Rattle.file_guard.proofs.Due.{first_due, never_met, second_due}
-use Rattle.file_guard.proofs.watch.Watch.is_met.Goals as goal
+use Rattle.file_guard.proofs.watch.Watch.has_listed_bytes.Goals as goal
 
 pub returns-in-Never : goal.returns-in-Never
 returns-in-Never c = λ test bytes watches.

@@ -6,8 +6,8 @@ use Rattle.adb_view.specs.Values.{count_of, entries_in}
 use Rattle.dep_core.specs.Meets.{dependency}
 use Rattle.candidate_core.proofs.DependencyLists.{all_dependencies, dependencies_to}
 use Rattle.candidate_core.proofs.JudgedLists.{none_passed, one_passed}
-use Rattle.candidate_core.proofs.dependencies.count_judged.Goals as goal
-use Rattle.candidate_core.proofs.dependencies.count_judged.Goals.{in-Some, in_default}
+use Rattle.candidate_core.proofs.dependencies.count_sound.Goals as goal
+use Rattle.candidate_core.proofs.dependencies.count_sound.Goals.{in-Some, in_default}
 
 pub loop-i-preserved : goal.loop-i-preserved
 loop-i-preserved c =

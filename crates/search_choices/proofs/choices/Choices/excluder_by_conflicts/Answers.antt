@@ -7,7 +7,7 @@ use Rattle.candidate_core.specs.Options.{IsIn}
 use Rattle.search_choices.specs.Choices.{choices_of, pool_of}
 use Rattle.search_tables.specs.Selection.{is_met}
 use Rattle.search_tables.proofs.Offered.{each_all, each_on}
-use Rattle.search_choices.proofs.choices.Choices.excluder_meeting.Goals as goal
+use Rattle.search_choices.proofs.choices.Choices.excluder_by_conflicts.Goals as goal
 
 pub loop-i-init : goal.loop-i-init
 loop-i-init c = record {

@@ -9,7 +9,7 @@ use Rattle.pkg_core.specs.Values.{payload_of_contents, value_of_contents}
 use Rattle.db_core.proofs.ListedNames.{package_lists_names, passed_more}
 use Rattle.db_core.proofs.Ordered.{few_more, kept_more}
 use Rattle.db_core.proofs.SoundEntries.{comes_sound, sound_more}
-use Rattle.db_core.proofs.members.Members.comes_in_pieces.Goals as goal
+use Rattle.db_core.proofs.members.Members.push_added_in_pieces.Goals as goal
 
 pub invariant_of-self : goal.invariant_of-self
 invariant_of-self c = record {

@@ -6,7 +6,7 @@ use Rattle.candidate_core.specs.Options.{IsIn}
 use Rattle.candidate_core.specs.PackageMatches.{AreMatchesAmong}
 use Rattle.search_choices.specs.Choices.{choices_of, pool_of}
 use Rattle.search_tables.specs.Selection.{is_met}
-use Rattle.search_choices.proofs.choices.Choices.excluder_meeting.Given as goal
+use Rattle.search_choices.proofs.choices.Choices.excluder_by_conflicts.Given as goal
 
 abbrev pub invariant-loop-i : goal.invariant-loop-i
 invariant-loop-i l = record {

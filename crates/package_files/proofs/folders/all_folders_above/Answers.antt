@@ -1,8 +1,8 @@
 use Rattle.std.proofs.Common.{◌≡◌, ◌∙◌, ap, ◌+◌, ℕ, List, length, drop, not}
 use Rattle.package_files.specs.Folders.{path_below}
 use Rattle.package_files.proofs.FoldersThere.{added_next, kept_next}
-use Rattle.package_files.proofs.folders.folder_names.Goals as goal
-use Rattle.package_files.proofs.folders.folder_names.Goals.{then-is_none+in_ok-add_over, else-is_none}
+use Rattle.package_files.proofs.folders.all_folders_above.Goals as goal
+use Rattle.package_files.proofs.folders.all_folders_above.Goals.{then-is_none+in_ok-add_over, else-is_none}
 
 pub loop-i-preserved : goal.loop-i-preserved
 loop-i-preserved c =

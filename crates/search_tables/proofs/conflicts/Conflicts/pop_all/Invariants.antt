@@ -2,7 +2,7 @@ use Rattle.std.proofs.Common.{◌≡◌, ◌≤◌, ◌++◌, ℕ, List, length,
 use Rattle.dep_core.specs.Dependency.{Dependency}
 use Rattle.candidate_core.specs.Candidates.{Candidate}
 use Rattle.search_tables.specs.Conflicts.{AreConflictsOf, conflicts_in, conflicts_named}
-use Rattle.search_tables.proofs.conflicts.Conflicts.take_away.Given as goal
+use Rattle.search_tables.proofs.conflicts.Conflicts.pop_all.Given as goal
 
 abbrev pub invariant-loop-left : goal.invariant-loop-left
 invariant-loop-left l = record {
